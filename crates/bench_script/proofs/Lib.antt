@@ -1,0 +1,3 @@
+pub mod TableKeys
+pub mod Rows
+pub mod Register

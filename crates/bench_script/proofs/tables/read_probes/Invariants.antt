@@ -1,0 +1,11 @@
+use Rattle.std.proofs.Common.{◌≡◌, drop, All}
+use Rattle.toml.specs.View.{table_view, items_view}
+use Rattle.bench_script.specs.Sound.{CanProbe}
+use Rattle.bench_script.specs.Tables.{rows_from, probe_row, probes_in}
+use Rattle.bench_script.proofs.tables.read_probes.Given as goal
+
+-- the rows so far, and those of the elements that are left
+abbrev pub invariant-loop-element : goal.invariant-loop-element
+invariant-loop-element l =
+    (probes_in l.types (table_view l.root) ≡ rows_from (λ _. probe_row l.types) l.rows.items (items_view (drop l.element-index l.element-items)))
+    × All (CanProbe l.types) l.rows.items

@@ -1,0 +1,11 @@
+use Rattle.std.proofs.Common.{◌≡◌, ◌≤◌, length, drop}
+use Rattle.toml.specs.View.{table_view, items_view}
+use Rattle.bench_script.specs.Tables.{rows_from, type_row, types_in}
+use Rattle.bench_script.proofs.tables.read_types.Given as goal
+
+-- the types so far, and those of the elements that are left
+abbrev pub invariant-loop-element : goal.invariant-loop-element
+invariant-loop-element l =
+    (types_in (table_view l.root) ≡ rows_from type_row l.types (items_view (drop l.element-index l.elements)))
+    × (length l.types ≡ l.element-index)
+    × (length l.elements ≤ 1024)

@@ -1,0 +1,12 @@
+pub mod Reading
+pub mod Values
+pub mod Keys
+pub mod Tables
+pub mod Scripts
+pub mod Sound
+pub use Rattle.uvm_factory.specs.Faults
+pub use Rattle.uvm_factory.specs.Overrides
+pub use Rattle.uvm_factory.specs.Steps
+pub use Rattle.uvm_glob.specs.Names
+pub use Rattle.uvm_glob.specs.Paths
+pub use Rattle.uvm_glob.specs.Globs

@@ -1,0 +1,35 @@
+-- What holds of every script.
+use Rattle.std.specs.Prelude.{◌≡◌, ℕ, ◌<◌, ◌≤◌, ◌^◌, List, [], ◌∷◌, ◌++◌, length, Option, Some, None, All, slice_get, option_map}
+use Rattle.uvm_factory.specs.declared.types.Kind.{Kind}
+use Rattle.uvm_factory.specs.declared.types.Kind.TheVariants.{Component}
+use Rattle.uvm_factory.specs.declared.overrides.Override.{Override}
+use Rattle.uvm_factory.specs.Faults.{Types, register_fault, override_fault}
+use Rattle.uvm_factory.specs.Steps.{original_of, new_of}
+use Rattle.bench_script.specs.declared.scripts.Probe.{Probe}
+use Rattle.bench_script.specs.Scripts.{ScriptValue}
+
+-- each of the types may be registered after those before it
+abbrev pub CanRegister : Types → Types → Type 0
+CanRegister before [] = Unit {0}
+CanRegister before (t ∷ types) = (register_fault before t.0 ≡ None) × CanRegister (before ++ t ∷ []) types
+
+-- an override goes from a type to one of its kind
+abbrev pub CanOverride : Types → Override → Type 0
+CanOverride types o = override_fault types (original_of o) (new_of o) ≡ None
+
+-- a probe asks for a type
+abbrev pub CanProbe : Types → Probe → Type 0
+CanProbe types probe = probe.kind < length types
+
+-- the test is a component
+abbrev pub IsComponentAt : Types → Option ℕ → Type 0
+IsComponentAt types None = Unit {0}
+IsComponentAt types (Some place) = option_map (λ t. t.1) (slice_get types place) ≡ Some Component
+
+pub record IsSound (script : ScriptValue) : Type 0 where
+  pub test : IsComponentAt script.types script.test
+  pub time_limit : script.time_limit ≤ 1000000000000000000
+  pub quit_limit : script.quit_limit ≤ 65535
+  pub types : CanRegister [] script.types
+  pub overrides : All (CanOverride script.types) script.overrides
+  pub probes : All (CanProbe script.types) script.probes

@@ -1,0 +1,69 @@
+//! What stands before the arrays of a script.
+
+ghost use Rattle.std.specs.Prelude.{◌≡◌, ◌≤◌, IfOk};
+ghost use Rattle.toml.specs.View.{view, table_view};
+ghost use Rattle.bench_script.specs.Scripts.{version_in, head_in};
+
+use crate::faults::ScriptFault;
+use crate::keys::{member, only_keys, required};
+use crate::values::{integer, name, number};
+use toml::{Table, Value};
+use uvm_glob::Name;
+
+/// The greatest time in ticks.
+const MAX_TIME: u64 = 1_000_000_000_000_000_000;
+
+const MAX_QUIT_LIMIT: u64 = u16::MAX as u64;
+
+const ROOT_KEYS: [&str; 7] = [
+    "version",
+    "test",
+    "time_limit",
+    "quit_limit",
+    "type",
+    "override",
+    "probe",
+];
+
+/// The test and the limits.
+#[derive(Drop)]
+pub(crate) struct Head {
+    pub(crate) test: Option<Name>,
+    pub(crate) time_limit: u64,
+    pub(crate) quit_limit: u64,
+}
+
+pub(crate) fn read_head(root: &Table) -> Result<Head, ScriptFault>
+    ensures head { result ≡ head_in (table_view root.now) }
+    ensures time_limit { IfOk result (λ head. head.time_limit ≤ 1000000000000000000) }
+    ensures quit_limit { IfOk result (λ head. head.quit_limit ≤ 65535) }
+{
+    version(required(root, "version")?)?;
+    only_keys(root, &ROOT_KEYS)?;
+    let test = match member(root, "test") {
+        Some(value) => Some(name(value)?),
+        None => None,
+    };
+    let time_limit = match member(root, "time_limit") {
+        Some(value) => number(value, MAX_TIME)?,
+        None => MAX_TIME,
+    };
+    let quit_limit = match member(root, "quit_limit") {
+        Some(value) => number(value, MAX_QUIT_LIMIT)?,
+        None => 0,
+    };
+    Ok(Head {
+        test,
+        time_limit,
+        quit_limit,
+    })
+}
+
+fn version(value: &Value) -> Result<(), ScriptFault>
+    ensures { result ≡ version_in (view value.now) }
+{
+    match integer(value)? {
+        1 => Ok(()),
+        _ => Err(ScriptFault::Version),
+    }
+}

@@ -1,0 +1,75 @@
+//! The keys of a table.
+
+ghost use Rattle.std.specs.Prelude.{◌≡◌, Some, None, MatchResult, option_map, map, string_bytes};
+ghost use Rattle.std.specs.List.{list_any, list_all};
+ghost use Rattle.std.specs.BTreeMap.{keys};
+ghost use Rattle.toml.specs.Data.{get_member, as_table};
+ghost use Rattle.toml.specs.View.{view, table_view, items_view};
+ghost use Rattle.bench_script.specs.Keys.{only_keys};
+ghost use Rattle.bench_script.specs.Values.{is_same_text};
+ghost use Rattle.bench_script.specs.Tables.{elements_at, table_in};
+
+use crate::faults::ScriptFault;
+use toml::{Table, Value};
+
+pub(crate) fn member<'a>(table: &'a Table, key: &str) -> Option<&'a Value>
+    ensures { option_map (λ value. view value.now) result ≡ get_member key.now (table_view table.now) }
+{
+    table.get(key)
+}
+
+pub(crate) fn required<'a>(table: &'a Table, key: &str) -> Result<&'a Value, ScriptFault>
+    ensures { MatchResult result
+        (λ value. get_member key.now (table_view table.now) ≡ Some (view value.now))
+        (λ fault. (fault ≡ ScriptFault.Missing) × (get_member key.now (table_view table.now) ≡ None)) }
+{
+    member(table, key).ok_or(ScriptFault::Missing)
+}
+
+pub(crate) fn only_keys(table: &Table, listed: &[&str]) -> Result<(), ScriptFault>
+    ensures { result ≡ only_keys (map (λ key. key.now) listed.now) (table_view table.now) }
+{
+    if are_listed(table, listed) {
+        Ok(())
+    } else {
+        Err(ScriptFault::UnknownKey)
+    }
+}
+
+fn are_listed(table: &Table, listed: &[&str]) -> bool
+    ensures { result ≡ list_all (λ key. list_any (λ other. is_same_text (string_bytes key) other.now) listed.now) (keys table.now) }
+{
+    table.keys().all(|key| is_listed(key.as_str(), listed))
+}
+
+fn is_listed(key: &str, listed: &[&str]) -> bool
+    ensures { result ≡ list_any (λ other. is_same_text key.now other.now) listed.now }
+{
+    listed.iter().any(|other| key == *other)
+}
+
+// The table that an element is.
+pub(crate) fn table<'a>(element: &'a Value, listed: &[&str]) -> Result<&'a Table, ScriptFault>
+    ensures { MatchResult result
+        (λ table. table_in (map (λ key. key.now) listed.now) (view element.now) ≡ Ok (table_view table.now))
+        (λ fault. table_in (map (λ key. key.now) listed.now) (view element.now) ≡ Err fault) }
+{
+    let table = element.as_table().ok_or(ScriptFault::WrongKind)?;
+    only_keys(table, listed)?;
+    Ok(table)
+}
+
+// The elements of the array at a key.
+pub(crate) fn elements<'a>(root: &'a Table, key: &str) -> Result<&'a [Value], ScriptFault>
+    ensures { MatchResult result
+        (λ elements. elements_at key.now (table_view root.now) ≡ Ok (items_view elements.now))
+        (λ fault. elements_at key.now (table_view root.now) ≡ Err fault) }
+{
+    match member(root, key) {
+        None => Ok(&[]),
+        Some(value) => match value.as_array() {
+            Some(elements) => Ok(elements.as_slice()),
+            None => Err(ScriptFault::WrongKind),
+        },
+    }
+}

@@ -1,0 +1,18 @@
+//! The scripts of the bench: TOML documents that name types, overrides and probes.
+#![tactic(auto)]
+
+mod faults;
+mod heads;
+mod keys;
+mod reading;
+mod scripts;
+mod tables;
+mod type_tables;
+mod values;
+
+pub use faults::ScriptFault;
+pub use reading::read;
+pub use scripts::{Probe, Script};
+
+#[cfg(test)]
+mod tests;

@@ -1,0 +1,81 @@
+//! Reads a script.
+
+ghost use Rattle.std.specs.Prelude.{◌≡◌, IfOk};
+ghost use Rattle.toml.specs.View.{table_view};
+ghost use Rattle.toml.specs.Parse.{parse_document};
+ghost use Rattle.bench_script.specs.Reading.{IsReading};
+ghost use Rattle.bench_script.specs.Sound.{IsComponentAt};
+ghost use Rattle.bench_script.specs.Scripts.{script_of, script_in, script_of_bytes, test_among};
+
+use crate::faults::ScriptFault;
+use crate::heads::read_head;
+use crate::scripts::Script;
+use crate::tables::{read_overrides, read_probes, read_types};
+use crate::type_tables::TypeTable;
+use std::alloc::Global;
+use std::str;
+use toml::Table;
+use uvm_factory::{Kind, TypeId};
+use uvm_glob::Name;
+
+/// The most bytes of a script.
+const MAX_LEN: usize = 1_048_576;
+
+/// Reads a script. The fault is the first of `TooLong`, `NotText`, `NotToml` and those of the document's keys in their
+/// order; `Memory` is answered where a growth was refused.
+pub fn read(alloc: Global, bytes: &[u8]) -> Result<Script, ScriptFault>
+    ensures { IsReading (script_of_bytes bytes.now) result }
+{
+    if bytes.len() > MAX_LEN {
+        return Err(ScriptFault::TooLong);
+    }
+    let Ok(text) = str::from_utf8(bytes) else {
+        return Err(ScriptFault::NotText);
+    };
+    read_text(alloc, text)
+}
+
+fn read_text(alloc: Global, text: &str) -> Result<Script, ScriptFault>
+    ensures { IsReading (script_in (parse_document text.now)) result }
+{
+    match toml::table_from_str(alloc, text) {
+        Ok(root) => read_tree(alloc, &root),
+        Err(error) if error.is_memory() => Err(ScriptFault::Memory),
+        Err(_) => Err(ScriptFault::NotToml),
+    }
+}
+
+#[tactic(auto, unfolding(crate::specs::Scripts::script_of))]
+fn read_tree(alloc: Global, root: &Table) -> Result<Script, ScriptFault>
+    ensures { IsReading (script_of (table_view root.now)) result }
+{
+    let head = read_head(root)?;
+    let types = read_types(alloc, root)?;
+    let overrides = read_overrides(alloc, &types, root)?;
+    let probes = read_probes(alloc, &types, root)?;
+    let test = test_among(&types, head.test)?;
+    Ok(Script {
+        test,
+        time_limit: head.time_limit,
+        quit_limit: head.quit_limit as u16,
+        types: types.into_rows(),
+        overrides,
+        probes,
+    })
+}
+
+// The type that the test names, a component.
+fn test_among(types: &TypeTable, test: Option<Name>) -> Result<Option<TypeId>, ScriptFault>
+    ensures test { result ≡ test_among types.now test }
+    ensures sound { IfOk result (IsComponentAt types.now) }
+{
+    let Some(name) = test else {
+        return Ok(None);
+    };
+    let place = types.find(&name).ok_or(ScriptFault::UnknownType)?;
+    match types.kind_of(place) {
+        Some(Kind::Component) => Ok(Some(place)),
+        Some(Kind::Sequence) => Err(ScriptFault::WrongKind),
+        None => Err(ScriptFault::UnknownType),
+    }
+}

@@ -1,0 +1,101 @@
+//! What a script says.
+
+ghost use Rattle.std.specs.Prelude.{◌≡◌, ◌≤◌, [], All};
+ghost use Rattle.bench_script.specs.Sound.{IsComponentAt, CanRegister, CanOverride, CanProbe};
+
+use std::marker::Model;
+use uvm_factory::{Kind, Override, TypeId};
+use uvm_glob::{Name, Path};
+
+/// A question to the factory: which type is made for a type at a path.
+#[derive(Debug, Drop)]
+pub struct Probe {
+    pub kind: TypeId,
+    pub path: Path,
+}
+
+/// A script. Contracts see what it says; a type is its place among the types of the script, from 0.
+#[derive(Drop)]
+pub struct Script {
+    pub(crate) test: Option<TypeId>,
+    pub(crate) time_limit: u64,
+    pub(crate) quit_limit: u16,
+    pub(crate) types: Vec<(Name, Kind)>,
+    pub(crate) overrides: Vec<Override>,
+    pub(crate) probes: Vec<Probe>,
+}
+
+impl Model for Script {
+    ghost use Rattle.bench_script.specs.Scripts.{ScriptValue};
+
+    ghost Value = { ScriptValue };
+
+    ghost view = { λ s. record {
+      test = s.test;
+      time_limit = s.time_limit;
+      quit_limit = s.quit_limit;
+      types = s.types.items;
+      overrides = s.overrides.items;
+      probes = s.probes.items;
+    } };
+
+    ghost use Rattle.bench_script.specs.Sound.{IsSound};
+
+    ghost invariant = { λ s. IsSound (record {
+      test = s.test;
+      time_limit = s.time_limit;
+      quit_limit = s.quit_limit;
+      types = s.types.items;
+      overrides = s.overrides.items;
+      probes = s.probes.items;
+    }) };
+}
+
+impl Script {
+    /// The type of the test, a component, if the script names one.
+    pub fn test(&self) -> Option<TypeId>
+        ensures test { result ≡ self.now.test }
+        ensures component { IsComponentAt self.now.types self.now.test }
+    {
+        self.test
+    }
+
+    /// The time in ticks past which a run is given up, at most 10^18.
+    pub fn time_limit(&self) -> u64
+        ensures limit { result ≡ self.now.time_limit }
+        ensures most { result ≤ 1000000000000000000 }
+    {
+        self.time_limit
+    }
+
+    /// How many counted reports end a run, at most 65,535; 0 for no limit.
+    pub fn quit_limit(&self) -> u16
+        ensures { result ≡ self.now.quit_limit }
+    {
+        self.quit_limit
+    }
+
+    /// The types with their kinds, in the order in which they are registered. They can be registered one after another.
+    pub fn types(&self) -> &[(Name, Kind)]
+        ensures types { result.now ≡ self.now.types }
+        ensures sound { CanRegister [] self.now.types }
+    {
+        self.types.as_slice()
+    }
+
+    /// The overrides in the order in which they are given, each between types of one kind.
+    pub fn overrides(&self) -> &[Override]
+        ensures overrides { result.now ≡ self.now.overrides }
+        ensures sound { All (CanOverride self.now.types) self.now.overrides }
+    {
+        self.overrides.as_slice()
+    }
+
+    /// The probes in order, each of a type of the script.
+    pub fn probes(&self) -> &[Probe]
+        ensures probes { result.now ≡ self.now.probes }
+        ensures sound { All (CanProbe self.now.types) self.now.probes }
+    {
+        self.probes.as_slice()
+    }
+}

@@ -1,0 +1,145 @@
+//! The arrays of tables of a script.
+
+ghost use Rattle.std.specs.Prelude.{◌≡◌, ◌≢◌, ◌<◌, MatchResult, IfOk, None, All, length};
+ghost use Rattle.toml.specs.View.{view, table_view};
+ghost use Rattle.uvm_factory.specs.Faults.{type_named};
+ghost use Rattle.bench_script.specs.Reading.{IsReading};
+ghost use Rattle.bench_script.specs.Sound.{CanOverride, CanProbe};
+ghost use Rattle.bench_script.specs.Tables.{new_name_in, type_in, type_row, override_row, probe_row, types_in, overrides_in, probes_in};
+
+use crate::faults::ScriptFault;
+use crate::keys::{elements, member, required, table};
+use crate::scripts::Probe;
+use crate::type_tables::TypeTable;
+use crate::values::{flag, glob, kind, name, path};
+use std::alloc::Global;
+use toml::{Table, Value};
+use uvm_factory::{Kind, Override, TypeId};
+use uvm_glob::Name;
+
+const MAX_TYPES: usize = 1024;
+
+// Reads the types.
+pub(crate) fn read_types(alloc: Global, root: &Table) -> Result<TypeTable, ScriptFault>
+    ensures { IsReading (types_in (table_view root.now)) result }
+{
+    let elements = elements(root, "type")?;
+    if elements.len() > MAX_TYPES {
+        return Err(ScriptFault::OutOfRange);
+    }
+    let mut types = TypeTable::new(alloc);
+    for element in elements {
+        let (name, kind) = type_row(&types, element)?;
+        types.add(name, kind)?;
+    }
+    Ok(types)
+}
+
+// Reads the overrides.
+pub(crate) fn read_overrides(
+    alloc: Global,
+    types: &TypeTable,
+    root: &Table,
+) -> Result<Vec<Override>, ScriptFault>
+    ensures sound { IfOk result (λ rows. All (CanOverride types.now) rows.items) }
+    ensures rows { MatchResult result
+        (λ rows. overrides_in types.now (table_view root.now) ≡ Ok rows.items)
+        (λ fault. fault ≢ ScriptFault.Memory → overrides_in types.now (table_view root.now) ≡ Err fault) }
+{
+    let mut rows = Vec::new(alloc);
+    for element in elements(root, "override")? {
+        rows.push(override_row(alloc, types, element)?)?;
+    }
+    Ok(rows)
+}
+
+// Reads the probes.
+pub(crate) fn read_probes(
+    alloc: Global,
+    types: &TypeTable,
+    root: &Table,
+) -> Result<Vec<Probe>, ScriptFault>
+    ensures sound { IfOk result (λ rows. All (CanProbe types.now) rows.items) }
+    ensures rows { MatchResult result
+        (λ rows. probes_in types.now (table_view root.now) ≡ Ok rows.items)
+        (λ fault. fault ≢ ScriptFault.Memory → probes_in types.now (table_view root.now) ≡ Err fault) }
+{
+    let mut rows = Vec::new(alloc);
+    for element in elements(root, "probe")? {
+        rows.push(probe_row(alloc, types, element)?)?;
+    }
+    Ok(rows)
+}
+
+fn type_row(types: &TypeTable, element: &Value) -> Result<(Name, Kind), ScriptFault>
+    ensures row { result ≡ type_row types.now (view element.now) }
+    ensures new { IfOk result (λ row. type_named types.now row.0 ≡ None) }
+{
+    let table = table(element, &["name", "kind"])?;
+    let name = new_name(types, required(table, "name")?)?;
+    let kind = kind(required(table, "kind")?)?;
+    Ok((name, kind))
+}
+
+// The name of one more type.
+fn new_name(types: &TypeTable, value: &Value) -> Result<Name, ScriptFault>
+    ensures name { result ≡ new_name_in types.now (view value.now) }
+    ensures new { IfOk result (λ name. type_named types.now name ≡ None) }
+{
+    let name = name(value)?;
+    if types.find(&name).is_some() {
+        return Err(ScriptFault::BadName);
+    }
+    Ok(name)
+}
+
+// The type that a value names.
+fn type_named(types: &TypeTable, value: &Value) -> Result<TypeId, ScriptFault>
+    ensures place { result ≡ type_in types.now (view value.now) }
+    ensures known { IfOk result (λ kind. kind < length types.now) }
+{
+    let name = name(value)?;
+    types.find(&name).ok_or(ScriptFault::UnknownType)
+}
+
+fn override_row(alloc: Global, types: &TypeTable, element: &Value) -> Result<Override, ScriptFault>
+    ensures row { IsReading (override_row types.now (view element.now)) result }
+    ensures sound { IfOk result (CanOverride types.now) }
+{
+    let table = table(element, &["orig", "new", "at", "replace"])?;
+    let original = type_named(types, required(table, "orig")?)?;
+    let new = type_named(types, required(table, "new")?)?;
+    if !types.are_same_kind(original, new) {
+        return Err(ScriptFault::WrongKind);
+    }
+    let scope = match member(table, "at") {
+        Some(value) => Some(glob(alloc, value)?),
+        None => None,
+    };
+    let replace = match member(table, "replace") {
+        Some(value) => flag(value)?,
+        None => true,
+    };
+    Ok(match scope {
+        Some(scope) => Override::Instance {
+            original,
+            new,
+            scope,
+        },
+        None => Override::Whole {
+            original,
+            new,
+            replace,
+        },
+    })
+}
+
+fn probe_row(alloc: Global, types: &TypeTable, element: &Value) -> Result<Probe, ScriptFault>
+    ensures row { IsReading (probe_row types.now (view element.now)) result }
+    ensures sound { IfOk result (CanProbe types.now) }
+{
+    let table = table(element, &["type", "path"])?;
+    let kind = type_named(types, required(table, "type")?)?;
+    let path = path(alloc, required(table, "path")?)?;
+    Ok(Probe { kind, path })
+}

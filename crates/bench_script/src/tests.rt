@@ -1,0 +1,424 @@
+use super::*;
+use std::alloc::Global;
+use std::test::Fail;
+use uvm_factory::{Factory, Kind, Override, TypeId};
+use uvm_glob::{Name, Path};
+
+const SCRIPT: &str = r#"
+version = 1
+test = "better"
+time_limit = 5000
+quit_limit = 7
+
+[[type]]
+name = "base"
+kind = "component"
+
+[[type]]
+name = "better"
+kind = "component"
+
+[[type]]
+name = "items"
+kind = "sequence"
+
+[[override]]
+orig = "base"
+new = "better"
+at = "top.*"
+replace = false
+
+[[override]]
+orig = "better"
+new = "base"
+replace = false
+
+[[override]]
+orig = "base"
+new = "better"
+
+[[probe]]
+type = "base"
+path = "top.left"
+
+[[probe]]
+type = "items"
+path = "top"
+"#;
+
+// Two components and a sequence.
+const TYPES: &str = r#"version = 1
+type = [
+    { name = "base", kind = "component" },
+    { name = "better", kind = "component" },
+    { name = "items", kind = "sequence" },
+]"#;
+
+fn fault_of(alloc: Global, text: &str) -> Option<ScriptFault> {
+    read(alloc, text.as_bytes()).err()
+}
+
+#[test]
+fn each_fault_is_printed_by_its_number_and_name(rt: HostRuntime) -> Result<(), Fail> {
+    for (fault, want) in [
+        (ScriptFault::NotText, "script fault 1 NotText"),
+        (ScriptFault::NotToml, "script fault 2 NotToml"),
+        (ScriptFault::UnknownKey, "script fault 3 UnknownKey"),
+        (ScriptFault::Missing, "script fault 4 Missing"),
+        (ScriptFault::WrongKind, "script fault 5 WrongKind"),
+        (ScriptFault::OutOfRange, "script fault 6 OutOfRange"),
+        (ScriptFault::BadName, "script fault 7 BadName"),
+        (ScriptFault::UnknownType, "script fault 8 UnknownType"),
+        (ScriptFault::Version, "script fault 9 Version"),
+        (ScriptFault::TooLong, "script fault 10 TooLong"),
+        (ScriptFault::Memory, "script fault 11 Memory"),
+    ] {
+        assert_eq!(rt; format!(in rt.alloc(); "{fault}")?.as_str(), want);
+    }
+    Ok(())
+}
+
+// The types of the script, by their places.
+fn places(alloc: Global) -> Result<[TypeId; 3], Fail> {
+    let mut factory = Factory::new(alloc);
+    Ok([
+        factory.register(Name::new(b"base")?, Kind::Component)?,
+        factory.register(Name::new(b"better")?, Kind::Component)?,
+        factory.register(Name::new(b"items")?, Kind::Sequence)?,
+    ])
+}
+
+#[test]
+fn reads_the_test_the_limits_and_the_types(rt: HostRuntime) -> Result<(), Fail> {
+    let [_, better, _] = places(rt.alloc())?;
+    let script = read(rt.alloc(), SCRIPT.as_bytes())?;
+    assert_eq!(rt; script.test(), Some(better));
+    assert_eq!(rt; script.time_limit(), 5000);
+    assert_eq!(rt; script.quit_limit(), 7);
+    assert_eq!(rt;
+        script.types(),
+        [
+            (Name::new(b"base")?, Kind::Component),
+            (Name::new(b"better")?, Kind::Component),
+            (Name::new(b"items")?, Kind::Sequence),
+        ]
+        .as_slice()
+    );
+    Ok(())
+}
+
+// The two types of an override, and its `replace`, if it has one.
+fn parts(row: &Override) -> (TypeId, TypeId, Option<bool>) {
+    match row {
+        Override::Instance { original, new, .. } => (*original, *new, None),
+        Override::Whole {
+            original,
+            new,
+            replace,
+        } => (*original, *new, Some(*replace)),
+    }
+}
+
+fn is_instance_at(row: &Override, path: &Path) -> bool {
+    match row {
+        Override::Instance { scope, .. } => scope.matches(path),
+        Override::Whole { .. } => false,
+    }
+}
+
+#[test]
+fn reads_the_overrides(rt: HostRuntime) -> Result<(), Fail> {
+    let alloc = rt.alloc();
+    let [base, better, _] = places(alloc)?;
+    let left = Path::parse(alloc, b"top.left")?;
+    let top = Path::parse(alloc, b"top")?;
+    let script = read(alloc, SCRIPT.as_bytes())?;
+    let rows = script.overrides();
+    assert_eq!(rt; rows.len(), 3);
+    for (row, want) in rows.iter().zip([
+        (base, better, None),
+        (better, base, Some(false)),
+        (base, better, Some(true)),
+    ]) {
+        assert_eq!(rt; parts(row), want);
+    }
+    assert!(rt; is_instance_at(&rows[0], &left));
+    assert!(rt; !is_instance_at(&rows[0], &top));
+    Ok(())
+}
+
+#[test]
+fn reads_the_probes(rt: HostRuntime) -> Result<(), Fail> {
+    let alloc = rt.alloc();
+    let [base, _, items] = places(alloc)?;
+    let script = read(alloc, SCRIPT.as_bytes())?;
+    let probes = script.probes();
+    assert_eq!(rt; probes.len(), 2);
+    for (probe, kind, path) in [
+        (&probes[0], base, b"top.left".as_slice()),
+        (&probes[1], items, b"top".as_slice()),
+    ] {
+        assert_eq!(rt; probe.kind, kind);
+        let mut text = Vec::new(alloc);
+        probe.path.write(&mut text)?;
+        assert_eq!(rt; text.as_slice(), path);
+    }
+    Ok(())
+}
+
+#[test]
+fn defaults_of_what_is_not_written(rt: HostRuntime) -> Result<(), Fail> {
+    let script = read(rt.alloc(), b"version = 1")?;
+    assert_eq!(rt; script.test(), None);
+    assert_eq!(rt; script.time_limit(), 1_000_000_000_000_000_000);
+    assert_eq!(rt; script.quit_limit(), 0);
+    assert!(rt; script.types().is_empty());
+    assert!(rt; script.overrides().is_empty());
+    assert!(rt; script.probes().is_empty());
+    Ok(())
+}
+
+#[test]
+fn memory_is_the_one_fault_of_a_good_script(rt: HostRuntime) {
+    if let Err(fault) = read(rt.alloc(), SCRIPT.as_bytes()) {
+        assert_eq!(rt; fault, ScriptFault::Memory);
+    }
+}
+
+#[test]
+fn faults_before_the_keys(rt: HostRuntime) -> Result<(), Fail> {
+    let alloc = rt.alloc();
+    let mut bytes = vec![in alloc; b' '; 1_048_576]?;
+    assert_eq!(rt;
+        read(alloc, bytes.as_slice()).err(),
+        Some(ScriptFault::Missing)
+    );
+    bytes.push(b' ')?;
+    assert_eq!(rt;
+        read(alloc, bytes.as_slice()).err(),
+        Some(ScriptFault::TooLong)
+    );
+    bytes.push(0xff)?;
+    assert_eq!(rt;
+        read(alloc, bytes.as_slice()).err(),
+        Some(ScriptFault::TooLong)
+    );
+    assert_eq!(rt;
+        read(alloc, b"version = \xff").err(),
+        Some(ScriptFault::NotText)
+    );
+    assert_eq!(rt;
+        fault_of(alloc, "version = 3\ntest = \"x"),
+        Some(ScriptFault::NotToml)
+    );
+    assert_eq!(rt; fault_of(alloc, ""), Some(ScriptFault::Missing));
+    Ok(())
+}
+
+#[test]
+fn faults_of_the_version(rt: HostRuntime) -> Result<(), Fail> {
+    for (text, fault) in [
+        ("version = 3", ScriptFault::Version),
+        ("version = -1", ScriptFault::Version),
+        ("version = 1.0", ScriptFault::WrongKind),
+        ("version = true", ScriptFault::WrongKind),
+        ("version = \"1\"", ScriptFault::WrongKind),
+        ("version = 2020-01-01", ScriptFault::WrongKind),
+        ("version.x = 1", ScriptFault::WrongKind),
+        ("tets = 1", ScriptFault::Missing),
+        ("tets = 1\nversion = 3", ScriptFault::Version),
+    ] {
+        assert_eq!(rt; fault_of(rt.alloc(), text), Some(fault), "of {text}");
+    }
+    Ok(())
+}
+
+#[test]
+fn faults_of_the_test_and_the_limits(rt: HostRuntime) -> Result<(), Fail> {
+    for (rest, fault) in [
+        ("test = 1\ntets = 1", ScriptFault::UnknownKey),
+        ("test = 1", ScriptFault::WrongKind),
+        ("test = \"\"\ntime_limit = true", ScriptFault::BadName),
+        ("time_limit = true", ScriptFault::WrongKind),
+        ("time_limit = 1.0", ScriptFault::WrongKind),
+        ("time_limit = 1000000000000000001", ScriptFault::OutOfRange),
+        (
+            "time_limit = -1\nquit_limit = true",
+            ScriptFault::OutOfRange,
+        ),
+        ("quit_limit = \"2\"", ScriptFault::WrongKind),
+        ("quit_limit = 65536", ScriptFault::OutOfRange),
+        ("quit_limit = -1\ntype = 1", ScriptFault::OutOfRange),
+        ("test = \"x\"\ntype = 1", ScriptFault::WrongKind),
+        ("test = \"x\"", ScriptFault::UnknownType),
+        (
+            "test = \"x\"\ntype = [{ name = \"x\", kind = \"sequence\" }]",
+            ScriptFault::WrongKind,
+        ),
+    ] {
+        let text = format!(in rt.alloc(); "version = 1\n{rest}")?;
+        assert_eq!(rt;
+            fault_of(rt.alloc(), text.as_str()),
+            Some(fault),
+            "of {rest}"
+        );
+    }
+    Ok(())
+}
+
+#[test]
+fn faults_of_types(rt: HostRuntime) -> Result<(), Fail> {
+    for (rest, fault) in [
+        ("[type]", ScriptFault::WrongKind),
+        ("type.name = \"a\"", ScriptFault::WrongKind),
+        ("type = [1]", ScriptFault::WrongKind),
+        ("type = [{}]", ScriptFault::Missing),
+        ("type = [{ name = \"a\" }]", ScriptFault::Missing),
+        ("type = [{ name = 1, kinds = 1 }]", ScriptFault::UnknownKey),
+        (
+            "[[type]]\nname = \"a\"\nkind = \"component\"\n[type.more]\nkind = \"sequence\"",
+            ScriptFault::UnknownKey,
+        ),
+        (
+            "type = [{ name = \"a.b\", kind = 3 }]",
+            ScriptFault::BadName,
+        ),
+        (
+            "type = [{ name = \"a\", kind = 3 }]",
+            ScriptFault::WrongKind,
+        ),
+        (
+            "type = [{ name = \"a\", kind = \"thing\" }, 1]",
+            ScriptFault::OutOfRange,
+        ),
+        (
+            "type = [{ name = \"a\", kind = \"component\" }, { name = \"a\", kind = 3 }]",
+            ScriptFault::BadName,
+        ),
+        (
+            "type = [{ name = \"a.b\" }]\noverride = 1",
+            ScriptFault::BadName,
+        ),
+    ] {
+        let text = format!(in rt.alloc(); "version = 1\n{rest}")?;
+        assert_eq!(rt;
+            fault_of(rt.alloc(), text.as_str()),
+            Some(fault),
+            "of {rest}"
+        );
+    }
+    Ok(())
+}
+
+#[test]
+fn types_are_counted_before_they_are_read(rt: HostRuntime) -> Result<(), Fail> {
+    for (count, fault) in [
+        (1024, ScriptFault::WrongKind),
+        (1025, ScriptFault::OutOfRange),
+    ] {
+        let mut text = format!(in rt.alloc(); "version = 1\ntype = [")?;
+        for _ in 0..count {
+            text.push_str("1,")?;
+        }
+        text.push_str("]")?;
+        assert_eq!(rt;
+            fault_of(rt.alloc(), text.as_str()),
+            Some(fault),
+            "of {count} types"
+        );
+    }
+    Ok(())
+}
+
+#[test]
+fn faults_of_overrides_and_probes(rt: HostRuntime) -> Result<(), Fail> {
+    for (rest, fault) in [
+        (
+            "override = { orig = \"base\", new = \"better\" }",
+            ScriptFault::WrongKind,
+        ),
+        (
+            "override = [{ orig = \"base\" }]\nprobe = 1",
+            ScriptFault::Missing,
+        ),
+        ("override = [{ new = \"base\" }]", ScriptFault::Missing),
+        (
+            "override = [{ orig = 1, scope = 1 }]",
+            ScriptFault::UnknownKey,
+        ),
+        (
+            "override = [{ orig = \"x\", new = 1 }]",
+            ScriptFault::UnknownType,
+        ),
+        (
+            "override = [{ orig = \"base\", new = \"x\" }]",
+            ScriptFault::UnknownType,
+        ),
+        (
+            "override = [{ orig = \"base\", new = \"items\", at = 3 }]",
+            ScriptFault::WrongKind,
+        ),
+        (
+            "override = [{ orig = \"base\", new = \"items\", at = \"/\" }]",
+            ScriptFault::WrongKind,
+        ),
+        (
+            "override = [{ orig = \"base\", new = \"better\", at = 3 }]",
+            ScriptFault::WrongKind,
+        ),
+        (
+            "override = [{ orig = \"base\", new = \"better\", at = \"/\", replace = 1 }]",
+            ScriptFault::BadName,
+        ),
+        (
+            "override = [{ orig = \"base\", new = \"better\", replace = 1 }]",
+            ScriptFault::WrongKind,
+        ),
+        ("probe = [1]", ScriptFault::WrongKind),
+        (
+            "probe = [{ type = \"base\", path = \"top\", at = 1 }]",
+            ScriptFault::UnknownKey,
+        ),
+        ("probe = [{ path = \"top\" }]", ScriptFault::Missing),
+        (
+            "probe = [{ type = \"x\", path = \"\" }]",
+            ScriptFault::UnknownType,
+        ),
+        ("probe = [{ type = \"base\" }]", ScriptFault::Missing),
+        (
+            "probe = [{ type = \"base\", path = \"\" }]",
+            ScriptFault::BadName,
+        ),
+        (
+            "test = \"x\"\nprobe = [{ type = \"base\" }]",
+            ScriptFault::Missing,
+        ),
+    ] {
+        let text = format!(in rt.alloc(); "{TYPES}\n{rest}")?;
+        assert_eq!(rt;
+            fault_of(rt.alloc(), text.as_str()),
+            Some(fault),
+            "of {rest}"
+        );
+    }
+    Ok(())
+}
+
+#[test]
+fn scripts_at_the_edge_are_read(rt: HostRuntime) -> Result<(), Fail> {
+    for (text, rest) in [
+        ("version = 1", "type = []"),
+        (
+            "version = 1",
+            "time_limit = 1000000000000000000\nquit_limit = 65535",
+        ),
+        (
+            TYPES,
+            "override = [{ orig = \"base\", new = \"base\", at = \"\" }]",
+        ),
+    ] {
+        let text = format!(in rt.alloc(); "{text}\n{rest}")?;
+        assert_eq!(rt; fault_of(rt.alloc(), text.as_str()), None, "of {rest}");
+    }
+    Ok(())
+}

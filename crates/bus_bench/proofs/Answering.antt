@@ -1,0 +1,61 @@
+-- The lines of a script's answers, one after another.
+use Rattle.std.proofs.Common.{◌≡◌, ℕ, ◌+◌, ◌<◌, ◌≤◌, List, [], ◌∷◌, ◌++◌, length, take, get_or, map, reverse, Option, Some, None, Result, Ok, Err, refl, sym, ap, ◌∙◌, arith}
+use Rattle.std.specs.List.{concat}
+use Rattle.std.specs.Io.KnownBytes.{Appends, Keeps}
+use Rattle.std.proofs.lemmas.List.{append_assoc, append-nil, take-map, take_more, take_all, map-append, length-map}
+use Rattle.uvm_glob.specs.Paths.{path_text}
+use Rattle.uvm_factory.specs.Steps.{made, next_of}
+use Rattle.uvm_factory.specs.Overrides.{type_step}
+use Rattle.uvm_factory.specs.Observed.{Kept, types_of, step_at, made_at, next_at}
+use Rattle.bench_script.specs.declared.scripts.Probe.{Probe}
+use Rattle.bench_script.specs.Scripts.{ScriptValue}
+use Rattle.bus_bench.specs.Debugging.{IsFactoryOf, answer_line, made_for, probe_line, debug_lines}
+
+-- one write after another
+pub appends-twice : (a b c : Option (List ℕ)) (x y : List ℕ) → Appends a b x → Appends b c y → Appends a c (x ++ y)
+appends-twice None b c x y first second = tt
+appends-twice (Some xs) None c x y first second = absurd first
+appends-twice (Some xs) (Some ys) None x y first second = absurd second
+appends-twice (Some xs) (Some ys) (Some zs) x y first second = second ∙ ap (λ l. l ++ y) first ∙ append_assoc xs x y
+
+-- nothing was written
+pub appends-nothing : (a b : Option (List ℕ)) → Keeps a b → Appends a b []
+appends-nothing None b kept = tt
+appends-nothing (Some xs) None kept = absurd kept
+appends-nothing (Some xs) (Some ys) kept = kept ∙ sym (append-nil xs)
+
+pub keeps-same : (a : Option (List ℕ)) → Keeps a a
+keeps-same None = tt
+keeps-same (Some xs) = refl
+
+concat-push : (lines : List (List ℕ)) (line : List ℕ) → concat (lines ++ line ∷ []) ≡ concat lines ++ line
+concat-push [] line = append-nil line
+concat-push (x ∷ lines) line = ap (λ rest. x ++ rest) (concat-push lines line) ∙ sym (append_assoc x (concat lines) line)
+
+-- one more line
+pub lines-more : (script : ScriptValue) (i : ℕ) (probe : Probe) → i < length script.probes → probe ≡ get_or script.probes i probe → concat (take (i + 1) (debug_lines script)) ≡ concat (take i (debug_lines script)) ++ probe_line script probe
+unfolding debug_lines
+lines-more script i probe within at =
+    let more : take (i + 1) (debug_lines script) ≡ take i (debug_lines script) ++ probe_line script probe ∷ [] =
+    take-map (probe_line script) (i + 1) script.probes
+    ∙ ap (map (probe_line script)) (take_more script.probes i probe within)
+    ∙ map-append (probe_line script) (take i script.probes) (get_or script.probes i probe ∷ [])
+    ∙ rw (← at, ← take-map (probe_line script) i script.probes) refl in
+    ap concat more ∙ concat-push (take i (debug_lines script)) (probe_line script probe)
+
+-- all the lines
+pub lines-all : (script : ScriptValue) (i : ℕ) → length script.probes ≤ i → take i (debug_lines script) ≡ debug_lines script
+unfolding debug_lines
+lines-all script i end = take_all i (debug_lines script) (rw (length-map script.probes (probe_line script)) end)
+
+-- the factory of a script makes what the script says
+pub made_for-factory : (script : ScriptValue) (kept : Kept) (probe : Probe) → IsFactoryOf script kept → made_at kept probe.path probe.kind ≡ made_for script probe
+made_for-factory script kept probe same =
+    ap (λ types. made (next_at kept probe.path) (length types) probe.kind) same.types
+    ∙ (λ i. made (λ from. next_of from (same.steps from probe.path i)) (length script.types) probe.kind)
+
+-- so its line is the script's
+pub line-factory : (script : ScriptValue) (kept : Kept) (probe : Probe) → IsFactoryOf script kept → answer_line (types_of kept) probe (made_at kept probe.path probe.kind) ≡ probe_line script probe
+line-factory script kept probe same =
+    ap (λ types. answer_line types probe (made_at kept probe.path probe.kind)) same.types
+    ∙ ap (answer_line script.types probe) (made_for-factory script kept probe same)

@@ -1,0 +1,6 @@
+pub mod RowLemmas
+pub mod LevelLemmas
+pub mod CommandLemmas
+pub mod PlainLemmas
+pub mod ReadLemmas
+pub mod Answering

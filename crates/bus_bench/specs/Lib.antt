@@ -1,0 +1,4 @@
+pub mod Commands
+pub mod Debugging
+pub mod Faults
+pub mod Verdicts

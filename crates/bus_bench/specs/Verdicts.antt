@@ -1,0 +1,29 @@
+-- How a run of the program ends.
+use Rattle.std.specs.Prelude.{◌≡◌, ◌⊎◌, ℕ, List, [], ◌∷◌, ◌++◌, Option, Some, None, codes}
+use Rattle.bus_bench.specs.declared.verdicts.Breakage.{Breakage}
+use Rattle.bus_bench.specs.declared.verdicts.Breakage.TheVariants.{Memory, Output, Unread}
+use Rattle.bus_bench.specs.declared.verdicts.Verdict.{Verdict}
+use Rattle.bus_bench.specs.declared.verdicts.Verdict.TheVariants.{Clean, Refused, Broken}
+
+-- the exit status
+abbrev pub status_of : Verdict → ℕ
+status_of Clean = 0
+status_of (Refused fault) = 2
+status_of (Broken breakage) = 3
+
+-- the number is an exit status of the program
+abbrev pub IsStatus : ℕ → Type 0
+IsStatus n = (n ≡ 0) ⊎ ((n ≡ 2) ⊎ (n ≡ 3))
+
+-- what is written to standard error in place of each breakage
+abbrev pub message_of : Breakage → List ℕ
+message_of Memory = codes "memory"
+message_of Output = codes "output fault"
+message_of Unread = codes "cannot read the file"
+
+-- the line that is written to standard error, with its newline (10), or nothing; that of a refused
+-- script has the words of the library that reads scripts
+abbrev pub known_line : Verdict → Option (List ℕ)
+known_line Clean = Some []
+known_line (Refused fault) = None
+known_line (Broken breakage) = Some (codes "bus_bench: " ++ message_of breakage ++ 10 ∷ [])

@@ -1,0 +1,43 @@
+//! What the words of the command line ask for.
+ghost use Rattle.std.specs.Prelude.{◌≡◌};
+ghost use Rattle.bus_bench.specs.Faults.{IsFaultOf};
+ghost use Rattle.bus_bench.specs.declared.jobs.JobFault.TheVariants.{Memory};
+
+use clap::error::ErrorKind;
+use std::alloc::AllocError;
+
+/// What the words of the command line ask for.
+#[derive(Clone, Copy, Debug)]
+pub enum Job<'a> {
+    /// `debug FILE`: read the script in `file`, and print the answers.
+    Debug { file: &'a str },
+}
+
+/// Why the words of the command line ask for nothing.
+#[derive(Debug, Drop)]
+pub enum JobFault {
+    /// The words are none that the program takes, or ask for help. The error's `Display` is the
+    /// text for the user.
+    Refused(clap::Error),
+    /// An allocation was refused.
+    Memory,
+}
+
+impl From<AllocError> for JobFault {
+    ghost from_gives = { λ _ fault. fault ≡ Memory };
+
+    fn from(_error: AllocError) -> JobFault {
+        JobFault::Memory
+    }
+}
+
+impl From<clap::Error> for JobFault {
+    ghost from_gives = { IsFaultOf };
+
+    fn from(error: clap::Error) -> JobFault {
+        match error.kind() {
+            ErrorKind::OutOfMemory => JobFault::Memory,
+            _ => JobFault::Refused(error),
+        }
+    }
+}

@@ -1,0 +1,89 @@
+//! What the program does, on any runtime.
+ghost use Rattle.std.specs.Prelude.{◌≡◌, ◌⊎◌, ◌≤◌, IfErr, IfOk, vec_len};
+ghost use Rattle.bus_bench.specs.Faults.{status_of_fault};
+ghost use Rattle.bus_bench.specs.Verdicts.{IsStatus};
+
+use crate::commands::job;
+use crate::debugging::debug_bench;
+use crate::files::{MOST_BYTES, read_file};
+use crate::jobs::{Job, JobFault};
+use crate::verdicts::{Breakage, Verdict, tell};
+use std::fs::File;
+use std::io::{BufWriter, Write};
+use std::rt::{Env, Files};
+use std::{env, io};
+
+// The exit status where the words are none that the program takes, or ask for help.
+const REFUSED: u8 = 2;
+
+/// Does what the words of the command line ask for, and answers the exit status. What is wrong is
+/// written to `err`.
+pub fn run<R: Env + Files + Print + AllocGlobal, E: Write>(rt: &R, err: &mut E) -> u8
+    ensures { IsStatus result }
+{
+    match words(rt) {
+        Ok(words) => obey(rt, job(rt.alloc(), words.as_slice()), err),
+        Err(error) if error.kind() == io::ErrorKind::OutOfMemory => {
+            tell(&Verdict::Broken(Breakage::Memory), err)
+        }
+        Err(_) => {
+            let _ = writeln!(err, "bus_bench: the command line is not UTF-8");
+            REFUSED
+        }
+    }
+}
+
+fn words<R: Env + AllocGlobal>(rt: &R) -> io::Result<Vec<String>> {
+    Ok(env::args(rt)?.collect(rt.alloc())?)
+}
+
+/// Does what was asked for, and answers the exit status. What is wrong is written to `err`.
+pub fn obey<R: Files + Print + AllocGlobal, E: Write>(
+    rt: &R,
+    asked: Result<Job<'_>, JobFault>,
+    err: &mut E,
+) -> u8
+    ensures status { IsStatus result }
+    ensures fault { IfErr asked.entry (λ fault. result ≡ status_of_fault fault) }
+{
+    match asked {
+        Ok(Job::Debug { file }) => tell(&debug(rt, file), err),
+        Err(JobFault::Refused(error)) => {
+            let _ = write!(err, "{error}");
+            REFUSED
+        }
+        Err(JobFault::Memory) => tell(&Verdict::Broken(Breakage::Memory), err),
+    }
+}
+
+// The command `debug`.
+fn debug<R: Files + Print + AllocGlobal>(rt: &R, file: &str) -> Verdict {
+    match script_in(rt, file) {
+        Ok(bytes) => answer(rt, bytes.as_slice()),
+        Err(verdict) => verdict,
+    }
+}
+
+// The bytes of the script, or of as much of it as is read.
+fn script_in<R: Files + AllocGlobal>(rt: &R, file: &str) -> Result<Vec<u8>, Verdict>
+    ensures bound { IfOk result (λ bytes. vec_len bytes ≤ MOST_BYTES) }
+    ensures err { IfErr result (λ verdict. (verdict ≡ Verdict.Broken Breakage.Memory)
+        ⊎ (verdict ≡ Verdict.Broken Breakage.Unread)) }
+{
+    match File::open(rt, file) {
+        Ok(mut file) => read_file(rt.alloc(), &mut file),
+        Err(_) => Err(Verdict::Broken(Breakage::Unread)),
+    }
+}
+
+// Prints the answers to the script in `bytes`.
+fn answer<R: Print + AllocGlobal>(rt: &R, bytes: &[u8]) -> Verdict {
+    let Ok(mut out) = BufWriter::new(rt.alloc(), io::writer(rt)) else {
+        return Verdict::Broken(Breakage::Memory);
+    };
+    let verdict = debug_bench(rt.alloc(), bytes, &mut out);
+    if out.flush().is_err() && verdict == Verdict::Clean {
+        return Verdict::Broken(Breakage::Output);
+    }
+    verdict
+}

@@ -1,0 +1,84 @@
+-- What one more override does to the step of a type.
+use Rattle.std.proofs.Common.{◌≡◌, ℕ, ◌+◌, ◌<◌, Bool, true, false, not, List, [], ◌∷◌, ◌++◌, length, take, reverse, get_or, filter, Option, Some, None, ◌==◌, ◌&&◌, if◌then◌else◌, unwrap_or, refl, ap, ◌∙◌}
+use Rattle.std.specs.List.{filter_map, cons_option}
+use Rattle.std.specs.Option.{option_or}
+use Rattle.std.proofs.Math.Bool.{and-false}
+use Rattle.std.proofs.lemmas.List.{take_more, reverse-append}
+use Rattle.uvm_glob.specs.Globs.{matches}
+use Rattle.uvm_factory.specs.declared.overrides.Step.TheVariants.{ByInstance, ByType}
+use Rattle.uvm_factory.specs.declared.overrides.Override.{Override}
+use Rattle.uvm_factory.specs.declared.overrides.Override.TheVariants.{Instance, Whole}
+use Rattle.uvm_factory.specs.Steps.{after_instance, after_type, after_override, is_by_instance, gives_way}
+use Rattle.uvm_factory.specs.Overrides.{newest, oldest, in_force, step_from, instance_of, type_of, type_step, StepsAreGiven}
+
+-- no override gives no step
+pub step-none : (kind : ℕ) (text : List ℕ) → type_step [] kind text ≡ None
+unfolding type_step
+step-none kind text = refl
+
+-- one more instance override
+instance_more : (new : ℕ) (first : Option ℕ) (by_type : Option (ℕ × Bool)) → step_from (Some (unwrap_or first new)) by_type ≡ (if not (is_by_instance (step_from first by_type)) && true then Some (ByInstance new) else step_from first by_type)
+instance_more new None None = refl
+instance_more new None (Some o) = refl
+instance_more new (Some old) by_type = refl
+
+-- a list has an override in force
+some_in_force : (x : ℕ × Bool) (xs : List (ℕ × Bool)) → (o : ℕ × Bool) × (in_force (x ∷ xs) ≡ Some o)
+some_in_force x xs = by (newest (filter (λ o. o.1) (x ∷ xs)))
+  where
+    by : (found : Option (ℕ × Bool)) → (o : ℕ × Bool) × (option_or found (oldest (x ∷ xs)) ≡ Some o)
+    by None = (unwrap_or (oldest xs) x, refl)
+    by (Some o) = (o, refl)
+
+-- one more type override
+replacing_more : (new : ℕ) (first : Option ℕ) (by_type : Option (ℕ × Bool)) → step_from first (Some (new, true)) ≡ (if gives_way true (step_from first by_type) then Some (ByType new) else step_from first by_type)
+replacing_more new None None = refl
+replacing_more new None (Some o) = refl
+replacing_more new (Some old) by_type = refl
+
+kept_more : (new : ℕ) (first : Option ℕ) (o : ℕ × Bool) → step_from first (Some o) ≡ (if gives_way false (step_from first (Some o)) then Some (ByType new) else step_from first (Some o))
+kept_more new None o = refl
+kept_more new (Some old) o = refl
+
+first_more : (new : ℕ) (first : Option ℕ) → step_from first (Some (new, false)) ≡ (if gives_way false (step_from first None) then Some (ByType new) else step_from first None)
+first_more new None = refl
+first_more new (Some old) = refl
+
+giving_more : (new : ℕ) (first : Option ℕ) (types : List (ℕ × Bool)) → step_from first (in_force ((new, false) ∷ types)) ≡ (if gives_way false (step_from first (in_force types)) then Some (ByType new) else step_from first (in_force types))
+giving_more new first [] = first_more new first
+giving_more new first (x ∷ xs) =
+    let o = some_in_force x xs in
+    rw o.1 (kept_more new first o.0)
+
+type_more : (replace : Bool) (new : ℕ) (first : Option ℕ) (types : List (ℕ × Bool)) → step_from first (in_force ((new, replace) ∷ types)) ≡ (if gives_way replace (step_from first (in_force types)) then Some (ByType new) else step_from first (in_force types))
+type_more true new first types = replacing_more new first (in_force types)
+type_more false new first types = giving_more new first types
+
+-- the two tests of an instance override, each of which passes or fails
+instance_tests : (this fits : Bool) (new : ℕ) (rest : List ℕ) (by_type : Option (ℕ × Bool)) → step_from (oldest (cons_option (if this && fits then Some new else None) rest)) by_type ≡ (if this && not (is_by_instance (step_from (oldest rest) by_type)) && fits then Some (ByInstance new) else step_from (oldest rest) by_type)
+instance_tests false fits new rest by_type = refl
+instance_tests true false new rest by_type = rw and-false
+instance_tests true true new rest by_type = instance_more new (oldest rest) by_type
+
+type_tests : (this replace : Bool) (new : ℕ) (first : Option ℕ) (types : List (ℕ × Bool)) → step_from first (in_force (cons_option (if this then Some (new, replace) else None) types)) ≡ (if this && gives_way replace (step_from first (in_force types)) then Some (ByType new) else step_from first (in_force types))
+type_tests false replace new first types = refl
+type_tests true replace new first types = type_more replace new first types
+
+-- the step after one more override
+pub step-given : (o : Override) (older : List Override) (kind : ℕ) (text : List ℕ) → type_step (o ∷ older) kind text ≡ after_override o kind text (type_step older kind text)
+unfolding type_step after_instance after_type
+step-given (Instance original new scope) older kind text =
+    instance_tests (original == kind) (matches scope text) new (filter_map (instance_of kind text) older) (in_force (filter_map (type_of kind) older))
+step-given (Whole original new replace) older kind text =
+    type_tests (original == kind) replace new (oldest (filter_map (instance_of kind text) older)) (filter_map (type_of kind) older)
+
+-- the same where the overrides are kept in the order in which they were given
+pub step-push : (os : List Override) (o : Override) (kind : ℕ) (text : List ℕ) → type_step (reverse (os ++ o ∷ [])) kind text ≡ after_override o kind text (type_step (reverse os) kind text)
+step-push os o kind text = ap (λ l. type_step l kind text) (reverse-append os (o ∷ [])) ∙ step-given o (reverse os) kind text
+
+pub step-more : (os : List Override) (i : ℕ) (d : Override) (kind : ℕ) (text : List ℕ) → i < length os → type_step (reverse (take (i + 1) os)) kind text ≡ after_override (get_or os i d) kind text (type_step (reverse (take i os)) kind text)
+step-more os i d kind text within =
+    ap (λ l. type_step (reverse l) kind text) (take_more os i d within) ∙ step-push (take i os) (get_or os i d) kind text
+
+pub steps_are_given : StepsAreGiven
+steps_are_given o older kind text = step-given o older kind text

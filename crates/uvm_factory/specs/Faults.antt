@@ -1,0 +1,45 @@
+-- Why the factory refuses a call, by the types that are registered: their names and kinds, in order.
+use Rattle.std.specs.Prelude.{ℕ, Bool, true, false, List, Option, Some, None, nat_le, length, slice_get, map, nat_eq, position, is_some, if◌then◌else◌}
+use Rattle.std.specs.Cmp.Lexicographic.{pointwise}
+use Rattle.uvm_factory.specs.declared.types.Kind.{Kind}
+use Rattle.uvm_factory.specs.declared.types.Kind.TheVariants.{Component, Sequence}
+use Rattle.uvm_factory.specs.declared.faults.FactoryFault.{FactoryFault}
+use Rattle.uvm_factory.specs.declared.faults.FactoryFault.TheVariants.{Known, NoType, KindDiffers, Full, Memory}
+
+-- the registered types
+abbrev pub Types : Type 0
+Types = List (List ℕ × Kind)
+
+-- what a fault says of a call: want of memory says that nothing is wrong with it
+abbrev pub refusal : FactoryFault → Option FactoryFault
+refusal Known = Some Known
+refusal NoType = Some NoType
+refusal KindDiffers = Some KindDiffers
+refusal Full = Some Full
+refusal Memory = None
+
+-- the place of the type with a name
+abbrev pub type_named : Types → List ℕ → Option ℕ
+type_named types name = position (pointwise nat_eq name) (map (λ t. t.0) types)
+
+-- why a name is not registered
+abbrev pub register_fault : Types → List ℕ → Option FactoryFault
+register_fault types name =
+    if is_some (type_named types name) then Some Known
+    else if nat_le 1024 (length types) then Some Full
+    else None
+
+abbrev pub is_same_kind : Kind → Kind → Bool
+is_same_kind Component Component = true
+is_same_kind Sequence Sequence = true
+is_same_kind Component Sequence = false
+is_same_kind Sequence Component = false
+
+-- why a type is not overridden by another
+abbrev pub fault_between : Option (List ℕ × Kind) → Option (List ℕ × Kind) → Option FactoryFault
+fault_between None new = Some NoType
+fault_between (Some original) None = Some NoType
+fault_between (Some original) (Some new) = if is_same_kind original.1 new.1 then None else Some KindDiffers
+
+abbrev pub override_fault : Types → ℕ → ℕ → Option FactoryFault
+override_fault types original new = fault_between (slice_get types original) (slice_get types new)

@@ -1,0 +1,236 @@
+//! The factory.
+
+ghost use Rattle.std.specs.Prelude.{◌≡◌, ◌∷◌, ◌++◌, ℕ, List, [], length, None, Some, OnOk, OnErr, IfOk, IfErr, option_map, option_copied, slice_get};
+ghost use Rattle.std.specs.Prelude.{nat_eq};
+ghost use Rattle.std.specs.Cmp.Lexicographic.{pointwise};
+ghost use Rattle.indexmap.specs.IndexMap.{get};
+ghost use Rattle.uvm_glob.specs.Paths.{path_text};
+ghost use Rattle.uvm_factory.specs.Faults.{refusal, type_named, register_fault, override_fault};
+ghost use Rattle.uvm_factory.specs.Kept.{Kept, types_of, step_at, next_at, resolved, IsSame};
+ghost use Rattle.uvm_factory.specs.Steps.{original_of, new_of, after_instance, after_type, after_override};
+
+use crate::faults::{FactoryFault, Unmade};
+use crate::overrides::{Override, Step};
+use crate::types::{Kind, TypeId};
+use indexmap::IndexMap;
+use std::alloc::{AllocError, Global};
+use std::marker::Model;
+use uvm_glob::{Glob, Name, Path};
+
+/// The types that are registered, and what replaces them where. Contracts see the types in the order of registration,
+/// as names with kinds, and the step of each type at each path.
+#[derive(Drop)]
+pub struct Factory {
+    // The types in the order of registration.
+    types: IndexMap<Name, Kind>,
+    // The overrides in the order in which they were given.
+    overrides: Vec<Override>,
+}
+
+impl Model for Factory {
+    ghost use Rattle.std.specs.Prelude.{◌≡◌, ◌≤◌, length, reverse, nat_eq};
+    ghost use Rattle.std.specs.Cmp.Lexicographic.{pointwise};
+    ghost use Rattle.indexmap.specs.IndexMap.{IsUnique};
+    ghost use Rattle.uvm_factory.specs.Kept.{Kept};
+
+    ghost Value = { Kept };
+
+    ghost view = { λ f. record { types = f.types.entries; overrides = reverse f.overrides.items } };
+
+    ghost invariant = { λ f. length f.types.entries ≤ 1024 };
+}
+
+impl Factory {
+    /// The most types that a factory takes.
+    pub const MAX_TYPES: usize = 1024;
+
+    /// A factory with no types.
+    #[tactic(auto, unfolding(crate::specs::Kept::types_of, crate::specs::Kept::step_at))]
+    pub fn new(alloc: Global) -> Factory
+        ensures types { types_of result ≡ [] }
+        ensures steps { (kind : ℕ) (path : List (List ℕ)) → step_at result kind path ≡ None }
+    {
+        Factory {
+            types: IndexMap::new(alloc),
+            overrides: Vec::new(alloc),
+        }
+    }
+
+    /// Registers a type: the first of `Known`, `Full` and `Memory` that holds, if one does.
+    #[tactic(auto, unfolding(crate::specs::Kept::types_of, crate::specs::Kept::step_at))]
+    pub fn register(&mut self, name: Name, kind: Kind) -> Result<TypeId, FactoryFault>
+        ensures ok { IfOk result (λ id. (register_fault (types_of self.old) name ≡ None) × (id ≡ length (types_of self.old))) }
+        ensures types { OnOk result (types_of self.new ≡ types_of self.old ++ (name, kind) ∷ []) }
+        ensures steps { OnOk result ((asked : ℕ) (path : List (List ℕ)) → step_at self.new asked path ≡ step_at self.old asked path) }
+        ensures err { IfErr result (λ fault. register_fault (types_of self.old) name ≡ refusal fault) }
+        ensures unchanged { OnErr result (IsSame self.old self.new) }
+    {
+        if self.types.get_index_of(&name).is_some() {
+            return Err(FactoryFault::Known);
+        }
+        let place = self.types.len();
+        if place >= Factory::MAX_TYPES {
+            return Err(FactoryFault::Full);
+        }
+        add_type(&mut self.types, name, kind)?;
+        Ok(TypeId::new(place as u16))
+    }
+
+    /// Replaces a type by another of its kind at every path; without `replace` an override that is there stays. Gives
+    /// the first of `NoType`, `KindDiffers` and `Memory` that holds, if one does.
+    #[tactic(auto, unfolding(crate::specs::Kept::types_of))]
+    pub fn override_type(
+        &mut self,
+        original: TypeId,
+        new: TypeId,
+        replace: bool,
+    ) -> Result<(), FactoryFault>
+        ensures ok { OnOk result (override_fault (types_of self.old) original new ≡ None) }
+        ensures steps { OnOk result ((kind : ℕ) (path : List (List ℕ)) →
+            step_at self.new kind path ≡ after_type original new replace kind (step_at self.old kind path)) }
+        ensures types { OnOk result (types_of self.new ≡ types_of self.old) }
+        ensures err { IfErr result (λ fault. override_fault (types_of self.old) original new ≡ refusal fault) }
+        ensures unchanged { OnErr result (IsSame self.old self.new) }
+    {
+        self.add(Override::Whole {
+            original,
+            new,
+            replace,
+        })
+    }
+
+    /// Replaces a type by another of its kind at the paths that the glob matches; of several such overrides the first
+    /// given prevails. Gives the first of `NoType`, `KindDiffers` and `Memory` that holds, if one does.
+    #[tactic(auto, unfolding(crate::specs::Kept::types_of))]
+    pub fn override_inst(
+        &mut self,
+        original: TypeId,
+        new: TypeId,
+        scope: Glob,
+    ) -> Result<(), FactoryFault>
+        ensures ok { OnOk result (override_fault (types_of self.old) original new ≡ None) }
+        ensures steps { OnOk result ((kind : ℕ) (path : List (List ℕ)) →
+            step_at self.new kind path ≡ after_instance original new scope kind (path_text path) (step_at self.old kind path)) }
+        ensures types { OnOk result (types_of self.new ≡ types_of self.old) }
+        ensures err { IfErr result (λ fault. override_fault (types_of self.old) original new ≡ refusal fault) }
+        ensures unchanged { OnErr result (IsSame self.old self.new) }
+    {
+        self.add(Override::Instance {
+            original,
+            new,
+            scope,
+        })
+    }
+
+    /// The type that is made where one is asked for at a path: where the overrides lead, `Loop` where they lead in a
+    /// loop, or `NoType`. Takes no memory.
+    #[tactic(auto, using(crate::proofs::Rows::rows), unfolding(crate::specs::Kept::types_of))]
+    pub fn resolve(&self, asked: TypeId, path: &Path) -> Result<TypeId, Unmade>
+        ensures { result ≡ resolved self.now path.now asked }
+    {
+        if asked.place() >= self.types.len() {
+            return Err(Unmade::NoType);
+        }
+        let mut kind = asked;
+        let mut left = self.types.len();
+        while let Some(next) = self.next(kind, path) {
+            if left == 0 {
+                return Err(Unmade::Loop);
+            }
+            left -= 1;
+            kind = next;
+        }
+        Ok(kind)
+    }
+
+    /// What a type is replaced by at a path, if an override reaches it there. Takes no memory.
+    pub fn step(&self, kind: TypeId, path: &Path) -> Option<Step>
+        ensures { result ≡ step_at self.now kind path.now }
+    {
+        let mut step = None;
+        for given in &self.overrides {
+            step = given.after(kind, path, step);
+        }
+        step
+    }
+
+    /// The type of a name. Takes no memory.
+    #[tactic(auto, unfolding(crate::specs::Kept::types_of))]
+    pub fn find(&self, name: &Name) -> Option<TypeId>
+        ensures { result ≡ type_named (types_of self.now) name.now }
+    {
+        match self.types.get_index_of(name) {
+            Some(place) => Some(TypeId::new(place as u16)),
+            None => None,
+        }
+    }
+
+    /// The name of a type. Takes no memory.
+    #[tactic(auto, unfolding(crate::specs::Kept::types_of))]
+    pub fn name_of(&self, kind: TypeId) -> Option<&Name>
+        ensures { option_copied result ≡ option_map (λ t. t.0) (slice_get (types_of self.now) kind) }
+    {
+        match self.types.get_index(kind.place()) {
+            Some((name, _)) => Some(name),
+            None => None,
+        }
+    }
+
+    /// The kind of a type. Takes no memory.
+    #[tactic(auto, unfolding(crate::specs::Kept::types_of))]
+    pub fn kind_of(&self, kind: TypeId) -> Option<Kind>
+        ensures { result ≡ option_map (λ t. t.1) (slice_get (types_of self.now) kind) }
+    {
+        match self.types.get_index(kind.place()) {
+            Some((_, kind)) => Some(*kind),
+            None => None,
+        }
+    }
+
+    // Adds an override, if its types are of one kind.
+    #[tactic(auto, unfolding(crate::specs::Kept::types_of, crate::specs::Kept::step_at))]
+    fn add(&mut self, given: Override) -> Result<(), FactoryFault>
+        ensures ok { OnOk result (override_fault (types_of self.old) (original_of given) (new_of given) ≡ None) }
+        ensures steps { OnOk result ((kind : ℕ) (path : List (List ℕ)) →
+            step_at self.new kind path ≡ after_override given kind (path_text path) (step_at self.old kind path)) }
+        ensures types { OnOk result (types_of self.new ≡ types_of self.old) }
+        ensures err { IfErr result (λ fault. override_fault (types_of self.old) (original_of given) (new_of given) ≡ refusal fault) }
+        ensures unchanged { OnErr result (IsSame self.old self.new) }
+    {
+        if let Some(fault) = self.override_fault(given.original(), given.new_type()) {
+            return Err(fault);
+        }
+        self.overrides.push(given)?;
+        Ok(())
+    }
+
+    // Why a type is not overridden by another.
+    #[tactic(auto, unfolding(crate::specs::Kept::types_of))]
+    fn override_fault(&self, original: TypeId, new: TypeId) -> Option<FactoryFault>
+        ensures { result ≡ override_fault (types_of self.now) original new }
+    {
+        match (self.kind_of(original), self.kind_of(new)) {
+            (Some(original), Some(new)) if original == new => None,
+            (Some(_), Some(_)) => Some(FactoryFault::KindDiffers),
+            _ => Some(FactoryFault::NoType),
+        }
+    }
+
+    // The next type of the row, if it is another.
+    fn next(&self, kind: TypeId, path: &Path) -> Option<TypeId>
+        ensures { result ≡ next_at self.now path.now kind }
+    {
+        let new = self.step(kind, path)?.new_type();
+        if new == kind { None } else { Some(new) }
+    }
+}
+
+// Adds a type behind the others.
+fn add_type(types: &mut IndexMap<Name, Kind>, name: Name, kind: Kind) -> Result<(), AllocError>
+    requires { get (pointwise nat_eq) types.old name ≡ None }
+    ensures ok { OnOk result (types.new.entries ≡ types.old.entries ++ (name, kind) ∷ []) }
+    ensures err { OnErr result (types.new.entries ≡ types.old.entries) }
+{
+    types.insert(name, kind)?;
+    Ok(())
+}

@@ -1,0 +1,76 @@
+//! Why a call of the factory is refused.
+
+use std::alloc::{AllocError, AllocFailed};
+use std::error::Error;
+use std::fmt;
+
+/// Why the factory does not register or override, in the order in which it is looked for.
+#[derive(Clone, Copy, Debug, PartialEq, Eq)]
+pub enum FactoryFault {
+    /// A type of that name is registered.
+    Known,
+    /// No such type is registered.
+    NoType,
+    /// One type is a component's and the other a sequence's.
+    KindDiffers,
+    /// 1,024 types are registered.
+    Full,
+    /// Memory was refused.
+    Memory,
+}
+
+impl fmt::Display for FactoryFault {
+    fn fmt<W: fmt::Write>(&self, f: &mut fmt::Formatter<W>) -> fmt::Result {
+        f.write_str(match self {
+            FactoryFault::Known => "type known",
+            FactoryFault::NoType => "no such type",
+            FactoryFault::KindDiffers => "types of two kinds",
+            FactoryFault::Full => "too many types",
+            FactoryFault::Memory => "out of memory",
+        })
+    }
+}
+
+impl Error for FactoryFault {}
+
+impl From<AllocError> for FactoryFault {
+    ghost use Rattle.std.specs.Prelude.{◌≡◌};
+    ghost use Rattle.uvm_factory.specs.declared.faults.FactoryFault.TheVariants.{Memory};
+
+    ghost from_gives = { λ _ fault. fault ≡ Memory };
+
+    fn from(_: AllocError) -> FactoryFault {
+        FactoryFault::Memory
+    }
+}
+
+impl<T: Drop> From<AllocFailed<T>> for FactoryFault {
+    ghost use Rattle.std.specs.Prelude.{◌≡◌};
+    ghost use Rattle.uvm_factory.specs.declared.faults.FactoryFault.TheVariants.{Memory};
+
+    ghost from_gives = { λ _ fault. fault ≡ Memory };
+
+    fn from(_: AllocFailed<T>) -> FactoryFault {
+        FactoryFault::Memory
+    }
+}
+
+/// Why no type is made.
+#[derive(Clone, Copy, Debug, PartialEq, Eq)]
+pub enum Unmade {
+    /// No such type is registered.
+    NoType,
+    /// The overrides lead from the type in a loop.
+    Loop,
+}
+
+impl fmt::Display for Unmade {
+    fn fmt<W: fmt::Write>(&self, f: &mut fmt::Formatter<W>) -> fmt::Result {
+        f.write_str(match self {
+            Unmade::NoType => "no such type",
+            Unmade::Loop => "override loop",
+        })
+    }
+}
+
+impl Error for Unmade {}

@@ -1,0 +1,15 @@
+//! The factory: which type is made where a type is asked for at a path (IEEE 1800.2-2020, Clause 8).
+#![tactic(auto)]
+
+mod factories;
+mod faults;
+pub mod laws;
+mod overrides;
+#[cfg(test)]
+mod tests;
+mod types;
+
+pub use factories::Factory;
+pub use faults::{FactoryFault, Unmade};
+pub use overrides::{Override, Step};
+pub use types::{Kind, TypeId};

@@ -1,0 +1,43 @@
+//! What a type is.
+
+ghost use Rattle.std.specs.Prelude.{◌≡◌};
+
+use std::marker::Model;
+
+/// What objects of a type are.
+#[derive(Clone, Copy, Debug, PartialEq, Eq)]
+pub enum Kind {
+    Component,
+    Sequence,
+}
+
+/// A type of a factory: its place in the order of registration, from 0. A factory gives these numbers; one of another
+/// factory stands for the type at the same place.
+#[derive(Clone, Copy, Debug, PartialEq, Eq)]
+pub struct TypeId {
+    place: u16,
+}
+
+impl Model for TypeId {
+    ghost use Rattle.std.specs.Prelude.{ℕ};
+
+    ghost Value = { ℕ };
+
+    ghost view = { λ id. id.place };
+
+    ghost inverse = { λ n. record { place = n } };
+}
+
+impl TypeId {
+    pub(crate) fn new(place: u16) -> TypeId
+        ensures { result ≡ place }
+    {
+        TypeId { place }
+    }
+
+    pub(crate) fn place(self) -> usize
+        ensures { result ≡ self }
+    {
+        usize::from(self.place)
+    }
+}

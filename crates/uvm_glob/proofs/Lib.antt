@@ -1,0 +1,4 @@
+pub mod Meaning
+pub mod Parts
+pub mod PathTexts
+pub mod Splits

@@ -1,0 +1,11 @@
+use Rattle.std.proofs.Common.{◌==◌, length, rules, tests}
+use Rattle.std.proofs.lemmas.Iterator.Search.{any_from_yields_List}
+use Rattle.std.proofs.lemmas.Iterator.Splits.{YieldsList-from_slice_split}
+use Rattle.uvm_glob.proofs.paths.has_empty_name.Goals as goal
+
+-- the call goes over what stands between the dots
+pub returns : goal.returns
+returns c =
+    any_from_yields_List (λ name. length name == 0) _ _ _ c.any.ensures.ran
+    (YieldsList-from_slice_split _ (λ b. b == 46) _ c.split.ensures.rest c.split.ensures.done c.split.ensures.closure (λ x b q k. search (rules, tests)))
+    (λ x b q k. search (rules, tests))

@@ -1,0 +1,25 @@
+-- Why a text is refused.
+use Rattle.std.specs.Prelude.{Bool, true, false, Option, Some, None, Result, Ok, Err}
+use Rattle.uvm_glob.specs.declared.faults.PathFault.{PathFault}
+use Rattle.uvm_glob.specs.declared.faults.PathFault.TheVariants.{Empty, TooLong, BadByte, TooDeep, Memory}
+
+-- what a fault says of the text: want of memory says that nothing is wrong with it
+abbrev pub refusal : PathFault → Option PathFault
+refusal Empty = Some Empty
+refusal TooLong = Some TooLong
+refusal BadByte = Some BadByte
+refusal TooDeep = Some TooDeep
+refusal Memory = None
+
+-- the first of the four faults of a text that is there
+abbrev pub first_fault : Bool → Bool → Bool → Bool → Option PathFault
+first_fault true too_long bad_byte too_deep = Some Empty
+first_fault false true bad_byte too_deep = Some TooLong
+first_fault false false true too_deep = Some BadByte
+first_fault false false false true = Some TooDeep
+first_fault false false false false = None
+
+-- the value, unless there is a fault
+abbrev pub unless : {T E : Type 0} → Option E → T → Result T E
+unless None value = Ok value
+unless (Some fault) value = Err fault

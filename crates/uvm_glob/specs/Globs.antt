@@ -1,0 +1,46 @@
+-- Which texts a glob matches.
+use Rattle.std.specs.Prelude.{◌≡◌, ◌≢◌, ℕ, Bool, true, false, not, ◌&&◌, ◌==◌, List, [], ◌∷◌, ◌++◌, length, nat_le, nat_lt, Option, if◌then◌else◌, MatchBool}
+use Rattle.std.specs.List.{list_any, list_all}
+use Rattle.uvm_glob.specs.declared.faults.PathFault.{PathFault}
+use Rattle.uvm_glob.specs.Faults.{first_fault}
+
+-- the text splits into u and v, of which P holds
+abbrev pub SomeSplit : List ℕ → (List ℕ → List ℕ → Type 0) → Type 0
+SomeSplit text P = (u : List ℕ) × (v : List ℕ) × (text ≡ u ++ v) × P u v
+
+-- The glob matches the text: `*` (42) stands for zero or more characters, `+` (43) for one or more, `?` (63) for
+-- exactly one, and every other character for itself.
+abbrev pub Matches : List ℕ → List ℕ → Type 0
+Matches [] text = text ≡ []
+Matches (c ∷ rest) text =
+    MatchBool (c == 42) (SomeSplit text (λ u v. Matches rest v))
+    (MatchBool (c == 43) (SomeSplit text (λ u v. (u ≢ []) × Matches rest v))
+    (MatchBool (c == 63) (SomeSplit text (λ u v. (length u ≡ 1) × Matches rest v))
+    (SomeSplit text (λ u v. (u ≡ c ∷ []) × Matches rest v))))
+
+-- the text itself, and what is left of it after each of its characters
+abbrev pub rests_of : List ℕ → List (List ℕ)
+rests_of [] = [] ∷ []
+rests_of (b ∷ text) = (b ∷ text) ∷ rests_of text
+
+-- the test of what is left after the first character, if there is one that passes
+abbrev pub after_one : (ℕ → Bool) → (List ℕ → Bool) → List ℕ → Bool
+after_one passes test [] = false
+after_one passes test (b ∷ text) = passes b && test text
+
+-- `Matches` as a test
+unfoldable pub matches : List ℕ → List ℕ → Bool
+matches [] text = length text == 0
+matches (c ∷ rest) text =
+    if c == 42 then list_any (matches rest) (rests_of text)
+    else if c == 43 then after_one (λ _. true) (λ left. list_any (matches rest) (rests_of left)) text
+    else if c == 63 then after_one (λ _. true) (matches rest) text
+    else after_one (λ b. c == b) (matches rest) text
+
+-- a byte that may stand in a glob: any but `/` (47)
+abbrev pub is_glob_byte : ℕ → Bool
+is_glob_byte b = nat_le 33 b && nat_le b 126 && not (b == 47)
+
+-- the first fault of a text as a glob
+unfoldable pub glob_fault : List ℕ → Option PathFault
+glob_fault text = first_fault false (nat_lt 1024 (length text)) (not (list_all is_glob_byte text)) false

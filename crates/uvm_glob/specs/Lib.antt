@@ -1,0 +1,6 @@
+pub mod Faults
+pub mod Names
+pub mod Held
+pub mod Paths
+pub mod Globs
+pub mod Parts

@@ -1,0 +1,37 @@
+-- Paths as lists of names, and their texts.
+use Rattle.std.specs.Prelude.{ℕ, false, not, ◌||◌, ◌==◌, List, [], ◌∷◌, ◌++◌, length, nat_lt, Option}
+use Rattle.std.specs.List.{list_any, list_all, join_with_byte, slice_split}
+use Rattle.uvm_glob.specs.declared.faults.PathFault.{PathFault}
+use Rattle.uvm_glob.specs.Faults.{first_fault}
+use Rattle.uvm_glob.specs.Names.{is_name_byte}
+
+-- a path's text: its names, with a dot between each two
+abbrev pub path_text : List (List ℕ) → List ℕ
+path_text names = join_with_byte 46 names
+
+-- what stands between the dots of a text
+abbrev pub between_dots : List ℕ → List (List ℕ)
+between_dots text = slice_split (λ b. b == 46) text
+
+-- the names that a text stands for: the empty text is the top's
+abbrev pub names_of : List ℕ → List (List ℕ)
+names_of [] = []
+names_of (b ∷ text) = between_dots (b ∷ text)
+
+-- the first fault of a list of names as a path
+unfoldable pub path_fault : List (List ℕ) → Option PathFault
+path_fault names =
+    first_fault (list_any (λ name. length name == 0) names)
+    (list_any (λ name. nat_lt 64 (length name)) names || nat_lt 1024 (length (path_text names)))
+    (not (list_all (list_all is_name_byte) names))
+    (nat_lt 32 (length names))
+
+-- two texts with a dot between them, which an empty one does without
+abbrev pub dotted : List ℕ → List ℕ → List ℕ
+dotted [] back = back
+dotted (b ∷ front) [] = b ∷ front
+dotted (b ∷ front) (d ∷ back) = b ∷ front ++ 46 ∷ d ∷ back
+
+-- the first fault of a path, so far as it lies in the length of its text and the number of its names
+abbrev pub size_fault : ℕ → ℕ → Option PathFault
+size_fault bytes names = first_fault false (nat_lt 1024 bytes) false (nat_lt 32 names)

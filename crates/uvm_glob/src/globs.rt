@@ -1,0 +1,102 @@
+//! Globs, and which paths they match.
+
+ghost use Rattle.std.specs.Prelude.{◌≡◌, ◌↔◌, IsTrue, IfOk, IfErr, None};
+ghost use Rattle.std.specs.List.{list_all};
+ghost use Rattle.uvm_glob.specs.Faults.{refusal};
+ghost use Rattle.uvm_glob.specs.Globs.{Matches, matches, glob_fault, is_glob_byte};
+ghost use Rattle.uvm_glob.specs.Paths.{dotted, path_text};
+
+use crate::faults::PathFault;
+use crate::matching::matches_text;
+use crate::paths::{Path, dotted};
+use std::alloc::{AllocError, Global};
+use std::marker::Model;
+
+/// A glob: bytes of 0x21 to 0x7E without `/`. `*` stands for zero or more characters, `+` for one or more, `?` for
+/// exactly one, and every other character for itself, `.` and `[` among them. Contracts see its bytes.
+#[derive(Debug, Drop)]
+pub struct Glob {
+    text: Vec<u8>,
+}
+
+impl Model for Glob {
+    ghost use Rattle.std.specs.Prelude.{List, ℕ};
+
+    ghost Value = { List ℕ };
+
+    ghost view = { λ g. g.text.items };
+}
+
+impl Glob {
+    /// The most bytes of a glob that `new` takes. One made by `under` may have more.
+    pub const MAX_LEN: usize = 1024;
+
+    /// The glob with this text, which may be empty: the first of `TooLong`, `BadByte` and `Memory` that holds, if one
+    /// does.
+    pub fn new(alloc: Global, text: &[u8]) -> Result<Glob, PathFault>
+        ensures ok { IfOk result (λ glob. (glob_fault text.now ≡ None) × (glob ≡ text.now)) }
+        ensures err { IfErr result (λ fault. glob_fault text.now ≡ refusal fault) }
+    {
+        match glob_fault(text) {
+            Some(fault) => Err(fault),
+            None => Ok(Glob {
+                text: Vec::from_slice(alloc, text)?,
+            }),
+        }
+    }
+
+    /// The glob for what lies under a path: the path, a dot and the glob; the path alone where the glob is empty, and
+    /// the glob alone where the path is the top's.
+    pub fn under(alloc: Global, path: &Path, glob: &Glob) -> Result<Glob, AllocError>
+        ensures { IfOk result (λ under. under ≡ dotted (path_text path.now) glob.now) }
+    {
+        Ok(Glob {
+            text: dotted(alloc, path.text(), glob.text.as_slice())?,
+        })
+    }
+
+    /// Whether the glob matches the whole text of the path. Takes no memory.
+    pub fn matches(&self, path: &Path) -> bool
+        ensures value { result ≡ matches self.now (path_text path.now) }
+        ensures meaning { IsTrue result ↔ Matches self.now (path_text path.now) }
+    {
+        matches_text(self.text.as_slice(), path.text())
+    }
+
+    /// An equal glob.
+    pub fn copy(&self) -> Result<Glob, AllocError>
+        ensures { IfOk result (λ glob. glob ≡ self.now) }
+    {
+        Ok(Glob {
+            text: self.text.clone()?,
+        })
+    }
+}
+
+// The first fault of a text as a glob.
+#[tactic(auto, unfolding(crate::specs::Globs::glob_fault))]
+fn glob_fault(text: &[u8]) -> Option<PathFault>
+    ensures { result ≡ glob_fault text.now }
+{
+    if text.len() > Glob::MAX_LEN {
+        Some(PathFault::TooLong)
+    } else if !are_glob_bytes(text) {
+        Some(PathFault::BadByte)
+    } else {
+        None
+    }
+}
+
+// Whether each of the bytes may stand in a glob.
+fn are_glob_bytes(bytes: &[u8]) -> bool
+    ensures { result ≡ list_all is_glob_byte bytes.now }
+{
+    bytes.iter().all(|b| is_glob_byte(*b))
+}
+
+// Whether the byte may stand in a glob.
+fn is_glob_byte(b: u8) -> bool
+    ensures { result ≡ is_glob_byte b }
+{
+    matches!(b, 0x21..=0x7e) && b != b'/'
+}

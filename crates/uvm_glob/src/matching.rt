@@ -1,0 +1,113 @@
+//! Matches globs with texts, over the parts of the glob between its stars. It takes no memory, and at most about as many
+//! steps as the two lengths multiplied, or added for a glob with one star.
+
+ghost use Rattle.std.specs.Prelude.{◌≡◌, ◌≤◌, ◌↔◌, ◌++◌, IsTrue, IsFalse, length, option_copied};
+ghost use Rattle.std.specs.List.{list_any};
+ghost use Rattle.uvm_glob.specs.Globs.{Matches, matches};
+ghost use Rattle.uvm_glob.specs.Parts.{is_star, begins_with_star, fits, fits_at_end, after_first_fit, after_least};
+
+// Whether the glob matches the text. The part of the glob before its first star stands at the front of the text.
+pub(crate) fn matches_text(glob: &[u8], text: &[u8]) -> bool
+    ensures value { result ≡ matches glob.now text.now }
+    ensures meaning { IsTrue result ↔ Matches glob.now text.now }
+{
+    let (part, rest) = split_at_star(glob);
+    fits(part, text) && matches_from_star(rest, &text[part.len()..])
+}
+
+// Whether a glob with no part before its first star matches the text. Of the parts behind the stars the last stands at
+// the end of the text, and each other where it fits first, since what it leaves is then the longest.
+fn matches_from_star(mut glob: &[u8], mut text: &[u8]) -> bool
+    requires { IsTrue (begins_with_star glob.now) }
+    ensures { result ≡ matches glob.now text.now }
+{
+    while let Some((star, after_star)) = glob.split_first() {
+        let Some(left) = after_least(*star, text) else {
+            return false;
+        };
+        let (part, rest) = split_at_star(after_star);
+        if rest.is_empty() {
+            return fits_at_end(part, left);
+        }
+        let Some(left) = after_first_fit(part, left) else {
+            return false;
+        };
+        glob = rest;
+        text = left;
+    }
+    text.is_empty()
+}
+
+// Whether the byte stands for more than one.
+fn is_star(byte: u8) -> bool
+    ensures { result ≡ is_star byte }
+{
+    byte == b'*' || byte == b'+'
+}
+
+// What is left of the text after the fewest bytes that the star takes, if it has them.
+fn after_least(star: u8, text: &[u8]) -> Option<&[u8]>
+    ensures { option_copied result ≡ after_least star text.now }
+{
+    if star == b'+' {
+        text.get(1..)
+    } else {
+        Some(text)
+    }
+}
+
+// The part of the glob before its first star, and the rest.
+#[tactic(auto, using(crate::proofs::Parts::star_here))]
+fn split_at_star(glob: &[u8]) -> (&[u8], &[u8])
+    ensures whole { result.0.now ++ result.1.now ≡ glob.now }
+    ensures part { IsFalse (list_any is_star result.0.now) }
+    ensures rest { IsTrue (begins_with_star result.1.now) }
+{
+    for (i, byte) in glob.iter().enumerate() {
+        if is_star(*byte) {
+            return glob.split_at(i);
+        }
+    }
+    glob.split_at(glob.len())
+}
+
+// Whether the text begins with the part, in which `?` stands for any byte.
+#[tactic(auto, using(crate::proofs::Parts::fits_short, crate::proofs::Parts::fits_from))]
+fn fits(part: &[u8], text: &[u8]) -> bool
+    ensures value { result ≡ fits part.now text.now }
+    ensures within { IsTrue result → length part.now ≤ length text.now }
+{
+    if text.len() < part.len() {
+        return false;
+    }
+    for (i, byte) in part.iter().enumerate() {
+        if *byte != b'?' && *byte != text[i] {
+            return false;
+        }
+    }
+    true
+}
+
+// Whether the text ends with the part.
+fn fits_at_end(part: &[u8], text: &[u8]) -> bool
+    ensures { result ≡ fits_at_end part.now text.now }
+{
+    part.len() <= text.len() && fits(part, &text[text.len() - part.len()..])
+}
+
+// What is left of the text after the first place where the part fits.
+#[tactic(auto, using(crate::proofs::Parts::first_place))]
+fn after_first_fit<'a>(part: &[u8], text: &'a [u8]) -> Option<&'a [u8]>
+    ensures { option_copied result ≡ after_first_fit part.now text.now }
+{
+    if text.len() < part.len() {
+        return None;
+    }
+    for place in 0..=text.len() - part.len() {
+        let rest = &text[place..];
+        if fits(part, rest) {
+            return Some(&rest[part.len()..]);
+        }
+    }
+    None
+}

@@ -1,0 +1,151 @@
+//! Names of components, types and fields.
+
+ghost use Rattle.std.specs.Prelude.{◌≡◌, ◌≤◌, ◌-◌, ◌++◌, length, replicate, None, IfNone, nat_eq};
+ghost use Rattle.std.specs.List.{list_all};
+ghost use Rattle.std.specs.Cmp.{partial_equiv_from_equiv};
+ghost use Rattle.std.specs.Cmp.Lexicographic.{pointwise, nat_list_eq_equiv};
+ghost use Rattle.std.specs.Cmp.Rules.{hashing};
+ghost use Rattle.std.specs.Hash.{slice, u8};
+ghost use Rattle.std.proofs.Common.{rules};
+ghost use Rattle.uvm_glob.specs.Faults.{unless};
+ghost use Rattle.uvm_glob.specs.Names.{name_fault, is_name_byte};
+
+use crate::faults::PathFault;
+use std::fmt;
+use std::hash::{Hash, Hasher};
+use std::marker::Model;
+
+/// A name: 1 to 64 bytes of 0x21 to 0x7E, none of them `.`, `*`, `+`, `?` or `/`. It is held in place, and contracts
+/// see its bytes.
+#[derive(Clone, Copy)]
+pub struct Name {
+    len: u8,
+    // The bytes, and zeros after them.
+    bytes: [u8; 64],
+}
+
+impl Model for Name {
+    ghost use Rattle.std.specs.Prelude.{◌≡◌, ◌≤◌, ◌-◌, ◌++◌, List, ℕ, length, take, drop, replicate, None};
+    ghost use Rattle.uvm_glob.specs.Names.{name_fault};
+
+    ghost Value = { List ℕ };
+
+    ghost view = { λ n. take n.len n.bytes };
+
+    ghost invariant = { λ n. (n.len ≤ 64) × (length n.bytes ≡ 64) × (name_fault (take n.len n.bytes) ≡ None) × (drop n.len n.bytes ≡ replicate (64 - n.len) 0) };
+
+    ghost inverse = { λ text. record { len = length text; bytes = text ++ replicate (64 - length text) 0 } };
+
+    ghost use Rattle.uvm_glob.specs.Held.{within, held_len, held_bytes};
+
+    ghost inverse_ok = { λ n holds i. record {
+      len = held_len n.len n.bytes (within n.len n.bytes holds.0 holds.1) i;
+      bytes = held_bytes n.len n.bytes (within n.len n.bytes holds.0 holds.1) holds.3 i;
+    } };
+}
+
+impl Name {
+    /// The most bytes of a name.
+    pub const MAX_LEN: usize = 64;
+
+    /// The name with these bytes: the first of `Empty`, `TooLong` and `BadByte` that holds, if one does.
+    pub fn new(bytes: &[u8]) -> Result<Name, PathFault>
+        ensures { result ≡ unless (name_fault bytes.now) bytes.now }
+    {
+        match name_fault(bytes) {
+            Some(fault) => Err(fault),
+            None => Ok(Name {
+                len: bytes.len() as u8,
+                bytes: padded(bytes),
+            }),
+        }
+    }
+
+    /// The bytes of the name.
+    pub fn as_bytes(&self) -> &[u8]
+        ensures value { result.now ≡ self.now }
+        ensures name { name_fault self.now ≡ None }
+    {
+        &self.bytes[..usize::from(self.len)]
+    }
+}
+
+impl PartialEq for Name {
+    ghost eq = { pointwise nat_eq };
+
+    ghost laws = { partial_equiv_from_equiv nat_list_eq_equiv };
+
+    fn eq(&self, other: &Name) -> bool {
+        self.as_bytes() == other.as_bytes()
+    }
+}
+
+impl Eq for Name {
+    ghost laws = { nat_list_eq_equiv };
+}
+
+impl Hash for Name {
+    ghost hash_input = { slice u8 };
+
+    ghost respects_eq = { Prim.search (hashing, rules) };
+
+    fn hash<H: Hasher>(&self, state: &mut H) {
+        self.as_bytes().hash(state);
+    }
+}
+
+impl fmt::Display for Name {
+    fn fmt<W: fmt::Write>(&self, f: &mut fmt::Formatter<W>) -> fmt::Result {
+        for b in self.as_bytes() {
+            f.write_char(char::from(*b))?;
+        }
+        Ok(())
+    }
+}
+
+impl fmt::Debug for Name {
+    fn fmt<W: fmt::Write>(&self, f: &mut fmt::Formatter<W>) -> fmt::Result {
+        write!(f, "\"{self}\"")
+    }
+}
+
+// The bytes, and zeros after them.
+fn padded(bytes: &[u8]) -> [u8; 64]
+    requires { length bytes.now ≤ 64 }
+    ensures { result ≡ bytes.now ++ replicate (64 - length bytes.now) 0 }
+{
+    let mut held = [0; 64];
+    held[..bytes.len()].copy_from_slice(bytes);
+    held
+}
+
+// The first fault of the bytes as a name.
+#[tactic(auto, unfolding(crate::specs::Names::name_fault))]
+fn name_fault(bytes: &[u8]) -> Option<PathFault>
+    ensures fault { result ≡ name_fault bytes.now }
+    ensures short { IfNone result (length bytes.now ≤ 64) }
+{
+    if bytes.is_empty() {
+        Some(PathFault::Empty)
+    } else if bytes.len() > Name::MAX_LEN {
+        Some(PathFault::TooLong)
+    } else if !are_name_bytes(bytes) {
+        Some(PathFault::BadByte)
+    } else {
+        None
+    }
+}
+
+// Whether each of the bytes may stand in a name.
+pub(crate) fn are_name_bytes(bytes: &[u8]) -> bool
+    ensures { result ≡ list_all is_name_byte bytes.now }
+{
+    bytes.iter().all(|b| is_name_byte(*b))
+}
+
+// Whether the byte may stand in a name.
+pub(crate) fn is_name_byte(b: u8) -> bool
+    ensures { result ≡ is_name_byte b }
+{
+    matches!(b, 0x21..=0x7e) && !matches!(b, b'*' | b'+' | b'.' | b'/' | b'?')
+}

@@ -1,0 +1,208 @@
+//! Paths of names.
+
+ghost use Rattle.std.specs.Prelude.{count_by, ◌≡◌, ◌+◌, ◌≤◌, [], ◌∷◌, ◌++◌, length, None, IfOk, IfErr, OnOk, OnErr, nat_lt, ◌==◌};
+ghost use Rattle.std.specs.List.{list_any, list_all};
+ghost use Rattle.uvm_glob.specs.Faults.{refusal};
+ghost use Rattle.uvm_glob.specs.Names.{is_name_byte};
+ghost use Rattle.uvm_glob.specs.Paths.{path_text, path_fault, between_dots, names_of, dotted, size_fault};
+
+use crate::faults::PathFault;
+use crate::names::{Name, are_name_bytes};
+use std::alloc::{AllocError, Global};
+use std::marker::Model;
+
+/// A path: the names from below the top down to a component. It has at most 32 names, and its text, the names with a
+/// dot between each two, at most 1,024 bytes. The top's own path has no name. Contracts see the list of the names.
+#[derive(Debug, Drop)]
+pub struct Path {
+    text: Vec<u8>,
+}
+
+impl Model for Path {
+    ghost use Rattle.std.specs.Prelude.{◌≡◌, List, ℕ, None};
+    ghost use Rattle.uvm_glob.specs.Paths.{names_of, path_fault};
+
+    ghost Value = { List (List ℕ) };
+
+    ghost view = { λ p. names_of p.text.items };
+
+    ghost invariant = { λ p. path_fault (names_of p.text.items) ≡ None };
+}
+
+impl Path {
+    /// The most names of a path.
+    pub const MAX_NAMES: usize = 32;
+
+    /// The most bytes of a path's text.
+    pub const MAX_LEN: usize = 1024;
+
+    /// The path of the top.
+    #[tactic(auto, unfolding(crate::specs::Paths::path_fault))]
+    pub fn top(alloc: Global) -> Path
+        ensures { result ≡ [] }
+    {
+        Path {
+            text: Vec::new(alloc),
+        }
+    }
+
+    /// The path with this text, which is not the top's. The fault is the first of `PathFault` that holds.
+    pub fn parse(alloc: Global, text: &[u8]) -> Result<Path, PathFault>
+        ensures ok { IfOk result (λ path. (path_fault (between_dots text.now) ≡ None) × (path ≡ between_dots text.now)) }
+        ensures err { IfErr result (λ fault. path_fault (between_dots text.now) ≡ refusal fault) }
+    {
+        match text_fault(text) {
+            Some(fault) => Err(fault),
+            None => Ok(Path {
+                text: Vec::from_slice(alloc, text)?,
+            }),
+        }
+    }
+
+    /// The path of a child (`TooLong`, `TooDeep`, `Memory`).
+    pub fn child(&self, name: &Name) -> Result<Path, PathFault>
+        ensures ok { IfOk result (λ path. (path_fault (self.now ++ name.now ∷ []) ≡ None) × (path ≡ self.now ++ name.now ∷ [])) }
+        ensures err { IfErr result (λ fault. path_fault (self.now ++ name.now ∷ []) ≡ refusal fault) }
+    {
+        self.extended(name.as_bytes())
+    }
+
+    /// The path that goes on with another from here (`TooLong`, `TooDeep`, `Memory`).
+    pub fn join(&self, other: &Path) -> Result<Path, PathFault>
+        ensures ok { IfOk result (λ path. (path_fault (self.now ++ other.now) ≡ None) × (path ≡ self.now ++ other.now)) }
+        ensures err { IfErr result (λ fault. path_fault (self.now ++ other.now) ≡ refusal fault) }
+    {
+        self.extended(other.text.as_slice())
+    }
+
+    /// The number of names, 0 for the top.
+    pub fn depth(&self) -> usize
+        ensures count { result ≡ length self.now }
+        ensures limit { result ≤ 32 }
+    {
+        count_names(self.text.as_slice())
+    }
+
+    /// Appends the text of the path.
+    pub fn write(&self, out: &mut Vec<u8>) -> Result<(), AllocError>
+        ensures ok { OnOk result (out.new.items ≡ out.old.items ++ path_text self.now) }
+        ensures err { OnErr result (out.new.items ≡ out.old.items) }
+    {
+        out.extend_from_slice(self.text())
+    }
+
+    /// An equal path.
+    pub fn copy(&self) -> Result<Path, AllocError>
+        ensures { IfOk result (λ path. path ≡ self.now) }
+    {
+        Ok(Path {
+            text: self.text.clone()?,
+        })
+    }
+
+    // The text of the path.
+    pub(crate) fn text(&self) -> &[u8]
+        ensures { result.now ≡ path_text self.now }
+    {
+        self.text.as_slice()
+    }
+
+    // The path that goes on with the names of a text.
+    fn extended(&self, back: &[u8]) -> Result<Path, PathFault>
+        requires { path_fault (names_of back.now) ≡ None }
+        ensures ok { IfOk result (λ path. (path_fault (self.now ++ names_of back.now) ≡ None) × (path ≡ self.now ++ names_of back.now)) }
+        ensures err { IfErr result (λ fault. path_fault (self.now ++ names_of back.now) ≡ refusal fault) }
+    {
+        let front = self.text.as_slice();
+        match size_fault(front, back) {
+            Some(fault) => Err(fault),
+            None => Ok(Path {
+                text: dotted(*self.text.allocator(), front, back)?,
+            }),
+        }
+    }
+}
+
+// The two texts with a dot between them, which an empty one does without.
+pub(crate) fn dotted(alloc: Global, front: &[u8], back: &[u8]) -> Result<Vec<u8>, AllocError>
+    ensures { IfOk result (λ text. text.items ≡ dotted front.now back.now) }
+{
+    let mut text = Vec::from_slice(alloc, front)?;
+    if !front.is_empty() && !back.is_empty() {
+        text.push(b'.')?;
+    }
+    text.extend_from_slice(back)?;
+    Ok(text)
+}
+
+// What keeps the two texts, of a path each, from being a path together.
+fn size_fault(front: &[u8], back: &[u8]) -> Option<PathFault>
+    requires front_short { length front.now ≤ 1024 }
+    requires back_short { length back.now ≤ 1024 }
+    ensures { result ≡ size_fault (length (dotted front.now back.now)) (length (names_of front.now) + length (names_of back.now)) }
+{
+    let dot = usize::from(!front.is_empty() && !back.is_empty());
+    if front.len() + dot + back.len() > Path::MAX_LEN {
+        Some(PathFault::TooLong)
+    } else if count_names(front) + count_names(back) > Path::MAX_NAMES {
+        Some(PathFault::TooDeep)
+    } else {
+        None
+    }
+}
+
+// The first fault of a text as that of a path.
+#[tactic(auto, using(crate::proofs::PathTexts::texts), unfolding(crate::specs::Paths::path_fault))]
+fn text_fault(text: &[u8]) -> Option<PathFault>
+    ensures { result ≡ path_fault (between_dots text.now) }
+{
+    if has_empty_name(text) {
+        Some(PathFault::Empty)
+    } else if has_long_name(text) || text.len() > Path::MAX_LEN {
+        Some(PathFault::TooLong)
+    } else if !have_name_bytes(text) {
+        Some(PathFault::BadByte)
+    } else if count_dots(text) + 1 > Path::MAX_NAMES {
+        Some(PathFault::TooDeep)
+    } else {
+        None
+    }
+}
+
+fn has_empty_name(text: &[u8]) -> bool
+    ensures { result ≡ list_any (λ name. length name == 0) (between_dots text.now) }
+{
+    text.split(|b| *b == b'.').any(|name| name.is_empty())
+}
+
+fn has_long_name(text: &[u8]) -> bool
+    ensures { result ≡ list_any (λ name. nat_lt 64 (length name)) (between_dots text.now) }
+{
+    text.split(|b| *b == b'.')
+        .any(|name| name.len() > Name::MAX_LEN)
+}
+
+fn have_name_bytes(text: &[u8]) -> bool
+    ensures { result ≡ list_all (list_all is_name_byte) (between_dots text.now) }
+{
+    text.split(|b| *b == b'.').all(are_name_bytes)
+}
+
+// How many names the text stands for: none where it is empty.
+fn count_names(text: &[u8]) -> usize
+    ensures count { result ≡ length (names_of text.now) }
+    ensures limit { result ≤ length text.now + 1 }
+{
+    if text.is_empty() {
+        0
+    } else {
+        count_dots(text) + 1
+    }
+}
+
+fn count_dots(text: &[u8]) -> usize
+    ensures count { result ≡ count_by (λ b. b == 46) text.now }
+    ensures limit { result ≤ length text.now }
+{
+    text.iter().filter(|b| **b == b'.').count()
+}

@@ -1,0 +1,215 @@
+//! Examples of what the definitions mean, and that each call succeeds where there is memory.
+
+use crate::{Glob, Name, Path, PathFault};
+use std::alloc::Global;
+use std::test::Fail;
+
+const NAMES_32: &[u8] =
+    b"1.2.3.4.5.6.7.8.9.10.11.12.13.14.15.16.17.18.19.20.21.22.23.24.25.26.27.28.29.30.31.32";
+
+const NAMES_33: &[u8] =
+    b"1.2.3.4.5.6.7.8.9.10.11.12.13.14.15.16.17.18.19.20.21.22.23.24.25.26.27.28.29.30.31.32.33";
+
+// 1,025 bytes: 15 names of 64 bytes, and one of 50.
+fn long_text() -> [u8; 1025] {
+    let mut text = [b'a'; 1025];
+    for name in 0..15 {
+        text[name * 65 + 64] = b'.';
+    }
+    text
+}
+
+fn all_but_last(text: &[u8; 1025]) -> &[u8] {
+    &text[..1024]
+}
+
+// The path with this text, of which the empty one is the top's.
+fn path_at(alloc: Global, text: &[u8]) -> Result<Path, PathFault> {
+    if text.is_empty() {
+        Ok(Path::top(alloc))
+    } else {
+        Path::parse(alloc, text)
+    }
+}
+
+#[test]
+fn globs_match_whole_paths(rt: HostRuntime) -> Result<(), Fail> {
+    for (glob, path, want) in [
+        ("", "", true),
+        ("", "a", false),
+        ("*", "", true),
+        ("*", "a.b", true),
+        ("+", "", false),
+        ("+", "a", true),
+        ("a*b?", "ab", false),
+        ("a*b?", "abbc", true),
+        ("x[0]", "x0", false),
+        ("x[0]", "x[0]", true),
+        ("*a+b*", "xaabz", true),
+    ] {
+        let path_made = path_at(rt.alloc(), path.as_bytes())?;
+        let glob_made = Glob::new(rt.alloc(), glob.as_bytes())?;
+        assert_eq!(rt; glob_made.matches(&path_made), want, "'{glob}' at '{path}'");
+        assert_eq!(rt;
+            glob_made.copy()?.matches(&path_made),
+            want,
+            "a copy of '{glob}' at '{path}'"
+        );
+    }
+    Ok(())
+}
+
+#[test]
+fn globs_under_a_path_match_below_it(rt: HostRuntime) -> Result<(), Fail> {
+    for (front, glob, path, want) in [
+        ("a", "*", "a", false),
+        ("a", "*", "a.b", true),
+        ("a", "", "a", true),
+        ("", "*", "", true),
+        ("", "b", "b", true),
+    ] {
+        let under = Glob::under(
+            rt.alloc(),
+            &path_at(rt.alloc(), front.as_bytes())?,
+            &Glob::new(rt.alloc(), glob.as_bytes())?,
+        )?;
+        let found = under.matches(&path_at(rt.alloc(), path.as_bytes())?);
+        assert_eq!(rt; found, want, "'{glob}' under '{front}' at '{path}'");
+    }
+    Ok(())
+}
+
+#[test]
+fn globs_are_refused_at_their_first_fault(rt: HostRuntime) {
+    let long = long_text();
+    for (text, want) in [
+        (b"".as_slice(), None),
+        (b"a[0].*", None),
+        (all_but_last(&long), None),
+        (long.as_slice(), Some(PathFault::TooLong)),
+        (b"a/b", Some(PathFault::BadByte)),
+        (b"a b", Some(PathFault::BadByte)),
+        (b"a\x7f", Some(PathFault::BadByte)),
+    ] {
+        assert_eq!(rt; Glob::new(rt.alloc(), text).err(), want, "{text:?}");
+    }
+}
+
+#[test]
+fn names_are_refused_at_their_first_fault(rt: HostRuntime) {
+    for (bytes, want) in [
+        (b"".as_slice(), Some(PathFault::Empty)),
+        (&[b'a'; 64], None),
+        (&[b'a'; 65], Some(PathFault::TooLong)),
+        (&[b'*'; 65], Some(PathFault::TooLong)),
+        (b"a*", Some(PathFault::BadByte)),
+        (b"a.b", Some(PathFault::BadByte)),
+        (b"!~", None),
+    ] {
+        assert_eq!(rt; Name::new(bytes).err(), want, "{bytes:?}");
+    }
+}
+
+#[test]
+fn names_are_equal_and_printed_by_their_bytes(rt: HostRuntime) -> Result<(), Fail> {
+    let name = Name::new(b"x[0]")?;
+    assert_eq!(rt; name.as_bytes(), b"x[0]".as_slice());
+    assert_eq!(rt; name, Name::new(b"x[0]")?);
+    assert_ne!(rt; name, Name::new(b"x[1]")?);
+    assert_eq!(rt;
+        format!(in rt.alloc(); "{name} {name:?}")?.as_str(),
+        "x[0] \"x[0]\""
+    );
+    Ok(())
+}
+
+#[test]
+fn paths_are_refused_at_their_first_fault(rt: HostRuntime) {
+    let long = long_text();
+    for (text, want) in [
+        (b"".as_slice(), Some(PathFault::Empty)),
+        (b"a..b", Some(PathFault::Empty)),
+        (b"a*.b.", Some(PathFault::Empty)),
+        (&[b'a'; 64], None),
+        (&[b'*'; 65], Some(PathFault::TooLong)),
+        (all_but_last(&long), None),
+        (long.as_slice(), Some(PathFault::TooLong)),
+        (b"a.b*", Some(PathFault::BadByte)),
+        (NAMES_32, None),
+        (NAMES_33, Some(PathFault::TooDeep)),
+    ] {
+        assert_eq!(rt; Path::parse(rt.alloc(), text).err(), want, "{text:?}");
+    }
+}
+
+#[test]
+fn paths_go_on_with_names_and_paths(rt: HostRuntime) -> Result<(), Fail> {
+    let long = long_text();
+    for (front, back, want) in [
+        (b"".as_slice(), b"c".as_slice(), Ok(b"c".as_slice())),
+        (b"a.b", b"c", Ok(b"a.b.c")),
+        (NAMES_32, b"33", Err(PathFault::TooDeep)),
+        (all_but_last(&long), b"c", Err(PathFault::TooLong)),
+    ] {
+        let path = path_at(rt.alloc(), front)?;
+        let child = path.child(&Name::new(back)?);
+        assert!(rt;
+            is_path_at(rt.alloc(), child, want)?,
+            "{back:?} below {front:?}"
+        );
+        let joined = path.join(&path_at(rt.alloc(), back)?);
+        assert!(rt;
+            is_path_at(rt.alloc(), joined, want)?,
+            "{back:?} joined to {front:?}"
+        );
+    }
+    Ok(())
+}
+
+// Whether the path has the text that is wanted, or the fault.
+fn is_path_at(
+    alloc: Global,
+    path: Result<Path, PathFault>,
+    want: Result<&[u8], PathFault>,
+) -> Result<bool, Fail> {
+    Ok(match (path, want) {
+        (Ok(path), Ok(want)) => {
+            let mut text = Vec::new(alloc);
+            path.write(&mut text)?;
+            text.as_slice() == want
+        }
+        (Err(fault), Err(want)) => fault == want,
+        _ => false,
+    })
+}
+
+#[test]
+fn paths_have_a_depth_and_copies(rt: HostRuntime) -> Result<(), Fail> {
+    for (text, depth) in [
+        (b"".as_slice(), 0),
+        (b"a", 1),
+        (b"a.b[0].c", 3),
+        (NAMES_32, 32),
+    ] {
+        let path = path_at(rt.alloc(), text)?;
+        assert_eq!(rt; path.depth(), depth, "{text:?}");
+        let mut out = b"> ".to_vec(rt.alloc())?;
+        path.copy()?.write(&mut out)?;
+        assert_eq!(rt; out.strip_prefix(b"> "), Some(text));
+    }
+    Ok(())
+}
+
+#[test]
+fn faults_are_printed(rt: HostRuntime) -> Result<(), Fail> {
+    for (fault, want) in [
+        (PathFault::Empty, "an empty name"),
+        (PathFault::TooLong, "too long"),
+        (PathFault::BadByte, "a byte that may not stand there"),
+        (PathFault::TooDeep, "more than 32 names"),
+        (PathFault::Memory, "out of memory"),
+    ] {
+        assert_eq!(rt; format!(in rt.alloc(); "{fault}")?.as_str(), want);
+    }
+    Ok(())
+}

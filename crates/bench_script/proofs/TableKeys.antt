@@ -1,5 +1,5 @@
 -- The keys of a table, as the code goes over them.
-use Rattle.std.proofs.Common.{◌≡◌, ℕ, List, [], ◌∷◌, map, ◌&&◌, ◌||◌, String, Global, Bor, string_bytes, refl, ap, sym, ◌∙◌}
+use Rattle.std.proofs.Common.{◌≡◌, ℕ, List, [], ◌∷◌, map, ◌||◌, String, Global, Bor, string_bytes, refl, ap}
 use Rattle.std.specs.List.{list_any, list_all}
 use Rattle.std.specs.Map.{keys_of as map_keys}
 use Rattle.toml.specs.View.{members_view}

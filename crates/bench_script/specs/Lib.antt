@@ -1,12 +1,13 @@
-pub mod Reading
-pub mod Values
+pub mod Factories
 pub mod Keys
-pub mod Tables
+pub mod Reading
 pub mod Scripts
 pub mod Sound
+pub mod Tables
+pub mod Values
 pub use Rattle.uvm_factory.specs.Faults
 pub use Rattle.uvm_factory.specs.Overrides
 pub use Rattle.uvm_factory.specs.Steps
+pub use Rattle.uvm_glob.specs.Globs
 pub use Rattle.uvm_glob.specs.Names
 pub use Rattle.uvm_glob.specs.Paths
-pub use Rattle.uvm_glob.specs.Globs

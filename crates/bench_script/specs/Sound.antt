@@ -1,6 +1,5 @@
 -- What holds of every script.
-use Rattle.std.specs.Prelude.{◌≡◌, ℕ, ◌<◌, ◌≤◌, ◌^◌, List, [], ◌∷◌, ◌++◌, length, Option, Some, None, All, slice_get, option_map}
-use Rattle.uvm_factory.specs.declared.types.Kind.{Kind}
+use Rattle.std.specs.Prelude.{◌≡◌, ℕ, ◌<◌, ◌≤◌, [], ◌∷◌, ◌++◌, length, Option, Some, None, All, slice_get, option_map}
 use Rattle.uvm_factory.specs.declared.types.Kind.TheVariants.{Component}
 use Rattle.uvm_factory.specs.declared.overrides.Override.{Override}
 use Rattle.uvm_factory.specs.Faults.{Types, register_fault, override_fault}

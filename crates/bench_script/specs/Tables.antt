@@ -1,5 +1,5 @@
 -- The arrays of tables of a script.
-use Rattle.std.specs.Prelude.{ℕ, suc, Bool, true, List, [], ◌∷◌, ◌++◌, Option, Some, None, Result, Ok, Err, ok_or, slice_get, is_some, is_none, nat_le, codes, if◌then◌else◌}
+use Rattle.std.specs.Prelude.{ℕ, suc, Bool, true, List, [], ◌∷◌, ◌++◌, Option, Some, None, Result, Ok, Err, ok_or, is_some, is_none, nat_le, codes, if◌then◌else◌}
 use Rattle.toml.specs.Data.{Data, Items, no_items, item, Members}
 use Rattle.uvm_factory.specs.declared.types.Kind.{Kind}
 use Rattle.uvm_factory.specs.declared.overrides.Override.{Override}

@@ -1,6 +1,6 @@
 -- What a value of a TOML tree stands for: of another kind it is WrongKind, out of its range OutOfRange, and a text that
 -- is no name, glob or path is BadName.
-use Rattle.std.specs.Prelude.{◌≡◌, ℕ, ℤ, pos, negsuc, Bool, List, [], ◌∷◌, Option, Some, None, Result, Ok, Err, ok_or, nat_le, nat_eq, ◌==◌, codes, if◌then◌else◌}
+use Rattle.std.specs.Prelude.{ℕ, ℤ, pos, negsuc, Bool, List, Option, Some, None, Result, Ok, Err, ok_or, nat_le, nat_eq, codes, if◌then◌else◌}
 use Rattle.std.specs.Cmp.Lexicographic.{pointwise}
 use Rattle.toml.specs.Data.{Data, Items, Members, as_str, as_integer, as_bool, as_array, as_table}
 use Rattle.uvm_glob.specs.declared.faults.PathFault.{PathFault}

@@ -1,6 +1,7 @@
 //! The scripts of the bench: TOML documents that name types, overrides and probes.
 #![tactic(auto)]
 
+mod factories;
 mod faults;
 mod heads;
 mod keys;

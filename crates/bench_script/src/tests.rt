@@ -167,6 +167,37 @@ fn reads_the_probes(rt: HostRuntime) -> Result<(), Fail> {
 }
 
 #[test]
+fn the_factory_has_the_types_and_obeys_the_overrides(rt: HostRuntime) -> Result<(), Fail> {
+    let [base, better, items] = places(rt.alloc())?;
+    let factory = overriding_factory(rt.alloc())?;
+    assert!(rt; is_found(&factory, b"items", items)?);
+    assert!(rt; is_made(rt.alloc(), &factory, base, b"top.left", better)?);
+    assert!(rt; is_made(rt.alloc(), &factory, base, b"top", base)?);
+    Ok(())
+}
+
+fn overriding_factory(alloc: Global) -> Result<Factory, Fail> {
+    let text = format!(in alloc;
+        "{TYPES}\noverride = [{{ orig = \"base\", new = \"better\", at = \"top.*\" }}]"
+    )?;
+    Ok(read(alloc, text.as_bytes())?.factory(alloc)?)
+}
+
+fn is_found(factory: &Factory, name: &[u8], place: TypeId) -> Result<bool, Fail> {
+    Ok(factory.find(&Name::new(name)?) == Some(place))
+}
+
+fn is_made(
+    alloc: Global,
+    factory: &Factory,
+    asked: TypeId,
+    path: &[u8],
+    made: TypeId,
+) -> Result<bool, Fail> {
+    Ok(factory.resolve(asked, &Path::parse(alloc, path)?) == Ok(made))
+}
+
+#[test]
 fn defaults_of_what_is_not_written(rt: HostRuntime) -> Result<(), Fail> {
     let script = read(rt.alloc(), b"version = 1")?;
     assert_eq!(rt; script.test(), None);

@@ -1,15 +1,14 @@
 -- The lines of a script's answers, one after another.
-use Rattle.std.proofs.Common.{◌≡◌, ℕ, ◌+◌, ◌<◌, ◌≤◌, List, [], ◌∷◌, ◌++◌, length, take, get_or, map, reverse, Option, Some, None, Result, Ok, Err, refl, sym, ap, ◌∙◌, arith}
+use Rattle.std.proofs.Common.{◌≡◌, ◌≢◌, ℕ, ◌+◌, ◌<◌, ◌≤◌, List, [], ◌∷◌, ◌++◌, length, take, get_or, map, Option, Some, None, refl, sym, ap, ◌∙◌, arith}
 use Rattle.std.specs.List.{concat}
 use Rattle.std.specs.Io.KnownBytes.{Appends, Keeps}
 use Rattle.std.proofs.lemmas.List.{append_assoc, append-nil, take-map, take_more, take_all, map-append, length-map}
-use Rattle.uvm_glob.specs.Paths.{path_text}
 use Rattle.uvm_factory.specs.Steps.{made, next_of}
-use Rattle.uvm_factory.specs.Overrides.{type_step}
-use Rattle.uvm_factory.specs.Observed.{Kept, types_of, step_at, made_at, next_at}
+use Rattle.uvm_factory.specs.Observed.{Kept, types_of, made_at, next_at}
 use Rattle.bench_script.specs.declared.scripts.Probe.{Probe}
 use Rattle.bench_script.specs.Scripts.{ScriptValue}
-use Rattle.bus_bench.specs.Debugging.{IsFactoryOf, answer_line, made_for, probe_line, debug_lines}
+use Rattle.bench_script.specs.Factories.{IsFactoryOf}
+use Rattle.bus_bench.specs.Debugging.{answer_line, made_for, probe_line, debug_lines}
 
 -- one write after another
 pub appends-twice : (a b c : Option (List ℕ)) (x y : List ℕ) → Appends a b x → Appends b c y → Appends a c (x ++ y)
@@ -47,6 +46,13 @@ lines-more script i probe within at =
 pub lines-all : (script : ScriptValue) (i : ℕ) → length script.probes ≤ i → take i (debug_lines script) ≡ debug_lines script
 unfolding debug_lines
 lines-all script i end = take_all i (debug_lines script) (rw (length-map script.probes (probe_line script)) end)
+
+-- a script with a probe has a line
+pub lines-some : (script : ScriptValue) (i : ℕ) → i < length script.probes → debug_lines script ≢ []
+unfolding debug_lines
+lines-some script i within none =
+    let empty : length script.probes ≡ 0 = sym (length-map script.probes (probe_line script)) ∙ ap length none in
+    absurd (omega arith)
 
 -- the factory of a script makes what the script says
 pub made_for-factory : (script : ScriptValue) (kept : Kept) (probe : Probe) → IsFactoryOf script kept → made_at kept probe.path probe.kind ≡ made_for script probe

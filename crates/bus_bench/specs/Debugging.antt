@@ -5,8 +5,7 @@ use Rattle.std.specs.Option.{option_map_or}
 use Rattle.std.specs.Io.KnownBytes.{Appends, Keeps}
 use Rattle.uvm_glob.specs.Paths.{path_text}
 use Rattle.uvm_factory.specs.Faults.{Types}
-use Rattle.uvm_factory.specs.Overrides.{made_type, type_step}
-use Rattle.uvm_factory.specs.Observed.{Kept, types_of, step_at}
+use Rattle.uvm_factory.specs.Overrides.{made_type}
 use Rattle.bench_script.specs.declared.scripts.Probe.{Probe}
 use Rattle.bench_script.specs.declared.faults.ScriptFault.{ScriptFault}
 use Rattle.bench_script.specs.declared.faults.ScriptFault.TheVariants as faults
@@ -47,10 +46,10 @@ debug_text script = concat (debug_lines script)
 abbrev pub SomeLinesWritten : List (List ℕ) → Option (List ℕ) → Option (List ℕ) → Type 0
 SomeLinesWritten lines old new = (n : ℕ) × Appends old new (concat (take n lines))
 
--- what was written where the answers broke off
+-- what was written where the answers broke off; only where there is a line can the output fail
 abbrev pub BrokeOff : List (List ℕ) → Option (List ℕ) → Option (List ℕ) → Breakage → Type 0
 BrokeOff lines old new Memory = SomeLinesWritten lines old new
-BrokeOff lines old new Output = Unit {0}
+BrokeOff lines old new Output = lines ≢ []
 BrokeOff lines old new Unread = ⊥
 
 -- the lines of a script that was read
@@ -64,7 +63,8 @@ IsDebugRun bytes old new Clean = IsOk (script_of_bytes bytes) × Appends old new
 IsDebugRun bytes old new (Refused fault) = (script_of_bytes bytes ≡ Err fault) × (fault ≢ faults.Memory) × Keeps old new
 IsDebugRun bytes old new (Broken breakage) = BrokeOff (lines_of (script_of_bytes bytes)) old new breakage
 
--- the factory has the script's types, and gives what its overrides give
-pub record IsFactoryOf (script : ScriptValue) (kept : Kept) : Type 0 where
-  pub types : types_of kept ≡ script.types
-  pub steps : (kind : ℕ) (path : List (List ℕ)) → step_at kept kind path ≡ type_step (reverse script.overrides) kind (path_text path)
+-- what a verdict on a file's bytes says of the script alone
+abbrev pub IsVerdictOn : List ℕ → Verdict → Type 0
+IsVerdictOn bytes Clean = IsOk (script_of_bytes bytes)
+IsVerdictOn bytes (Refused fault) = (script_of_bytes bytes ≡ Err fault) × (fault ≢ faults.Memory)
+IsVerdictOn bytes (Broken breakage) = breakage ≢ Unread

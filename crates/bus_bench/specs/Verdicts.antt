@@ -1,5 +1,6 @@
 -- How a run of the program ends.
-use Rattle.std.specs.Prelude.{◌≡◌, ◌⊎◌, ℕ, List, [], ◌∷◌, ◌++◌, Option, Some, None, codes}
+use Rattle.std.specs.Prelude.{◌≡◌, ◌≢◌, ◌⊎◌, ℕ, List, [], ◌∷◌, ◌++◌, Option, Some, None, codes}
+use Rattle.std.specs.Io.KnownBytes.{Consumes}
 use Rattle.bus_bench.specs.declared.verdicts.Breakage.{Breakage}
 use Rattle.bus_bench.specs.declared.verdicts.Breakage.TheVariants.{Memory, Output, Unread}
 use Rattle.bus_bench.specs.declared.verdicts.Verdict.{Verdict}
@@ -27,3 +28,15 @@ abbrev pub known_line : Verdict → Option (List ℕ)
 known_line Clean = Some []
 known_line (Refused fault) = None
 known_line (Broken breakage) = Some (codes "bus_bench: " ++ message_of breakage ++ 10 ∷ [])
+
+-- the reader gave at least one byte
+abbrev pub GaveSome : Option (List ℕ) → Option (List ℕ) → Type 0
+GaveSome old new = (more : List ℕ) × (more ≢ []) × Consumes old new more
+
+-- why a file is not read: memory is refused only for bytes that the reader gave
+abbrev pub IsReadFault : Option (List ℕ) → Option (List ℕ) → Verdict → Type 0
+IsReadFault old new Clean = ⊥
+IsReadFault old new (Refused fault) = ⊥
+IsReadFault old new (Broken Memory) = GaveSome old new
+IsReadFault old new (Broken Output) = ⊥
+IsReadFault old new (Broken Unread) = Unit {0}

@@ -4,9 +4,9 @@ ghost use Rattle.std.specs.Prelude.{◌≡◌, ◌++◌, ◌<◌, length, OnOk, 
 ghost use Rattle.std.specs.List.{concat};
 ghost use Rattle.std.specs.Io.KnownBytes.{Appends};
 ghost use Rattle.uvm_factory.specs.Observed.{types_of, made_at};
-ghost use Rattle.bus_bench.specs.Debugging.{IsDebugRun, IsFactoryOf, BrokeOff, answer_line, answer_text, debug_lines, name_at};
+ghost use Rattle.bench_script.specs.Factories.{IsFactoryOf};
+ghost use Rattle.bus_bench.specs.Debugging.{IsDebugRun, BrokeOff, answer_line, answer_text, debug_lines, name_at};
 
-use crate::factories::factory_of;
 use crate::verdicts::{Breakage, Verdict};
 use bench_script::{Probe, Script, ScriptFault};
 use std::alloc::{AllocError, Global};
@@ -34,7 +34,7 @@ fn answer<W: io::Write>(alloc: Global, script: &Script, out: &mut W) -> Result<(
     ensures ok { OnOk result (Appends (W.contents out.old) (W.contents out.new) (concat (debug_lines script.now))) }
     ensures err { IfErr result (BrokeOff (debug_lines script.now) (W.contents out.old) (W.contents out.new)) }
 {
-    match factory_of(alloc, script) {
+    match script.factory(alloc) {
         Ok(factory) => write_answers(alloc, &factory, script, out),
         Err(_) => Err(Breakage::Memory),
     }

@@ -1,6 +1,7 @@
 //! The bytes of a file.
 ghost use Rattle.std.specs.Prelude.{◌≡◌, ◌⊎◌, ◌<◌, ◌≤◌, ◌+◌, ◌++◌, ℕ, List, Err, IfErr, IfOk, IfSome, OnOk, length, take, true, vec_len};
 ghost use Rattle.std.specs.Io.KnownBytes.{Consumes, IsAtEnd};
+ghost use Rattle.bus_bench.specs.Verdicts.{IsReadFault};
 
 use crate::verdicts::{Breakage, Verdict};
 use std::alloc::Global;
@@ -26,6 +27,7 @@ pub fn read_file<R: io::Read>(alloc: Global, reader: &mut R) -> Result<Vec<u8>, 
         (λ all. bytes.items ≡ take MOST_BYTES all)) }
     ensures left { IfOk result (λ bytes.
         Consumes (R.remaining reader.old) (R.remaining reader.new) bytes.items) }
+    ensures fault { IfErr result (IsReadFault (R.remaining reader.old) (R.remaining reader.new)) }
     ensures err { IfErr result (λ verdict. (verdict ≡ Verdict.Broken Breakage.Memory)
         ⊎ (verdict ≡ Verdict.Broken Breakage.Unread)) }
 {
@@ -54,6 +56,7 @@ fn read_piece<R: io::Read>(
     ensures more { OnOk result ((more : List ℕ) × (bytes.new.items ≡ bytes.old.items ++ more)
         × Consumes (R.remaining reader.old) (R.remaining reader.new) more) }
     ensures end { IfOk result (λ ended. ended ≡ true → IsAtEnd (R.remaining reader.new)) }
+    ensures fault { IfErr result (IsReadFault (R.remaining reader.old) (R.remaining reader.new)) }
     ensures err { IfErr result (λ verdict. (verdict ≡ Verdict.Broken Breakage.Memory)
         ⊎ (verdict ≡ Verdict.Broken Breakage.Unread)) }
 {

@@ -5,7 +5,6 @@ mod commands;
 #[cfg(test)]
 mod debug_tests;
 mod debugging;
-mod factories;
 mod files;
 mod jobs;
 mod program;

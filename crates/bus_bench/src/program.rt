@@ -1,5 +1,6 @@
 //! What the program does, on any runtime.
-ghost use Rattle.std.specs.Prelude.{◌≡◌, ◌⊎◌, ◌≤◌, IfErr, IfOk, vec_len};
+ghost use Rattle.std.specs.Prelude.{◌≡◌, ◌⊎◌, ◌≤◌, IfErr, IfOk, MatchResult, vec_len};
+ghost use Rattle.bus_bench.specs.Debugging.{IsVerdictOn};
 ghost use Rattle.bus_bench.specs.Faults.{status_of_fault};
 ghost use Rattle.bus_bench.specs.Verdicts.{IsStatus};
 
@@ -58,7 +59,14 @@ pub fn obey<R: Files + Print + AllocGlobal, E: Write>(
 
 // The command `debug`.
 fn debug<R: Files + Print + AllocGlobal>(rt: &R, file: &str) -> Verdict {
-    match script_in(rt, file) {
+    verdict_on(rt, script_in(rt, file))
+}
+
+// The verdict on what was read: that on its bytes, or why there are none.
+fn verdict_on<R: Print + AllocGlobal>(rt: &R, read: Result<Vec<u8>, Verdict>) -> Verdict
+    ensures { MatchResult read (λ bytes. IsVerdictOn bytes.items result) (λ verdict. result ≡ verdict) }
+{
+    match read {
         Ok(bytes) => answer(rt, bytes.as_slice()),
         Err(verdict) => verdict,
     }
@@ -77,7 +85,9 @@ fn script_in<R: Files + AllocGlobal>(rt: &R, file: &str) -> Result<Vec<u8>, Verd
 }
 
 // Prints the answers to the script in `bytes`.
-fn answer<R: Print + AllocGlobal>(rt: &R, bytes: &[u8]) -> Verdict {
+fn answer<R: Print + AllocGlobal>(rt: &R, bytes: &[u8]) -> Verdict
+    ensures { IsVerdictOn bytes.now result }
+{
     let Ok(mut out) = BufWriter::new(rt.alloc(), io::writer(rt)) else {
         return Verdict::Broken(Breakage::Memory);
     };

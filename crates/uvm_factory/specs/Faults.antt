@@ -1,10 +1,12 @@
 -- Why the factory refuses a call, by the types that are registered: their names and kinds, in order.
-use Rattle.std.specs.Prelude.{ℕ, Bool, true, false, List, Option, Some, None, nat_le, length, slice_get, map, nat_eq, position, is_some, if◌then◌else◌}
+use Rattle.std.specs.Prelude.{ℕ, Bool, true, false, List, Option, Some, None, nat_le, length, slice_get, map, nat_eq, position, is_some, codes, if◌then◌else◌}
 use Rattle.std.specs.Cmp.Lexicographic.{pointwise}
 use Rattle.uvm_factory.specs.declared.types.Kind.{Kind}
 use Rattle.uvm_factory.specs.declared.types.Kind.TheVariants.{Component, Sequence}
 use Rattle.uvm_factory.specs.declared.faults.FactoryFault.{FactoryFault}
 use Rattle.uvm_factory.specs.declared.faults.FactoryFault.TheVariants.{Known, NoType, KindDiffers, Full, Memory}
+use Rattle.uvm_factory.specs.declared.faults.Unmade.{Unmade}
+use Rattle.uvm_factory.specs.declared.faults.Unmade.TheVariants as unmade
 
 -- the registered types
 abbrev pub Types : Type 0
@@ -43,3 +45,15 @@ fault_between (Some original) (Some new) = if is_same_kind original.1 new.1 then
 
 abbrev pub override_fault : Types → ℕ → ℕ → Option FactoryFault
 override_fault types original new = fault_between (slice_get types original) (slice_get types new)
+
+-- what is told of each fault, and of why no type is made
+abbrev pub fault_text : FactoryFault → List ℕ
+fault_text Known = codes "type known"
+fault_text NoType = codes "no such type"
+fault_text KindDiffers = codes "types of two kinds"
+fault_text Full = codes "too many types"
+fault_text Memory = codes "out of memory"
+
+abbrev pub unmade_text : Unmade → List ℕ
+unmade_text unmade.NoType = codes "no such type"
+unmade_text unmade.Loop = codes "override loop"

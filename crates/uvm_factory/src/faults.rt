@@ -20,6 +20,11 @@ pub enum FactoryFault {
 }
 
 impl fmt::Display for FactoryFault {
+    ghost use Rattle.std.specs.Prelude.{Some};
+    ghost use Rattle.uvm_factory.specs.Faults.{fault_text};
+
+    ghost output = { λ fault. Some (fault_text fault) };
+
     fn fmt<W: fmt::Write>(&self, f: &mut fmt::Formatter<W>) -> fmt::Result {
         f.write_str(match self {
             FactoryFault::Known => "type known",
@@ -65,6 +70,11 @@ pub enum Unmade {
 }
 
 impl fmt::Display for Unmade {
+    ghost use Rattle.std.specs.Prelude.{Some};
+    ghost use Rattle.uvm_factory.specs.Faults.{unmade_text};
+
+    ghost output = { λ unmade. Some (unmade_text unmade) };
+
     fn fmt<W: fmt::Write>(&self, f: &mut fmt::Formatter<W>) -> fmt::Result {
         f.write_str(match self {
             Unmade::NoType => "no such type",

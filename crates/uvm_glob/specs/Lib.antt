@@ -4,3 +4,5 @@ pub mod Held
 pub mod Paths
 pub mod Globs
 pub mod Parts
+pub mod Orders
+pub mod Differences

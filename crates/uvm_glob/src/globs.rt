@@ -63,6 +63,13 @@ impl Glob {
         matches_text(self.text.as_slice(), path.text())
     }
 
+    /// The text of the glob.
+    pub fn as_bytes(&self) -> &[u8]
+        ensures { result.now ≡ self.now }
+    {
+        self.text.as_slice()
+    }
+
     /// An equal glob.
     pub fn copy(&self) -> Result<Glob, AllocError>
         ensures { IfOk result (λ glob. glob ≡ self.now) }

@@ -3,9 +3,12 @@
 
 mod faults;
 mod globs;
+pub mod laws;
 mod matching;
 mod names;
+mod orders;
 mod paths;
+mod rooms;
 #[cfg(test)]
 mod tests;
 
@@ -13,3 +16,4 @@ pub use faults::PathFault;
 pub use globs::Glob;
 pub use names::Name;
 pub use paths::Path;
+pub use rooms::ChildRoom;

@@ -1,21 +1,30 @@
 //! Paths of names.
 
-ghost use Rattle.std.specs.Prelude.{count_by, ◌≡◌, ◌+◌, ◌≤◌, [], ◌∷◌, ◌++◌, length, None, IfOk, IfErr, OnOk, OnErr, nat_lt, ◌==◌};
+ghost use Rattle.std.specs.Prelude.{count_by, ◌≡◌, ◌+◌, ◌≤◌, [], ◌∷◌, ◌++◌, length, None, IfOk, IfErr, OnOk, OnErr, nat_lt, nat_eq, ◌==◌, refl};
+ghost use Rattle.std.specs.Cmp.{partial_equiv_from_equiv, po};
+ghost use Rattle.std.specs.Cmp.Lexicographic.{pointwise, slice_cmp, lists_equiv, lists_total, lists_ties, nat_list_eq_equiv, nat_list_cmp_total, texts_ties};
 ghost use Rattle.std.specs.List.{list_any, list_all};
+ghost use Rattle.std.specs.Ordering.{nat_cmp, as_partial_cmp};
 ghost use Rattle.uvm_glob.specs.Faults.{refusal};
 ghost use Rattle.uvm_glob.specs.Names.{is_name_byte};
+ghost use Rattle.uvm_glob.specs.Orders.{down_cmp, up_cmp};
 ghost use Rattle.uvm_glob.specs.Paths.{path_text, path_fault, between_dots, names_of, dotted, size_fault};
 
 use crate::faults::PathFault;
 use crate::names::{Name, are_name_bytes};
+use crate::orders::{down_cmp, up_cmp};
 use std::alloc::{AllocError, Global};
+use std::cmp::Ordering;
 use std::marker::Model;
 
 /// A path: the names from below the top down to a component. It has at most 32 names, and its text, the names with a
 /// dot between each two, at most 1,024 bytes. The top's own path has no name. Contracts see the list of the names.
+///
+/// Paths are ordered by Down: name by name in byte order, and a parent before its children. `up_cmp` is the order Up, in
+/// which children come before their parent. Top-down and bottom-up phases (IEEE 1800.2-2020, Clause 9) go in these.
 #[derive(Debug, Drop)]
 pub struct Path {
-    text: Vec<u8>,
+    pub(crate) text: Vec<u8>,
 }
 
 impl Model for Path {
@@ -67,6 +76,13 @@ impl Path {
         self.extended(name.as_bytes())
     }
 
+    /// Why there is no path of a child, if there is none (`TooLong`, `TooDeep`). Takes no memory.
+    pub fn child_fault(&self, name: &Name) -> Option<PathFault>
+        ensures { result ≡ path_fault (self.now ++ name.now ∷ []) }
+    {
+        size_fault(self.text.as_slice(), name.as_bytes())
+    }
+
     /// The path that goes on with another from here (`TooLong`, `TooDeep`, `Memory`).
     pub fn join(&self, other: &Path) -> Result<Path, PathFault>
         ensures ok { IfOk result (λ path. (path_fault (self.now ++ other.now) ≡ None) × (path ≡ self.now ++ other.now)) }
@@ -89,6 +105,14 @@ impl Path {
         ensures err { OnErr result (out.new.items ≡ out.old.items) }
     {
         out.extend_from_slice(self.text())
+    }
+
+    /// How the path stands to another in Up: name by name in byte order, and a path after the paths that go on from it,
+    /// so that children come before their parent, and the top last. Takes no memory.
+    pub fn up_cmp(&self, other: &Path) -> Ordering
+        ensures { result ≡ up_cmp self.now other.now }
+    {
+        up_cmp(self.text.as_slice(), other.text.as_slice())
     }
 
     /// An equal path.
@@ -123,6 +147,45 @@ impl Path {
     }
 }
 
+impl PartialEq for Path {
+    ghost eq = { pointwise (pointwise nat_eq) };
+
+    ghost laws = { partial_equiv_from_equiv (lists_equiv nat_list_eq_equiv) };
+
+    #[tactic(auto, using(crate::proofs::TextOrders::orders))]
+    fn eq(&self, other: &Path) -> bool {
+        self.text.as_slice() == other.text.as_slice()
+    }
+}
+
+impl Eq for Path {
+    ghost laws = { lists_equiv nat_list_eq_equiv };
+}
+
+impl PartialOrd for Path {
+    ghost partial_cmp = { as_partial_cmp down_cmp };
+
+    ghost laws = { po (lists_total nat_list_cmp_total) (lists_ties (slice_cmp nat_cmp) texts_ties) };
+
+    fn partial_cmp(&self, other: &Path) -> Option<Ordering> {
+        Some(self.cmp(other))
+    }
+}
+
+impl Ord for Path {
+    ghost cmp = { down_cmp };
+
+    ghost total = { lists_total nat_list_cmp_total };
+
+    ghost matches_partial_cmp = { λ x y. refl };
+
+    ghost matches_eq = { lists_ties (slice_cmp nat_cmp) texts_ties };
+
+    fn cmp(&self, other: &Path) -> Ordering {
+        down_cmp(self.text.as_slice(), other.text.as_slice())
+    }
+}
+
 // The two texts with a dot between them, which an empty one does without.
 pub(crate) fn dotted(alloc: Global, front: &[u8], back: &[u8]) -> Result<Vec<u8>, AllocError>
     ensures { IfOk result (λ text. text.items ≡ dotted front.now back.now) }
@@ -136,7 +199,7 @@ pub(crate) fn dotted(alloc: Global, front: &[u8], back: &[u8]) -> Result<Vec<u8>
 }
 
 // What keeps the two texts, of a path each, from being a path together.
-fn size_fault(front: &[u8], back: &[u8]) -> Option<PathFault>
+pub(crate) fn size_fault(front: &[u8], back: &[u8]) -> Option<PathFault>
     requires front_short { length front.now ≤ 1024 }
     requires back_short { length back.now ≤ 1024 }
     ensures { result ≡ size_fault (length (dotted front.now back.now)) (length (names_of front.now) + length (names_of back.now)) }

@@ -1,7 +1,8 @@
 //! Examples of what the definitions mean, and that each call succeeds where there is memory.
 
-use crate::{Glob, Name, Path, PathFault};
+use crate::{ChildRoom, Glob, Name, Path, PathFault};
 use std::alloc::Global;
+use std::cmp::Ordering;
 use std::test::Fail;
 
 const NAMES_32: &[u8] =
@@ -96,6 +97,14 @@ fn globs_are_refused_at_their_first_fault(rt: HostRuntime) {
 }
 
 #[test]
+fn globs_show_their_bytes(rt: HostRuntime) -> Result<(), Fail> {
+    for text in [b"".as_slice(), b"a[0].*"] {
+        assert_eq!(rt; Glob::new(rt.alloc(), text)?.as_bytes(), text);
+    }
+    Ok(())
+}
+
+#[test]
 fn names_are_refused_at_their_first_fault(rt: HostRuntime) {
     for (bytes, want) in [
         (b"".as_slice(), Some(PathFault::Empty)),
@@ -166,6 +175,30 @@ fn paths_go_on_with_names_and_paths(rt: HostRuntime) -> Result<(), Fail> {
     Ok(())
 }
 
+#[test]
+fn rooms_make_the_paths_of_children(rt: HostRuntime) -> Result<(), Fail> {
+    let long = long_text();
+    for (front, back, want) in [
+        (b"".as_slice(), b"c".as_slice(), Ok(b"c".as_slice())),
+        (b"a.b", b"c", Ok(b"a.b.c")),
+        (NAMES_32, b"33", Err(PathFault::TooDeep)),
+        (all_but_last(&long), b"c", Err(PathFault::TooLong)),
+    ] {
+        let (path, name) = (path_at(rt.alloc(), front)?, Name::new(back)?);
+        assert_eq!(rt;
+            path.child_fault(&name),
+            want.err(),
+            "{back:?} below {front:?}"
+        );
+        let child = ChildRoom::new(&path)?.child(&name);
+        assert!(rt;
+            is_path_at(rt.alloc(), child, want)?,
+            "{back:?} in the room below {front:?}"
+        );
+    }
+    Ok(())
+}
+
 // Whether the path has the text that is wanted, or the fault.
 fn is_path_at(
     alloc: Global,
@@ -196,6 +229,78 @@ fn paths_have_a_depth_and_copies(rt: HostRuntime) -> Result<(), Fail> {
         let mut out = b"> ".to_vec(rt.alloc())?;
         path.copy()?.write(&mut out)?;
         assert_eq!(rt; out.strip_prefix(b"> "), Some(text));
+    }
+    Ok(())
+}
+
+#[test]
+fn names_stand_in_byte_order(rt: HostRuntime) -> Result<(), Fail> {
+    for (name, other, want) in [
+        (b"a".as_slice(), b"a".as_slice(), Ordering::Equal),
+        (b"B", b"a", Ordering::Less),
+        (b"a10", b"a9", Ordering::Less),
+        (b"ab", b"a", Ordering::Greater),
+    ] {
+        let (name, other) = (Name::new(name)?, Name::new(other)?);
+        assert_eq!(rt; name.cmp(&other), want, "{name} and {other}");
+        assert_eq!(rt; name.partial_cmp(&other), Some(want), "{name} and {other}");
+    }
+    Ok(())
+}
+
+#[test]
+fn parents_stand_first_in_down(rt: HostRuntime) -> Result<(), Fail> {
+    for (path, next) in [
+        (b"".as_slice(), b"t".as_slice()),
+        (b"t", b"t.a"),
+        (b"t.a", b"t.a.x"),
+        (b"t.a.x", b"t.b"),
+        (b"", b"t.b"),
+        (b"t", b"t.b"),
+        // The dot is 0x2E, and stands before every byte of a name.
+        (b"a.x", b"a!"),
+        (b"a.x", b"a-b"),
+    ] {
+        let (first, second) = (path_at(rt.alloc(), path)?, path_at(rt.alloc(), next)?);
+        assert_eq!(rt; first.cmp(&second), Ordering::Less, "{path:?} and {next:?}");
+        assert_eq!(rt;
+            second.cmp(&first),
+            Ordering::Greater,
+            "{next:?} and {path:?}"
+        );
+        assert!(rt; first < second, "{path:?} and {next:?}");
+        assert_ne!(rt; first, second);
+        assert_eq!(rt; first.cmp(&first.copy()?), Ordering::Equal, "{path:?}");
+        assert_eq!(rt; first, first.copy()?);
+    }
+    Ok(())
+}
+
+#[test]
+fn children_stand_first_in_up(rt: HostRuntime) -> Result<(), Fail> {
+    for (path, next) in [
+        (b"t.a.x".as_slice(), b"t.a".as_slice()),
+        (b"t.a", b"t.b"),
+        (b"t.b", b"t"),
+        (b"t", b""),
+        (b"t.a.x", b"t"),
+        (b"t.a.x", b""),
+        (b"a.x", b"a"),
+        (b"a.x", b"a!"),
+        (b"a", b"a!"),
+    ] {
+        let (first, second) = (path_at(rt.alloc(), path)?, path_at(rt.alloc(), next)?);
+        assert_eq!(rt;
+            first.up_cmp(&second),
+            Ordering::Less,
+            "{path:?} and {next:?}"
+        );
+        assert_eq!(rt;
+            second.up_cmp(&first),
+            Ordering::Greater,
+            "{next:?} and {path:?}"
+        );
+        assert_eq!(rt; first.up_cmp(&first.copy()?), Ordering::Equal, "{path:?}");
     }
     Ok(())
 }

@@ -1,4 +1,4 @@
-use Rattle.std.proofs.Common.{◌≡◌, ◌∙◌, sym, refl, true, false}
+use Rattle.std.proofs.Common.{◌∙◌, sym, refl}
 use Rattle.bench_script.proofs.TableKeys.{all_listed}
 use Rattle.bench_script.proofs.keys.only_keys.Goals as goal
 

@@ -1,8 +1,7 @@
-use Rattle.std.proofs.Common.{◌≡◌, ◌≢◌, ◌≤◌, ℕ, List, length, nat_lt, Bool, true, false, not, refl, sym, subst, Err}
-use Rattle.std.specs.Str.{IsUtf8, is_utf8}
+use Rattle.std.proofs.Common.{◌≡◌, length, nat_lt, true, false, refl}
+use Rattle.std.specs.Str.{is_utf8}
 use Rattle.std.proofs.lemmas.Bool.{le-ltb, false_from_ne_true}
 use Rattle.std.proofs.lemmas.Str.{is_utf8-from_IsUtf8, IsUtf8-from_is_utf8}
-use Rattle.bench_script.specs.Reading.{IsReading}
 use Rattle.bench_script.proofs.reading.read.Goals as goal
 
 -- bytes that are no text

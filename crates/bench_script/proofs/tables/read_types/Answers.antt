@@ -1,5 +1,4 @@
-use Rattle.std.proofs.Common.{◌≡◌, ◌≤◌, length, refl, sym, arith}
-use Rattle.toml.specs.View.{items_view}
+use Rattle.std.proofs.Common.{refl}
 use Rattle.bench_script.proofs.Rows.{few-items_view, many-items_view}
 use Rattle.bench_script.proofs.tables.read_types.Goals as goal
 

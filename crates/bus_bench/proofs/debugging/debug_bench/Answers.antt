@@ -1,4 +1,3 @@
-use Rattle.std.proofs.Common.{◌≡◌, ◌∙◌, sym, refl}
 use Rattle.bus_bench.proofs.debugging.debug_bench.Goals as goal
 
 pub returns-in-Ok : goal.returns-in-Ok

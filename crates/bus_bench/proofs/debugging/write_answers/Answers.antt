@@ -1,9 +1,6 @@
-use Rattle.std.proofs.Common.{◌≡◌, ◌∙◌, ◌+◌, ◌++◌, ◌<◌, ◌≤◌, length, take, get_or, ap, sym, refl, subst}
-use Rattle.std.specs.List.{concat}
-use Rattle.std.specs.Io.KnownBytes.{Appends}
-use Rattle.uvm_factory.specs.Observed.{types_of}
-use Rattle.bus_bench.specs.Debugging.{debug_lines, probe_line}
-use Rattle.bus_bench.proofs.Answering.{appends-twice, lines-more, lines-all, line-factory}
+use Rattle.std.proofs.Common.{◌≡◌, ◌∙◌, ◌<◌, ◌≤◌, length, get_or}
+use Rattle.bus_bench.specs.Debugging.{probe_line}
+use Rattle.bus_bench.proofs.Answering.{appends-twice, lines-more, lines-all, lines-some, line-factory}
 use Rattle.bus_bench.proofs.debugging.write_answers.Goals as goal
 
 -- the probe's type is one of the script's
@@ -27,3 +24,9 @@ pub returns-clause-ok : goal.returns-clause-ok
 returns-clause-ok g c =
     let end : length c.args.script.now.probes ≤ c.loop-probe.probe-index = rw (← c.probes-probes.ensures.probes) c.loop-probe-test.false in
     rw (← lines-all c.args.script.now c.loop-probe.probe-index end) c.loop-probe.invariant
+
+-- the output failed at the line of a probe
+pub returns-in_default-write_all-clause-err : goal.returns-in_default-write_all-clause-err
+returns-in_default-write_all-clause-err g c =
+    let within : c.loop-probe.probe-index < length c.args.script.now.probes = rw (← c.probes-probes.ensures.probes) c.loop-probe-test.true in
+    lines-some c.args.script.now c.loop-probe.probe-index within

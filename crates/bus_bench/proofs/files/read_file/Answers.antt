@@ -1,7 +1,7 @@
-use Rattle.std.proofs.Common.{arith, inl, inr}
+use Rattle.std.proofs.Common.{arith, inl, inr, rules}
 use Rattle.std.proofs.lemmas.List.{length-take}
 use Rattle.bus_bench.specs.declared.files.TheConstants.{MOST_BYTES}
-use Rattle.bus_bench.proofs.ReadLemmas.{read_front, read_more}
+use Rattle.bus_bench.proofs.ReadLemmas.{read_front, read_more, fault_after}
 use Rattle.bus_bench.proofs.files.read_file.Goals as goal
 
 pub returns-then-room-eq0-clause-bytes : goal.returns-then-room-eq0-clause-bytes
@@ -23,3 +23,7 @@ reads-preserved g c =
       bound = omega (arith, c.in_ok-read_piece.ensures.bound, length-take c.min-room.result c.reads.piece);
       left = read_more _ _ _ c.reads.bytes.items more.0 c.read_piece.new.bytes.items c.reads.invariant.left more.2 more.1;
     }
+
+pub returns-in_err-read_piece-clause-fault : goal.returns-in_err-read_piece-clause-fault
+returns-in_err-read_piece-clause-fault g c =
+    search (fault_after _ _ _ c.reads.bytes.items _ c.reads.invariant.left c.in_err-read_piece.ensures.fault, rules)

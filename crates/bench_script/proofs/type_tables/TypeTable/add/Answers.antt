@@ -1,5 +1,4 @@
-use Rattle.std.proofs.Common.{◌≡◌, ◌∙◌, ◌++◌, ◌∷◌, [], List, ℕ, ap, rules}
-use Rattle.uvm_factory.specs.Faults.{Types}
+use Rattle.std.proofs.Common.{◌≡◌, ◌∙◌, ◌++◌, ◌∷◌, [], ap, rules}
 use Rattle.bench_script.proofs.Register.{register-push}
 use Rattle.bench_script.proofs.type_tables.TypeTable.add.Goals as goal
 

@@ -1,0 +1,127 @@
+-- What contracts see of the machine.
+use Rattle.std.specs.Prelude.{◌≡◌, ◌<◌, ◌≤◌, ℕ, Bool, true, false, List, ◌∷◌, length, [], Option, Some, None, Result, Ok, Err, IsSome}
+use Rattle.uvm_object.specs.declared.acts.Who.{Who}
+use Rattle.uvm_object.specs.declared.acts.Call.{Call}
+use Rattle.uvm_object.specs.declared.entries.Entry.{Entry}
+use Rattle.uvm_object.specs.Lines.{entry_line}
+use Rattle.uvm_phase.specs.declared.phases.Phase.{Phase}
+use Rattle.bench_script.specs.Scripts.{ScriptValue}
+use Rattle.bench_world.specs.declared.stages.Stage.{Stage}
+use Rattle.bench_world.specs.declared.stages.Stage.TheVariants.{During}
+use Rattle.bench_world.specs.History.{nodes_of}
+use Rattle.bench_core.specs.declared.cores.Need.{Need}
+use Rattle.bench_world.specs.Next as next
+use Rattle.bench_world.specs.Next.{next_of}
+use Rattle.bench_world.specs.Story.{Story}
+use Rattle.bench_core.specs.declared.cores.Standing.{Standing}
+use Rattle.bench_core.specs.declared.cores.Standing.TheVariants.{Nothing, Needed, Asked}
+use Rattle.bench_core.specs.declared.cores.Turn as turn
+use Rattle.bench_core.specs.declared.faults.CoreFault.{CoreFault}
+use Rattle.bench_core.specs.declared.faults.CoreFault.TheVariants.{Memory, LogFull, Failed, NoTest}
+use Rattle.bench_core.specs.Choices.{IsNeedFor}
+
+-- the script, the entries with the newest first, what was asked and not answered yet, and whether the machine has failed
+pub record Play : Type 0 where
+  pub script : ScriptValue
+  pub history : List Entry
+  pub standing : Standing
+  pub failed : Bool
+
+-- one more entry, which answers what was asked
+abbrev pub after : Entry → Play → Play
+after entry play = record play { history = entry ∷ play.history; standing = Nothing }
+
+-- the machine has failed
+abbrev pub failed_from : Play → Play
+failed_from play = record play { standing = Nothing; failed = true }
+
+-- what was asked is what comes next
+abbrev pub Comes : Standing → next.Next → Type 0
+Comes Nothing comes = Unit {0}
+Comes (Needed need) comes = IsNeedFor need.ty need.path comes
+Comes (Asked performer call) comes = comes ≡ next.Answer performer call
+
+-- there is room for the entry of what was asked
+abbrev pub HasRoom : Standing → Story → Type 0
+HasRoom Nothing story = Unit {0}
+HasRoom (Needed need) story = (length story.history < 1000000) × (story.ready ≡ true)
+HasRoom (Asked performer call) story = length story.history < 1000000
+
+-- while the machine has not failed its world is sound, and what was asked comes next
+pub record IsCore (story : Story) (standing : Standing) (failed : Bool) : Type 0 where
+  pub sound : failed ≡ false → story.sound ≡ true
+  pub comes : Comes standing (next_of story.script story.history)
+  pub room : HasRoom standing story
+  pub none : failed ≡ true → standing ≡ Nothing
+
+-- the object that is needed stands, and nothing else changed
+abbrev pub Stands : List ℕ → List (List ℕ) → Standing → Type 0
+Stands ty path Nothing = ⊥
+Stands ty path (Needed need) = (need.ty ≡ ty) × (need.path ≡ path)
+Stands ty path (Asked performer call) = ⊥
+
+-- what a turn is, by what comes next
+abbrev pub IsTurn : next.Next → turn.Turn → Play → Play → Type 0
+IsTurn (next.Exactly entry) result old new = (result ≡ turn.TheVariants.Moved) × (new ≡ after entry old)
+IsTurn (next.Answer performer call) result old new = (result ≡ turn.TheVariants.Ask performer call) × (new ≡ record old { standing = Asked performer call })
+IsTurn (next.Need ty path performer act) result old new = (result ≡ turn.TheVariants.Need) × Stands ty path new.standing × (new ≡ record old { standing = new.standing })
+IsTurn next.Nothing result old new = (result ≡ turn.TheVariants.Over) × (new ≡ old)
+
+-- something comes next
+abbrev pub IsSomething : next.Next → Type 0
+IsSomething next.Nothing = ⊥
+IsSomething comes = Unit {0}
+
+-- why a turn is refused
+abbrev pub IsRefusedTurn : CoreFault → Play → Play → Type 0
+IsRefusedTurn Memory old new = (old.failed ≡ false) × (new ≡ failed_from old)
+IsRefusedTurn LogFull old new = (old.failed ≡ false) × (1000000 ≤ length old.history) × IsSomething (next_of old.script old.history) × (new ≡ failed_from old)
+IsRefusedTurn Failed old new = (old.failed ≡ true) × (new ≡ old)
+IsRefusedTurn NoTest old new = ⊥
+
+-- what `next` gives: what stands is told again, else what comes next is done
+abbrev pub IsNextTurn : Standing → Result turn.Turn CoreFault → Play → Play → Type 0
+IsNextTurn Nothing (Ok result) old new = (old.failed ≡ false) × IsTurn (next_of old.script old.history) result old new
+IsNextTurn Nothing (Err fault) old new = IsRefusedTurn fault old new
+IsNextTurn (Needed need) result old new = (result ≡ Ok turn.TheVariants.Need) × (new ≡ old)
+IsNextTurn (Asked performer call) result old new = (result ≡ Ok (turn.TheVariants.Ask performer call)) × (new ≡ old)
+
+-- why there is no machine of a script
+abbrev pub IsUnmade : ScriptValue → CoreFault → Type 0
+IsUnmade script NoTest = script.test ≡ None
+IsUnmade script Memory = IsSome script.test
+IsUnmade script LogFull = ⊥
+IsUnmade script Failed = ⊥
+
+-- what stands, as a turn, as an object that is needed, and as a call
+abbrev pub turn_of : Standing → Option turn.Turn
+turn_of Nothing = None
+turn_of (Needed need) = Some turn.TheVariants.Need
+turn_of (Asked performer call) = Some (turn.TheVariants.Ask performer call)
+
+-- somebody is called
+abbrev pub IsAsk : Option turn.Turn → Type 0
+IsAsk (Some (turn.TheVariants.Ask performer call)) = Unit {0}
+IsAsk (Some other) = ⊥
+IsAsk None = ⊥
+
+abbrev pub need_of : Standing → Option Need
+need_of Nothing = None
+need_of (Needed need) = Some need
+need_of (Asked performer call) = None
+
+abbrev pub ask_of : Standing → Option (Who × Call)
+ask_of Nothing = None
+ask_of (Needed need) = None
+ask_of (Asked performer call) = Some (performer, call)
+
+-- the phase that runs
+abbrev pub running : Stage → Option Phase
+running (During phase) = Some phase
+running stage = None
+
+-- the text of the newest entry
+abbrev pub last_text : Bool → List Entry → List ℕ
+last_text false history = []
+last_text true [] = []
+last_text true (entry ∷ before) = entry_line (nodes_of (entry ∷ before)) entry

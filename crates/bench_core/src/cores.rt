@@ -1,0 +1,327 @@
+//! The machine.
+
+ghost use Rattle.std.specs.Prelude.{◌≡◌, ◌<◌, [], true, false, OnOk, OnErr, IfOk, IfErr, IfSome, IsSome, Some, IsOk, IsErr, length, ◌++◌};
+ghost use Rattle.std.specs.Bool.{OnTrue, OnFalse};
+ghost use Rattle.std.specs.Option.{option_copied};
+ghost use Rattle.uvm_tree.specs.Nodes.{number_of};
+ghost use Rattle.uvm_object.specs.declared.acts.Who.TheVariants as who;
+ghost use Rattle.uvm_object.specs.declared.entries.Entry.TheVariants.{Heard};
+ghost use Rattle.bench_world.specs.History.{nodes_of, stage_of};
+ghost use Rattle.bench_world.specs.Next.{next_of, made_in, declined_in, IsLegal};
+ghost use Rattle.bench_world.specs.Next as comes;
+ghost use Rattle.bench_core.specs.Plays.{IsNextTurn, IsTurn, IsSomething, IsUnmade, after, failed_from, turn_of, need_of, ask_of, IsAsk, running, last_text};
+ghost use Rattle.bench_core.specs.declared.cores.Standing.TheVariants.{Nothing, Needed, Asked};
+
+use crate::choices::{Choice, choose};
+use crate::faults::CoreFault;
+use bench_script::Script;
+use bench_world::{Stage, World};
+use rand_core::Rng;
+use std::alloc::{AllocError, Global};
+use std::marker::Model;
+use uvm_factory::Kind;
+use uvm_glob::{Name, Path};
+use uvm_object::{Acts, Call, Log, Who, line_of};
+use uvm_phase::Phase;
+use uvm_tree::NodeId;
+
+/// An object that is needed: its kind, the type that the factory makes, and where it will stand.
+#[derive(Debug, Drop)]
+pub struct Need {
+    pub kind: Kind,
+    pub ty: Name,
+    pub path: Path,
+}
+
+/// What a call of `next` came to.
+#[derive(Clone, Copy, Debug, PartialEq, Eq)]
+pub enum Turn {
+    /// An object is needed; `need` says which.
+    Need,
+    /// Somebody is called.
+    Ask { who: Who, call: Call },
+    /// An entry was made.
+    Moved,
+    /// The run is over.
+    Over,
+}
+
+/// What was asked, and not answered yet.
+#[derive(Debug, Drop)]
+pub enum Standing {
+    /// Nothing.
+    Nothing,
+    /// An object.
+    Needed(Need),
+    /// The answer of somebody to a call.
+    Asked { who: Who, call: Call },
+}
+
+/// The machine of a testbench, with answers as values. Contracts see the script, the log with the newest entry first, what was
+/// asked, and whether the machine has failed.
+#[derive(Drop)]
+pub struct Core {
+    alloc: Global,
+    world: World,
+    standing: Standing,
+    failed: bool,
+}
+
+impl Model for Core {
+    ghost use Rattle.bench_core.specs.Plays.{Play, IsCore};
+
+    ghost Value = { Play };
+
+    ghost view = { λ c. record { script = c.world.script; history = c.world.history; standing = c.standing; failed = c.failed } };
+
+    ghost invariant = { λ c. IsCore c.world c.standing c.failed };
+}
+
+impl Core {
+    /// The machine of a script, before the first entry (`NoTest` where the script has no test, else `Memory`).
+    pub fn new(alloc: Global, script: Script) -> Result<Core, CoreFault>
+        ensures ok { IfOk result (λ core. IsSome script.test × (core ≡ record { script = script; history = []; standing = Nothing; failed = false })) }
+        ensures err { IfErr result (IsUnmade script) }
+    {
+        if script.test().is_none() {
+            return Err(CoreFault::NoTest);
+        }
+        match World::new(alloc, script) {
+            Ok(world) => Ok(Core {
+                alloc,
+                world,
+                standing: Standing::Nothing,
+                failed: false,
+            }),
+            Err(_) => Err(CoreFault::Memory),
+        }
+    }
+
+    /// Makes the next entry, or says what it needs: an object (`Need`) or an answer (`Ask`), again and again until that is
+    /// there; `Over` once the run is over. `LogFull` where an entry would be next and the log is full, `Memory` where memory is
+    /// refused, and `Failed` from then on. No word is drawn yet.
+    pub fn next<R: Rng>(&mut self, _words: &mut R) -> Result<Turn, CoreFault>
+        ensures { IsNextTurn self.old.standing result self.old self.new }
+    {
+        match &self.standing {
+            Standing::Needed(_) => return Ok(Turn::Need),
+            Standing::Asked { who, call } => {
+                return Ok(Turn::Ask {
+                    who: *who,
+                    call: *call,
+                });
+            }
+            Standing::Nothing => (),
+        }
+        if self.failed {
+            return Err(CoreFault::Failed);
+        }
+        self.go_on()
+    }
+
+    /// What was asked: an object, or an answer. None where neither was.
+    pub fn turn(&self) -> Option<Turn>
+        ensures { result ≡ turn_of self.now.standing }
+    {
+        match &self.standing {
+            Standing::Nothing => None,
+            Standing::Needed(_) => Some(Turn::Need),
+            Standing::Asked { who, call } => Some(Turn::Ask {
+                who: *who,
+                call: *call,
+            }),
+        }
+    }
+
+    /// The object that is needed, if one is.
+    pub fn need(&self) -> Option<&Need>
+        ensures { option_copied result ≡ need_of self.now.standing }
+    {
+        match &self.standing {
+            Standing::Needed(need) => Some(need),
+            _ => None,
+        }
+    }
+
+    /// The needed object was made: the component that it is now. Takes no memory.
+    pub fn made(&mut self) -> Who
+        requires { turn_of self.old.standing ≡ Some Turn.Need }
+        ensures who { result ≡ who.Node (length (nodes_of self.old.history)) }
+        ensures entry { IfSome (made_in (next_of self.old.script self.old.history)) (λ entry. self.new ≡ after entry self.old) }
+        ensures one { IsSome (made_in (next_of self.old.script self.old.history)) }
+    {
+        let Standing::Needed(need) = &self.standing else {
+            unreachable!()
+        };
+        let ty = need.ty;
+        self.standing = Standing::Nothing;
+        let Ok(node) = self.world.made(ty) else {
+            unreachable!()
+        };
+        Who::Node(node)
+    }
+
+    /// The needed object is declined. Takes no memory.
+    pub fn declined(&mut self)
+        requires { turn_of self.old.standing ≡ Some Turn.Need }
+        ensures entry { IfSome (declined_in (next_of self.old.script self.old.history)) (λ entry. self.new ≡ after entry self.old) }
+        ensures one { IsSome (declined_in (next_of self.old.script self.old.history)) }
+    {
+        self.standing = Standing::Nothing;
+        let Ok(()) = self.world.declined() else {
+            unreachable!()
+        };
+    }
+
+    /// The answer that was asked for. `Memory` where memory is refused, and the machine has failed then.
+    pub fn heard(&mut self, acts: Acts) -> Result<(), CoreFault>
+        requires { IsAsk (turn_of self.old.standing) }
+        ensures ok { OnOk result (IfSome (ask_of self.old.standing) (λ ask. self.new ≡ after (Heard ask.0 ask.1 acts) self.old)) }
+        ensures err { IfErr result (λ fault. (fault ≡ CoreFault.Memory) × (self.new ≡ failed_from self.old)) }
+    {
+        let Standing::Asked { who, call } = &self.standing else {
+            unreachable!()
+        };
+        let (node, call) = (who.node(), *call);
+        self.standing = Standing::Nothing;
+        self.failed = true;
+        match self.world.heard(Who::Node(node), call, acts) {
+            Ok(()) => {
+                self.failed = false;
+                Ok(())
+            }
+            Err(_) => Err(CoreFault::Memory),
+        }
+    }
+
+    /// The present time in ticks. Nothing takes time yet.
+    pub fn now(&self) -> u64
+        ensures { result ≡ 0 }
+    {
+        0
+    }
+
+    /// The phase that runs, if one does. None once memory was refused.
+    pub fn phase(&self) -> Option<Phase>
+        ensures { self.now.failed ≡ false → result ≡ running (stage_of self.now.history) }
+    {
+        if !self.world.sound() {
+            return None;
+        }
+        match self.world.stage() {
+            Stage::During(phase) => Some(phase),
+            _ => None,
+        }
+    }
+
+    /// The log. It is legal at every moment.
+    pub fn log(&self) -> &Log
+        ensures entries { result.now.entries ≡ self.now.history }
+        ensures legal { IsLegal self.now.script self.now.history }
+    {
+        self.world.log()
+    }
+
+    /// The node at a path, the top at its own. None once memory was refused.
+    pub fn find(&self, path: &Path) -> Option<NodeId>
+        ensures { self.now.failed ≡ false → result ≡ number_of (nodes_of self.now.history) path.now }
+    {
+        if !self.world.sound() {
+            return None;
+        }
+        self.world.tree().find(path)
+    }
+
+    /// Appends the line of the newest entry, where `trace` asks for it and there is one; nothing where memory is refused,
+    /// or was.
+    pub fn last_text(&self, trace: bool, out: &mut Vec<u8>) -> Result<(), AllocError>
+        ensures ok { OnOk result (self.now.failed ≡ false → out.new.items ≡ out.old.items ++ last_text trace self.now.history) }
+        ensures err { OnErr result (out.new.items ≡ out.old.items) }
+    {
+        if !trace || !self.world.sound() {
+            return Ok(());
+        }
+        match self.world.log().last() {
+            Some(entry) => line_of(entry, self.world.tree(), out),
+            None => Ok(()),
+        }
+    }
+
+    // Does what comes next, or gives up.
+    fn go_on(&mut self) -> Result<Turn, CoreFault>
+        requires standing { self.old.standing ≡ Nothing }
+        requires failed { self.old.failed ≡ false }
+        ensures { IsNextTurn Nothing result self.old self.new }
+    {
+        if is_over(&self.world) {
+            return Ok(Turn::Over);
+        }
+        if self.world.is_full() {
+            self.failed = true;
+            return Err(CoreFault::LogFull);
+        }
+        match self.advance() {
+            Ok(turn) => Ok(turn),
+            Err(_) => Err(CoreFault::Memory),
+        }
+    }
+
+    // Does what comes next.
+    fn advance(&mut self) -> Result<Turn, AllocError>
+        requires standing { self.old.standing ≡ Nothing }
+        requires failed { self.old.failed ≡ false }
+        requires room { length self.old.history < 1000000 }
+        ensures ok { IfOk result (λ turn. IsTurn (next_of self.old.script self.old.history) turn self.old self.new) }
+        ensures err { OnErr result (self.new ≡ failed_from self.old) }
+    {
+        self.failed = true;
+        let choice = choose(self.alloc, &self.world)?;
+        let turn = match choice {
+            Choice::Nothing => Turn::Over,
+            Choice::Begin(phase) => moved(self.world.begin(phase))?,
+            Choice::End(phase) => moved(self.world.end(phase))?,
+            Choice::Over(reason) => moved(self.world.over(reason))?,
+            Choice::Note(fatal, node) => moved(self.world.note(fatal, node))?,
+            Choice::Did(deed) => moved(self.world.did(deed))?,
+            Choice::Need(need) => {
+                self.world.reserve()?;
+                self.standing = Standing::Needed(need);
+                Turn::Need
+            }
+            Choice::Ask(node, call) => {
+                self.standing = Standing::Asked {
+                    who: Who::Node(node),
+                    call,
+                };
+                Turn::Ask {
+                    who: Who::Node(node),
+                    call,
+                }
+            }
+        };
+        self.failed = false;
+        Ok(turn)
+    }
+}
+
+// Whether the run is over.
+#[tactic(auto, using(crate::proofs::Comings::comings))]
+fn is_over(world: &World) -> bool
+    requires { world.now.sound ≡ true }
+    ensures over { OnTrue result (next_of world.now.script world.now.history ≡ comes.Nothing) }
+    ensures on { OnFalse result (IsSomething (next_of world.now.script world.now.history)) }
+{
+    match world.stage() {
+        Stage::Ended => true,
+        Stage::Before | Stage::During(_) | Stage::After(_) => false,
+    }
+}
+
+// An entry was made.
+fn moved(made: Result<(), AllocError>) -> Result<Turn, AllocError>
+    ensures ok { IfOk result (λ turn. (turn ≡ Turn.Moved) × IsOk made) }
+    ensures err { OnErr result (IsErr made) }
+{
+    made?;
+    Ok(Turn::Moved)
+}

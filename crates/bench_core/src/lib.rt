@@ -1,0 +1,11 @@
+//! The machine of a testbench with answers as values: it chooses the next entry of the log, and nothing else.
+#![tactic(auto)]
+
+mod choices;
+mod cores;
+mod faults;
+#[cfg(test)]
+mod tests;
+
+pub use cores::{Core, Need, Standing, Turn};
+pub use faults::CoreFault;

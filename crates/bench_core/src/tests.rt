@@ -1,0 +1,268 @@
+//! Whole runs with answers as values.
+
+use crate::{Core, CoreFault, Turn};
+use rand_pcg::Pcg32;
+use std::alloc::Global;
+use std::test::Fail;
+use uvm_factory::Kind;
+use uvm_glob::{Name, Path};
+use uvm_object::{Act, Acts, Call, What};
+use uvm_phase::Phase;
+
+const SCRIPT: &[u8] =
+    b"version = 1\ntest = \"t\"\ntype = [{ name = \"t\", kind = \"component\" }, { name = \"c\", kind = \"component\" }]\n";
+
+/// What the test answers, in a run of which all other calls get no acts.
+#[derive(Clone, Copy, PartialEq, Eq)]
+enum Bench {
+    /// To build: two children and a FIFO.
+    Children,
+    /// To build: a FIFO, twice under one name.
+    OneNameTwice,
+    /// To build: 65 acts.
+    ManyActs,
+    /// To connect: a child.
+    LateChild,
+    /// Each needed object is declined.
+    Declined,
+}
+
+#[test]
+fn nodes_have_their_calls_in_the_orders_of_the_phases(rt: HostRuntime) -> Result<(), Fail> {
+    let text = transcript(rt.alloc(), Bench::Children)?;
+    assert!(rt; text.as_slice().starts_with(CHILDREN_BEGIN));
+    assert!(rt; text.as_slice().ends_with(CHILDREN_END));
+    assert_eq!(rt; text.iter().filter(|b| **b == b'\n').count(), 50);
+    Ok(())
+}
+
+#[test]
+fn declined_test_ends_the_run(rt: HostRuntime) -> Result<(), Fail> {
+    let text = transcript(rt.alloc(), Bench::Declined)?;
+    assert_eq!(rt; text.as_slice(), DECLINED);
+    Ok(())
+}
+
+#[test]
+fn child_name_taken_is_refused(rt: HostRuntime) -> Result<(), Fail> {
+    let text = transcript(rt.alloc(), Bench::OneNameTwice)?;
+    assert_eq!(rt; text.as_slice(), ONE_NAME_TWICE);
+    Ok(())
+}
+
+#[test]
+fn more_than_64_acts_are_noted_and_none_performed(rt: HostRuntime) -> Result<(), Fail> {
+    let text = transcript(rt.alloc(), Bench::ManyActs)?;
+    assert_eq!(rt; text.as_slice(), MANY_ACTS);
+    Ok(())
+}
+
+#[test]
+fn creation_after_build_is_refused(rt: HostRuntime) -> Result<(), Fail> {
+    let text = transcript(rt.alloc(), Bench::LateChild)?;
+    assert!(rt; text.as_slice().ends_with(LATE_CHILD_END));
+    Ok(())
+}
+
+#[test]
+fn script_without_a_test_has_no_machine(rt: HostRuntime) -> Result<(), Fail> {
+    let script = bench_script::read(rt.alloc(), b"version = 1")?;
+    assert!(rt; matches!(Core::new(rt.alloc(), script), Err(CoreFault::NoTest)));
+    Ok(())
+}
+
+#[test]
+fn need_is_told_until_it_is_met(rt: HostRuntime) -> Result<(), Fail> {
+    let mut core = machine(rt.alloc())?;
+    assert_eq!(rt; core.turn(), None);
+    assert!(rt; is_in_need(rt.alloc(), &mut core)?);
+    Ok(())
+}
+
+#[test]
+fn machine_tells_its_phase_and_its_nodes(rt: HostRuntime) -> Result<(), Fail> {
+    let mut core = machine(rt.alloc())?;
+    assert!(rt; begins_to_build(rt.alloc(), &mut core)?);
+    assert_eq!(rt; core.now(), 0);
+    assert_eq!(rt; core.log().len(), 2);
+    Ok(())
+}
+
+// Whether the test is needed, and is needed again.
+fn is_in_need(alloc: Global, core: &mut Core) -> Result<bool, Fail> {
+    let test = test_path(alloc)?;
+    let mut words = Pcg32::new(42, 54);
+    let turns = [core.next(&mut words)?, core.next(&mut words)?];
+    let is_test = match core.need() {
+        Some(need) => need.kind == Kind::Component && need.path == test,
+        None => false,
+    };
+    Ok(
+        is_test
+            && turns == [Turn::Need, Turn::Need]
+            && core.find(&test).is_none()
+            && core.phase().is_none(),
+    )
+}
+
+// Makes the test and begins to build: whether the machine says so.
+fn begins_to_build(alloc: Global, core: &mut Core) -> Result<bool, Fail> {
+    let test = test_path(alloc)?;
+    let went_on = step(alloc, core, Bench::Children, &test)?
+        && step(alloc, core, Bench::Children, &test)?;
+    Ok(went_on && core.phase() == Some(Phase::Build) && core.find(&test).is_some())
+}
+
+// The text of a run.
+fn transcript(alloc: Global, bench: Bench) -> Result<Vec<u8>, Fail> {
+    let mut core = machine(alloc)?;
+    play(alloc, &mut core, bench)
+}
+
+fn machine(alloc: Global) -> Result<Core, Fail> {
+    Ok(Core::new(alloc, bench_script::read(alloc, SCRIPT)?)?)
+}
+
+// Runs to the end.
+fn play(alloc: Global, core: &mut Core, bench: Bench) -> Result<Vec<u8>, Fail> {
+    let test = test_path(alloc)?;
+    let mut text = Vec::new(alloc);
+    for _ in 0..200 {
+        if !step(alloc, core, bench, &test)? {
+            break;
+        }
+        core.last_text(true, &mut text)?;
+    }
+    Ok(text)
+}
+
+// Makes one entry, unless the run is over.
+fn step(alloc: Global, core: &mut Core, bench: Bench, test: &Path) -> Result<bool, Fail> {
+    let mut words = Pcg32::new(42, 54);
+    match core.next(&mut words)? {
+        Turn::Over => Ok(false),
+        Turn::Moved => Ok(true),
+        Turn::Need => {
+            meet(core, bench);
+            Ok(true)
+        }
+        Turn::Ask { who, call } => {
+            let is_test = core.find(test) == Some(who.node());
+            answer(core, acts_of(alloc, bench, is_test, call)?)?;
+            Ok(true)
+        }
+    }
+}
+
+// Makes or declines the object that is needed.
+fn meet(core: &mut Core, bench: Bench) {
+    if let Some(Turn::Need) = core.turn() {
+        if bench == Bench::Declined {
+            core.declined();
+        } else {
+            core.made();
+        }
+    }
+}
+
+// Answers the call that was asked.
+fn answer(core: &mut Core, acts: Acts) -> Result<(), Fail> {
+    if let Some(Turn::Ask { who: _, call: _ }) = core.turn() {
+        core.heard(acts)?;
+    }
+    Ok(())
+}
+
+fn test_path(alloc: Global) -> Result<Path, Fail> {
+    Ok(Path::parse(alloc, b"uvm_test_top")?)
+}
+
+// What somebody answers.
+fn acts_of(alloc: Global, bench: Bench, is_test: bool, call: Call) -> Result<Acts, Fail> {
+    let mut acts = Acts::new(alloc);
+    if !is_test {
+        return Ok(acts);
+    }
+    let Call::Phase(phase) = call;
+    match (bench, phase) {
+        (Bench::Children, Phase::Build) => {
+            acts.push(create(b"b")?)?;
+            acts.push(create(b"a")?)?;
+            acts.push(add(b"f")?)?;
+        }
+        (Bench::OneNameTwice, Phase::Build) => {
+            acts.push(add(b"x")?)?;
+            acts.push(add(b"x")?)?;
+        }
+        (Bench::ManyActs, Phase::Build) => {
+            for _ in 0..65 {
+                acts.push(add(b"x")?)?;
+            }
+        }
+        (Bench::LateChild, Phase::Connect) => acts.push(create(b"b")?)?,
+        _ => (),
+    }
+    Ok(acts)
+}
+
+fn create(name: &[u8]) -> Result<Act, Fail> {
+    Ok(Act::Create {
+        ty: Name::new(b"c")?,
+        name: Name::new(name)?,
+    })
+}
+
+fn add(name: &[u8]) -> Result<Act, Fail> {
+    Ok(Act::Add {
+        name: Name::new(name)?,
+        what: What::Fifo { size: 1 },
+    })
+}
+
+const CHILDREN_BEGIN: &[u8] = b"did uvm_top create t uvm_test_top: made t
+begin build
+heard uvm_test_top build: 3
+did uvm_test_top create c b: made c
+did uvm_test_top create c a: made c
+did uvm_test_top add f fifo 1: done
+heard uvm_test_top.a build: 0
+heard uvm_test_top.b build: 0
+end build
+begin connect
+heard uvm_test_top.a connect: 0
+heard uvm_test_top.b connect: 0
+heard uvm_test_top connect: 0
+end connect
+";
+
+const CHILDREN_END: &[u8] = b"begin final
+heard uvm_test_top final: 0
+heard uvm_test_top.a final: 0
+heard uvm_test_top.b final: 0
+end final
+over finished
+";
+
+const DECLINED: &[u8] = b"did uvm_top create t uvm_test_top: refused FCTTYP
+over no_test
+";
+
+const ONE_NAME_TWICE: &[u8] = b"did uvm_top create t uvm_test_top: made t
+begin build
+heard uvm_test_top build: 2
+did uvm_test_top add x fifo 1: done
+did uvm_test_top add x fifo 1: refused CLDEXT
+over exit
+";
+
+const MANY_ACTS: &[u8] = b"did uvm_top create t uvm_test_top: made t
+begin build
+heard uvm_test_top build: 65
+note ACTLIM uvm_test_top
+over exit
+";
+
+const LATE_CHILD_END: &[u8] = b"heard uvm_test_top connect: 1
+did uvm_test_top create c b: refused ILLCRT
+over exit
+";

@@ -1,0 +1,77 @@
+//! The factory of a script.
+
+ghost use Rattle.std.specs.Prelude.{◌≡◌, List, [], ℕ, None, IfOk, OnOk};
+ghost use Rattle.uvm_glob.specs.Paths.{path_text};
+ghost use Rattle.uvm_factory.specs.Faults.{refusal};
+ghost use Rattle.uvm_factory.specs.Steps.{after_override};
+ghost use Rattle.uvm_factory.specs.Observed.{types_of, step_at};
+ghost use Rattle.bench_script.specs.Sound.{CanRegister, CanOverride};
+ghost use Rattle.bench_script.specs.Factories.{IsFactoryOf};
+
+use crate::scripts::Script;
+use std::alloc::{AllocError, Global};
+use uvm_factory::{Factory, FactoryFault, Kind, Override};
+use uvm_glob::Name;
+
+impl Script {
+    /// The factory with the types and the overrides of the script.
+    pub fn factory(&self, alloc: Global) -> Result<Factory, AllocError>
+        ensures { IfOk result (IsFactoryOf self.now) }
+    {
+        let mut factory = Factory::new(alloc);
+        register_all(&mut factory, self.types())?;
+        let overrides = self.overrides();
+        for given in overrides {
+            apply(&mut factory, given)?;
+        }
+        Ok(factory)
+    }
+}
+
+// Registers types that can be registered one after another.
+fn register_all(factory: &mut Factory, types: &[(Name, Kind)]) -> Result<(), AllocError>
+    requires none { types_of factory.old ≡ [] }
+    requires sound { CanRegister [] types.now }
+    ensures types { OnOk result (types_of factory.new ≡ types.now) }
+    ensures steps { OnOk result ((kind : ℕ) (path : List (List ℕ)) → step_at factory.new kind path ≡ step_at factory.old kind path) }
+{
+    for (name, kind) in types {
+        match factory.register(*name, *kind) {
+            Ok(_) => (),
+            Err(fault) => return Err(want_of_memory(fault)),
+        }
+    }
+    Ok(())
+}
+
+// Applies an override between types of one kind.
+fn apply(factory: &mut Factory, given: &Override) -> Result<(), AllocError>
+    requires { CanOverride (types_of factory.old) given.now }
+    ensures types { OnOk result (types_of factory.new ≡ types_of factory.old) }
+    ensures steps { OnOk result ((kind : ℕ) (path : List (List ℕ)) →
+        step_at factory.new kind path ≡ after_override given.now kind (path_text path) (step_at factory.old kind path)) }
+{
+    let applied = match given {
+        Override::Instance {
+            original,
+            new,
+            scope,
+        } => factory.override_inst(*original, *new, scope.copy()?),
+        Override::Whole {
+            original,
+            new,
+            replace,
+        } => factory.override_type(*original, *new, *replace),
+    };
+    match applied {
+        Ok(()) => Ok(()),
+        Err(fault) => Err(want_of_memory(fault)),
+    }
+}
+
+// The error of a call of the factory that only memory can refuse.
+fn want_of_memory(_fault: FactoryFault) -> AllocError
+    requires { refusal _fault ≡ None }
+{
+    AllocError
+}

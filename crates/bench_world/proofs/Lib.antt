@@ -1,0 +1,10 @@
+pub mod Answered
+pub mod Asked
+pub mod Attempts
+pub mod Did
+pub mod Entered
+pub mod Heard
+pub mod Marks
+pub mod Needed
+pub mod Overriding
+pub mod Turns

@@ -1,0 +1,31 @@
+use Rattle.std.proofs.Common.{refl, ◌∙◌, ◌∷◌, ap, sym}
+use Rattle.uvm_object.specs.declared.acts.Who.{Who}
+use Rattle.uvm_object.specs.declared.entries.Entry.TheVariants.{Did}
+use Rattle.uvm_object.specs.declared.entries.Outcome.TheVariants.{Done}
+use Rattle.uvm_object.specs.Acts.{node_of}
+use Rattle.bench_world.specs.History.{speaker_of}
+use Rattle.bench_world.proofs.Entered.{legal-more, sound-again}
+use Rattle.bench_world.proofs.Did.{did-match}
+use Rattle.bench_world.proofs.Heard.{at-node}
+use Rattle.bench_world.proofs.worlds.World.did_override_inst.Goals as goal
+
+pub invariant_of-self-2 : goal.invariant_of-self-2
+invariant_of-self-2 c =
+    let p = c.self.invariant in
+    let sound = rw (← c.self.view_is) at c.requires.sound in
+    let room = rw (← c.self.view_is) at c.requires.room in
+    let left = rw (← c.self.view_is) at c.requires.left in
+    let next = rw (← c.self.view_is) at c.requires.next in
+    let m = p.1.services_match sound in
+    let before = c.self.inside.log.entries in
+    let performer = speaker_of before in
+    let who_is = sym m.answer.speaker_is ∙ at-node c.self.inside.services.speaker c.node-node.result c.node-node.ensures in
+    let at = c.node-node.ensures ∙ ap node_of m.answer.speaker_is in (
+      p.0,
+      sound-again _ ((c.in_ok-push.ensures.ok ∙ ap (λ e. e ∷ before) c.done.ensures) ∙ ap (λ (w : Who). Did w Done c.args.deed ∷ before) (sym who_is)) (c.in_ok-push.ensures.limit ∙ p.1.limit) (legal-more (Did performer Done c.args.deed) next room p.1.legal)
+          (did-match _ before c.self.inside.services _ performer Done c.args.deed left m
+          (record { stage = refl; speaker = refl; answer = refl; done = c.one_more-self-inside.ensures; built = refl; exit_asked = refl; test_refused = refl })
+          (rw c.requires.act m.tree)
+          (rw c.requires.act (rw (c.in_ok-scope.ensures, at, m.tree) at c.in_ok-override_inst.ensures _ _ m.factory))
+          (rw c.requires.act m.turns)),
+    )

@@ -1,0 +1,183 @@
+-- What a log says. A history is the list of its entries, the newest first.
+use Rattle.std.specs.Prelude.{ℕ, Bool, true, false, not, ◌==◌, List, [], ◌∷◌, ◌++◌, length, reverse, filter, slice_get, codes, Option, Some, None}
+use Rattle.std.specs.List.{flat_map, list_any}
+use Rattle.std.specs.Option.{option_map_or}
+use Rattle.uvm_glob.specs.Paths.{path_text, dotted}
+use Rattle.uvm_glob.specs.Orders.{down_cmp, up_cmp}
+use Rattle.uvm_factory.specs.declared.overrides.Override.{Override}
+use Rattle.uvm_factory.specs.declared.overrides.Override.TheVariants.{Instance, Whole}
+use Rattle.uvm_factory.specs.Faults.{Types, type_named}
+use Rattle.uvm_phase.specs.declared.phases.Phase.{Phase}
+use Rattle.uvm_phase.specs.declared.phases.Phase.TheVariants.{Build}
+use Rattle.uvm_phase.specs.declared.phases.Walk.{Walk}
+use Rattle.uvm_phase.specs.declared.phases.Walk.TheVariants.{Down, Up}
+use Rattle.uvm_phase.specs.Phases.{walk_of}
+use Rattle.uvm_tree.specs.declared.nodes.Node.{Node}
+use Rattle.uvm_tree.specs.declared.nodes.NodeKind.{NodeKind}
+use Rattle.uvm_tree.specs.declared.nodes.NodeKind.TheVariants as kind
+use Rattle.uvm_tree.specs.Nodes.{top, child, path_at}
+use Rattle.uvm_tree.specs.Cursors.{PathOrder, is_before, least}
+use Rattle.uvm_object.specs.declared.acts.Who.{Who}
+use Rattle.uvm_object.specs.declared.acts.Who.TheVariants as who
+use Rattle.uvm_object.specs.Acts.{node_of}
+use Rattle.uvm_object.specs.declared.acts.Call.TheVariants as call
+use Rattle.uvm_object.specs.declared.acts.What.{What}
+use Rattle.uvm_object.specs.declared.acts.What.TheVariants as what
+use Rattle.uvm_object.specs.declared.acts.Act.{Act}
+use Rattle.uvm_object.specs.declared.acts.Act.TheVariants.{Create, Add, OverrideType, OverrideInst}
+use Rattle.uvm_object.specs.declared.entries.Outcome.{Outcome}
+use Rattle.uvm_object.specs.declared.entries.Outcome.TheVariants.{Done, Made, Refused}
+use Rattle.uvm_object.specs.declared.entries.Reason.{Reason}
+use Rattle.uvm_object.specs.declared.entries.Reason.TheVariants.{Exit, NoTest}
+use Rattle.uvm_object.specs.declared.entries.Entry.{Entry}
+use Rattle.uvm_object.specs.declared.entries.Entry.TheVariants.{Begin, End, Heard, Did, Note, Over}
+use Rattle.bench_script.specs.Scripts.{ScriptValue}
+use Rattle.bench_world.specs.declared.stages.Stage.{Stage}
+use Rattle.bench_world.specs.declared.stages.Stage.TheVariants.{Before, During, After, Ended}
+
+-- where the run stands
+abbrev pub stage_of : List Entry → Stage
+stage_of [] = Before
+stage_of (Begin phase ∷ before) = During phase
+stage_of (End phase ∷ before) = After phase
+stage_of (Over reason ∷ before) = Ended
+stage_of (entry ∷ before) = stage_of before
+
+-- the entries since a phase began last
+abbrev pub since_begin : List Entry → List Entry
+since_begin [] = []
+since_begin (Begin phase ∷ before) = []
+since_begin (entry ∷ before) = entry ∷ since_begin before
+
+-- what an addition adds to the tree
+abbrev pub kind_of : What → NodeKind
+kind_of (what.Fifo size) = kind.Fifo
+
+-- the nodes of the tree: each accepted creation and addition makes one under its performer
+abbrev pub nodes_after : List Node → Who → Outcome → Act → List Node
+nodes_after nodes performer (Made ty) (Create asked name) = nodes ++ child nodes (node_of performer) name kind.Component ∷ []
+nodes_after nodes performer Done (Add name what) = nodes ++ child nodes (node_of performer) name (kind_of what) ∷ []
+nodes_after nodes performer outcome act = nodes
+
+abbrev pub nodes_of : List Entry → List Node
+nodes_of [] = top ∷ []
+nodes_of (Did performer outcome act ∷ before) = nodes_after (nodes_of before) performer outcome act
+nodes_of (entry ∷ before) = nodes_of before
+
+-- the nodes that hold an object
+abbrev pub components_after : ℕ → List ℕ → Outcome → List ℕ
+components_after node components (Made ty) = components ++ node ∷ []
+components_after node components outcome = components
+
+abbrev pub components_of : List Entry → List ℕ
+components_of [] = []
+components_of (Did performer outcome act ∷ before) = components_after (length (nodes_of before)) (components_of before) outcome
+components_of (entry ∷ before) = components_of before
+
+-- the nodes that had their call since the phase began
+abbrev pub called_in : Entry → List ℕ
+called_in (Heard performer (call.Phase phase) acts) = node_of performer ∷ []
+called_in entry = []
+
+abbrev pub called_of : List Entry → List ℕ
+called_of history = flat_map called_in (since_begin history)
+
+abbrev pub had_call : List ℕ → ℕ → Bool
+had_call called node = list_any (λ other. other == node) called
+
+-- the order in which a phase goes
+abbrev pub order_of : Walk → PathOrder
+order_of Down = down_cmp
+order_of Up = up_cmp
+
+-- the node whose turn it is: of those that hold an object and had no call the least by the phase's order
+abbrev pub first_waiting : PathOrder → List Node → List ℕ → List ℕ → Option ℕ
+first_waiting order nodes called components = least (is_before order nodes) (filter (λ node. not (had_call called node)) components)
+
+unfoldable pub next_call : Phase → List Entry → Option ℕ
+next_call phase history = first_waiting (order_of (walk_of phase)) (nodes_of history) (called_of history) (components_of history)
+
+-- the name of a type; one that is not there goes by another name
+abbrev pub type_name : Types → ℕ → List ℕ → List ℕ
+type_name types kind other = option_map_or (λ t. t.0) (slice_get types kind) other
+
+-- the script counts as an answer of the top, which creates the test
+abbrev pub opening : ScriptValue → Act
+opening script = Create (option_map_or (λ test. type_name script.types test []) script.test []) (codes "uvm_test_top")
+
+-- the acts of the last answer that were not performed yet; a note ends an answer
+abbrev pub rest_of : List Act → List Act
+rest_of [] = []
+rest_of (act ∷ acts) = acts
+
+abbrev pub head_of : List Act → Option Act
+head_of [] = None
+head_of (act ∷ acts) = Some act
+
+abbrev pub left_of : ScriptValue → List Entry → List Act
+left_of script [] = opening script ∷ []
+left_of script (Heard performer call acts ∷ before) = acts
+left_of script (Did performer outcome act ∷ before) = rest_of (left_of script before)
+left_of script (Note fatal node ∷ before) = []
+left_of script (entry ∷ before) = left_of script before
+
+-- who gave the last answer
+abbrev pub speaker_of : List Entry → Who
+speaker_of [] = who.Node 0
+speaker_of (Heard performer call acts ∷ before) = performer
+speaker_of (entry ∷ before) = speaker_of before
+
+-- the overrides, the newest first: the script's, then those of the accepted acts
+abbrev pub with_override : Option ℕ → Option ℕ → (ℕ → ℕ → Override) → List Override → List Override
+with_override (Some original) (Some new) make overrides = make original new ∷ overrides
+with_override (Some original) None make overrides = overrides
+with_override None new make overrides = overrides
+
+abbrev pub overrides_after : Types → List Node → List Override → Who → Outcome → Act → List Override
+overrides_after types nodes overrides performer Done (OverrideType original new replace) =
+    with_override (type_named types original) (type_named types new) (λ o n. Whole o n replace) overrides
+overrides_after types nodes overrides performer Done (OverrideInst original new glob) =
+    with_override (type_named types original) (type_named types new) (λ o n. Instance o n (dotted (path_text (path_at nodes (node_of performer))) glob)) overrides
+overrides_after types nodes overrides performer outcome act = overrides
+
+abbrev pub overrides_of : ScriptValue → List Entry → List Override
+overrides_of script [] = reverse script.overrides
+overrides_of script (Did performer outcome act ∷ before) = overrides_after script.types (nodes_of before) (overrides_of script before) performer outcome act
+overrides_of script (entry ∷ before) = overrides_of script before
+
+-- build has ended
+abbrev pub ends_build : Entry → Bool
+ends_build (End Build) = true
+ends_build entry = false
+
+abbrev pub is_built : List Entry → Bool
+is_built history = list_any ends_build history
+
+-- each fatal report asks for exit
+abbrev pub asks_exit : Entry → Bool
+asks_exit (Did performer (Refused fatal) act) = true
+asks_exit (Note fatal node) = true
+asks_exit entry = false
+
+-- the top performs the creation of the test alone
+abbrev pub refuses_test : Entry → Bool
+refuses_test (Did performer (Refused fatal) act) = node_of performer == 0
+refuses_test entry = false
+
+-- why the run is given up, if it is
+abbrev pub reason_from : Bool → Bool → Option Reason
+reason_from true exit = Some NoTest
+reason_from false true = Some Exit
+reason_from false false = None
+
+abbrev pub reason_of : List Entry → Option Reason
+reason_of history = reason_from (list_any refuses_test history) (list_any asks_exit history)
+
+-- the name of what an act creates
+abbrev pub IsCreation : Act → Type 0
+IsCreation (Create ty name) = Unit {0}
+IsCreation act = ⊥
+
+abbrev pub created_name : Act → List ℕ
+created_name (Create ty name) = name
+created_name act = []

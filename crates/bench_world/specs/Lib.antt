@@ -1,0 +1,5 @@
+pub mod History
+pub mod Next
+pub mod Refusals
+pub mod Services
+pub mod Story

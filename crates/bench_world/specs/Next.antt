@@ -1,0 +1,140 @@
+-- What may come next in a log.
+use Rattle.std.specs.Prelude.{◌≡◌, ℕ, ◌≤◌, List, [], ◌∷◌, ◌++◌, length, nat_lt, Option, Some, None, Result, Ok, Err, ◌⊎◌, if◌then◌else◌}
+use Rattle.uvm_phase.specs.declared.phases.Phase.{Phase}
+use Rattle.uvm_phase.specs.declared.phases.Phase.TheVariants.{Build}
+use Rattle.uvm_phase.specs.Phases.{phase_after}
+use Rattle.uvm_tree.specs.Nodes.{path_at}
+use Rattle.uvm_object.specs.declared.acts.Who.{Who}
+use Rattle.uvm_object.specs.declared.acts.Who.TheVariants as who
+use Rattle.uvm_object.specs.Acts.{node_of}
+use Rattle.uvm_object.specs.declared.acts.Call.{Call}
+use Rattle.uvm_object.specs.declared.acts.Call.TheVariants as call
+use Rattle.uvm_object.specs.declared.acts.Act.{Act}
+use Rattle.uvm_object.specs.declared.acts.Act.TheVariants.{Create, Add, OverrideType, OverrideInst}
+use Rattle.uvm_object.specs.declared.fatals.Fatal.{Fatal}
+use Rattle.uvm_object.specs.declared.fatals.Fatal.TheVariants.{TooManyActs, NoObject}
+use Rattle.uvm_object.specs.declared.entries.Outcome.TheVariants.{Made, Refused}
+use Rattle.uvm_object.specs.declared.entries.Reason.{Reason}
+use Rattle.uvm_object.specs.declared.entries.Reason.TheVariants.{Finished}
+use Rattle.uvm_object.specs.declared.entries.Entry.{Entry}
+use Rattle.uvm_object.specs.declared.entries.Entry.TheVariants.{Begin, End, Heard, Did, Note, Over}
+use Rattle.bench_script.specs.Scripts.{ScriptValue}
+use Rattle.bench_world.specs.declared.stages.Stage.{Stage}
+use Rattle.bench_world.specs.declared.stages.Stage.TheVariants.{Before, During, After, Ended}
+use Rattle.bench_world.specs.History.{stage_of, nodes_of, next_call, left_of, speaker_of, overrides_of, is_built, reason_of}
+use Rattle.bench_world.specs.Refusals.{creation_of, addition_of, overriding_of}
+
+-- this entry; the answer of somebody to a call; an object of a type for a path, made or declined; or nothing
+pub data Next : Type 0 where
+  Exactly : (entry : Entry) → Next
+  Answer : (performer : Who) → (call : Call) → Next
+  Need : (ty : List ℕ) → (path : List (List ℕ)) → (performer : Who) → (act : Act) → Next
+  Nothing : Next
+
+-- the next call of a running phase, or its end
+abbrev pub by_call : Phase → Option ℕ → Next
+by_call phase (Some node) = Answer (who.Node node) (call.Phase phase)
+by_call phase None = Exactly (End phase)
+
+-- after a phase the next one, and after the last the end of the run
+abbrev pub by_order : Option Phase → Next
+by_order (Some phase) = Exactly (Begin phase)
+by_order None = Exactly (Over Finished)
+
+abbrev pub by_stage : List Entry → Stage → Next
+by_stage history Before = Exactly (Begin Build)
+by_stage history (During phase) = by_call phase (next_call phase history)
+by_stage history (After phase) = by_order (phase_after phase)
+by_stage history Ended = Nothing
+
+-- what an act of the last answer comes to
+abbrev pub by_creation : Who → Act → List (List ℕ) → Result (List ℕ) Fatal → Next
+by_creation performer act path (Ok ty) = Need ty path performer act
+by_creation performer act path (Err fatal) = Exactly (Did performer (Refused fatal) act)
+
+-- the type that a creation by the speaker makes now, or why it is refused
+abbrev pub creation_now : ScriptValue → List Entry → List ℕ → List ℕ → Result (List ℕ) Fatal
+creation_now script history ty name = creation_of (is_built history) script.types (overrides_of script history) (nodes_of history) (node_of (speaker_of history)) ty name
+
+abbrev pub by_act : ScriptValue → List Entry → Who → Act → Next
+by_act script history performer (Create ty name) =
+    by_creation performer (Create ty name) (path_at (nodes_of history) (node_of performer) ++ name ∷ [])
+    (creation_of (is_built history) script.types (overrides_of script history) (nodes_of history) (node_of performer) ty name)
+by_act script history performer (Add name what) =
+    Exactly (Did performer (addition_of (is_built history) (nodes_of history) (node_of performer) name) (Add name what))
+by_act script history performer (OverrideType original new replace) =
+    Exactly (Did performer (overriding_of script.types original new) (OverrideType original new replace))
+by_act script history performer (OverrideInst original new glob) =
+    Exactly (Did performer (overriding_of script.types original new) (OverrideInst original new glob))
+
+-- of an answer of more than 64 acts none is performed
+abbrev pub noted_at : Who → Entry
+noted_at performer = Note TooManyActs (node_of performer)
+
+abbrev pub by_answer : ScriptValue → List Entry → List Act → Next
+by_answer script history [] = by_stage history (stage_of history)
+by_answer script history (act ∷ acts) =
+    if nat_lt 64 (length (act ∷ acts)) then Exactly (noted_at (speaker_of history))
+    else by_act script history (speaker_of history) act
+
+-- a run that is given up is over
+abbrev pub by_reason : ScriptValue → List Entry → Option Reason → Next
+by_reason script history (Some reason) = Exactly (Over reason)
+by_reason script history None = by_answer script history (left_of script history)
+
+-- after the end nothing comes
+abbrev pub unless_ended : Stage → Next → Next
+unless_ended Ended next = Nothing
+unless_ended stage next = next
+
+unfoldable pub next_of : ScriptValue → List Entry → Next
+next_of script history = unless_ended (stage_of history) (by_reason script history (reason_of history))
+
+-- three things are free: the acts of an answer, and whether a needed object is made or declined
+abbrev pub Allows : Next → Entry → Type 0
+Allows (Exactly expected) entry = entry ≡ expected
+Allows (Answer performer call) entry = (acts : List Act) × (entry ≡ Heard performer call acts)
+Allows (Need ty path performer act) entry = (entry ≡ Did performer (Made ty) act) ⊎ (entry ≡ Did performer (Refused NoObject) act)
+Allows Nothing entry = ⊥
+
+abbrev pub IsNext : ScriptValue → List Entry → Entry → Type 0
+IsNext script history entry = Allows (next_of script history) entry
+
+-- whether one entry alone is next
+abbrev pub IsExact : Next → Type 0
+IsExact (Exactly entry) = Unit {0}
+IsExact (Answer performer call) = ⊥
+IsExact (Need ty path performer act) = ⊥
+IsExact Nothing = ⊥
+
+-- whether an object is needed, and of which type
+abbrev pub IsNeed : Next → Type 0
+IsNeed (Need ty path performer act) = Unit {0}
+IsNeed (Exactly entry) = ⊥
+IsNeed (Answer performer call) = ⊥
+IsNeed Nothing = ⊥
+
+abbrev pub IsNeedOf : List ℕ → Next → Type 0
+IsNeedOf made (Need ty path performer act) = made ≡ ty
+IsNeedOf made (Exactly entry) = ⊥
+IsNeedOf made (Answer performer call) = ⊥
+IsNeedOf made Nothing = ⊥
+
+-- the entry where it is made, and where it is declined
+abbrev pub made_in : Next → Option Entry
+made_in (Need ty path performer act) = Some (Did performer (Made ty) act)
+made_in next = None
+
+abbrev pub declined_in : Next → Option Entry
+declined_in (Need ty path performer act) = Some (Did performer (Refused NoObject) act)
+declined_in next = None
+
+-- each entry was next after those before it
+abbrev pub EachIsNext : ScriptValue → List Entry → Type 0
+EachIsNext script [] = Unit {0}
+EachIsNext script (entry ∷ before) = IsNext script before entry × EachIsNext script before
+
+-- a legal log
+pub record IsLegal (script : ScriptValue) (history : List Entry) : Type 0 where
+  pub each : EachIsNext script history
+  pub few : length history ≤ 1000000

@@ -1,0 +1,78 @@
+-- Why acts are refused, by what a log says.
+use Rattle.std.specs.Prelude.{ℕ, Bool, List, [], ◌∷◌, ◌++◌, length, slice_get, Option, Some, None, Result, Ok, Err, option_and_then, if◌then◌else◌}
+use Rattle.uvm_glob.specs.Paths.{path_text}
+use Rattle.uvm_factory.specs.declared.types.Kind.{Kind}
+use Rattle.uvm_factory.specs.declared.types.Kind.TheVariants.{Component, Sequence}
+use Rattle.uvm_factory.specs.declared.overrides.Override.{Override}
+use Rattle.uvm_factory.specs.declared.faults.FactoryFault.{FactoryFault}
+use Rattle.uvm_factory.specs.Faults.{Types, type_named, override_fault}
+use Rattle.uvm_factory.specs.Overrides.{made_type}
+use Rattle.uvm_tree.specs.declared.nodes.Node.{Node}
+use Rattle.uvm_tree.specs.declared.faults.TreeFault.{TreeFault}
+use Rattle.uvm_tree.specs.declared.faults.TreeFault.TheVariants.{NameTaken}
+use Rattle.uvm_tree.specs.Nodes.{path_at, add_fault}
+use Rattle.uvm_object.specs.declared.fatals.Fatal.{Fatal}
+use Rattle.uvm_object.specs.declared.fatals.Fatal.TheVariants.{CreatedAfterBuild, InvalidType, ChildTaken, TreeLimit, OverrideLoop}
+use Rattle.uvm_object.specs.declared.entries.Outcome.{Outcome}
+use Rattle.uvm_object.specs.declared.entries.Outcome.TheVariants.{Done, Refused}
+use Rattle.bench_world.specs.History.{type_name}
+
+-- the number of a type, if it is a component's
+abbrev pub component_from : ℕ → Option (List ℕ × Kind) → Option ℕ
+component_from place None = None
+component_from place (Some (name, Component)) = Some place
+component_from place (Some (name, Sequence)) = None
+
+abbrev pub component_named : Types → List ℕ → Option ℕ
+component_named types name = option_and_then (λ place. component_from place (slice_get types place)) (type_named types name)
+
+-- why there is no new child of that name
+abbrev pub fatal_of : Option TreeFault → Option Fatal
+fatal_of None = None
+fatal_of (Some NameTaken) = Some ChildTaken
+fatal_of (Some fault) = Some TreeLimit
+
+abbrev pub child_refusal : List Node → ℕ → List ℕ → Option Fatal
+child_refusal nodes parent name = fatal_of (add_fault nodes parent name)
+
+-- the name of the type that is made, or why none is
+abbrev pub name_made : Types → List ℕ → Option ℕ → Result (List ℕ) Fatal
+name_made types asked None = Err OverrideLoop
+name_made types asked (Some made) = Ok (type_name types made asked)
+
+abbrev pub made_unless : Types → List Override → List ℕ → List (List ℕ) → Option Fatal → ℕ → Result (List ℕ) Fatal
+made_unless types overrides asked path (Some fatal) kind = Err fatal
+made_unless types overrides asked path None kind = name_made types asked (made_type overrides (length types) (path_text path) kind)
+
+abbrev pub made_of : Types → List Override → List ℕ → List (List ℕ) → Option ℕ → Option Fatal → Result (List ℕ) Fatal
+made_of types overrides asked path None refusal = Err InvalidType
+made_of types overrides asked path (Some kind) refusal = made_unless types overrides asked path refusal kind
+
+-- the type that a creation makes, or why it is refused: nothing is created after build, a type has to be a component's, the
+-- name free and within the limits of the tree, and the overrides no loop
+unfoldable pub creation_of : Bool → Types → List Override → List Node → ℕ → List ℕ → List ℕ → Result (List ℕ) Fatal
+creation_of built types overrides nodes parent ty name =
+    if built then Err CreatedAfterBuild
+    else made_of types overrides ty (path_at nodes parent ++ name ∷ []) (component_named types ty) (child_refusal nodes parent name)
+
+-- an act is performed unless it is refused
+abbrev pub done_unless : Option Fatal → Outcome
+done_unless None = Done
+done_unless (Some fatal) = Refused fatal
+
+-- nothing is added after build; the name has to be free and within the limits of the tree
+unfoldable pub addition_of : Bool → List Node → ℕ → List ℕ → Outcome
+addition_of built nodes parent name = if built then Refused CreatedAfterBuild else done_unless (child_refusal nodes parent name)
+
+-- an override goes between known types of one kind
+abbrev pub override_refusal : Option FactoryFault → Outcome
+override_refusal None = Done
+override_refusal (Some fault) = Refused InvalidType
+
+abbrev pub override_between : Types → Option ℕ → Option ℕ → Outcome
+override_between types (Some original) (Some new) = override_refusal (override_fault types original new)
+override_between types (Some original) None = Refused InvalidType
+override_between types None new = Refused InvalidType
+
+unfoldable pub overriding_of : Types → List ℕ → List ℕ → Outcome
+overriding_of types original new = override_between types (type_named types original) (type_named types new)

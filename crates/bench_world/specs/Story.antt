@@ -1,0 +1,48 @@
+-- What contracts see of a world.
+use Rattle.std.specs.Prelude.{◌≡◌, ◌<◌, Bool, true, false, List, ◌∷◌, Option, Some, vec_len, vec_capacity}
+use Rattle.std.specs.Option.{ForSome}
+use Rattle.uvm_object.specs.Acts.{node_of}
+use Rattle.uvm_object.specs.declared.acts.Act.{Act}
+use Rattle.uvm_object.specs.declared.entries.Entry.{Entry}
+use Rattle.uvm_object.specs.Logs.{LogValue}
+use Rattle.bench_script.specs.Scripts.{ScriptValue}
+use Rattle.bench_world.specs.declared.services.Services.{Services}
+use Rattle.bench_world.specs.History.{left_of, rest_of}
+use Rattle.bench_world.specs.Next.{IsLegal, IsNext}
+use Rattle.bench_world.specs.Services.{ServicesMatch}
+
+-- the script, the entries with the newest first, whether the services are what they say, and whether there is room for
+-- what comes of the next act
+pub record Story : Type 0 where
+  pub script : ScriptValue
+  pub history : List Entry
+  pub sound : Bool
+  pub ready : Bool
+
+-- one more entry
+abbrev pub after : Entry → Story → Story
+after entry story = record story { history = entry ∷ story.history; ready = false }
+
+-- one more entry, which was next
+pub record Grows (old new : Story) : Type 0 where
+  pub entry : Entry
+  pub is : new ≡ after entry old
+  pub next : IsNext old.script old.history entry
+
+-- memory was refused
+abbrev pub broken : Story → Story
+broken story = record story { sound = false; ready = false }
+
+-- there is room for the entry of an act, and for its node
+pub record IsReady (act : Act) (left : List Act) (log : LogValue) (services : Services) : Type 0 where
+  pub act_is : left ≡ act ∷ rest_of left
+  pub log_spare : 0 < log.spare
+  pub tree_spare : services.tree.spare ≡ Some (node_of services.speaker)
+  pub components : vec_len services.components < vec_capacity services.components
+
+-- the log is legal, and while the world is sound its services are what the log says
+pub record IsSound (sound : Bool) (script : ScriptValue) (log : LogValue) (services : Services) (room : Option Act) : Type 0 where
+  pub limit : log.limit ≡ 1000000
+  pub legal : IsLegal script log.entries
+  pub services_match : sound ≡ true → ServicesMatch script log.entries services
+  pub ready : sound ≡ true → ForSome room (λ act. IsReady act (left_of script log.entries) log services)

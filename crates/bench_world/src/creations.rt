@@ -1,0 +1,109 @@
+//! What the acts of an answer come to.
+
+ghost use Rattle.std.specs.Prelude.{◌≡◌, ◌∷◌, ◌++◌, [], List, None, Some, Ok, Err, IfOk, IfErr, IfSome, length, ok_or};
+ghost use Rattle.uvm_factory.specs.declared.overrides.Override.{Override};
+ghost use Rattle.uvm_factory.specs.Faults.{Types};
+ghost use Rattle.uvm_factory.specs.Observed.{types_of};
+ghost use Rattle.uvm_factory.specs.Overrides.{made_type};
+ghost use Rattle.uvm_glob.specs.Paths.{path_text};
+ghost use Rattle.uvm_tree.specs.Nodes.{path_at};
+ghost use Rattle.uvm_object.specs.declared.acts.What.TheVariants as what;
+ghost use Rattle.bench_world.specs.Refusals.{component_named, child_refusal, name_made, creation_of};
+ghost use Rattle.bench_world.specs.Services.{IsFactory, IsRefusedBy};
+
+use crate::services::Services;
+use uvm_factory::{Factory, Kind, TypeId};
+use uvm_glob::{Name, Path};
+use uvm_object::Fatal;
+use uvm_tree::{NodeId, Tree, TreeFault};
+
+/// What is created: the type that the factory makes, and the path of the new component.
+#[derive(Debug, Drop)]
+pub struct Creation {
+    pub ty: Name,
+    pub path: Path,
+}
+
+/// Why nothing is created.
+#[derive(Clone, Copy, Debug, PartialEq, Eq)]
+pub enum Uncreated {
+    /// The act is refused.
+    Refused(Fatal),
+    /// Memory was refused.
+    Memory,
+}
+
+// What the creation of a component comes to.
+#[tactic(auto, using(crate::proofs::Attempts::attempts), unfolding(crate::specs::Refusals::creation_of))]
+pub(crate) fn what_is_created(
+    services: &Services,
+    parent: NodeId,
+    ty: &Name,
+    name: &Name,
+) -> Result<Creation, Uncreated>
+    ensures ok { IfOk result (λ made. made.path ≡ path_at services.now.tree.nodes parent ++ name.now ∷ []) }
+    ensures ty { IfOk result (λ made. (types : Types) (overrides : List Override) → IsFactory types overrides services.now.factory → creation_of services.now.built types overrides services.now.tree.nodes parent ty.now name.now ≡ Ok made.ty) }
+    ensures err { IfErr result (λ fault. (types : Types) (overrides : List Override) → IsFactory types overrides services.now.factory → IsRefusedBy (creation_of services.now.built types overrides services.now.tree.nodes parent ty.now name.now) fault) }
+{
+    if services.built {
+        return Err(Uncreated::Refused(Fatal::CreatedAfterBuild));
+    }
+    let Some(kind) = component_named(&services.factory, ty) else {
+        return Err(Uncreated::Refused(Fatal::InvalidType));
+    };
+    if let Some(fatal) = child_refusal(&services.tree, parent, name) {
+        return Err(Uncreated::Refused(fatal));
+    }
+    let Some(path) = child_path(&services.tree, parent, name) else {
+        return Err(Uncreated::Memory);
+    };
+    match made_name(&services.factory, kind, ty, &path) {
+        Some(ty) => Ok(Creation { ty, path }),
+        None => Err(Uncreated::Refused(Fatal::OverrideLoop)),
+    }
+}
+
+// The type of a name, if it is a component's.
+fn component_named(factory: &Factory, name: &Name) -> Option<TypeId>
+    ensures { result ≡ component_named (types_of factory.now) name.now }
+{
+    let kind = factory.find(name)?;
+    match factory.kind_of(kind) {
+        Some(Kind::Component) => Some(kind),
+        _ => None,
+    }
+}
+
+// Why there is no new child of that name, if so.
+#[tactic(auto, unfolding(uvm_tree::specs::Nodes::add_fault))]
+pub(crate) fn child_refusal(tree: &Tree, parent: NodeId, name: &Name) -> Option<Fatal>
+    ensures refusal { result ≡ child_refusal tree.now.nodes parent name.now }
+{
+    match tree.fault(parent, name) {
+        None => None,
+        Some(TreeFault::NameTaken) => Some(Fatal::ChildTaken),
+        Some(_) => Some(Fatal::TreeLimit),
+    }
+}
+
+// The path of a child, unless memory is refused.
+fn child_path(tree: &Tree, parent: NodeId, name: &Name) -> Option<Path>
+    requires { child_refusal tree.now.nodes parent name.now ≡ None }
+    ensures { IfSome result (λ path. path ≡ path_at tree.now.nodes parent ++ name.now ∷ []) }
+{
+    match tree.path(parent)?.child(name) {
+        Ok(path) => Some(path),
+        Err(_) => None,
+    }
+}
+
+// The name of the type that is made at a path, if the overrides are no loop.
+fn made_name(factory: &Factory, kind: TypeId, asked: &Name, path: &Path) -> Option<Name>
+    ensures { (types : Types) (overrides : List Override) → IsFactory types overrides factory.now → component_named types asked.now ≡ Some kind → name_made types asked.now (made_type overrides (length types) (path_text path.now) kind) ≡ ok_or result Fatal.OverrideLoop }
+{
+    let made = factory.resolve(kind, path).ok()?;
+    match factory.name_of(made) {
+        Some(name) => Some(*name),
+        None => Some(*asked),
+    }
+}

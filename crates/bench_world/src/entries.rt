@@ -1,0 +1,199 @@
+//! The entries of a log that are no act's: one call for each kind.
+
+ghost use Rattle.std.specs.Prelude.{◌≡◌, ◌∷◌, ◌<◌, length, true, OnOk, OnErr, IsOk, Some, All};
+ghost use Rattle.uvm_object.specs.declared.entries.Entry.TheVariants.{Begin, End, Heard, Note, Over};
+ghost use Rattle.bench_world.specs.History.{next_call, order_of, reason_of};
+ghost use Rattle.uvm_tree.specs.Cursors.{is_before, least, sooner};
+ghost use Rattle.std.specs.Option.{ForSome};
+ghost use Rattle.bench_world.specs.Services.{waiting_in};
+ghost use Rattle.bench_world.specs.Next.{next_of, Exactly, Answer};
+ghost use Rattle.bench_world.specs.Story.{after, broken};
+
+use crate::deeds::count_acts;
+use crate::services::{Component, clear_calls, mark_call};
+use crate::stages::Stage;
+use crate::worlds::World;
+use std::alloc::AllocError;
+use uvm_object::{Acts, Call, Entry, Fatal, Log, Reason, Who};
+use uvm_phase::{Phase, Walk};
+use uvm_tree::{NodeId, Tree};
+
+impl World {
+    /// A phase begins.
+    pub fn begin(&mut self, phase: Phase) -> Result<(), AllocError>
+        requires sound { self.old.sound ≡ true }
+        requires room { length self.old.history < 1000000 }
+        requires next { next_of self.old.script self.old.history ≡ Exactly (Begin phase) }
+        ensures ok { OnOk result (self.new ≡ after (Begin phase) self.old) }
+        ensures err { OnErr result (self.new ≡ broken self.old) }
+    {
+        self.sound = false;
+        self.room = None;
+        push(&mut self.log, Entry::Begin(phase))?;
+        self.services.stage = Stage::During(phase);
+        clear_calls(&mut self.services.components);
+        self.sound = true;
+        Ok(())
+    }
+
+    /// A phase ends.
+    pub fn end(&mut self, phase: Phase) -> Result<(), AllocError>
+        requires sound { self.old.sound ≡ true }
+        requires room { length self.old.history < 1000000 }
+        requires next { next_of self.old.script self.old.history ≡ Exactly (End phase) }
+        ensures ok { OnOk result (self.new ≡ after (End phase) self.old) }
+        ensures err { OnErr result (self.new ≡ broken self.old) }
+    {
+        self.sound = false;
+        self.room = None;
+        push(&mut self.log, Entry::End(phase))?;
+        self.services.stage = Stage::After(phase);
+        self.services.built = self.services.built || phase == Phase::Build;
+        self.sound = true;
+        Ok(())
+    }
+
+    /// Somebody was called and answered.
+    pub fn heard(&mut self, who: Who, call: Call, acts: Acts) -> Result<(), AllocError>
+        requires sound { self.old.sound ≡ true }
+        requires room { length self.old.history < 1000000 }
+        requires next { next_of self.old.script self.old.history ≡ Answer who call }
+        ensures ok { OnOk result (self.new ≡ after (Heard who call acts) self.old) }
+        ensures err { OnErr result (self.new ≡ broken self.old) }
+    {
+        self.sound = false;
+        self.room = None;
+        let place = self.log.len();
+        let node = who.node();
+        let entry = Entry::Heard {
+            who: Who::Node(node),
+            call,
+            acts,
+        };
+        push(&mut self.log, entry)?;
+        mark_call(&mut self.services.components, node);
+        self.services.speaker = Who::Node(node);
+        self.services.answer = Some(place);
+        self.services.done = 0;
+        self.sound = true;
+        Ok(())
+    }
+
+    /// The kernel reports at a node; what is left of the last answer is passed over.
+    pub fn note(&mut self, fatal: Fatal, node: NodeId) -> Result<(), AllocError>
+        requires sound { self.old.sound ≡ true }
+        requires room { length self.old.history < 1000000 }
+        requires next { next_of self.old.script self.old.history ≡ Exactly (Note fatal node) }
+        ensures ok { OnOk result (self.new ≡ after (Note fatal node) self.old) }
+        ensures err { OnErr result (self.new ≡ broken self.old) }
+    {
+        self.sound = false;
+        self.room = None;
+        let count = count_acts(&self.log, self.services.answer);
+        push(&mut self.log, Entry::Note { fatal, node })?;
+        self.services.done = count;
+        self.services.exit_asked = true;
+        self.sound = true;
+        Ok(())
+    }
+
+    /// Nothing comes after.
+    pub fn over(&mut self, reason: Reason) -> Result<(), AllocError>
+        requires sound { self.old.sound ≡ true }
+        requires room { length self.old.history < 1000000 }
+        requires next { next_of self.old.script self.old.history ≡ Exactly (Over reason) }
+        ensures ok { OnOk result (self.new ≡ after (Over reason) self.old) }
+        ensures err { OnErr result (self.new ≡ broken self.old) }
+    {
+        self.sound = false;
+        self.room = None;
+        push(&mut self.log, Entry::Over(reason))?;
+        self.services.stage = Stage::Ended;
+        self.sound = true;
+        Ok(())
+    }
+
+    /// Why the run is given up, if it is.
+    pub fn reason(&self) -> Option<Reason>
+        requires { self.now.sound ≡ true }
+        ensures { result ≡ reason_of self.now.history }
+    {
+        if self.services.test_refused {
+            Some(Reason::NoTest)
+        } else if self.services.exit_asked {
+            Some(Reason::Exit)
+        } else {
+            None
+        }
+    }
+
+    /// The node whose turn it is in a phase: of the components that had no call since a phase began, the least in the order
+    /// of the phase.
+    #[tactic(auto, unfolding(crate::specs::History::next_call))]
+    pub fn next_call(&self, phase: Phase) -> Option<NodeId>
+        requires { self.now.sound ≡ true }
+        ensures { result ≡ next_call phase self.now.history }
+    {
+        first_waiting(
+            &self.services.tree,
+            self.services.components.as_slice(),
+            phase.walk(),
+        )
+    }
+}
+
+// Of the components that had no call the least in an order.
+fn first_waiting(tree: &Tree, components: &[Component], walk: Walk) -> Option<NodeId>
+    requires { All (λ component. component.node < length tree.now.nodes) components.now }
+    ensures { result ≡ least (is_before (order_of walk) tree.now.nodes) (waiting_in components.now) }
+{
+    let mut first = None;
+    for component in components {
+        if !component.called {
+            first = Some(sooner(tree, walk, first, component.node));
+        }
+    }
+    first
+}
+
+// The one of two nodes that comes before the other.
+fn sooner(tree: &Tree, walk: Walk, first: Option<NodeId>, node: NodeId) -> NodeId
+    requires first { ForSome first (λ first. first < length tree.now.nodes) }
+    requires node { node < length tree.now.nodes }
+    ensures sooner { Some result ≡ sooner (is_before (order_of walk) tree.now.nodes) first node }
+    ensures known { result < length tree.now.nodes }
+{
+    match first {
+        Some(first) if !is_before(tree, walk, node, first) => first,
+        _ => node,
+    }
+}
+
+// Whether a node comes before another.
+fn is_before(tree: &Tree, walk: Walk, node: NodeId, other: NodeId) -> bool
+    requires node { node < length tree.now.nodes }
+    requires other { other < length tree.now.nodes }
+    ensures { result ≡ is_before (order_of walk) tree.now.nodes node other }
+{
+    let (Some(path), Some(other)) = (tree.path(node), tree.path(other)) else {
+        unreachable!()
+    };
+    match walk {
+        Walk::Down => path.cmp(other).is_lt(),
+        Walk::Up => path.up_cmp(other).is_lt(),
+    }
+}
+
+// Adds an entry to a log that is not full.
+pub(crate) fn push(log: &mut Log, entry: Entry) -> Result<(), AllocError>
+    requires { length log.old.entries < log.old.limit }
+    ensures ok { OnOk result (log.new.entries ≡ entry ∷ log.old.entries) }
+    ensures err { OnErr result (log.new.entries ≡ log.old.entries) }
+    ensures limit { log.new.limit ≡ log.old.limit }
+    ensures room { 0 < log.old.spare → IsOk result }
+{
+    match log.push(entry) {
+        Ok(()) => Ok(()),
+        Err(_) => Err(AllocError),
+    }
+}

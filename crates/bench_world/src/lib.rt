@@ -1,0 +1,17 @@
+//! The world of a run: the script, the log, and the services, each of which is what the log says.
+#![tactic(auto)]
+
+mod creations;
+mod deeds;
+mod entries;
+mod making;
+mod performing;
+mod services;
+mod stages;
+#[cfg(test)]
+mod tests;
+mod worlds;
+
+pub use creations::{Creation, Uncreated};
+pub use stages::Stage;
+pub use worlds::World;

@@ -1,0 +1,145 @@
+//! The world.
+
+ghost use Rattle.std.specs.Prelude.{◌≡◌, [], IfOk, true, false, IsSome, None, length, nat_le};
+ghost use Rattle.bench_script.specs.Factories.{IsFactoryOf};
+ghost use Rattle.bench_world.specs.History.{opening, stage_of, nodes_of};
+ghost use Rattle.bench_world.specs.Next.{IsLegal};
+ghost use Rattle.bench_world.specs.Story.{Story};
+
+use crate::services::Services;
+use crate::stages::Stage;
+use bench_script::Script;
+use std::alloc::{AllocError, Global};
+use std::marker::Model;
+use uvm_factory::Factory;
+use uvm_glob::Name;
+use uvm_object::{Act, Deed, Log, Who};
+use uvm_tree::{NodeId, Tree};
+
+/// A legal log with the script of the run and the services. While `sound()` is true each service is what the log says.
+#[derive(Drop)]
+pub struct World {
+    pub(crate) alloc: Global,
+    pub(crate) script: Script,
+    pub(crate) log: Log,
+    pub(crate) services: Services,
+    // The creation of the test.
+    pub(crate) creation: Act,
+    // What the next act's entry holds, with room for the entry and the node.
+    pub(crate) room: Option<Deed>,
+    pub(crate) sound: bool,
+}
+
+impl Model for World {
+    ghost use Rattle.std.specs.Prelude.{◌≡◌, is_some};
+    ghost use Rattle.bench_world.specs.Story.{Story, IsSound};
+    ghost use Rattle.bench_script.specs.Factories.{IsFactoryOf};
+    ghost use Rattle.bench_world.specs.History.{opening};
+
+    ghost Value = { Story };
+
+    ghost view = { λ w. record { script = w.script; history = w.log.entries; sound = w.sound; ready = is_some w.room } };
+
+    ghost invariant = { λ w. (w.creation ≡ opening w.script) × IsSound w.sound w.script w.log w.services w.room };
+}
+
+impl World {
+    /// The most entries of a log.
+    pub const MAX_ENTRIES: usize = 1_000_000;
+
+    /// The most acts of an answer.
+    pub const MAX_ACTS: usize = 64;
+
+    /// The world of a script that has a test, before the first entry.
+    pub fn new(alloc: Global, script: Script) -> Result<World, AllocError>
+        requires { IsSome script.test }
+        ensures { IfOk result (λ world. world ≡ record { script = script; history = []; sound = true; ready = false }) }
+    {
+        let factory = script.factory(alloc)?;
+        let creation = opening(&script, &factory);
+        Ok(World {
+            alloc,
+            script,
+            log: Log::new(alloc, World::MAX_ENTRIES),
+            services: Services {
+                stage: Stage::Before,
+                tree: Tree::new(alloc),
+                factory,
+                components: Vec::new(alloc),
+                speaker: Who::Node(NodeId::TOP),
+                answer: None,
+                done: 0,
+                built: false,
+                exit_asked: false,
+                test_refused: false,
+            },
+            creation,
+            room: None,
+            sound: true,
+        })
+    }
+
+    /// Whether the services are what the log says. Once memory was refused to an entry they are not.
+    pub fn sound(&self) -> bool
+        ensures { result ≡ self.now.sound }
+    {
+        self.sound
+    }
+
+    /// The script.
+    pub fn script(&self) -> &Script
+        ensures { result.now ≡ self.now.script }
+    {
+        &self.script
+    }
+
+    /// The log, which is legal.
+    pub fn log(&self) -> &Log
+        ensures entries { result.now.entries ≡ self.now.history }
+        ensures legal { IsLegal self.now.script self.now.history }
+    {
+        &self.log
+    }
+
+    /// Whether the log has as many entries as it may have.
+    pub fn is_full(&self) -> bool
+        ensures { result ≡ nat_le 1000000 (length self.now.history) }
+    {
+        self.log.is_full()
+    }
+
+    /// Where the run stands.
+    pub fn stage(&self) -> Stage
+        requires { self.now.sound ≡ true }
+        ensures { result ≡ stage_of self.now.history }
+    {
+        self.services.stage
+    }
+
+    /// The tree.
+    pub fn tree(&self) -> &Tree
+        requires { self.now.sound ≡ true }
+        ensures { result.now.nodes ≡ nodes_of self.now.history }
+    {
+        &self.services.tree
+    }
+}
+
+// The creation of the test of a script, by its factory.
+#[tactic(auto, unfolding(uvm_glob::specs::Names::name_fault))]
+fn opening(script: &Script, factory: &Factory) -> Act
+    requires test { IsSome script.now.test }
+    requires factory { IsFactoryOf script.now factory.now }
+    ensures { result ≡ opening script.now }
+{
+    let Some(test) = script.test() else {
+        unreachable!()
+    };
+    let Some(ty) = factory.name_of(test) else {
+        unreachable!()
+    };
+    let Ok(name) = Name::new(b"uvm_test_top") else {
+        unreachable!()
+    };
+    Act::Create { ty: *ty, name }
+}

@@ -1,0 +1,17 @@
+-- The two orders of paths.
+use Rattle.std.specs.Prelude.{ℕ, List, [], ◌∷◌}
+use Rattle.std.specs.declared.cmp.Ordering.{Ordering}
+use Rattle.std.specs.declared.cmp.Ordering.TheVariants.{Less, Equal, Greater}
+use Rattle.std.specs.Ordering.{ordering_then, nat_cmp}
+use Rattle.std.specs.Cmp.Lexicographic.{slice_cmp}
+
+-- Down: name by name in byte order, and a path before the paths that go on from it
+abbrev pub down_cmp : List (List ℕ) → List (List ℕ) → Ordering
+down_cmp = slice_cmp (slice_cmp nat_cmp)
+
+-- Up: name by name in byte order, and a path after the paths that go on from it
+abbrev pub up_cmp : List (List ℕ) → List (List ℕ) → Ordering
+up_cmp [] [] = Equal
+up_cmp [] (y ∷ ys) = Greater
+up_cmp (x ∷ xs) [] = Less
+up_cmp (x ∷ xs) (y ∷ ys) = ordering_then (slice_cmp nat_cmp x y) (up_cmp xs ys)

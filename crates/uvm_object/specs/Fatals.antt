@@ -1,0 +1,22 @@
+-- The ids and texts of the kernel's fatal reports.
+use Rattle.std.specs.Prelude.{ℕ, List, codes}
+use Rattle.uvm_object.specs.declared.fatals.Fatal.{Fatal}
+use Rattle.uvm_object.specs.declared.fatals.Fatal.TheVariants.{CreatedAfterBuild, TooManyActs, InvalidType, ChildTaken, TreeLimit, OverrideLoop, NoObject}
+
+abbrev pub id_of : Fatal → List ℕ
+id_of CreatedAfterBuild = codes "ILLCRT"
+id_of TooManyActs = codes "ACTLIM"
+id_of InvalidType = codes "INVTYP"
+id_of ChildTaken = codes "CLDEXT"
+id_of TreeLimit = codes "TREELIM"
+id_of OverrideLoop = codes "OVRDLOOP"
+id_of NoObject = codes "FCTTYP"
+
+abbrev pub text_of : Fatal → List ℕ
+text_of CreatedAfterBuild = codes "created after build"
+text_of TooManyActs = codes "more than 64 acts"
+text_of InvalidType = codes "type unknown or of another kind"
+text_of ChildTaken = codes "child name taken"
+text_of TreeLimit = codes "tree limit reached"
+text_of OverrideLoop = codes "override loop"
+text_of NoObject = codes "no object supplied"

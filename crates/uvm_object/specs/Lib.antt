@@ -1,0 +1,4 @@
+pub mod Acts
+pub mod Fatals
+pub mod Lines
+pub mod Logs

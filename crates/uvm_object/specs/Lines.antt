@@ -1,0 +1,68 @@
+-- The line of an entry.
+use Rattle.std.specs.Prelude.{ℕ, Bool, true, false, List, [], ◌∷◌, ◌++◌, length, codes}
+use Rattle.std.specs.Fmt.{decimal}
+use Rattle.uvm_glob.specs.Paths.{path_text}
+use Rattle.uvm_phase.specs.Phases.{name_of}
+use Rattle.uvm_tree.specs.declared.nodes.Node.{Node}
+use Rattle.uvm_tree.specs.Nodes.{path_at}
+use Rattle.uvm_object.specs.declared.acts.Who.{Who}
+use Rattle.uvm_object.specs.declared.acts.Who.TheVariants as who
+use Rattle.uvm_object.specs.declared.acts.Call.{Call}
+use Rattle.uvm_object.specs.declared.acts.Call.TheVariants as call
+use Rattle.uvm_object.specs.declared.acts.What.{What}
+use Rattle.uvm_object.specs.declared.acts.What.TheVariants.{Fifo}
+use Rattle.uvm_object.specs.declared.acts.Act.{Act}
+use Rattle.uvm_object.specs.declared.acts.Act.TheVariants.{Create, Add, OverrideType, OverrideInst}
+use Rattle.uvm_object.specs.declared.entries.Outcome.{Outcome}
+use Rattle.uvm_object.specs.declared.entries.Outcome.TheVariants.{Done, Made, Refused}
+use Rattle.uvm_object.specs.declared.entries.Reason.{Reason}
+use Rattle.uvm_object.specs.declared.entries.Reason.TheVariants.{Finished, Exit, NoTest}
+use Rattle.uvm_object.specs.declared.entries.Entry.{Entry}
+use Rattle.uvm_object.specs.declared.entries.Entry.TheVariants.{Begin, End, Heard, Did, Note, Over}
+use Rattle.uvm_object.specs.Fatals.{id_of}
+
+-- a path as it is printed: the top's own is `uvm_top`
+abbrev pub shown_path : List (List ℕ) → List ℕ
+shown_path [] = codes "uvm_top"
+shown_path (name ∷ names) = path_text (name ∷ names)
+
+abbrev pub who_text : List Node → Who → List ℕ
+who_text nodes (who.Node node) = shown_path (path_at nodes node)
+
+abbrev pub call_text : Call → List ℕ
+call_text (call.Phase phase) = name_of phase
+
+abbrev pub what_text : What → List ℕ
+what_text (Fifo size) = codes "fifo " ++ decimal size
+
+abbrev pub replace_text : Bool → List ℕ
+replace_text true = codes " replace"
+replace_text false = []
+
+abbrev pub act_text : Act → List ℕ
+act_text (Create ty name) = codes "create " ++ ty ++ 32 ∷ name
+act_text (Add name what) = codes "add " ++ name ++ 32 ∷ what_text what
+act_text (OverrideType original new replace) = codes "override " ++ original ++ 32 ∷ new ++ replace_text replace
+act_text (OverrideInst original new glob) = codes "override " ++ original ++ 32 ∷ new ++ codes " at (" ++ glob ++ codes ")"
+
+abbrev pub outcome_text : Outcome → List ℕ
+outcome_text Done = codes "done"
+outcome_text (Made ty) = codes "made " ++ ty
+outcome_text (Refused fatal) = codes "refused " ++ id_of fatal
+
+abbrev pub reason_text : Reason → List ℕ
+reason_text Finished = codes "finished"
+reason_text Exit = codes "exit"
+reason_text NoTest = codes "no_test"
+
+abbrev pub entry_text : List Node → Entry → List ℕ
+entry_text nodes (Begin phase) = codes "begin " ++ name_of phase
+entry_text nodes (End phase) = codes "end " ++ name_of phase
+entry_text nodes (Heard who call acts) = codes "heard " ++ who_text nodes who ++ 32 ∷ call_text call ++ codes ": " ++ decimal (length acts)
+entry_text nodes (Did who outcome act) = codes "did " ++ who_text nodes who ++ 32 ∷ act_text act ++ codes ": " ++ outcome_text outcome
+entry_text nodes (Note fatal node) = codes "note " ++ id_of fatal ++ 32 ∷ shown_path (path_at nodes node)
+entry_text nodes (Over reason) = codes "over " ++ reason_text reason
+
+-- the line of an entry, by the nodes of the tree
+abbrev pub entry_line : List Node → Entry → List ℕ
+entry_line nodes entry = entry_text nodes entry ++ 10 ∷ []

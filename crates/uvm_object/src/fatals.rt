@@ -1,0 +1,55 @@
+//! The fatal reports of the kernel.
+
+ghost use Rattle.std.specs.Prelude.{◌≡◌};
+ghost use Rattle.uvm_object.specs.Fatals.{id_of, text_of};
+
+/// A fatal report of the kernel: why it refuses an act, or gives up.
+#[derive(Clone, Copy, Debug, PartialEq, Eq)]
+pub enum Fatal {
+    /// ILLCRT: something is created after build.
+    CreatedAfterBuild,
+    /// ACTLIM: an answer has more than 64 acts.
+    TooManyActs,
+    /// INVTYP: a type is unknown, or of another kind than is asked for.
+    InvalidType,
+    /// CLDEXT: the performer has a child of that name.
+    ChildTaken,
+    /// TREELIM: the tree, or the path of the new node, would pass its limits.
+    TreeLimit,
+    /// OVRDLOOP: the overrides of the type lead in a loop.
+    OverrideLoop,
+    /// FCTTYP: no object was supplied.
+    NoObject,
+}
+
+impl Fatal {
+    /// The id of the report.
+    pub fn id(self) -> &'static str
+        ensures { result.now ≡ id_of self }
+    {
+        match self {
+            Fatal::CreatedAfterBuild => "ILLCRT",
+            Fatal::TooManyActs => "ACTLIM",
+            Fatal::InvalidType => "INVTYP",
+            Fatal::ChildTaken => "CLDEXT",
+            Fatal::TreeLimit => "TREELIM",
+            Fatal::OverrideLoop => "OVRDLOOP",
+            Fatal::NoObject => "FCTTYP",
+        }
+    }
+
+    /// The text of the report.
+    pub fn text(self) -> &'static str
+        ensures { result.now ≡ text_of self }
+    {
+        match self {
+            Fatal::CreatedAfterBuild => "created after build",
+            Fatal::TooManyActs => "more than 64 acts",
+            Fatal::InvalidType => "type unknown or of another kind",
+            Fatal::ChildTaken => "child name taken",
+            Fatal::TreeLimit => "tree limit reached",
+            Fatal::OverrideLoop => "override loop",
+            Fatal::NoObject => "no object supplied",
+        }
+    }
+}

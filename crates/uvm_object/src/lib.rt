@@ -1,0 +1,16 @@
+//! What passes through the machine of a testbench: calls, acts, and the entries of its log.
+#![tactic(auto)]
+
+mod acts;
+mod entries;
+mod fatals;
+mod lines;
+mod logs;
+#[cfg(test)]
+mod tests;
+
+pub use acts::{Act, Acts, Call, What, Who};
+pub use entries::{Deed, Entry, Outcome, Reason};
+pub use fatals::Fatal;
+pub use lines::line_of;
+pub use logs::{Log, LogFault};

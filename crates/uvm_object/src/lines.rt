@@ -1,0 +1,179 @@
+//! The lines of entries.
+
+ghost use Rattle.std.specs.Prelude.{◌≡◌, ◌++◌, ◌∷◌, OnOk, OnErr};
+ghost use Rattle.std.specs.Fmt.{decimal};
+ghost use Rattle.uvm_object.specs.Lines.{entry_line, entry_text, who_text, shown_path, call_text, what_text, act_text, outcome_text, reason_text};
+ghost use Rattle.uvm_tree.specs.Nodes.{path_at};
+
+use crate::acts::{Act, Call, What, Who};
+use crate::entries::{Entry, Outcome, Reason};
+use std::alloc::AllocError;
+use uvm_glob::Name;
+use uvm_tree::{NodeId, Tree};
+
+/// Appends the line of an entry, with its newline. The tree tells the paths of the nodes; the top, and a node that the tree
+/// does not have, is `uvm_top`. Where memory is refused nothing is appended.
+pub fn line_of(entry: &Entry, tree: &Tree, out: &mut Vec<u8>) -> Result<(), AllocError>
+    ensures ok { OnOk result (out.new.items ≡ out.old.items ++ entry_line tree.now.nodes entry.now) }
+    ensures err { OnErr result (out.new.items ≡ out.old.items) }
+{
+    let mut line = Vec::new(*out.allocator());
+    push_entry(entry, tree, &mut line)?;
+    line.push(b'\n')?;
+    out.extend_from_slice(line.as_slice())
+}
+
+fn push_entry(entry: &Entry, tree: &Tree, line: &mut Vec<u8>) -> Result<(), AllocError>
+    ensures { OnOk result (line.new.items ≡ line.old.items ++ entry_text tree.now.nodes entry.now) }
+{
+    match entry {
+        Entry::Begin(phase) => push_two(b"begin ", phase.name(), line),
+        Entry::End(phase) => push_two(b"end ", phase.name(), line),
+        Entry::Heard { who, call, acts } => {
+            line.extend_from_slice(b"heard ")?;
+            push_who(*who, tree, line)?;
+            line.push(b' ')?;
+            push_call(*call, line)?;
+            line.extend_from_slice(b": ")?;
+            push_number(acts.len(), line)
+        }
+        Entry::Did { who, outcome, act } => {
+            line.extend_from_slice(b"did ")?;
+            push_who(*who, tree, line)?;
+            line.push(b' ')?;
+            push_act(act.act(), line)?;
+            line.extend_from_slice(b": ")?;
+            push_outcome(outcome, line)
+        }
+        Entry::Note { fatal, node } => {
+            line.extend_from_slice(b"note ")?;
+            line.extend_from_slice(fatal.id().as_bytes())?;
+            line.push(b' ')?;
+            push_path(*node, tree, line)
+        }
+        Entry::Over(reason) => push_two(b"over ", reason_text(*reason), line),
+    }
+}
+
+fn push_two(front: &[u8], back: &str, line: &mut Vec<u8>) -> Result<(), AllocError>
+    ensures { OnOk result (line.new.items ≡ line.old.items ++ (front.now ++ back.now)) }
+{
+    line.extend_from_slice(front)?;
+    line.extend_from_slice(back.as_bytes())
+}
+
+fn push_who(who: Who, tree: &Tree, line: &mut Vec<u8>) -> Result<(), AllocError>
+    ensures { OnOk result (line.new.items ≡ line.old.items ++ who_text tree.now.nodes who) }
+{
+    match who {
+        Who::Node(node) => push_path(node, tree, line),
+    }
+}
+
+fn push_path(node: NodeId, tree: &Tree, line: &mut Vec<u8>) -> Result<(), AllocError>
+    ensures { OnOk result (line.new.items ≡ line.old.items ++ shown_path (path_at tree.now.nodes node)) }
+{
+    match tree.path(node) {
+        Some(path) if path.depth() > 0 => path.write(line),
+        _ => line.extend_from_slice(b"uvm_top"),
+    }
+}
+
+fn push_call(call: Call, line: &mut Vec<u8>) -> Result<(), AllocError>
+    ensures { OnOk result (line.new.items ≡ line.old.items ++ call_text call) }
+{
+    match call {
+        Call::Phase(phase) => line.extend_from_slice(phase.name().as_bytes()),
+    }
+}
+
+fn push_act(act: &Act, line: &mut Vec<u8>) -> Result<(), AllocError>
+    ensures { OnOk result (line.new.items ≡ line.old.items ++ act_text act.now) }
+{
+    match act {
+        Act::Create { ty, name } => push_names(b"create ", ty, name, line),
+        Act::Add { name, what } => {
+            line.extend_from_slice(b"add ")?;
+            line.extend_from_slice(name.as_bytes())?;
+            line.push(b' ')?;
+            push_what(*what, line)
+        }
+        Act::OverrideType {
+            original,
+            new,
+            replace,
+        } => {
+            push_names(b"override ", original, new, line)?;
+            if *replace {
+                line.extend_from_slice(b" replace")?;
+            }
+            Ok(())
+        }
+        Act::OverrideInst {
+            original,
+            new,
+            glob,
+        } => {
+            push_names(b"override ", original, new, line)?;
+            line.extend_from_slice(b" at (")?;
+            line.extend_from_slice(glob.as_bytes())?;
+            line.extend_from_slice(b")")
+        }
+    }
+}
+
+// A word and two names.
+fn push_names(
+    word: &[u8],
+    first: &Name,
+    second: &Name,
+    line: &mut Vec<u8>,
+) -> Result<(), AllocError>
+    ensures { OnOk result (line.new.items ≡ line.old.items ++ (word.now ++ first.now ++ 32 ∷ second.now)) }
+{
+    line.extend_from_slice(word)?;
+    line.extend_from_slice(first.as_bytes())?;
+    line.push(b' ')?;
+    line.extend_from_slice(second.as_bytes())
+}
+
+fn push_what(what: What, line: &mut Vec<u8>) -> Result<(), AllocError>
+    ensures { OnOk result (line.new.items ≡ line.old.items ++ what_text what) }
+{
+    match what {
+        What::Fifo { size } => {
+            line.extend_from_slice(b"fifo ")?;
+            push_number(usize::from(size), line)
+        }
+    }
+}
+
+fn push_outcome(outcome: &Outcome, line: &mut Vec<u8>) -> Result<(), AllocError>
+    ensures { OnOk result (line.new.items ≡ line.old.items ++ outcome_text outcome.now) }
+{
+    match outcome {
+        Outcome::Done => line.extend_from_slice(b"done"),
+        Outcome::Made(ty) => {
+            line.extend_from_slice(b"made ")?;
+            line.extend_from_slice(ty.as_bytes())
+        }
+        Outcome::Refused(fatal) => push_two(b"refused ", fatal.id(), line),
+    }
+}
+
+fn reason_text(reason: Reason) -> &'static str
+    ensures { result.now ≡ reason_text reason }
+{
+    match reason {
+        Reason::Finished => "finished",
+        Reason::Exit => "exit",
+        Reason::NoTest => "no_test",
+    }
+}
+
+fn push_number(n: usize, line: &mut Vec<u8>) -> Result<(), AllocError>
+    ensures { OnOk result (line.new.items ≡ line.old.items ++ decimal n) }
+{
+    let digits = n.to_string(*line.allocator())?;
+    line.extend_from_slice(digits.as_bytes())
+}

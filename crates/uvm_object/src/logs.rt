@@ -1,0 +1,132 @@
+//! The log.
+
+ghost use Rattle.std.specs.Prelude.{◌≡◌, ◌≢◌, ◌==◌, ◌↔◌, ◌∷◌, ◌<◌, ◌≤◌, [], length, reverse, nat_le, slice_get, Err, OnOk, OnErr, option_copied};
+ghost use Rattle.uvm_object.specs.Logs.{newest};
+
+use crate::entries::Entry;
+use std::alloc::{AllocError, AllocFailed, Global};
+use std::error::Error;
+use std::fmt;
+use std::marker::Model;
+
+/// Why an entry is not taken, in the order in which it is looked for.
+#[derive(Clone, Copy, Debug, PartialEq, Eq)]
+pub enum LogFault {
+    /// The log has as many entries as it may have.
+    Full,
+    /// Memory was refused.
+    Memory,
+}
+
+impl fmt::Display for LogFault {
+    fn fmt<W: fmt::Write>(&self, f: &mut fmt::Formatter<W>) -> fmt::Result {
+        f.write_str(match self {
+            LogFault::Full => "log full",
+            LogFault::Memory => "out of memory",
+        })
+    }
+}
+
+impl Error for LogFault {}
+
+impl<T: Drop> From<AllocFailed<T>> for LogFault {
+    ghost use Rattle.std.specs.Prelude.{◌≡◌};
+    ghost use Rattle.uvm_object.specs.declared.logs.LogFault.TheVariants.{Memory};
+
+    ghost from_gives = { λ _ fault. fault ≡ Memory };
+
+    fn from(_: AllocFailed<T>) -> LogFault {
+        LogFault::Memory
+    }
+}
+
+/// The entries so far, up to a limit. Contracts see them with the newest first, so that what was before an entry is what stands
+/// after it in the list, and beside them the limit, and for how many more entries there is room.
+#[derive(Drop)]
+pub struct Log {
+    entries: Vec<Entry>,
+    limit: usize,
+}
+
+impl Model for Log {
+    ghost use Rattle.std.specs.Prelude.{◌-◌, reverse, vec_len, vec_capacity};
+    ghost use Rattle.uvm_object.specs.Logs.{LogValue};
+
+    ghost Value = { LogValue };
+
+    ghost view = { λ l. record { entries = reverse l.entries.items; limit = l.limit; spare = vec_capacity l.entries - vec_len l.entries } };
+}
+
+impl Log {
+    /// No entries, and room for none. The limit is a number of entries.
+    pub fn new(alloc: Global, limit: usize) -> Log
+        ensures entries { result.entries ≡ [] }
+        ensures limit { result.limit ≡ limit }
+    {
+        Log {
+            entries: Vec::new(alloc),
+            limit,
+        }
+    }
+
+    /// Makes room for an entry: the next `push` then takes no memory.
+    pub fn reserve(&mut self) -> Result<(), AllocError>
+        ensures entries { self.new.entries ≡ self.old.entries }
+        ensures limit { self.new.limit ≡ self.old.limit }
+        ensures spare { OnOk result (0 < self.new.spare) }
+    {
+        self.entries.reserve(1)
+    }
+
+    /// Adds an entry: `Full` where the limit is reached, else `Memory` where there is no room for it and none can be had.
+    pub fn push(&mut self, entry: Entry) -> Result<(), LogFault>
+        ensures ok { OnOk result (self.new.entries ≡ entry ∷ self.old.entries) }
+        ensures full { (result ≡ Err LogFault.Full) ↔ (self.old.limit ≤ length self.old.entries) }
+        ensures room { 0 < self.old.spare → result ≢ Err LogFault.Memory }
+        ensures err { OnErr result (self.new.entries ≡ self.old.entries) }
+        ensures limit { self.new.limit ≡ self.old.limit }
+    {
+        if self.is_full() {
+            return Err(LogFault::Full);
+        }
+        match self.entries.push(entry) {
+            Ok(()) => Ok(()),
+            Err(_) => Err(LogFault::Memory),
+        }
+    }
+
+    /// Whether the limit is reached.
+    pub fn is_full(&self) -> bool
+        ensures { result ≡ nat_le self.now.limit (length self.now.entries) }
+    {
+        self.limit <= self.entries.len()
+    }
+
+    /// How many entries there are.
+    pub fn len(&self) -> usize
+        ensures { result ≡ length self.now.entries }
+    {
+        self.entries.len()
+    }
+
+    /// Whether there is none.
+    pub fn is_empty(&self) -> bool
+        ensures { result ≡ (length self.now.entries == 0) }
+    {
+        self.entries.is_empty()
+    }
+
+    /// The entry at a place, from 0 for the first.
+    pub fn get(&self, place: usize) -> Option<&Entry>
+        ensures { option_copied result ≡ slice_get (reverse self.now.entries) place }
+    {
+        self.entries.get(place)
+    }
+
+    /// The newest entry.
+    pub fn last(&self) -> Option<&Entry>
+        ensures { option_copied result ≡ newest self.now.entries }
+    {
+        self.entries.last()
+    }
+}

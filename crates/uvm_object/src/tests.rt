@@ -1,0 +1,265 @@
+//! Examples of the lines, and that each call succeeds where there is memory.
+
+use crate::{
+    Act, Acts, Call, Deed, Entry, Fatal, Log, LogFault, Outcome, Reason, What, Who, line_of,
+};
+use std::alloc::Global;
+use std::mem::size_of;
+use std::test::Fail;
+use uvm_glob::{Glob, Name};
+use uvm_phase::Phase;
+use uvm_tree::{NodeId, NodeKind, Tree};
+
+// A tree of `uvm_test_top` and `a` below it, and their nodes.
+fn small_tree(alloc: Global) -> Result<(Tree, NodeId, NodeId), Fail> {
+    let mut tree = Tree::new(alloc);
+    let test = tree.add(
+        NodeId::TOP,
+        Name::new(b"uvm_test_top")?,
+        NodeKind::Component,
+    )?;
+    let below = tree.add(test, Name::new(b"a")?, NodeKind::Component)?;
+    Ok((tree, test, below))
+}
+
+fn override_type(replace: bool) -> Result<Act, Fail> {
+    Ok(Act::OverrideType {
+        original: Name::new(b"x")?,
+        new: Name::new(b"y")?,
+        replace,
+    })
+}
+
+fn override_inst(alloc: Global) -> Result<Act, Fail> {
+    Ok(Act::OverrideInst {
+        original: Name::new(b"x")?,
+        new: Name::new(b"y")?,
+        glob: Glob::new(alloc, b"*.b")?,
+    })
+}
+
+fn create() -> Result<Act, Fail> {
+    Ok(Act::Create {
+        ty: Name::new(b"t")?,
+        name: Name::new(b"uvm_test_top")?,
+    })
+}
+
+fn add_fifo() -> Result<Act, Fail> {
+    Ok(Act::Add {
+        name: Name::new(b"f")?,
+        what: What::Fifo { size: 1 },
+    })
+}
+
+fn did(alloc: Global, node: NodeId, outcome: Outcome, act: Act) -> Result<Entry, Fail> {
+    Ok(Entry::Did {
+        who: Who::Node(node),
+        outcome,
+        act: Deed::new(alloc, act)?,
+    })
+}
+
+fn is_replaced(act: Option<&Act>) -> Option<bool> {
+    match act {
+        Some(Act::OverrideType { replace, .. }) => Some(*replace),
+        _ => None,
+    }
+}
+
+fn ended(entry: Option<&Entry>) -> Option<Phase> {
+    match entry {
+        Some(Entry::End(phase)) => Some(*phase),
+        _ => None,
+    }
+}
+
+#[test]
+fn acts_stand_in_order(rt: HostRuntime) -> Result<(), Fail> {
+    let mut acts = Acts::new(rt.alloc());
+    assert!(rt; acts.is_empty());
+    acts.push(override_type(true)?)?;
+    acts.push(override_type(false)?.copy()?)?;
+    assert!(rt; !acts.is_empty());
+    assert_eq!(rt; acts.len(), 2);
+    assert_eq!(rt; is_replaced(acts.get(0)), Some(true));
+    assert_eq!(rt; is_replaced(acts.get(1)), Some(false));
+    assert!(rt; acts.get(2).is_none());
+    Ok(())
+}
+
+#[test]
+fn a_log_is_full_at_its_limit(rt: HostRuntime) {
+    let mut log = Log::new(rt.alloc(), 3);
+    assert!(rt; log.is_empty());
+    for (phase, want) in [
+        (Phase::Build, None),
+        (Phase::Connect, None),
+        (Phase::Run, None),
+        (Phase::Final, Some(LogFault::Full)),
+    ] {
+        assert_eq!(rt; log.push(Entry::End(phase)).err(), want);
+    }
+    assert!(rt; log.is_full());
+    assert_eq!(rt; log.len(), 3);
+    assert_eq!(rt; ended(log.get(0)), Some(Phase::Build));
+    assert_eq!(rt; ended(log.last()), Some(Phase::Run));
+    assert_eq!(rt; ended(log.get(3)), None);
+}
+
+#[test]
+fn a_log_takes_an_entry_after_room_was_made(rt: HostRuntime) -> Result<(), Fail> {
+    let mut log = Log::new(rt.alloc(), 1);
+    log.reserve()?;
+    assert!(rt; log.push(Entry::Begin(Phase::Build)).is_ok());
+    Ok(())
+}
+
+#[test]
+fn lines_of_phases_notes_and_ends(rt: HostRuntime) -> Result<(), Fail> {
+    let (tree, test, _) = small_tree(rt.alloc())?;
+    assert!(rt; phase_lines_are_right(rt.alloc(), &tree)?);
+    assert!(rt; end_lines_are_right(rt.alloc(), &tree, test)?);
+    Ok(())
+}
+
+#[test]
+fn the_line_of_an_answer_counts_its_acts(rt: HostRuntime) -> Result<(), Fail> {
+    let (tree, test, _) = small_tree(rt.alloc())?;
+    assert!(rt; answer_line_is_right(rt.alloc(), &tree, test)?);
+    Ok(())
+}
+
+#[test]
+fn lines_of_acts_say_what_became_of_them(rt: HostRuntime) -> Result<(), Fail> {
+    let (tree, test, below) = small_tree(rt.alloc())?;
+    assert!(rt; creation_lines_are_right(rt.alloc(), &tree, test)?);
+    assert!(rt; override_lines_are_right(rt.alloc(), &tree, test, below)?);
+    Ok(())
+}
+
+fn phase_lines_are_right(alloc: Global, tree: &Tree) -> Result<bool, Fail> {
+    Ok(
+        line_is(alloc, tree, Entry::Begin(Phase::Build), "begin build\n")?
+            && line_is(
+                alloc,
+                tree,
+                Entry::End(Phase::EndOfElaboration),
+                "end end_of_elaboration\n",
+            )?,
+    )
+}
+
+fn end_lines_are_right(alloc: Global, tree: &Tree, test: NodeId) -> Result<bool, Fail> {
+    let note = Entry::Note {
+        fatal: Fatal::TooManyActs,
+        node: test,
+    };
+    Ok(
+        line_is(alloc, tree, note, "note ACTLIM uvm_test_top\n")?
+            && line_is(alloc, tree, Entry::Over(Reason::NoTest), "over no_test\n")?
+            && line_is(alloc, tree, Entry::Over(Reason::Exit), "over exit\n")?
+            && line_is(
+                alloc,
+                tree,
+                Entry::Over(Reason::Finished),
+                "over finished\n",
+            )?,
+    )
+}
+
+fn answer_line_is_right(alloc: Global, tree: &Tree, test: NodeId) -> Result<bool, Fail> {
+    let heard = Entry::Heard {
+        who: Who::Node(test),
+        call: Call::Phase(Phase::Build),
+        acts: three_acts(alloc)?,
+    };
+    line_is(alloc, tree, heard, "heard uvm_test_top build: 3\n")
+}
+
+fn three_acts(alloc: Global) -> Result<Acts, Fail> {
+    let mut acts = Acts::new(alloc);
+    for _ in 0..3 {
+        acts.push(add_fifo()?)?;
+    }
+    Ok(acts)
+}
+
+fn creation_lines_are_right(alloc: Global, tree: &Tree, test: NodeId) -> Result<bool, Fail> {
+    let made = Outcome::Made(Name::new(b"t")?);
+    let created = did(alloc, NodeId::TOP, made, create()?)?;
+    let created_line = line_is(
+        alloc,
+        tree,
+        created,
+        "did uvm_top create t uvm_test_top: made t\n",
+    )?;
+    let added = did(alloc, test, Outcome::Done, add_fifo()?)?;
+    Ok(created_line && line_is(alloc, tree, added, "did uvm_test_top add f fifo 1: done\n")?)
+}
+
+fn override_lines_are_right(
+    alloc: Global,
+    tree: &Tree,
+    test: NodeId,
+    below: NodeId,
+) -> Result<bool, Fail> {
+    let refused = Outcome::Refused(Fatal::InvalidType);
+    let whole = did(alloc, test, refused, override_type(true)?)?;
+    let whole_line = line_is(
+        alloc,
+        tree,
+        whole,
+        "did uvm_test_top override x y replace: refused INVTYP\n",
+    )?;
+    let instance = did(alloc, below, Outcome::Done, override_inst(alloc)?)?;
+    Ok(
+        whole_line
+            && line_is(
+                alloc,
+                tree,
+                instance,
+                "did uvm_test_top.a override x y at (*.b): done\n",
+            )?,
+    )
+}
+
+// Whether that is the line of an entry.
+fn line_is(alloc: Global, tree: &Tree, entry: Entry, want: &str) -> Result<bool, Fail> {
+    let mut line = Vec::new(alloc);
+    line_of(&entry, tree, &mut line)?;
+    Ok(line.as_slice() == want.as_bytes())
+}
+
+#[test]
+fn fatal_reports_have_ids_and_texts(rt: HostRuntime) {
+    for (fatal, id, text) in [
+        (Fatal::CreatedAfterBuild, "ILLCRT", "created after build"),
+        (Fatal::TooManyActs, "ACTLIM", "more than 64 acts"),
+        (
+            Fatal::InvalidType,
+            "INVTYP",
+            "type unknown or of another kind",
+        ),
+        (Fatal::ChildTaken, "CLDEXT", "child name taken"),
+        (Fatal::TreeLimit, "TREELIM", "tree limit reached"),
+        (Fatal::OverrideLoop, "OVRDLOOP", "override loop"),
+        (Fatal::NoObject, "FCTTYP", "no object supplied"),
+    ] {
+        assert_eq!(rt; fatal.id(), id);
+        assert_eq!(rt; fatal.text(), text);
+    }
+}
+
+#[test]
+fn log_faults_are_printed(rt: HostRuntime) -> Result<(), Fail> {
+    let printed = format!(in rt.alloc(); "{}, {}", LogFault::Full, LogFault::Memory)?;
+    assert_eq!(rt; printed.as_str(), "log full, out of memory");
+    Ok(())
+}
+
+#[test]
+fn entries_are_small(rt: HostRuntime) {
+    let size = size_of::<Entry>();
+    assert!(rt; size <= 192, "{size} bytes");
+}

@@ -1,0 +1,86 @@
+//! The phases and their order.
+
+ghost use Rattle.std.specs.Prelude.{◌≡◌, Some};
+ghost use Rattle.uvm_phase.specs.Phases.{number_of, phase_after, walk_of, name_of};
+
+/// A phase, in the order in which they run. `Run` alone takes simulated time.
+#[derive(Clone, Copy, Debug, PartialEq, Eq)]
+pub enum Phase {
+    Build,
+    Connect,
+    EndOfElaboration,
+    StartOfSimulation,
+    Run,
+    Extract,
+    Check,
+    Report,
+    Final,
+}
+
+/// The order in which a phase comes to the components of a tree.
+#[derive(Clone, Copy, Debug, PartialEq, Eq)]
+pub enum Walk {
+    /// Parents before their children.
+    Down,
+    /// Children before their parents.
+    Up,
+}
+
+impl Phase {
+    /// Where the phase stands in the order of all, from 0.
+    pub fn number(self) -> u8
+        ensures { result ≡ number_of self }
+    {
+        self as u8
+    }
+
+    /// The name of the phase, as `end_of_elaboration`.
+    pub fn name(self) -> &'static str
+        ensures { result.now ≡ name_of self }
+    {
+        match self {
+            Phase::Build => "build",
+            Phase::Connect => "connect",
+            Phase::EndOfElaboration => "end_of_elaboration",
+            Phase::StartOfSimulation => "start_of_simulation",
+            Phase::Run => "run",
+            Phase::Extract => "extract",
+            Phase::Check => "check",
+            Phase::Report => "report",
+            Phase::Final => "final",
+        }
+    }
+
+    /// Build and final go down, the others up (Clause 9; that run is started up is this project's choice).
+    pub fn walk(self) -> Walk
+        ensures { result ≡ walk_of self }
+    {
+        match self {
+            Phase::Build | Phase::Final => Walk::Down,
+            _ => Walk::Up,
+        }
+    }
+}
+
+/// The order of the phases.
+#[derive(Clone, Copy, Debug)]
+pub struct Schedule;
+
+impl Schedule {
+    /// The phase after one, none after final.
+    pub fn next(phase: Phase) -> Option<Phase>
+        ensures { result ≡ phase_after phase }
+    {
+        match phase {
+            Phase::Build => Some(Phase::Connect),
+            Phase::Connect => Some(Phase::EndOfElaboration),
+            Phase::EndOfElaboration => Some(Phase::StartOfSimulation),
+            Phase::StartOfSimulation => Some(Phase::Run),
+            Phase::Run => Some(Phase::Extract),
+            Phase::Extract => Some(Phase::Check),
+            Phase::Check => Some(Phase::Report),
+            Phase::Report => Some(Phase::Final),
+            Phase::Final => None,
+        }
+    }
+}

@@ -1,0 +1,4 @@
+pub mod Leasts
+pub mod Left
+pub mod Places
+pub mod Scans

@@ -1,0 +1,5 @@
+pub mod Children
+pub mod Cursors
+pub mod Directions
+pub mod Nodes
+mod Rooms

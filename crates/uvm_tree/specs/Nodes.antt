@@ -1,0 +1,76 @@
+-- The nodes of a tree by their numbers, the top first.
+use Rattle.std.specs.Prelude.{ℕ, Bool, true, false, ◌&&◌, ◌==◌, List, [], ◌∷◌, ◌++◌, length, nat_lt, nat_eq, Option, Some, None, slice_get, option_map, is_some, is_none, position}
+use Rattle.std.specs.List.{list_any}
+use Rattle.std.specs.Option.{option_map_or}
+use Rattle.std.specs.Cmp.Lexicographic.{pointwise}
+use Rattle.uvm_glob.specs.Paths.{path_fault}
+use Rattle.uvm_tree.specs.declared.nodes.Node.{Node}
+use Rattle.uvm_tree.specs.declared.nodes.NodeKind.{NodeKind}
+use Rattle.uvm_tree.specs.declared.nodes.NodeKind.TheVariants.{Component}
+use Rattle.uvm_tree.specs.declared.faults.TreeFault.{TreeFault}
+use Rattle.uvm_tree.specs.declared.faults.TreeFault.TheVariants.{NoParent, NameTaken, TooDeep, Full, Memory}
+
+-- the nodes by their numbers, the top first, and the parent for whose next child there is room
+pub record TreeValue : Type 0 where
+  pub nodes : List Node
+  pub spare : Option ℕ
+
+-- the top
+abbrev pub top : Node
+top = record { under = None; path = []; kind = Component }
+
+-- the node of a number
+abbrev pub node_at : List Node → ℕ → Option Node
+node_at nodes id = slice_get nodes id
+
+-- the path of a node
+abbrev pub path_at : List Node → ℕ → List (List ℕ)
+path_at nodes id = option_map_or (λ node. node.path) (node_at nodes id) []
+
+-- whether two paths are one
+abbrev pub is_path : List (List ℕ) → List (List ℕ) → Bool
+is_path = pointwise (pointwise nat_eq)
+
+-- the node at a path
+abbrev pub number_of : List Node → List (List ℕ) → Option ℕ
+number_of nodes path = position (λ node. is_path node.path path) nodes
+
+-- the parent of a node
+abbrev pub parent_of : Node → Option ℕ
+parent_of node = option_map (λ under. under.0) node.under
+
+-- the node is the child of a name
+abbrev pub is_named : ℕ → List ℕ → Option (ℕ × List ℕ) → Bool
+is_named parent name None = false
+is_named parent name (Some under) = under.0 == parent && pointwise nat_eq under.1 name
+
+abbrev pub is_child : ℕ → List ℕ → Node → Bool
+is_child parent name node = is_named parent name node.under
+
+-- the node that a name and a kind make under a parent
+abbrev pub child : List Node → ℕ → List ℕ → NodeKind → Node
+child nodes parent name kind = record { under = Some (parent, name); path = path_at nodes parent ++ name ∷ []; kind = kind }
+
+-- what a fault says of a call: want of memory says that nothing is wrong with it
+abbrev pub refusal : TreeFault → Option TreeFault
+refusal NoParent = Some NoParent
+refusal NameTaken = Some NameTaken
+refusal TooDeep = Some TooDeep
+refusal Full = Some Full
+refusal Memory = None
+
+-- the first of the four faults of a call that is there
+abbrev pub first_fault : Bool → Bool → Bool → Bool → Option TreeFault
+first_fault true taken deep full = Some NoParent
+first_fault false true deep full = Some NameTaken
+first_fault false false true full = Some TooDeep
+first_fault false false false true = Some Full
+first_fault false false false false = None
+
+-- why no node of a name is added under a parent
+unfoldable pub add_fault : List Node → ℕ → List ℕ → Option TreeFault
+add_fault nodes parent name =
+    first_fault (is_none (node_at nodes parent))
+    (list_any (is_child parent name) nodes)
+    (is_some (path_fault (path_at nodes parent ++ name ∷ [])))
+    (nat_lt 4096 (length nodes))

@@ -1,0 +1,16 @@
+//! The tree of a testbench: its components, and what belongs to them, under a top (IEEE 1800.2-2020, Clause 13).
+#![tactic(auto)]
+
+mod children;
+mod cursors;
+mod faults;
+pub mod laws;
+mod nodes;
+#[cfg(test)]
+mod tests;
+mod trees;
+
+pub use children::Children;
+pub use faults::TreeFault;
+pub use nodes::{Node, NodeId, NodeKind};
+pub use trees::Tree;

@@ -1,0 +1,218 @@
+//! Examples of what the definitions mean, and that each call succeeds where there is memory.
+
+use crate::{NodeId, NodeKind, Tree, TreeFault};
+use std::alloc::Global;
+use std::test::Fail;
+use uvm_glob::{Name, Path};
+
+// The nodes t, t.b, t.a and t.a.x, added in this order.
+fn small(alloc: Global) -> Result<Tree, Fail> {
+    let mut tree = Tree::new(alloc);
+    for (parent, name, kind) in [
+        ("", "t", NodeKind::Component),
+        ("t", "b", NodeKind::Sequencer),
+        ("t", "a", NodeKind::Component),
+        ("t.a", "x", NodeKind::Port),
+    ] {
+        let parent = node_at(alloc, &tree, parent)?;
+        tree.add(parent, Name::new(name.as_bytes())?, kind)?;
+    }
+    Ok(tree)
+}
+
+// A node that `small` has not.
+fn missing(alloc: Global) -> Result<NodeId, Fail> {
+    let mut larger = small(alloc)?;
+    Ok(larger.add(NodeId::TOP, Name::new(b"u")?, NodeKind::Fifo)?)
+}
+
+fn path_of(alloc: Global, text: &str) -> Result<Path, Fail> {
+    if text.is_empty() {
+        return Ok(Path::top(alloc));
+    }
+    Ok(Path::parse(alloc, text.as_bytes())?)
+}
+
+fn node_at(alloc: Global, tree: &Tree, text: &str) -> Result<NodeId, Fail> {
+    let path = path_of(alloc, text)?;
+    Ok(tree.find(&path).ok_or("a node")?)
+}
+
+// The order of a walk.
+#[derive(Clone, Copy)]
+enum Walk {
+    Down,
+    Up,
+}
+
+// The paths of the nodes that a walk comes to, with a space before each.
+fn walked(alloc: Global, tree: &Tree, walk: Walk) -> Result<Vec<u8>, Fail> {
+    let mut paths = Vec::new(alloc);
+    let mut last = None;
+    for _ in 0..10 {
+        last = match walk {
+            Walk::Down => tree.next_down(last),
+            Walk::Up => tree.next_up(last),
+        };
+        let Some(id) = last else {
+            return Ok(paths);
+        };
+        write_path(tree, id, &mut paths)?;
+    }
+    Err("a walk goes on".into())
+}
+
+fn write_path(tree: &Tree, id: NodeId, out: &mut Vec<u8>) -> Result<(), Fail> {
+    out.push(b' ')?;
+    tree.path(id).ok_or("a path")?.write(out)?;
+    Ok(())
+}
+
+#[test]
+fn walks_come_to_each_node_in_order(rt: HostRuntime) -> Result<(), Fail> {
+    let tree = small(rt.alloc())?;
+    let down = walked(rt.alloc(), &tree, Walk::Down)?;
+    assert_eq!(rt; down.as_slice(), b" t t.a t.a.x t.b".as_slice());
+    let up = walked(rt.alloc(), &tree, Walk::Up)?;
+    assert_eq!(rt; up.as_slice(), b" t.a.x t.a t.b t".as_slice());
+    Ok(())
+}
+
+#[test]
+fn walks_do_not_begin_at_a_missing_node(rt: HostRuntime) -> Result<(), Fail> {
+    let tree = small(rt.alloc())?;
+    let missing = missing(rt.alloc())?;
+    assert_eq!(rt; tree.next_down(Some(missing)), None);
+    assert_eq!(rt; tree.next_up(Some(missing)), None);
+    // The top is first in Down, and last in Up.
+    assert_eq!(rt; tree.next_down(Some(NodeId::TOP)), tree.next_down(None));
+    assert_eq!(rt; tree.next_up(Some(NodeId::TOP)), None);
+    Ok(())
+}
+
+#[test]
+fn children_come_in_the_order_of_their_names(rt: HostRuntime) -> Result<(), Fail> {
+    let tree = small(rt.alloc())?;
+    for (parent, want) in [
+        ("", b" t".as_slice()),
+        ("t", b" t.a t.b"),
+        ("t.a", b" t.a.x"),
+        ("t.b", b""),
+    ] {
+        let mut paths = Vec::new(rt.alloc());
+        for child in tree.children(node_at(rt.alloc(), &tree, parent)?) {
+            write_path(&tree, child, &mut paths)?;
+        }
+        assert_eq!(rt; paths.as_slice(), want, "children of '{parent}'");
+    }
+    let missing = missing(rt.alloc())?;
+    assert_eq!(rt; tree.children(missing).next(), None);
+    Ok(())
+}
+
+#[test]
+fn nodes_show_what_they_are(rt: HostRuntime) -> Result<(), Fail> {
+    let tree = small(rt.alloc())?;
+    for (path, kind, parent) in [
+        ("", NodeKind::Component, None),
+        ("t", NodeKind::Component, Some("")),
+        ("t.a", NodeKind::Component, Some("t")),
+        ("t.a.x", NodeKind::Port, Some("t.a")),
+        ("t.b", NodeKind::Sequencer, Some("t")),
+    ] {
+        let id = node_at(rt.alloc(), &tree, path)?;
+        let parent = match parent {
+            Some(parent) => Some(node_at(rt.alloc(), &tree, parent)?),
+            None => None,
+        };
+        assert_eq!(rt; tree.parent(id), parent, "'{path}'");
+        assert_eq!(rt; tree.kind(id), Some(kind), "'{path}'");
+        let path_made = path_of(rt.alloc(), path)?;
+        assert!(rt; tree.path(id) == Some(&path_made), "'{path}'");
+    }
+    Ok(())
+}
+
+#[test]
+fn missing_nodes_have_nothing(rt: HostRuntime) -> Result<(), Fail> {
+    let tree = small(rt.alloc())?;
+    let missing = missing(rt.alloc())?;
+    assert_eq!(rt; tree.find(&path_of(rt.alloc(), "u")?), None);
+    assert_eq!(rt; node_at(rt.alloc(), &tree, "")?, NodeId::TOP);
+    assert_eq!(rt; tree.kind(missing), None);
+    assert_eq!(rt; tree.parent(missing), None);
+    assert!(rt; tree.path(missing).is_none());
+    Ok(())
+}
+
+#[test]
+fn adding_gives_the_first_fault(rt: HostRuntime) -> Result<(), Fail> {
+    let mut tree = small(rt.alloc())?;
+    let t = node_at(rt.alloc(), &tree, "t")?;
+    let missing = missing(rt.alloc())?;
+    for (parent, name, want) in [
+        (t, "a", Some(TreeFault::NameTaken)),
+        (missing, "a", Some(TreeFault::NoParent)),
+        (NodeId::TOP, "a", None),
+        (NodeId::TOP, "a", Some(TreeFault::NameTaken)),
+    ] {
+        let name = Name::new(name.as_bytes())?;
+        assert_eq!(rt; tree.fault(parent, &name), want, "{name} under {parent:?}");
+        let added = tree.add(parent, name, NodeKind::Imp);
+        assert_eq!(rt; added.err(), want, "{name} under {parent:?}");
+    }
+    Ok(())
+}
+
+#[test]
+fn a_path_of_33_names_is_too_deep(rt: HostRuntime) -> Result<(), Fail> {
+    let mut tree = Tree::new(rt.alloc());
+    let name = Name::new(b"n")?;
+    let mut parent = NodeId::TOP;
+    for _ in 0..32 {
+        parent = tree.add(parent, name, NodeKind::Component)?;
+    }
+    let added = tree.add(parent, name, NodeKind::Component);
+    assert_eq!(rt; added, Err(TreeFault::TooDeep));
+    Ok(())
+}
+
+#[test]
+fn the_node_4097_is_one_too_many(rt: HostRuntime) -> Result<(), Fail> {
+    let mut tree = Tree::new(rt.alloc());
+    for number in 0..Tree::MAX_NODES {
+        let text = format!(in rt.alloc(); "n{number}")?;
+        tree.add(NodeId::TOP, Name::new(text.as_bytes())?, NodeKind::Export)?;
+    }
+    let added = tree.add(NodeId::TOP, Name::new(b"n")?, NodeKind::Export);
+    assert_eq!(rt; added, Err(TreeFault::Full));
+    let added = tree.add(NodeId::TOP, Name::new(b"n4095")?, NodeKind::Export);
+    assert_eq!(rt; added, Err(TreeFault::NameTaken));
+    Ok(())
+}
+
+#[test]
+fn a_node_is_added_where_there_is_room(rt: HostRuntime) -> Result<(), Fail> {
+    let mut tree = small(rt.alloc())?;
+    let t = node_at(rt.alloc(), &tree, "t")?;
+    let missing = missing(rt.alloc())?;
+    tree.reserve(missing)?;
+    tree.reserve(t)?;
+    let added = tree.add(t, Name::new(b"c")?, NodeKind::Fifo);
+    assert_eq!(rt; added, Ok(node_at(rt.alloc(), &tree, "t.c")?));
+    Ok(())
+}
+
+#[test]
+fn faults_are_printed(rt: HostRuntime) -> Result<(), Fail> {
+    for (fault, want) in [
+        (TreeFault::NoParent, "no such parent"),
+        (TreeFault::NameTaken, "child name taken"),
+        (TreeFault::TooDeep, "too deep"),
+        (TreeFault::Full, "too many nodes"),
+        (TreeFault::Memory, "out of memory"),
+    ] {
+        assert_eq!(rt; format!(in rt.alloc(); "{fault}")?.as_str(), want);
+    }
+    Ok(())
+}

@@ -1,0 +1,276 @@
+//! The tree.
+
+ghost use Rattle.std.specs.Prelude.{◌≡◌, ◌≢◌, ◌∷◌, ◌++◌, ◌+◌, ◌-◌, ◌<◌, ◌≤◌, [], length, vec_capacity, None, Some, Ok, Err, OnOk, OnErr, IfOk, IfErr, IsSome, IsOk, option_map, option_and_then, position};
+ghost use Rattle.std.specs.List.{list_any};
+ghost use Rattle.std.specs.Option.{option_copied, ForSome};
+ghost use Rattle.uvm_glob.specs.Paths.{path_fault};
+ghost use Rattle.uvm_tree.specs.declared.nodes.Node.{Node};
+ghost use Rattle.uvm_tree.specs.Nodes.{top, child, path_at, node_at, is_child, is_path, number_of, parent_of, refusal, add_fault};
+
+use crate::faults::TreeFault;
+use crate::nodes::{Node, NodeId, NodeKind};
+use std::alloc::{AllocError, Global};
+use std::marker::Model;
+use uvm_glob::{ChildRoom, Name, Path};
+
+/// A tree of nodes under a top. Contracts see the nodes by their numbers, the top first, and beside them the parent for
+/// whose next child there is room.
+#[derive(Drop)]
+pub struct Tree {
+    top: Node,
+    // The nodes besides the top, in the order in which they were added.
+    nodes: Vec<Node>,
+    room: Option<Room>,
+}
+
+// Room for a child, in the list of nodes too.
+#[derive(Drop)]
+struct Room {
+    parent: NodeId,
+    path: ChildRoom,
+}
+
+impl Model for Tree {
+    ghost use Rattle.std.specs.Prelude.{◌∷◌, option_map};
+    ghost use Rattle.uvm_tree.specs.Nodes.{TreeValue};
+    ghost use Rattle.uvm_tree.specs.Rooms.{IsTree};
+
+    ghost Value = { TreeValue };
+
+    ghost view = { λ t. record { nodes = t.top ∷ t.nodes.items; spare = option_map (λ room. room.parent) t.room } };
+
+    ghost invariant = { λ t. IsTree t };
+}
+
+impl Tree {
+    /// The most nodes besides the top.
+    pub const MAX_NODES: usize = 4096;
+
+    /// The top alone.
+    pub fn new(alloc: Global) -> Tree
+        ensures { result ≡ record { nodes = top ∷ []; spare = None } }
+    {
+        Tree {
+            top: Node {
+                under: None,
+                path: Path::top(alloc),
+                kind: NodeKind::Component,
+            },
+            nodes: Vec::new(alloc),
+            room: None,
+        }
+    }
+
+    /// Makes room for the next child of a parent, if there is such a node: its `add` then takes no memory.
+    pub fn reserve(&mut self, parent: NodeId) -> Result<(), AllocError>
+        ensures nodes { self.new.nodes ≡ self.old.nodes }
+        ensures spare { OnOk result (IsSome (node_at self.old.nodes parent) → self.new.spare ≡ Some parent) }
+    {
+        let Some(above) = self.node(parent) else {
+            return Ok(());
+        };
+        let path = ChildRoom::new(&above.path)?;
+        self.room = None;
+        self.nodes.reserve(1)?;
+        self.room = Some(Room { parent, path });
+        Ok(())
+    }
+
+    /// Adds a node under a parent: the first of `TreeFault` that holds, if one does. Takes no memory where there is room for a
+    /// child of that parent.
+    #[tactic(auto, unfolding(crate::specs::Nodes::add_fault))]
+    pub fn add(&mut self, parent: NodeId, name: Name, kind: NodeKind) -> Result<NodeId, TreeFault>
+        ensures ok { IfOk result (λ id. (add_fault self.old.nodes parent name ≡ None) × (id ≡ length self.old.nodes)) }
+        ensures added { OnOk result (self.new.nodes ≡ self.old.nodes ++ child self.old.nodes parent name kind ∷ []) }
+        ensures err { IfErr result (λ fault. add_fault self.old.nodes parent name ≡ refusal fault) }
+        ensures unchanged { OnErr result (self.new.nodes ≡ self.old.nodes) }
+        ensures room { self.old.spare ≡ Some parent → result ≢ Err TreeFault.Memory }
+    {
+        if let Some(fault) = self.fault(parent, &name) {
+            return Err(fault);
+        }
+        let room = self.room.take();
+        let Ok(path) = self.child_path(room, parent, &name) else {
+            return Err(TreeFault::Memory);
+        };
+        push(
+            &mut self.nodes,
+            Node {
+                under: Some((parent, name)),
+                path,
+                kind,
+            },
+        )
+    }
+
+    /// Why no node of that name can be added under a parent, if so; memory aside. Takes no memory.
+    #[tactic(auto, unfolding(crate::specs::Nodes::add_fault))]
+    pub fn fault(&self, parent: NodeId, name: &Name) -> Option<TreeFault>
+        ensures { result ≡ add_fault self.now.nodes parent name.now }
+    {
+        let Some(above) = self.node(parent) else {
+            return Some(TreeFault::NoParent);
+        };
+        if self.has_child(parent, name) {
+            Some(TreeFault::NameTaken)
+        } else if above.path.child_fault(name).is_some() {
+            Some(TreeFault::TooDeep)
+        } else if self.nodes.len() >= Tree::MAX_NODES {
+            Some(TreeFault::Full)
+        } else {
+            None
+        }
+    }
+
+    /// The node at a path, the top at its own.
+    pub fn find(&self, path: &Path) -> Option<NodeId>
+        ensures { result ≡ number_of self.now.nodes path.now }
+    {
+        if self.top.path == *path {
+            return Some(NodeId::TOP);
+        }
+        match position_of(self.nodes.as_slice(), path) {
+            Some(place) => Some(NodeId::new(place as u16 + 1)),
+            None => None,
+        }
+    }
+
+    /// The path of a node.
+    pub fn path(&self, id: NodeId) -> Option<&Path>
+        ensures { option_copied result ≡ option_map (λ node. node.path) (node_at self.now.nodes id) }
+    {
+        match self.node(id) {
+            Some(node) => Some(&node.path),
+            None => None,
+        }
+    }
+
+    /// What stands at a node.
+    pub fn kind(&self, id: NodeId) -> Option<NodeKind>
+        ensures { result ≡ option_map (λ node. node.kind) (node_at self.now.nodes id) }
+    {
+        match self.node(id) {
+            Some(node) => Some(node.kind),
+            None => None,
+        }
+    }
+
+    /// The parent of a node; the top has none.
+    pub fn parent(&self, id: NodeId) -> Option<NodeId>
+        ensures { result ≡ option_and_then parent_of (node_at self.now.nodes id) }
+    {
+        match self.node(id) {
+            Some(node) => match node.under {
+                Some((parent, _)) => Some(parent),
+                None => None,
+            },
+            None => None,
+        }
+    }
+
+    // The path of a node, or that of the top where there is no such node.
+    pub(crate) fn path_or_top(&self, id: NodeId) -> &Path
+        ensures { result.now ≡ path_at self.now.nodes id }
+    {
+        match self.node(id) {
+            Some(node) => &node.path,
+            None => &self.top.path,
+        }
+    }
+
+    // The number of nodes besides the top.
+    pub(crate) fn number_of_nodes(&self) -> usize
+        ensures number { result ≡ length self.now.nodes - 1 }
+        ensures limit { result ≤ 4096 }
+    {
+        self.nodes.len()
+    }
+
+    // The node of a number.
+    pub(crate) fn node(&self, id: NodeId) -> Option<&Node>
+        ensures { option_copied result ≡ node_at self.now.nodes id }
+    {
+        match id.number() {
+            0 => Some(&self.top),
+            number => self.nodes.get(number - 1),
+        }
+    }
+
+    // Whether a parent has a child of that name.
+    fn has_child(&self, parent: NodeId, name: &Name) -> bool
+        ensures { result ≡ list_any (is_child parent name.now) self.now.nodes }
+    {
+        has_child(self.nodes.as_slice(), parent, name)
+    }
+
+    // The path of a child that may be added, in the room if it is for that parent.
+    fn child_path(
+        &self,
+        room: Option<Room>,
+        parent: NodeId,
+        name: &Name,
+    ) -> Result<Path, AllocError>
+        requires node { IsSome (node_at self.now.nodes parent) }
+        requires fits { path_fault (path_at self.now.nodes parent ++ name.now ∷ []) ≡ None }
+        requires room { ForSome room (λ room. room.path ≡ path_at self.now.nodes room.parent) }
+        ensures ok { IfOk result (λ path. path ≡ path_at self.now.nodes parent ++ name.now ∷ []) }
+        ensures memory { option_map (λ room. room.parent) room ≡ Some parent → IsOk result }
+    {
+        if let Some(room) = room {
+            if room.parent == parent {
+                return Ok(room.child(name));
+            }
+        }
+        match self.node(parent) {
+            Some(above) => match above.path.child(name) {
+                Ok(path) => Ok(path),
+                Err(_) => Err(AllocError),
+            },
+            None => unreachable!(),
+        }
+    }
+}
+
+// The place of the node at a path.
+fn position_of(nodes: &[Node], path: &Path) -> Option<usize>
+    ensures { result ≡ position (λ node. is_path node.path path.now) nodes.now }
+{
+    nodes.iter().position(|node| node.path == *path)
+}
+
+// Whether one of the nodes is the child of that name.
+fn has_child(nodes: &[Node], parent: NodeId, name: &Name) -> bool
+    ensures { result ≡ list_any (is_child parent name.now) nodes.now }
+{
+    nodes.iter().any(|node| node.is_child(parent, name))
+}
+
+// Adds a node.
+fn push(nodes: &mut Vec<Node>, node: Node) -> Result<NodeId, TreeFault>
+    requires { length nodes.old.items < 4096 }
+    ensures ok { IfOk result (λ id. id ≡ length nodes.old.items + 1) }
+    ensures added { OnOk result (nodes.new.items ≡ nodes.old.items ++ node ∷ []) }
+    ensures err { IfErr result (λ fault. fault ≡ TreeFault.Memory) }
+    ensures unchanged { OnErr result (nodes.new.items ≡ nodes.old.items) }
+    ensures room { length nodes.old.items < vec_capacity nodes.old → IsOk result }
+{
+    let number = nodes.len() + 1;
+    match nodes.push(node) {
+        Ok(()) => Ok(NodeId::new(number as u16)),
+        Err(_) => Err(TreeFault::Memory),
+    }
+}
+
+impl Room {
+    // The path of a child that may be added.
+    fn child(self, name: &Name) -> Path
+        requires { path_fault (self.path ++ name.now ∷ []) ≡ None }
+        ensures { result ≡ self.path ++ name.now ∷ [] }
+    {
+        let Room { parent: _, path } = self;
+        let Ok(path) = path.child(name) else {
+            unreachable!()
+        };
+        path
+    }
+}

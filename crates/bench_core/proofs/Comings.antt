@@ -1,18 +1,18 @@
 -- Something comes next until the run is over.
-use Rattle.std.proofs.Common.{◌≡◌, ℕ, Bool, true, false, List, [], ◌∷◌, length, nat_lt, Option, Some, None, Result, Ok, Err, refl, ap, if◌then◌else◌}
+use Rattle.std.proofs.Common.{◌≡◌, ℕ, List, Option, Some, None, Result, Ok, Err, refl, ap, sym, subst}
 use Rattle.uvm_phase.specs.declared.phases.Phase.{Phase}
 use Rattle.uvm_phase.specs.Phases.{phase_after}
 use Rattle.uvm_object.specs.declared.acts.Who.{Who}
 use Rattle.uvm_object.specs.declared.acts.Act.{Act}
 use Rattle.uvm_object.specs.declared.acts.Act.TheVariants.{Create, Add, OverrideType, OverrideInst}
 use Rattle.uvm_object.specs.declared.fatals.Fatal.{Fatal}
-use Rattle.uvm_object.specs.declared.entries.Reason.{Reason}
 use Rattle.uvm_object.specs.declared.entries.Entry.{Entry}
 use Rattle.bench_script.specs.Scripts.{ScriptValue}
 use Rattle.bench_world.specs.declared.stages.Stage.{Stage}
 use Rattle.bench_world.specs.declared.stages.Stage.TheVariants.{Before, During, After, Ended}
-use Rattle.bench_world.specs.History.{stage_of, next_call, left_of, speaker_of, reason_of}
-use Rattle.bench_world.specs.Next.{Next, Exactly, Nothing, by_call, by_order, by_stage, by_creation, by_act, by_answer, by_reason, unless_ended, next_of, noted_at}
+use Rattle.bench_world.specs.History.{stage_of, speaker_of, next_call, reason_of}
+use Rattle.bench_world.specs.Next.{Next, Nothing, by_call, by_order, by_stage, by_creation, by_act, by_reason, unless_ended, next_of}
+use Rattle.bench_world.proofs.Cases.{Case, AtEnd, ByReason, ByNote, ByAct, ByStage, case-of}
 use Rattle.bench_core.specs.Plays.{IsSomething}
 
 -- after the end nothing comes
@@ -44,27 +44,15 @@ some-act script history performer (Add name what) = tt
 some-act script history performer (OverrideType original new replace) = tt
 some-act script history performer (OverrideInst original new glob) = tt
 
-some-many : (script : ScriptValue) (history : List Entry) (act : Act) (many : Bool) → IsSomething (if many then Exactly (noted_at (speaker_of history)) else by_act script history (speaker_of history) act)
-some-many script history act true = tt
-some-many script history act false = some-act script history (speaker_of history) act
-
-some-answer : (script : ScriptValue) (history : List Entry) (left : List Act) → (stage_of history ≡ Ended → ⊥) → IsSomething (by_answer script history left)
-some-answer script history [] on = some-stage history (stage_of history) on
-some-answer script history (act ∷ acts) on = some-many script history act (nat_lt 64 (length (act ∷ acts)))
-
-some-reason : (script : ScriptValue) (history : List Entry) (reason : Option Reason) → (stage_of history ≡ Ended → ⊥) → IsSomething (by_reason script history reason)
-some-reason script history (Some reason) on = tt
-some-reason script history None on = some-answer script history (left_of script history) on
-
-some-ended : (stage : Stage) (next : Next) → (stage ≡ Ended → ⊥) → IsSomething next → IsSomething (unless_ended stage next)
-some-ended Before next on some = some
-some-ended (During phase) next on some = some
-some-ended (After phase) next on some = some
-some-ended Ended next on some = absurd (on refl)
+some-case : (script : ScriptValue) (history : List Entry) (next : Next) → (stage_of history ≡ Ended → ⊥) → Case script history next → IsSomething next
+some-case script history next on (AtEnd ended e) = absurd (on ended)
+some-case script history next on (ByReason reason e) = subst IsSomething (sym e) tt
+some-case script history next on (ByNote e) = subst IsSomething (sym e) tt
+some-case script history next on (ByAct act left e) = subst IsSomething (sym e) (some-act script history (speaker_of history) act)
+some-case script history next on (ByStage some e) = subst IsSomething (sym e) (some-stage history (stage_of history) on)
 
 -- and before it something does
 pub something-comes : (script : ScriptValue) (history : List Entry) → (stage_of history ≡ Ended → ⊥) → IsSomething (next_of script history)
-unfolding next_of
-something-comes script history on = some-ended (stage_of history) _ on (some-reason script history (reason_of history) on)
+something-comes script history on = some-case script history _ on (case-of script history)
 
 pub ruleset comings = (nothing-comes, something-comes)

@@ -10,6 +10,8 @@ use Rattle.bench_world.specs.declared.stages.Stage.{Stage}
 use Rattle.bench_world.specs.declared.stages.Stage.TheVariants.{During}
 use Rattle.bench_world.specs.History.{nodes_of}
 use Rattle.bench_core.specs.declared.cores.Need.{Need}
+use Rattle.bench_core.specs.declared.cores.Health.{Health}
+use Rattle.bench_core.specs.declared.cores.Health.TheVariants.{Good, Full, Broken}
 use Rattle.bench_world.specs.Next as next
 use Rattle.bench_world.specs.Next.{next_of}
 use Rattle.bench_world.specs.Story.{Story}
@@ -20,20 +22,29 @@ use Rattle.bench_core.specs.declared.faults.CoreFault.{CoreFault}
 use Rattle.bench_core.specs.declared.faults.CoreFault.TheVariants.{Memory, LogFull, Failed, NoTest}
 use Rattle.bench_core.specs.Choices.{IsNeedFor}
 
--- the script, the entries with the newest first, what was asked and not answered yet, and whether the machine has failed
+-- the script, the entries with the newest first, what was asked and not answered yet, and how the machine is
 pub record Play : Type 0 where
   pub script : ScriptValue
   pub history : List Entry
   pub standing : Standing
-  pub failed : Bool
+  pub health : Health
+
+-- it goes on; and what it keeps is what the log says, as long as memory was not refused
+abbrev pub is_good : Health → Bool
+is_good Good = true
+is_good health = false
+
+abbrev pub is_sound : Health → Bool
+is_sound Broken = false
+is_sound health = true
 
 -- one more entry, which answers what was asked
 abbrev pub after : Entry → Play → Play
 after entry play = record play { history = entry ∷ play.history; standing = Nothing }
 
--- the machine has failed
-abbrev pub failed_from : Play → Play
-failed_from play = record play { standing = Nothing; failed = true }
+-- the machine has failed, with nothing asked
+abbrev pub failed_from : Health → Play → Play
+failed_from health play = record play { standing = Nothing; health = health }
 
 -- what was asked is what comes next
 abbrev pub Comes : Standing → next.Next → Type 0
@@ -47,12 +58,12 @@ HasRoom Nothing story = Unit {0}
 HasRoom (Needed need) story = (length story.history < 1000000) × (story.ready ≡ true)
 HasRoom (Asked performer call) story = length story.history < 1000000
 
--- while the machine has not failed its world is sound, and what was asked comes next
-pub record IsCore (story : Story) (standing : Standing) (failed : Bool) : Type 0 where
-  pub sound : failed ≡ false → story.sound ≡ true
+-- while memory was not refused the world is sound; what was asked comes next, and is asked of a machine that goes on
+pub record IsCore (story : Story) (standing : Standing) (health : Health) : Type 0 where
+  pub sound : is_sound health ≡ true → story.sound ≡ true
   pub comes : Comes standing (next_of story.script story.history)
   pub room : HasRoom standing story
-  pub none : failed ≡ true → standing ≡ Nothing
+  pub none : is_good health ≡ false → standing ≡ Nothing
 
 -- the object that is needed stands, and nothing else changed
 abbrev pub Stands : List ℕ → List (List ℕ) → Standing → Type 0
@@ -74,14 +85,14 @@ IsSomething comes = Unit {0}
 
 -- why a turn is refused
 abbrev pub IsRefusedTurn : CoreFault → Play → Play → Type 0
-IsRefusedTurn Memory old new = (old.failed ≡ false) × (new ≡ failed_from old)
-IsRefusedTurn LogFull old new = (old.failed ≡ false) × (1000000 ≤ length old.history) × IsSomething (next_of old.script old.history) × (new ≡ failed_from old)
-IsRefusedTurn Failed old new = (old.failed ≡ true) × (new ≡ old)
+IsRefusedTurn Memory old new = (old.health ≡ Good) × (new ≡ failed_from Broken old)
+IsRefusedTurn LogFull old new = (old.health ≡ Good) × (1000000 ≤ length old.history) × IsSomething (next_of old.script old.history) × (new ≡ failed_from Full old)
+IsRefusedTurn Failed old new = (is_good old.health ≡ false) × (new ≡ old)
 IsRefusedTurn NoTest old new = ⊥
 
 -- what `next` gives: what stands is told again, else what comes next is done
 abbrev pub IsNextTurn : Standing → Result turn.Turn CoreFault → Play → Play → Type 0
-IsNextTurn Nothing (Ok result) old new = (old.failed ≡ false) × IsTurn (next_of old.script old.history) result old new
+IsNextTurn Nothing (Ok result) old new = (old.health ≡ Good) × IsTurn (next_of old.script old.history) result old new
 IsNextTurn Nothing (Err fault) old new = IsRefusedTurn fault old new
 IsNextTurn (Needed need) result old new = (result ≡ Ok turn.TheVariants.Need) × (new ≡ old)
 IsNextTurn (Asked performer call) result old new = (result ≡ Ok (turn.TheVariants.Ask performer call)) × (new ≡ old)
@@ -120,7 +131,7 @@ abbrev pub running : Stage → Option Phase
 running (During phase) = Some phase
 running stage = None
 
--- the text of the newest entry
+-- the text of the newest entry, where it is asked for
 abbrev pub last_text : Bool → List Entry → List ℕ
 last_text false history = []
 last_text true [] = []

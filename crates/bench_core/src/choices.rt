@@ -1,14 +1,15 @@
 //! The choice of the next entry.
 
 ghost use Rattle.std.specs.Prelude.{◌≡◌, true, IfOk, Some};
-ghost use Rattle.bench_world.specs.Next.{next_of, by_stage};
+ghost use Rattle.bench_world.specs.History.{speaker_of};
+ghost use Rattle.bench_world.specs.Next.{next_of, by_act, by_stage};
 ghost use Rattle.bench_core.specs.Choices.{IsChoice, IsActChoice, IsStageChoice};
 
 use crate::cores::Need;
 use bench_world::{Creation, Stage, Uncreated, World};
-use std::alloc::{AllocError, Global};
+use std::alloc::AllocError;
 use uvm_factory::Kind;
-use uvm_object::{Act, Call, Deed, Fatal, Reason};
+use uvm_object::{Act, Call, Fatal, Reason};
 use uvm_phase::{Phase, Schedule};
 use uvm_tree::NodeId;
 
@@ -20,16 +21,16 @@ pub(crate) enum Choice {
     End(Phase),
     Over(Reason),
     Note(Fatal, NodeId),
-    Did(Deed),
+    Did,
     Need(Need),
     Ask(NodeId, Call),
 }
 
 // What comes next after the log of a world.
 #[tactic(auto, unfolding(bench_world::specs::Next::next_of))]
-pub(crate) fn choose(alloc: Global, world: &World) -> Result<Choice, AllocError>
+pub(crate) fn choose(world: &World) -> Result<Choice, AllocError>
     requires { world.now.sound ≡ true }
-    ensures { IfOk result (IsChoice world.now.script world.now.history) }
+    ensures { IfOk result (IsChoice (next_of world.now.script world.now.history)) }
 {
     let stage = world.stage();
     if stage == Stage::Ended {
@@ -43,15 +44,15 @@ pub(crate) fn choose(alloc: Global, world: &World) -> Result<Choice, AllocError>
             Fatal::TooManyActs,
             world.speaker().node(),
         )),
-        Some(act) => choose_act(alloc, world, act),
+        Some(act) => choose_act(world, act),
         None => Ok(choose_stage(world, stage)),
     }
 }
 
 // What the next act of the last answer comes to.
-fn choose_act(alloc: Global, world: &World, act: &Act) -> Result<Choice, AllocError>
-    requires sound { world.now.sound ≡ true }
-    ensures { IfOk result (IsActChoice world.now.script world.now.history act.now) }
+fn choose_act(world: &World, act: &Act) -> Result<Choice, AllocError>
+    requires { world.now.sound ≡ true }
+    ensures { IfOk result (IsActChoice (by_act world.now.script world.now.history (speaker_of world.now.history) act.now)) }
 {
     if let Act::Create { ty, name } = act {
         match world.creation(ty, name) {
@@ -66,12 +67,12 @@ fn choose_act(alloc: Global, world: &World, act: &Act) -> Result<Choice, AllocEr
             Err(Uncreated::Refused(_)) => (),
         }
     }
-    Ok(Choice::Did(Deed::new(alloc, act.copy()?)?))
+    Ok(Choice::Did)
 }
 
 // What comes where no act is left.
 fn choose_stage(world: &World, stage: Stage) -> Choice
-    requires sound { world.now.sound ≡ true }
+    requires { world.now.sound ≡ true }
     ensures { IsStageChoice (by_stage world.now.history stage) result }
 {
     match stage {

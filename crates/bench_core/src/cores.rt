@@ -1,15 +1,15 @@
 //! The machine.
 
-ghost use Rattle.std.specs.Prelude.{◌≡◌, ◌<◌, [], true, false, OnOk, OnErr, IfOk, IfErr, IfSome, IsSome, Some, IsOk, IsErr, length, ◌++◌};
+ghost use Rattle.std.specs.Prelude.{◌≡◌, ◌<◌, [], true, false, OnOk, OnErr, IfOk, IfErr, IfSome, IsSome, Some, IsOk, IsErr, None, ◌&&◌, length, ◌++◌, if◌then◌else◌};
 ghost use Rattle.std.specs.Bool.{OnTrue, OnFalse};
 ghost use Rattle.std.specs.Option.{option_copied};
 ghost use Rattle.uvm_tree.specs.Nodes.{number_of};
 ghost use Rattle.uvm_object.specs.declared.acts.Who.TheVariants as who;
 ghost use Rattle.uvm_object.specs.declared.entries.Entry.TheVariants.{Heard};
-ghost use Rattle.bench_world.specs.History.{nodes_of, stage_of};
+ghost use Rattle.bench_world.specs.History.{nodes_of, now_of, stage_of};
 ghost use Rattle.bench_world.specs.Next.{next_of, made_in, declined_in, IsLegal};
 ghost use Rattle.bench_world.specs.Next as comes;
-ghost use Rattle.bench_core.specs.Plays.{IsNextTurn, IsTurn, IsSomething, IsUnmade, after, failed_from, turn_of, need_of, ask_of, IsAsk, running, last_text};
+ghost use Rattle.bench_core.specs.Plays.{IsNextTurn, IsTurn, IsSomething, IsUnmade, after, failed_from, is_sound, turn_of, need_of, ask_of, IsAsk, running, last_text};
 ghost use Rattle.bench_core.specs.declared.cores.Standing.TheVariants.{Nothing, Needed, Asked};
 
 use crate::choices::{Choice, choose};
@@ -57,14 +57,24 @@ pub enum Standing {
     Asked { who: Who, call: Call },
 }
 
+/// How a machine is.
+#[derive(Clone, Copy, Debug, PartialEq, Eq)]
+pub enum Health {
+    /// It goes on.
+    Good,
+    /// It has failed with a full log, and still tells what the log says.
+    Full,
+    /// It has failed for want of memory, and tells no more than the log.
+    Broken,
+}
+
 /// The machine of a testbench, with answers as values. Contracts see the script, the log with the newest entry first, what was
-/// asked, and whether the machine has failed.
+/// asked, and how the machine is.
 #[derive(Drop)]
 pub struct Core {
-    alloc: Global,
     world: World,
     standing: Standing,
-    failed: bool,
+    health: Health,
 }
 
 impl Model for Core {
@@ -72,15 +82,15 @@ impl Model for Core {
 
     ghost Value = { Play };
 
-    ghost view = { λ c. record { script = c.world.script; history = c.world.history; standing = c.standing; failed = c.failed } };
+    ghost view = { λ c. record { script = c.world.script; history = c.world.history; standing = c.standing; health = c.health } };
 
-    ghost invariant = { λ c. IsCore c.world c.standing c.failed };
+    ghost invariant = { λ c. IsCore c.world c.standing c.health };
 }
 
 impl Core {
     /// The machine of a script, before the first entry (`NoTest` where the script has no test, else `Memory`).
     pub fn new(alloc: Global, script: Script) -> Result<Core, CoreFault>
-        ensures ok { IfOk result (λ core. IsSome script.test × (core ≡ record { script = script; history = []; standing = Nothing; failed = false })) }
+        ensures ok { IfOk result (λ core. IsSome script.test × (core ≡ record { script = script; history = []; standing = Nothing; health = Health.Good })) }
         ensures err { IfErr result (IsUnmade script) }
     {
         if script.test().is_none() {
@@ -88,10 +98,9 @@ impl Core {
         }
         match World::new(alloc, script) {
             Ok(world) => Ok(Core {
-                alloc,
                 world,
                 standing: Standing::Nothing,
-                failed: false,
+                health: Health::Good,
             }),
             Err(_) => Err(CoreFault::Memory),
         }
@@ -113,10 +122,10 @@ impl Core {
             }
             Standing::Nothing => (),
         }
-        if self.failed {
-            return Err(CoreFault::Failed);
+        match self.health {
+            Health::Good => self.go_on(),
+            Health::Full | Health::Broken => Err(CoreFault::Failed),
         }
-        self.go_on()
     }
 
     /// What was asked: an object, or an answer. None where neither was.
@@ -177,35 +186,38 @@ impl Core {
     pub fn heard(&mut self, acts: Acts) -> Result<(), CoreFault>
         requires { IsAsk (turn_of self.old.standing) }
         ensures ok { OnOk result (IfSome (ask_of self.old.standing) (λ ask. self.new ≡ after (Heard ask.0 ask.1 acts) self.old)) }
-        ensures err { IfErr result (λ fault. (fault ≡ CoreFault.Memory) × (self.new ≡ failed_from self.old)) }
+        ensures err { IfErr result (λ fault. (fault ≡ CoreFault.Memory) × (self.new ≡ failed_from Health.Broken self.old)) }
     {
         let Standing::Asked { who, call } = &self.standing else {
             unreachable!()
         };
         let (node, call) = (who.node(), *call);
         self.standing = Standing::Nothing;
-        self.failed = true;
+        self.health = Health::Broken;
         match self.world.heard(Who::Node(node), call, acts) {
             Ok(()) => {
-                self.failed = false;
+                self.health = Health::Good;
                 Ok(())
             }
             Err(_) => Err(CoreFault::Memory),
         }
     }
 
-    /// The present time in ticks. Nothing takes time yet.
+    /// The present time in ticks. 0 once memory was refused.
     pub fn now(&self) -> u64
-        ensures { result ≡ 0 }
+        ensures { result ≡ (if is_sound self.now.health then now_of self.now.history else 0) }
     {
-        0
+        if !self.is_sound() {
+            return 0;
+        }
+        self.world.now()
     }
 
     /// The phase that runs, if one does. None once memory was refused.
     pub fn phase(&self) -> Option<Phase>
-        ensures { self.now.failed ≡ false → result ≡ running (stage_of self.now.history) }
+        ensures { result ≡ (if is_sound self.now.health then running (stage_of self.now.history) else None) }
     {
-        if !self.world.sound() {
+        if !self.is_sound() {
             return None;
         }
         match self.world.stage() {
@@ -224,9 +236,9 @@ impl Core {
 
     /// The node at a path, the top at its own. None once memory was refused.
     pub fn find(&self, path: &Path) -> Option<NodeId>
-        ensures { self.now.failed ≡ false → result ≡ number_of (nodes_of self.now.history) path.now }
+        ensures { result ≡ (if is_sound self.now.health then number_of (nodes_of self.now.history) path.now else None) }
     {
-        if !self.world.sound() {
+        if !self.is_sound() {
             return None;
         }
         self.world.tree().find(path)
@@ -235,10 +247,10 @@ impl Core {
     /// Appends the line of the newest entry, where `trace` asks for it and there is one; nothing where memory is refused,
     /// or was.
     pub fn last_text(&self, trace: bool, out: &mut Vec<u8>) -> Result<(), AllocError>
-        ensures ok { OnOk result (self.now.failed ≡ false → out.new.items ≡ out.old.items ++ last_text trace self.now.history) }
+        ensures ok { OnOk result (out.new.items ≡ out.old.items ++ last_text (trace && is_sound self.now.health) self.now.history) }
         ensures err { OnErr result (out.new.items ≡ out.old.items) }
     {
-        if !trace || !self.world.sound() {
+        if !trace || !self.is_sound() {
             return Ok(());
         }
         match self.world.log().last() {
@@ -247,17 +259,27 @@ impl Core {
         }
     }
 
+    // Whether what is kept is what the log says.
+    fn is_sound(&self) -> bool
+        ensures { result ≡ is_sound self.now.health }
+    {
+        match self.health {
+            Health::Good | Health::Full => true,
+            Health::Broken => false,
+        }
+    }
+
     // Does what comes next, or gives up.
     fn go_on(&mut self) -> Result<Turn, CoreFault>
         requires standing { self.old.standing ≡ Nothing }
-        requires failed { self.old.failed ≡ false }
+        requires health { self.old.health ≡ Health.Good }
         ensures { IsNextTurn Nothing result self.old self.new }
     {
         if is_over(&self.world) {
             return Ok(Turn::Over);
         }
         if self.world.is_full() {
-            self.failed = true;
+            self.health = Health::Full;
             return Err(CoreFault::LogFull);
         }
         match self.advance() {
@@ -269,20 +291,20 @@ impl Core {
     // Does what comes next.
     fn advance(&mut self) -> Result<Turn, AllocError>
         requires standing { self.old.standing ≡ Nothing }
-        requires failed { self.old.failed ≡ false }
+        requires health { self.old.health ≡ Health.Good }
         requires room { length self.old.history < 1000000 }
         ensures ok { IfOk result (λ turn. IsTurn (next_of self.old.script self.old.history) turn self.old self.new) }
-        ensures err { OnErr result (self.new ≡ failed_from self.old) }
+        ensures err { OnErr result (self.new ≡ failed_from Health.Broken self.old) }
     {
-        self.failed = true;
-        let choice = choose(self.alloc, &self.world)?;
+        self.health = Health::Broken;
+        let choice = choose(&self.world)?;
         let turn = match choice {
             Choice::Nothing => Turn::Over,
             Choice::Begin(phase) => moved(self.world.begin(phase))?,
             Choice::End(phase) => moved(self.world.end(phase))?,
             Choice::Over(reason) => moved(self.world.over(reason))?,
             Choice::Note(fatal, node) => moved(self.world.note(fatal, node))?,
-            Choice::Did(deed) => moved(self.world.did(deed))?,
+            Choice::Did => moved(self.world.did())?,
             Choice::Need(need) => {
                 self.world.reserve()?;
                 self.standing = Standing::Needed(need);
@@ -299,7 +321,7 @@ impl Core {
                 }
             }
         };
-        self.failed = false;
+        self.health = Health::Good;
         Ok(turn)
     }
 }

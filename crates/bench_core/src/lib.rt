@@ -7,5 +7,5 @@ mod faults;
 #[cfg(test)]
 mod tests;
 
-pub use cores::{Core, Need, Standing, Turn};
+pub use cores::{Core, Health, Need, Standing, Turn};
 pub use faults::CoreFault;

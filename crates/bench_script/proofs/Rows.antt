@@ -1,5 +1,5 @@
 -- The number of the elements of an array.
-use Rattle.std.proofs.Common.{◌≡◌, ◌<◌, ◌≤◌, suc, List, [], ◌∷◌, length, ap, refl, nat_le, true, false}
+use Rattle.std.proofs.Common.{◌≡◌, ℕ, ◌<◌, ◌≤◌, suc, List, [], ◌∷◌, length, ap, refl, nat_le, true, false}
 use Rattle.std.proofs.lemmas.Bool.{le-leb, lt-leb}
 use Rattle.toml.specs.View.{items_view}
 use Rattle.toml.specs.declared.value.Value.{Value}
@@ -10,8 +10,8 @@ count_of-items_view [] = refl
 count_of-items_view (value ∷ values) = ap suc (count_of-items_view values)
 
 -- few elements, and too many
-pub few-items_view : (values : List Value) → length values ≤ 1024 → nat_le (count_of (items_view values)) 1024 ≡ true
-few-items_view values few = rw (count_of-items_view values) (le-leb (length values) 1024 few)
+pub few-items_view : (values : List Value) (most : ℕ) → length values ≤ most → nat_le (count_of (items_view values)) most ≡ true
+few-items_view values most few = rw (count_of-items_view values) (le-leb (length values) most few)
 
-pub many-items_view : (values : List Value) → 1024 < length values → nat_le (count_of (items_view values)) 1024 ≡ false
-many-items_view values many = rw (count_of-items_view values) (lt-leb (length values) 1024 many)
+pub many-items_view : (values : List Value) (most : ℕ) → most < length values → nat_le (count_of (items_view values)) most ≡ false
+many-items_view values most many = rw (count_of-items_view values) (lt-leb (length values) most many)

@@ -9,12 +9,13 @@ use Rattle.uvm_factory.specs.declared.overrides.Override.{Override}
 use Rattle.uvm_factory.specs.Faults.{Types, type_named}
 use Rattle.bench_script.specs.declared.heads.Head.{Head}
 use Rattle.bench_script.specs.declared.scripts.Probe.{Probe}
+use Rattle.bench_script.specs.declared.scripts.Setting.{Setting}
 use Rattle.bench_script.specs.declared.faults.ScriptFault.{ScriptFault}
 use Rattle.bench_script.specs.declared.faults.ScriptFault.TheVariants.{NotText, NotToml, WrongKind, UnknownType, Version, TooLong}
 use Rattle.bench_script.specs.Reading.{and_then}
 use Rattle.bench_script.specs.Values.{integer_in, number_in, name_in}
 use Rattle.bench_script.specs.Keys.{only_keys, required, optional, some_of}
-use Rattle.bench_script.specs.Tables.{types_in, overrides_in, probes_in}
+use Rattle.bench_script.specs.Tables.{types_in, overrides_in, settings_in, probes_in}
 
 -- what a script says
 pub record ScriptValue : Type 0 where
@@ -23,6 +24,7 @@ pub record ScriptValue : Type 0 where
   pub quit_limit : ℕ
   pub types : Types
   pub overrides : List Override
+  pub settings : List Setting
   pub probes : List Probe
 
 -- the version is 1
@@ -34,7 +36,7 @@ abbrev pub version_in : Data → Result (Unit {0}) ScriptFault
 version_in value = and_then (integer_in value) version_one
 
 abbrev pub root_keys : List (List ℕ)
-root_keys = codes "version" ∷ codes "test" ∷ codes "time_limit" ∷ codes "quit_limit" ∷ codes "type" ∷ codes "override" ∷ codes "probe" ∷ []
+root_keys = codes "version" ∷ codes "test" ∷ codes "time_limit" ∷ codes "quit_limit" ∷ codes "type" ∷ codes "override" ∷ codes "set" ∷ codes "probe" ∷ []
 
 -- the test is a component
 abbrev pub component_at : ℕ → Option (List ℕ × Kind) → Result (Option ℕ) ScriptFault
@@ -62,6 +64,7 @@ script_of root =
     and_then (head_in root) (λ head.
     and_then (types_in root) (λ types.
     and_then (overrides_in types root) (λ overrides.
+    and_then (settings_in root) (λ settings.
     and_then (probes_in types root) (λ probes.
     and_then (test_among types head.test) (λ test.
     Ok (record {
@@ -70,8 +73,9 @@ script_of root =
       quit_limit = head.quit_limit;
       types = types;
       overrides = overrides;
+      settings = settings;
       probes = probes;
-    }))))))
+    })))))))
 
 -- the script of a document that `toml` took, or refused
 abbrev pub script_in : Option Members → Result ScriptValue ScriptFault

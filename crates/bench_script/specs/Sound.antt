@@ -31,4 +31,5 @@ pub record IsSound (script : ScriptValue) : Type 0 where
   pub quit_limit : script.quit_limit ≤ 65535
   pub types : CanRegister [] script.types
   pub overrides : All (CanOverride script.types) script.overrides
+  pub settings : length script.settings ≤ 65536
   pub probes : All (CanProbe script.types) script.probes

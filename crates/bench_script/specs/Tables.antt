@@ -6,10 +6,11 @@ use Rattle.uvm_factory.specs.declared.overrides.Override.{Override}
 use Rattle.uvm_factory.specs.declared.overrides.Override.TheVariants.{Instance, Whole}
 use Rattle.uvm_factory.specs.Faults.{Types, type_named, override_fault}
 use Rattle.bench_script.specs.declared.scripts.Probe.{Probe}
+use Rattle.bench_script.specs.declared.scripts.Setting.{Setting}
 use Rattle.bench_script.specs.declared.faults.ScriptFault.{ScriptFault}
 use Rattle.bench_script.specs.declared.faults.ScriptFault.TheVariants.{WrongKind, OutOfRange, BadName, UnknownType}
 use Rattle.bench_script.specs.Reading.{and_then}
-use Rattle.bench_script.specs.Values.{items_in, members_in, flag_in, name_in, glob_in, path_in, kind_in}
+use Rattle.bench_script.specs.Values.{items_in, members_in, integer_in, flag_in, name_in, glob_in, path_in, kind_in}
 use Rattle.bench_script.specs.Keys.{only_keys, required, optional, some_of}
 
 -- rows, one for each element; an element may be read in the light of the rows before it
@@ -27,6 +28,10 @@ count_of (item element rest) = suc (count_of rest)
 
 abbrev pub up_to : ℕ → Items → Result Items ScriptFault
 up_to most elements = if nat_le (count_of elements) most then Ok elements else Err OutOfRange
+
+-- the elements of the array at a key, of which there are at most so many
+abbrev pub few_elements_at : ℕ → List ℕ → Members → Result Items ScriptFault
+few_elements_at most key root = and_then (elements_at key root) (up_to most)
 
 -- an element is a table that has these keys alone
 abbrev pub table_in : List (List ℕ) → Data → Result Members ScriptFault
@@ -66,6 +71,14 @@ override_row types element =
     and_then (optional (codes "replace") true flag_in table) (λ replace.
     Ok (override_of original new scope replace)))))))
 
+abbrev pub setting_row : Data → Result Setting ScriptFault
+setting_row element =
+    and_then (table_in (codes "scope" ∷ codes "field" ∷ codes "value" ∷ []) element) (λ table.
+    and_then (required (codes "scope") glob_in table) (λ scope.
+    and_then (required (codes "field") name_in table) (λ field.
+    and_then (required (codes "value") integer_in table) (λ value.
+    Ok (record { scope = scope; field = field; value = value })))))
+
 abbrev pub probe_row : Types → Data → Result Probe ScriptFault
 probe_row types element =
     and_then (table_in (codes "type" ∷ codes "path" ∷ []) element) (λ table.
@@ -75,13 +88,13 @@ probe_row types element =
 
 -- the arrays themselves
 abbrev pub types_in : Members → Result Types ScriptFault
-types_in root =
-    and_then (elements_at (codes "type") root) (λ elements.
-    and_then (up_to 1024 elements) (λ few.
-    rows_from type_row [] few))
+types_in root = and_then (few_elements_at 1024 (codes "type") root) (rows_from type_row [])
 
 abbrev pub overrides_in : Types → Members → Result (List Override) ScriptFault
 overrides_in types root = and_then (elements_at (codes "override") root) (rows_from (λ _. override_row types) [])
+
+abbrev pub settings_in : Members → Result (List Setting) ScriptFault
+settings_in root = and_then (few_elements_at 65536 (codes "set") root) (rows_from (λ _. setting_row) [])
 
 abbrev pub probes_in : Types → Members → Result (List Probe) ScriptFault
 probes_in types root = and_then (elements_at (codes "probe") root) (rows_from (λ _. probe_row types) [])

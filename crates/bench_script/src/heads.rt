@@ -15,13 +15,14 @@ const MAX_TIME: u64 = 1_000_000_000_000_000_000;
 
 const MAX_QUIT_LIMIT: u64 = u16::MAX as u64;
 
-const ROOT_KEYS: [&str; 7] = [
+const ROOT_KEYS: [&str; 8] = [
     "version",
     "test",
     "time_limit",
     "quit_limit",
     "type",
     "override",
+    "set",
     "probe",
 ];
 

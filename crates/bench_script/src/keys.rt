@@ -1,13 +1,13 @@
 //! The keys of a table.
 
-ghost use Rattle.std.specs.Prelude.{◌≡◌, Some, None, MatchResult, option_map, map, string_bytes};
+ghost use Rattle.std.specs.Prelude.{◌≡◌, ◌≤◌, Some, None, MatchResult, IfOk, option_map, map, length, string_bytes};
 ghost use Rattle.std.specs.List.{list_any, list_all};
 ghost use Rattle.std.specs.BTreeMap.{keys};
 ghost use Rattle.toml.specs.Data.{get_member, as_table};
 ghost use Rattle.toml.specs.View.{view, table_view, items_view};
 ghost use Rattle.bench_script.specs.Keys.{only_keys};
 ghost use Rattle.bench_script.specs.Values.{is_same_text};
-ghost use Rattle.bench_script.specs.Tables.{elements_at, table_in};
+ghost use Rattle.bench_script.specs.Tables.{elements_at, few_elements_at, table_in};
 
 use crate::faults::ScriptFault;
 use toml::{Table, Value};
@@ -72,4 +72,22 @@ pub(crate) fn elements<'a>(root: &'a Table, key: &str) -> Result<&'a [Value], Sc
             None => Err(ScriptFault::WrongKind),
         },
     }
+}
+
+// The elements of the array at a key, of which there are at most `most`.
+pub(crate) fn few_elements<'a>(
+    root: &'a Table,
+    key: &str,
+    most: usize,
+) -> Result<&'a [Value], ScriptFault>
+    ensures elements { MatchResult result
+        (λ elements. few_elements_at most key.now (table_view root.now) ≡ Ok (items_view elements.now))
+        (λ fault. few_elements_at most key.now (table_view root.now) ≡ Err fault) }
+    ensures few { IfOk result (λ elements. length elements.now ≤ most) }
+{
+    let elements = elements(root, key)?;
+    if elements.len() > most {
+        return Err(ScriptFault::OutOfRange);
+    }
+    Ok(elements)
 }

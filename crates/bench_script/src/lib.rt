@@ -1,4 +1,4 @@
-//! The scripts of the bench: TOML documents that name types, overrides and probes.
+//! The scripts of the bench: TOML documents that name types, overrides, settings and probes.
 #![tactic(auto)]
 
 mod factories;
@@ -13,7 +13,7 @@ mod values;
 
 pub use faults::ScriptFault;
 pub use reading::read;
-pub use scripts::{Probe, Script};
+pub use scripts::{Probe, Script, Setting};
 
 #[cfg(test)]
 mod tests;

@@ -10,7 +10,7 @@ ghost use Rattle.bench_script.specs.Scripts.{script_of, script_in, script_of_byt
 use crate::faults::ScriptFault;
 use crate::heads::read_head;
 use crate::scripts::Script;
-use crate::tables::{read_overrides, read_probes, read_types};
+use crate::tables::{read_overrides, read_probes, read_settings, read_types};
 use crate::type_tables::TypeTable;
 use std::alloc::Global;
 use std::str;
@@ -52,6 +52,7 @@ fn read_tree(alloc: Global, root: &Table) -> Result<Script, ScriptFault>
     let head = read_head(root)?;
     let types = read_types(alloc, root)?;
     let overrides = read_overrides(alloc, &types, root)?;
+    let settings = read_settings(alloc, root)?;
     let probes = read_probes(alloc, &types, root)?;
     let test = test_among(&types, head.test)?;
     Ok(Script {
@@ -60,6 +61,7 @@ fn read_tree(alloc: Global, root: &Table) -> Result<Script, ScriptFault>
         quit_limit: head.quit_limit as u16,
         types: types.into_rows(),
         overrides,
+        settings,
         probes,
     })
 }

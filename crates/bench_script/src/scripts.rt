@@ -1,17 +1,25 @@
 //! What a script says.
 
-ghost use Rattle.std.specs.Prelude.{◌≡◌, ◌≤◌, [], All};
+ghost use Rattle.std.specs.Prelude.{◌≡◌, ◌≤◌, [], All, length};
 ghost use Rattle.bench_script.specs.Sound.{IsComponentAt, CanRegister, CanOverride, CanProbe};
 
 use std::marker::Model;
 use uvm_factory::{Kind, Override, TypeId};
-use uvm_glob::{Name, Path};
+use uvm_glob::{Glob, Name, Path};
 
 /// A question to the factory: which type is made for a type at a path.
 #[derive(Debug, Drop)]
 pub struct Probe {
     pub kind: TypeId,
     pub path: Path,
+}
+
+/// A setting of the configuration: the value of a field at the paths that the glob matches (IEEE 1800.2-2020, C.4.2).
+#[derive(Debug, Drop)]
+pub struct Setting {
+    pub scope: Glob,
+    pub field: Name,
+    pub value: i64,
 }
 
 /// A script. Contracts see what it says; a type is its place among the types of the script, from 0.
@@ -22,6 +30,7 @@ pub struct Script {
     pub(crate) quit_limit: u16,
     pub(crate) types: Vec<(Name, Kind)>,
     pub(crate) overrides: Vec<Override>,
+    pub(crate) settings: Vec<Setting>,
     pub(crate) probes: Vec<Probe>,
 }
 
@@ -36,6 +45,7 @@ impl Model for Script {
       quit_limit = s.quit_limit;
       types = s.types.items;
       overrides = s.overrides.items;
+      settings = s.settings.items;
       probes = s.probes.items;
     } };
 
@@ -47,6 +57,7 @@ impl Model for Script {
       quit_limit = s.quit_limit;
       types = s.types.items;
       overrides = s.overrides.items;
+      settings = s.settings.items;
       probes = s.probes.items;
     }) };
 }
@@ -89,6 +100,14 @@ impl Script {
         ensures sound { All (CanOverride self.now.types) self.now.overrides }
     {
         self.overrides.as_slice()
+    }
+
+    /// The settings in the order in which they are given, at most 65,536.
+    pub fn settings(&self) -> &[Setting]
+        ensures settings { result.now ≡ self.now.settings }
+        ensures few { length result.now ≤ 65536 }
+    {
+        self.settings.as_slice()
     }
 
     /// The probes in order, each of a type of the script.

@@ -1,17 +1,17 @@
 //! The arrays of tables of a script.
 
-ghost use Rattle.std.specs.Prelude.{◌≡◌, ◌≢◌, ◌<◌, MatchResult, IfOk, None, All, length};
+ghost use Rattle.std.specs.Prelude.{◌≡◌, ◌≢◌, ◌<◌, ◌≤◌, MatchResult, IfOk, None, All, length};
 ghost use Rattle.toml.specs.View.{view, table_view};
 ghost use Rattle.uvm_factory.specs.Faults.{type_named};
 ghost use Rattle.bench_script.specs.Reading.{IsReading};
 ghost use Rattle.bench_script.specs.Sound.{CanOverride, CanProbe};
-ghost use Rattle.bench_script.specs.Tables.{new_name_in, type_in, type_row, override_row, probe_row, types_in, overrides_in, probes_in};
+ghost use Rattle.bench_script.specs.Tables.{new_name_in, type_in, type_row, override_row, setting_row, probe_row, types_in, overrides_in, settings_in, probes_in};
 
 use crate::faults::ScriptFault;
-use crate::keys::{elements, member, required, table};
-use crate::scripts::Probe;
+use crate::keys::{elements, few_elements, member, required, table};
+use crate::scripts::{Probe, Setting};
 use crate::type_tables::TypeTable;
-use crate::values::{flag, glob, kind, name, path};
+use crate::values::{flag, glob, integer, kind, name, path};
 use std::alloc::Global;
 use toml::{Table, Value};
 use uvm_factory::{Kind, Override, TypeId};
@@ -19,16 +19,14 @@ use uvm_glob::Name;
 
 const MAX_TYPES: usize = 1024;
 
+const MAX_SETTINGS: usize = 65_536;
+
 // Reads the types.
 pub(crate) fn read_types(alloc: Global, root: &Table) -> Result<TypeTable, ScriptFault>
     ensures { IsReading (types_in (table_view root.now)) result }
 {
-    let elements = elements(root, "type")?;
-    if elements.len() > MAX_TYPES {
-        return Err(ScriptFault::OutOfRange);
-    }
     let mut types = TypeTable::new(alloc);
-    for element in elements {
+    for element in few_elements(root, "type", MAX_TYPES)? {
         let (name, kind) = type_row(&types, element)?;
         types.add(name, kind)?;
     }
@@ -49,6 +47,20 @@ pub(crate) fn read_overrides(
     let mut rows = Vec::new(alloc);
     for element in elements(root, "override")? {
         rows.push(override_row(alloc, types, element)?)?;
+    }
+    Ok(rows)
+}
+
+// Reads the settings.
+pub(crate) fn read_settings(alloc: Global, root: &Table) -> Result<Vec<Setting>, ScriptFault>
+    ensures few { IfOk result (λ rows. length rows.items ≤ 65536) }
+    ensures rows { MatchResult result
+        (λ rows. settings_in (table_view root.now) ≡ Ok rows.items)
+        (λ fault. fault ≢ ScriptFault.Memory → settings_in (table_view root.now) ≡ Err fault) }
+{
+    let mut rows = Vec::new(alloc);
+    for element in few_elements(root, "set", MAX_SETTINGS)? {
+        rows.push(setting_row(alloc, element)?)?;
     }
     Ok(rows)
 }
@@ -131,6 +143,20 @@ fn override_row(alloc: Global, types: &TypeTable, element: &Value) -> Result<Ove
             new,
             replace,
         },
+    })
+}
+
+fn setting_row(alloc: Global, element: &Value) -> Result<Setting, ScriptFault>
+    ensures { IsReading (setting_row (view element.now)) result }
+{
+    let table = table(element, &["scope", "field", "value"])?;
+    let scope = glob(alloc, required(table, "scope")?)?;
+    let field = name(required(table, "field")?)?;
+    let value = integer(required(table, "value")?)?;
+    Ok(Setting {
+        scope,
+        field,
+        value,
     })
 }
 

@@ -37,6 +37,16 @@ replace = false
 orig = "base"
 new = "better"
 
+[[set]]
+scope = ""
+field = "depth"
+value = -9223372036854775808
+
+[[set]]
+scope = "top.*"
+field = "width"
+value = 16
+
 [[probe]]
 type = "base"
 path = "top.left"
@@ -148,6 +158,22 @@ fn reads_the_overrides(rt: HostRuntime) -> Result<(), Fail> {
 }
 
 #[test]
+fn reads_the_settings(rt: HostRuntime) -> Result<(), Fail> {
+    let script = read(rt.alloc(), SCRIPT.as_bytes())?;
+    let settings = script.settings();
+    assert_eq!(rt; settings.len(), 2);
+    for (setting, scope, field, value) in [
+        (&settings[0], b"".as_slice(), b"depth".as_slice(), i64::MIN),
+        (&settings[1], b"top.*".as_slice(), b"width".as_slice(), 16),
+    ] {
+        assert_eq!(rt; setting.scope.as_bytes(), scope);
+        assert_eq!(rt; setting.field.as_bytes(), field);
+        assert_eq!(rt; setting.value, value);
+    }
+    Ok(())
+}
+
+#[test]
 fn reads_the_probes(rt: HostRuntime) -> Result<(), Fail> {
     let alloc = rt.alloc();
     let [base, _, items] = places(alloc)?;
@@ -205,6 +231,7 @@ fn defaults_of_what_is_not_written(rt: HostRuntime) -> Result<(), Fail> {
     assert_eq!(rt; script.quit_limit(), 0);
     assert!(rt; script.types().is_empty());
     assert!(rt; script.overrides().is_empty());
+    assert!(rt; script.settings().is_empty());
     assert!(rt; script.probes().is_empty());
     Ok(())
 }
@@ -342,12 +369,14 @@ fn faults_of_types(rt: HostRuntime) -> Result<(), Fail> {
 }
 
 #[test]
-fn types_are_counted_before_they_are_read(rt: HostRuntime) -> Result<(), Fail> {
-    for (count, fault) in [
-        (1024, ScriptFault::WrongKind),
-        (1025, ScriptFault::OutOfRange),
+fn types_and_settings_are_counted_before_they_are_read(rt: HostRuntime) -> Result<(), Fail> {
+    for (key, count, fault) in [
+        ("type", 1024, ScriptFault::WrongKind),
+        ("type", 1025, ScriptFault::OutOfRange),
+        ("set", 65_536, ScriptFault::WrongKind),
+        ("set", 65_537, ScriptFault::OutOfRange),
     ] {
-        let mut text = format!(in rt.alloc(); "version = 1\ntype = [")?;
+        let mut text = format!(in rt.alloc(); "version = 1\n{key} = [")?;
         for _ in 0..count {
             text.push_str("1,")?;
         }
@@ -355,7 +384,52 @@ fn types_are_counted_before_they_are_read(rt: HostRuntime) -> Result<(), Fail> {
         assert_eq!(rt;
             fault_of(rt.alloc(), text.as_str()),
             Some(fault),
-            "of {count} types"
+            "of {count} elements of {key}"
+        );
+    }
+    Ok(())
+}
+
+#[test]
+fn faults_of_settings(rt: HostRuntime) -> Result<(), Fail> {
+    for (rest, fault) in [
+        ("[set]", ScriptFault::WrongKind),
+        ("set = [1]", ScriptFault::WrongKind),
+        (
+            "set = [{ scope = 1, path = \"\" }]",
+            ScriptFault::UnknownKey,
+        ),
+        ("set = [{ field = 1 }]", ScriptFault::Missing),
+        ("set = [{ scope = 1 }]", ScriptFault::WrongKind),
+        ("set = [{ scope = \"/\" }]", ScriptFault::BadName),
+        (
+            "set = [{ scope = \"\", value = true }]",
+            ScriptFault::Missing,
+        ),
+        (
+            "set = [{ scope = \"*\", field = 1 }]",
+            ScriptFault::WrongKind,
+        ),
+        (
+            "set = [{ scope = \"*\", field = \"a.b\" }]",
+            ScriptFault::BadName,
+        ),
+        (
+            "set = [{ scope = \"*\", field = \"a\" }, 1]",
+            ScriptFault::Missing,
+        ),
+        (
+            "set = [{ scope = \"*\", field = \"a\", value = 1.0 }]",
+            ScriptFault::WrongKind,
+        ),
+        ("set = [{}]\noverride = 1", ScriptFault::WrongKind),
+        ("probe = 1\nset = [{}]", ScriptFault::Missing),
+    ] {
+        let text = format!(in rt.alloc(); "version = 1\n{rest}")?;
+        assert_eq!(rt;
+            fault_of(rt.alloc(), text.as_str()),
+            Some(fault),
+            "of {rest}"
         );
     }
     Ok(())

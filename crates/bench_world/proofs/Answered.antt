@@ -1,5 +1,5 @@
 -- An act of the last answer.
-use Rattle.std.proofs.Common.{◌≡◌, ℕ, zero, suc, ◌+◌, ◌<◌, ◌≤◌, List, [], ◌∷◌, ◌++◌, length, drop, slice_get, refl, ap, ◌∙◌, sym, add-one, arith}
+use Rattle.std.proofs.Common.{◌≡◌, ℕ, zero, suc, ◌+◌, ◌<◌, ◌≤◌, List, [], ◌∷◌, ◌++◌, length, drop, slice_get, Some, refl, ap, ◌∙◌, sym, add-one, arith}
 use Rattle.std.proofs.lemmas.List.{length-append}
 use Rattle.uvm_object.specs.declared.acts.Who.{Who}
 use Rattle.uvm_object.specs.declared.acts.Act.{Act}
@@ -64,3 +64,8 @@ answer-passed {left} {last} {acts} a = record { speaker_is = a.speaker_is; left_
 
 pub length-snoc : {A : Type 0} (xs : List A) (x : A) → length (xs ++ x ∷ []) ≡ suc (length xs)
 length-snoc xs x = omega (arith, length-append xs (x ∷ []))
+
+-- the first act that is left stands before the others
+pub head-left : (left : List Act) (act : Act) → head_of left ≡ Some act → left ≡ act ∷ rest_of left
+head-left [] act e = cc
+head-left (first ∷ acts) act e = let same : first ≡ act = cc in ap (λ (a : Act). a ∷ acts) same

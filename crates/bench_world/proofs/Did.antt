@@ -21,6 +21,7 @@ use Rattle.bench_world.proofs.Answered.{answer-next}
 -- what an act leaves as it was, and that it is done
 pub record ActIsDone (entry : Entry) (old new : Services) : Type 0 where
   pub stage : new.stage ≡ old.stage
+  pub time : new.time ≡ old.time
   pub speaker : new.speaker ≡ old.speaker
   pub answer : new.answer ≡ old.answer
   pub done : new.done ≡ old.done + 1
@@ -39,6 +40,7 @@ pub did-match :
     → ServicesMatch script (Did performer outcome act ∷ before) new
 did-match script before old new performer outcome act left m d tree factory turns = record {
   stage = d.stage ∙ m.stage;
+  time = d.time ∙ m.time;
   tree = tree;
   factory = factory;
   turns = turns;

@@ -1,10 +1,12 @@
 pub mod Answered
 pub mod Asked
 pub mod Attempts
+pub mod Cases
 pub mod Did
 pub mod Entered
 pub mod Heard
 pub mod Marks
 pub mod Needed
 pub mod Overriding
+pub mod Performed
 pub mod Turns

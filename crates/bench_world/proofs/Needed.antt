@@ -1,5 +1,5 @@
 -- Where an object is what comes next.
-use Rattle.std.proofs.Common.{◌≡◌, ℕ, Bool, true, false, List, [], ◌∷◌, ◌++◌, length, nat_lt, Option, Some, None, Result, Ok, Err, IsSome, is_none, inl, inr, refl, ap, ◌∙◌, sym, if◌then◌else◌}
+use Rattle.std.proofs.Common.{◌≡◌, ℕ, Bool, true, false, List, [], ◌∷◌, ◌++◌, Option, Some, None, Result, Ok, Err, IsSome, is_none, inl, inr, refl, ap, ◌∙◌, sym, if◌then◌else◌}
 use Rattle.uvm_phase.specs.declared.phases.Phase.{Phase}
 use Rattle.uvm_phase.specs.Phases.{phase_after}
 use Rattle.uvm_tree.specs.declared.nodes.Node.{Node}
@@ -13,15 +13,15 @@ use Rattle.uvm_object.specs.declared.acts.Who.{Who}
 use Rattle.uvm_object.specs.declared.acts.Act.{Act}
 use Rattle.uvm_object.specs.declared.acts.Act.TheVariants.{Create, Add, OverrideType, OverrideInst}
 use Rattle.uvm_object.specs.declared.fatals.Fatal.{Fatal}
-use Rattle.uvm_object.specs.declared.entries.Reason.{Reason}
 use Rattle.uvm_object.specs.declared.entries.Outcome.TheVariants.{Made, Refused}
 use Rattle.uvm_object.specs.declared.entries.Entry.{Entry}
 use Rattle.uvm_object.specs.declared.entries.Entry.TheVariants.{Did}
 use Rattle.bench_script.specs.Scripts.{ScriptValue}
 use Rattle.bench_world.specs.declared.stages.Stage.{Stage}
 use Rattle.bench_world.specs.declared.stages.Stage.TheVariants.{Before, During, After, Ended}
-use Rattle.bench_world.specs.History.{stage_of, next_call, nodes_of, left_of, rest_of, speaker_of, reason_of, is_built, overrides_of, IsCreation, created_name}
-use Rattle.bench_world.specs.Next.{Next, Exactly, Answer, Need, Nothing, by_call, by_order, by_stage, by_creation, by_act, by_answer, by_reason, unless_ended, next_of, noted_at, creation_now, IsNeed, IsNeedOf, Allows, IsNext, made_in, declined_in}
+use Rattle.bench_world.specs.History.{stage_of, next_call, nodes_of, left_of, rest_of, speaker_of, is_built, overrides_of, IsCreation, created_name}
+use Rattle.bench_world.proofs.Cases.{Case, AtEnd, ByReason, ByNote, ByAct, ByStage, case-of}
+use Rattle.bench_world.specs.Next.{Next, Exactly, Answer, Need, Nothing, by_call, by_order, by_stage, by_creation, by_act, next_of, creation_now, IsNeed, IsNeedOf, Allows, IsNext, made_in, declined_in}
 
 -- the next act creates something that passes its checks
 pub record IsNeeded (script : ScriptValue) (history : List Entry) (ty : List ℕ) (path : List (List ℕ)) (performer : Who) (act : Act) : Type 0 where
@@ -68,49 +68,35 @@ needed-creation script history asked name ty path performer act acts left (Ok ma
     }
 
 needed-act :
-    (script : ScriptValue) (history : List Entry) (ty : List ℕ) (path : List (List ℕ)) (performer : Who) (act next : Act) (acts : List Act)
-    → left_of script history ≡ next ∷ acts
+    (script : ScriptValue) (history : List Entry) (ty : List ℕ) (path : List (List ℕ)) (performer : Who) (act next : Act)
+    → left_of script history ≡ next ∷ rest_of (left_of script history)
     → by_act script history (speaker_of history) next ≡ Need ty path performer act
     → IsNeeded script history ty path performer act
-needed-act script history ty path performer act (Create asked name) acts left e = needed-creation script history asked name ty path performer act acts left (creation_now script history asked name) refl e
-needed-act script history ty path performer act (Add name what) acts left e = cc
-needed-act script history ty path performer act (OverrideType original new replace) acts left e = cc
-needed-act script history ty path performer act (OverrideInst original new glob) acts left e = cc
+needed-act script history ty path performer act (Create asked name) left e = needed-creation script history asked name ty path performer act _ left (creation_now script history asked name) refl e
+needed-act script history ty path performer act (Add name what) left e = cc
+needed-act script history ty path performer act (OverrideType original new replace) left e = cc
+needed-act script history ty path performer act (OverrideInst original new glob) left e = cc
 
-needed-many :
-    (script : ScriptValue) (history : List Entry) (ty : List ℕ) (path : List (List ℕ)) (performer : Who) (act next : Act) (acts : List Act)
-    → left_of script history ≡ next ∷ acts
-    → (many : Bool) → (if many then Exactly (noted_at (speaker_of history)) else by_act script history (speaker_of history) next) ≡ Need ty path performer act
-    → IsNeeded script history ty path performer act
-needed-many script history ty path performer act next acts left true e = cc
-needed-many script history ty path performer act next acts left false e = needed-act script history ty path performer act next acts left e
-
-needed-answer :
-    (script : ScriptValue) (history : List Entry) (ty : List ℕ) (path : List (List ℕ)) (performer : Who) (act : Act) (left : List Act)
-    → left_of script history ≡ left → by_answer script history left ≡ Need ty path performer act
-    → IsNeeded script history ty path performer act
-needed-answer script history ty path performer act [] left e = absurd (no-stage history (stage_of history) ty path performer act e)
-needed-answer script history ty path performer act (next ∷ acts) left e = needed-many script history ty path performer act next acts left (nat_lt 64 (length (next ∷ acts))) e
-
-needed-reason :
-    (script : ScriptValue) (history : List Entry) (ty : List ℕ) (path : List (List ℕ)) (performer : Who) (act : Act) (reason : Option Reason)
-    → by_reason script history reason ≡ Need ty path performer act → IsNeeded script history ty path performer act
-needed-reason script history ty path performer act (Some reason) e = cc
-needed-reason script history ty path performer act None e = needed-answer script history ty path performer act (left_of script history) refl e
-
-needed-ended :
-    (script : ScriptValue) (history : List Entry) (ty : List ℕ) (path : List (List ℕ)) (performer : Who) (act : Act) (stage : Stage)
-    → unless_ended stage (by_reason script history (reason_of history)) ≡ Need ty path performer act → IsNeeded script history ty path performer act
-needed-ended script history ty path performer act Before e = needed-reason script history ty path performer act (reason_of history) e
-needed-ended script history ty path performer act (During phase) e = needed-reason script history ty path performer act (reason_of history) e
-needed-ended script history ty path performer act (After phase) e = needed-reason script history ty path performer act (reason_of history) e
-needed-ended script history ty path performer act Ended e = cc
+needed-case :
+    (script : ScriptValue) (history : List Entry) (ty : List ℕ) (path : List (List ℕ)) (performer : Who) (act : Act) (next : Next)
+    → next ≡ Need ty path performer act → Case script history next → IsNeeded script history ty path performer act
+needed-case script history ty path performer act next needs (AtEnd ended e) = cc
+needed-case script history ty path performer act next needs (ByReason reason e) = cc
+needed-case script history ty path performer act next needs (ByNote e) = cc
+needed-case script history ty path performer act next needs (ByAct first left e) = needed-act script history ty path performer act first left (sym e ∙ needs)
+needed-case script history ty path performer act next needs (ByStage on e) = absurd (no-stage history (stage_of history) ty path performer act (sym e ∙ needs))
 
 pub needed :
     (script : ScriptValue) (history : List Entry) (ty : List ℕ) (path : List (List ℕ)) (performer : Who) (act : Act)
     → next_of script history ≡ Need ty path performer act → IsNeeded script history ty path performer act
-unfolding next_of
-needed script history ty path performer act e = needed-ended script history ty path performer act (stage_of history) e
+needed script history ty path performer act needs = needed-case script history ty path performer act _ needs (case-of script history)
+
+-- an object of one type is an object
+pub need-of : (ty : List ℕ) (next : Next) → IsNeedOf ty next → IsNeed next
+need-of ty (Need made path performer act) need = tt
+need-of ty (Exactly entry) need = absurd need
+need-of ty (Answer performer call) need = absurd need
+need-of ty Nothing need = absurd need
 
 -- an act is left
 pub record HasAct (script : ScriptValue) (history : List Entry) : Type 0 where

@@ -43,6 +43,11 @@ stage_of (End phase ∷ before) = After phase
 stage_of (Over reason ∷ before) = Ended
 stage_of (entry ∷ before) = stage_of before
 
+-- the present time in ticks: no entry moves it yet
+abbrev pub now_of : List Entry → ℕ
+now_of [] = 0
+now_of (entry ∷ before) = now_of before
+
 -- the entries since a phase began last
 abbrev pub since_begin : List Entry → List Entry
 since_begin [] = []

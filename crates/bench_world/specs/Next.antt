@@ -100,12 +100,15 @@ Allows Nothing entry = ⊥
 abbrev pub IsNext : ScriptValue → List Entry → Entry → Type 0
 IsNext script history entry = Allows (next_of script history) entry
 
--- whether one entry alone is next
-abbrev pub IsExact : Next → Type 0
-IsExact (Exactly entry) = Unit {0}
-IsExact (Answer performer call) = ⊥
-IsExact (Need ty path performer act) = ⊥
-IsExact Nothing = ⊥
+-- the entry that alone is next
+abbrev pub exact_in : Next → Option Entry
+exact_in (Exactly entry) = Some entry
+exact_in next = None
+
+-- whether that is an act's which needs no object
+abbrev pub IsDid : Next → Type 0
+IsDid (Exactly (Did performer outcome act)) = Unit {0}
+IsDid next = ⊥
 
 -- whether an object is needed, and of which type
 abbrev pub IsNeed : Next → Type 0

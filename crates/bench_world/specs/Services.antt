@@ -1,5 +1,5 @@
 -- What a world keeps beside its log, and that it is what the log says.
-use Rattle.std.specs.Prelude.{◌≡◌, ℕ, ◌<◌, ◌≤◌, Bool, true, false, ◌==◌, ◌||◌, List, [], ◌∷◌, length, map, drop, reverse, slice_get, Option, Some, None, All, Result, Ok, Err, if◌then◌else◌}
+use Rattle.std.specs.Prelude.{◌≡◌, ℕ, ◌<◌, ◌≤◌, false, ◌==◌, ◌||◌, List, [], ◌∷◌, length, map, drop, reverse, slice_get, Option, Some, None, All, Result, Ok, Err, if◌then◌else◌}
 use Rattle.std.specs.Option.{ForSome}
 use Rattle.std.specs.List.{list_any}
 use Rattle.uvm_glob.specs.Paths.{path_text}
@@ -18,7 +18,7 @@ use Rattle.bench_world.specs.declared.creations.Uncreated.{Uncreated}
 use Rattle.bench_world.specs.declared.creations.Uncreated.TheVariants.{Refused, Memory}
 use Rattle.bench_world.specs.declared.services.Component.{Component}
 use Rattle.bench_world.specs.declared.services.Services.{Services}
-use Rattle.bench_world.specs.History.{stage_of, nodes_of, components_of, called_of, had_call, opening, left_of, speaker_of, overrides_of, ends_build, asks_exit, refuses_test}
+use Rattle.bench_world.specs.History.{stage_of, now_of, nodes_of, components_of, called_of, had_call, opening, left_of, speaker_of, overrides_of, ends_build, asks_exit, refuses_test}
 
 -- the factory has the types, and gives what the overrides give
 pub record IsFactory (types : Types) (overrides : List Override) (kept : Kept) : Type 0 where
@@ -75,6 +75,7 @@ pub record IsAnswer (left : List Act) (last : Who) (acts : List Act) (speaker : 
 -- each thing that is kept is what the history says
 pub record ServicesMatch (script : ScriptValue) (history : List Entry) (services : Services) : Type 0 where
   pub stage : services.stage ≡ stage_of history
+  pub time : services.time ≡ now_of history
   pub tree : services.tree.nodes ≡ nodes_of history
   pub factory : IsFactory script.types (overrides_of script history) services.factory
   pub turns : AreTurns (components_of history) (called_of history) (length (nodes_of history)) services.components.items

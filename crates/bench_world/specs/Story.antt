@@ -1,6 +1,7 @@
 -- What contracts see of a world.
-use Rattle.std.specs.Prelude.{◌≡◌, ◌<◌, Bool, true, false, List, ◌∷◌, Option, Some, vec_len, vec_capacity}
+use Rattle.std.specs.Prelude.{◌≡◌, ◌<◌, Bool, true, false, List, ◌∷◌, Option, Some, IsSome, vec_len, vec_capacity}
 use Rattle.std.specs.Option.{ForSome}
+use Rattle.uvm_tree.specs.Nodes.{node_at}
 use Rattle.uvm_object.specs.Acts.{node_of}
 use Rattle.uvm_object.specs.declared.acts.Act.{Act}
 use Rattle.uvm_object.specs.declared.entries.Entry.{Entry}
@@ -33,11 +34,11 @@ pub record Grows (old new : Story) : Type 0 where
 abbrev pub broken : Story → Story
 broken story = record story { sound = false; ready = false }
 
--- there is room for the entry of an act, and for its node
+-- there is room for the entry of an act, and for a node under its performer
 pub record IsReady (act : Act) (left : List Act) (log : LogValue) (services : Services) : Type 0 where
   pub act_is : left ≡ act ∷ rest_of left
   pub log_spare : 0 < log.spare
-  pub tree_spare : services.tree.spare ≡ Some (node_of services.speaker)
+  pub tree_spare : IsSome (node_at services.tree.nodes (node_of services.speaker)) → services.tree.spare ≡ Some (node_of services.speaker)
   pub components : vec_len services.components < vec_capacity services.components
 
 -- the log is legal, and while the world is sound its services are what the log says

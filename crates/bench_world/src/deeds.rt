@@ -1,6 +1,6 @@
 //! The acts of the last answer: one call for those that need no object, and two for those that need one.
 
-ghost use Rattle.std.specs.Prelude.{◌≡◌, ◌∷◌, ◌++◌, ◌<◌, ◌+◌, ◌||◌, ◌==◌, [], length, true, nat_lt, OnOk, OnErr, IfOk, IfErr, IfNone, IsOk, None, Some, Ok, slice_get, if◌then◌else◌};
+ghost use Rattle.std.specs.Prelude.{◌≡◌, ◌∷◌, ◌++◌, ◌<◌, ◌+◌, ◌||◌, ◌==◌, [], length, true, nat_lt, OnOk, OnErr, IfOk, IfErr, IfNone, IfSome, IsOk, None, Some, Ok, slice_get, if◌then◌else◌};
 ghost use Rattle.std.specs.Option.{option_copied};
 ghost use Rattle.uvm_factory.specs.Observed.{types_of};
 ghost use Rattle.uvm_tree.specs.Nodes.{path_at};
@@ -12,7 +12,7 @@ ghost use Rattle.uvm_object.specs.declared.fatals.Fatal.TheVariants.{InvalidType
 ghost use Rattle.uvm_object.specs.declared.entries.Entry.TheVariants.{Did};
 ghost use Rattle.uvm_object.specs.declared.entries.Outcome.TheVariants.{Done, Refused};
 ghost use Rattle.bench_world.specs.History.{left_of, rest_of, head_of, speaker_of, nodes_of, is_built};
-ghost use Rattle.bench_world.specs.Next.{next_of, by_act, creation_now, IsExact, IsNext};
+ghost use Rattle.bench_world.specs.Next.{next_of, by_act, creation_now, exact_in, IsDid, IsNext};
 ghost use Rattle.bench_world.specs.Refusals.{child_refusal, addition_of, overriding_of, done_unless};
 ghost use Rattle.bench_world.specs.Services.{acts_at, IsRefusedBy};
 ghost use Rattle.bench_world.specs.Story.{Grows, after, broken};
@@ -58,12 +58,38 @@ impl World {
     }
 
     /// The next act of the last answer, which needs no object: it is performed, or refused.
-    pub fn did(&mut self, deed: Deed) -> Result<(), AllocError>
+    pub fn did(&mut self) -> Result<(), AllocError>
+        requires sound { self.old.sound ≡ true }
+        requires room { length self.old.history < 1000000 }
+        requires next { IsDid (next_of self.old.script self.old.history) }
+        ensures ok { OnOk result (IfSome (exact_in (next_of self.old.script self.old.history)) (λ entry. self.new ≡ after entry self.old)) }
+        ensures err { OnErr result (self.new ≡ broken self.old) }
+    {
+        match self.next_deed() {
+            Ok(Some(deed)) => self.perform(deed),
+            Ok(None) => unreachable!(),
+            Err(_) => Err(self.fail()),
+        }
+    }
+
+    // The next act, to stand in its entry.
+    pub(crate) fn next_deed(&self) -> Result<Option<Deed>, AllocError>
+        requires { self.now.sound ≡ true }
+        ensures { IfOk result (λ deed. deed ≡ head_of (left_of self.now.script self.now.history)) }
+    {
+        match self.next_act() {
+            Some(act) => Ok(Some(Deed::new(self.alloc, act.copy()?)?)),
+            None => Ok(None),
+        }
+    }
+
+    // The next act is performed, or refused.
+    fn perform(&mut self, deed: Deed) -> Result<(), AllocError>
         requires sound { self.old.sound ≡ true }
         requires room { length self.old.history < 1000000 }
         requires left { left_of self.old.script self.old.history ≡ deed ∷ rest_of (left_of self.old.script self.old.history) }
         requires next { next_of self.old.script self.old.history ≡ by_act self.old.script self.old.history (speaker_of self.old.history) deed }
-        requires exact { IsExact (next_of self.old.script self.old.history) }
+        requires did { IsDid (next_of self.old.script self.old.history) }
         ensures ok { OnOk result (Grows self.old self.new) }
         ensures err { OnErr result (self.new ≡ broken self.old) }
     {
@@ -114,7 +140,7 @@ impl World {
         requires act { deed ≡ Create ty name }
         requires left { left_of self.old.script self.old.history ≡ deed ∷ rest_of (left_of self.old.script self.old.history) }
         requires next { next_of self.old.script self.old.history ≡ by_act self.old.script self.old.history (speaker_of self.old.history) deed }
-        requires exact { IsExact (next_of self.old.script self.old.history) }
+        requires did { IsDid (next_of self.old.script self.old.history) }
         ensures ok { OnOk result (Grows self.old self.new) }
         ensures err { OnErr result (self.new ≡ broken self.old) }
     {

@@ -1,12 +1,12 @@
 //! The acts that need an object: it is made, or declined.
 
-ghost use Rattle.std.specs.Prelude.{◌≡◌, ◌∷◌, ◌<◌, length, true, false, OnOk, OnErr, IfOk, IfSome, IsOk, None, Some, ◌++◌, [], vec_len, vec_capacity};
+ghost use Rattle.std.specs.Prelude.{◌≡◌, ◌∷◌, ◌<◌, length, true, false, OnOk, OnErr, IfOk, IfSome, IsOk, None, Some, is_some, ◌&&◌, ◌++◌, [], vec_len, vec_capacity};
 ghost use Rattle.uvm_tree.specs.declared.nodes.NodeKind.TheVariants as kinds;
 ghost use Rattle.uvm_tree.specs.Nodes.{child};
 ghost use Rattle.bench_world.specs.History.{IsCreation, created_name};
 ghost use Rattle.bench_world.specs.Refusals.{child_refusal};
 ghost use Rattle.uvm_object.specs.declared.acts.Act.TheVariants.{Create};
-ghost use Rattle.bench_world.specs.History.{left_of, rest_of, nodes_of};
+ghost use Rattle.bench_world.specs.History.{left_of, head_of, nodes_of};
 ghost use Rattle.bench_world.specs.Next.{next_of, made_in, declined_in, IsNeed, IsNeedOf};
 ghost use Rattle.bench_world.specs.Story.{after, broken};
 
@@ -21,15 +21,20 @@ use uvm_object::{Act, Deed, Entry, Fatal, Log, Outcome, Who};
 use uvm_tree::{NodeId, NodeKind};
 
 impl World {
-    /// Makes room for the needed object's entry and node: `made` or `declined` then takes no memory.
+    /// Makes room for what comes of the next act, if one is left: where it needs an object, `made` or `declined` then takes no
+    /// memory. Where none is left, or memory was refused to an entry, nothing is done.
     pub fn reserve(&mut self) -> Result<(), AllocError>
-        requires sound { self.old.sound ≡ true }
-        requires next { IsNeed (next_of self.old.script self.old.history) }
-        ensures ok { OnOk result (self.new ≡ record self.old { ready = true }) }
+        ensures ok { OnOk result (self.new ≡ record self.old { ready = self.old.sound && is_some (head_of (left_of self.old.script self.old.history)) }) }
+        ensures needed { OnOk result (self.old.sound ≡ true → IsNeed (next_of self.old.script self.old.history) → self.new.ready ≡ true) }
         ensures err { OnErr result (self.new ≡ record self.old { ready = false }) }
     {
         self.room = None;
-        let deed = self.next_deed()?;
+        if !self.sound {
+            return Ok(());
+        }
+        let Some(deed) = self.next_deed()? else {
+            return Ok(());
+        };
         let node = self.services.speaker.node();
         self.services.tree.reserve(node)?;
         self.services.components.reserve(1)?;
@@ -114,18 +119,6 @@ impl World {
             unreachable!()
         };
         self.sound = true;
-    }
-
-    // The next act, to stand in its entry.
-    fn next_deed(&self) -> Result<Deed, AllocError>
-        requires sound { self.now.sound ≡ true }
-        requires next { IsNeed (next_of self.now.script self.now.history) }
-        ensures { IfOk result (λ deed. left_of self.now.script self.now.history ≡ deed ∷ rest_of (left_of self.now.script self.now.history)) }
-    {
-        match self.next_act() {
-            Some(act) => Deed::new(self.alloc, act.copy()?),
-            None => unreachable!(),
-        }
     }
 }
 

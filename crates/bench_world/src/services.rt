@@ -28,6 +28,8 @@ impl Component {
 #[derive(Drop)]
 pub(crate) struct Services {
     pub(crate) stage: Stage,
+    // The present time in ticks.
+    pub(crate) time: u64,
     pub(crate) tree: Tree,
     pub(crate) factory: Factory,
     // In the order in which they were made.

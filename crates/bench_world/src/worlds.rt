@@ -2,7 +2,7 @@
 
 ghost use Rattle.std.specs.Prelude.{◌≡◌, [], IfOk, true, false, IsSome, None, length, nat_le};
 ghost use Rattle.bench_script.specs.Factories.{IsFactoryOf};
-ghost use Rattle.bench_world.specs.History.{opening, stage_of, nodes_of};
+ghost use Rattle.bench_world.specs.History.{opening, stage_of, now_of, nodes_of};
 ghost use Rattle.bench_world.specs.Next.{IsLegal};
 ghost use Rattle.bench_world.specs.Story.{Story};
 
@@ -63,6 +63,7 @@ impl World {
             log: Log::new(alloc, World::MAX_ENTRIES),
             services: Services {
                 stage: Stage::Before,
+                time: 0,
                 tree: Tree::new(alloc),
                 factory,
                 components: Vec::new(alloc),
@@ -114,6 +115,14 @@ impl World {
         ensures { result ≡ stage_of self.now.history }
     {
         self.services.stage
+    }
+
+    /// The present time in ticks.
+    pub fn now(&self) -> u64
+        requires { self.now.sound ≡ true }
+        ensures { result ≡ now_of self.now.history }
+    {
+        self.services.time
     }
 
     /// The tree.

@@ -1,5 +1,5 @@
 -- The phases in order.
-use Rattle.std.specs.Prelude.{ℕ, ◌+◌, List, [], ◌∷◌, Option, slice_get, codes}
+use Rattle.std.specs.Prelude.{ℕ, Bool, ◌==◌, ◌+◌, List, [], ◌∷◌, Option, slice_get, codes}
 use Rattle.uvm_phase.specs.declared.phases.Phase.{Phase}
 use Rattle.uvm_phase.specs.declared.phases.Phase.TheVariants.{Build, Connect, EndOfElaboration, StartOfSimulation, Run, Extract, Check, Report, Final}
 use Rattle.uvm_phase.specs.declared.phases.Walk.{Walk}
@@ -20,6 +20,10 @@ number_of Extract = 5
 number_of Check = 6
 number_of Report = 7
 number_of Final = 8
+
+-- whether two phases are one
+abbrev pub same_phase : Phase → Phase → Bool
+same_phase a b = number_of a == number_of b
 
 -- the phase after one, in that list
 abbrev pub phase_after : Phase → Option Phase

@@ -1,8 +1,11 @@
-//! The phases of a run (IEEE 1800.2-2020, Clause 9).
+//! The phases of a run (IEEE 1800.2-2020, Clause 9), and the calls that are due.
 #![tactic(auto)]
 
+mod agendas;
+pub mod laws;
 mod phases;
 #[cfg(test)]
 mod tests;
 
+pub use agendas::{Agenda, Cause, Due};
 pub use phases::{Phase, Schedule, Walk};

@@ -6,6 +6,6 @@ use Rattle.bench_script.proofs.tables.read_types.Given as goal
 -- the types so far, and those of the elements that are left
 abbrev pub invariant-loop-element : goal.invariant-loop-element
 invariant-loop-element l =
-    (types_in (table_view l.root) ≡ rows_from type_row l.types (items_view (drop l.element-index l.elements)))
+    (types_in (table_view l.root) ≡ rows_from type_row l.types (items_view (drop l.element-index l.element-items)))
     × (length l.types ≡ l.element-index)
-    × (length l.elements ≤ 1024)
+    × (length l.element-items ≤ 1024)

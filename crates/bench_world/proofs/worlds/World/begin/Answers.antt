@@ -14,6 +14,7 @@ invariant_of-self-2 c =
       p.0,
       sound-again _ c.in_ok-push.ensures.ok (c.in_ok-push.ensures.limit ∙ p.1.limit) (legal-more (Begin c.args.phase) (rw next refl) room p.1.legal) (record {
         stage = refl;
+        time = m.time;
         tree = m.tree;
         factory = m.factory;
         turns = rw c.clear_calls.ensures (turns-begin m.turns);

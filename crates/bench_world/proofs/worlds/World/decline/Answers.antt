@@ -30,7 +30,7 @@ invariant_of-self c =
       p.0,
       sound-again _ (refused.ok ∙ ap (λ (w : Who). Did w (Refused NoObject) deed ∷ before) (sym who_is)) (refused.limit ∙ p.1.limit) (legal-more (Did performer (Refused NoObject) deed) next.0 room p.1.legal)
           (rw refused.services (did-match _ before c.self.inside.services _ performer (Refused NoObject) deed ready.act_is m
-          (record { stage = refl; speaker = refl; answer = refl; done = refl; built = refl; exit_asked = refl; test_refused = rw at refl })
+          (record { stage = refl; time = refl; speaker = refl; answer = refl; done = refl; built = refl; exit_asked = refl; test_refused = rw at refl })
           m.tree
           m.factory
           m.turns)),

@@ -24,7 +24,7 @@ invariant_of-self-2 c =
       p.0,
       sound-again _ ((c.in_ok-push.ensures.ok ∙ ap (λ e. e ∷ before) c.done.ensures) ∙ ap (λ (w : Who). Did w Done c.args.deed ∷ before) (sym who_is)) (c.in_ok-push.ensures.limit ∙ p.1.limit) (legal-more (Did performer Done c.args.deed) next room p.1.legal)
           (did-match _ before c.self.inside.services _ performer Done c.args.deed left m
-          (record { stage = refl; speaker = refl; answer = refl; done = c.one_more-self-inside.ensures; built = refl; exit_asked = refl; test_refused = refl })
+          (record { stage = refl; time = refl; speaker = refl; answer = refl; done = c.one_more-self-inside.ensures; built = refl; exit_asked = refl; test_refused = refl })
           (rw c.requires.act m.tree)
           (rw c.requires.act (rw (c.in_ok-scope.ensures, at, m.tree) at c.in_ok-override_inst.ensures _ _ m.factory))
           (rw c.requires.act m.turns)),

@@ -18,6 +18,7 @@ invariant_of-self-2 c =
       p.0,
       sound-again _ (c.in_ok-push.ensures.ok ∙ ap (λ (w : Who). Heard w c.args.call c.args.acts ∷ before) (sym is)) (c.in_ok-push.ensures.limit ∙ p.1.limit) (legal-more (Heard c.args.who c.args.call c.args.acts) (rw next (_, refl)) room p.1.legal) (record {
         stage = m.stage;
+        time = m.time;
         tree = m.tree;
         factory = m.factory;
         turns = rw c.mark_call.ensures (heard-turns _ before _ c.args.who c.args.call c.args.acts _ is next m.turns);

@@ -1,4 +1,4 @@
-use Rattle.std.proofs.Common.{◌∷◌, ◌+◌, refl, ◌∙◌, ap, sym}
+use Rattle.std.proofs.Common.{ℕ, Some, ◌∷◌, ◌+◌, refl, ◌∙◌, ap, sym}
 use Rattle.uvm_object.specs.Acts.{node_of}
 use Rattle.uvm_object.specs.declared.acts.Who.{Who}
 use Rattle.uvm_object.specs.declared.entries.Entry.TheVariants.{Did}
@@ -7,11 +7,12 @@ use Rattle.uvm_tree.specs.declared.nodes.NodeKind.TheVariants.{Component}
 use Rattle.uvm_tree.specs.Nodes.{child}
 use Rattle.bench_world.specs.declared.services.Services.{Services}
 use Rattle.bench_world.specs.History.{speaker_of, nodes_of, created_name}
+use Rattle.bench_world.specs.Next.{next_of}
 use Rattle.bench_world.proofs.Entered.{legal-more, sound-again}
 use Rattle.bench_world.proofs.Answered.{length-snoc}
 use Rattle.bench_world.proofs.Did.{did-match, nodes-made}
 use Rattle.bench_world.proofs.Heard.{at-node}
-use Rattle.bench_world.proofs.Needed.{made-next}
+use Rattle.bench_world.proofs.Needed.{made-next, speaker-known, need-of}
 use Rattle.bench_world.proofs.Turns.{turns-made}
 use Rattle.bench_world.proofs.worlds.World.make.Goals as goal
 
@@ -36,6 +37,16 @@ grow-made-requires-clause-free c =
     let at = c.node-node.ensures ∙ ap node_of m.answer.speaker_is in
     rw (m.tree, at, c.created_name-name.ensures) made.free
 
+pub grow-made-requires-clause-tree : goal.grow-made-requires-clause-tree
+grow-made-requires-clause-tree c =
+    let p = c.self.invariant in
+    let sound = rw (← c.self.view_is) at c.requires.sound in
+    let need = rw (← c.self.view_is) at c.requires.next in
+    let m = p.1.services_match sound in
+    let ready = p.1.ready sound c.in-Some.deed (sym c.take.ensures.value ∙ c.in-Some.is) in
+    let known = speaker-known c.self.inside.script c.self.inside.log.entries (need-of c.args.ty (next_of c.self.inside.script c.self.inside.log.entries) need) in
+    ready.tree_spare (rw (m.tree, m.answer.speaker_is) known) ∙ ap (λ (node : ℕ). Some node) (sym c.node-node.ensures)
+
 pub invariant_of-self : goal.invariant_of-self
 invariant_of-self c =
     let p = c.self.invariant in
@@ -58,6 +69,7 @@ invariant_of-self c =
           (did-match _ before c.self.inside.services _ performer (Made c.args.ty) deed ready.act_is m
           (record {
             stage = ap (λ (s : Services). s.stage) grown.rest;
+            time = ap (λ (s : Services). s.time) grown.rest;
             speaker = ap (λ (s : Services). s.speaker) grown.rest;
             answer = ap (λ (s : Services). s.answer) grown.rest;
             done = c.one_more-self-inside.ensures ∙ ap (λ (s : Services). s.done + 1) grown.rest;

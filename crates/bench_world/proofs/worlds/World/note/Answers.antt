@@ -18,6 +18,7 @@ invariant_of-self-2 c =
       p.0,
       sound-again _ c.in_ok-push.ensures.ok (c.in_ok-push.ensures.limit ∙ p.1.limit) (legal-more entry (rw next refl) room p.1.legal) (record {
         stage = m.stage;
+        time = m.time;
         tree = m.tree;
         factory = m.factory;
         turns = m.turns;

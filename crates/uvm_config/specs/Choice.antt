@@ -1,0 +1,25 @@
+-- What a setting does to the answer at a path and a field (IEEE 1800.2-2020, Annex C, uvm_config_db).
+use Rattle.std.specs.Prelude.{ℕ, ℤ, Bool, true, List, Option, Some, None, ◌-◌, ◌&&◌, nat_eq, nat_le, if◌then◌else◌}
+use Rattle.std.specs.Cmp.Lexicographic.{pointwise}
+use Rattle.uvm_glob.specs.Globs.{matches}
+
+-- the precedence and the value of the setting that answers
+pub record Answer : Type 0 where
+  pub precedence : ℕ
+  pub value : ℤ
+
+-- while phase build runs a setting has one less for each level that its setter lies below the top
+unfoldable pub precedence_of : Bool → ℕ → ℕ
+precedence_of building depth = if building then 1000 - depth else 1000
+
+-- no answer of greater precedence is there
+abbrev pub gives_way : ℕ → Option Answer → Bool
+gives_way precedence None = true
+gives_way precedence (Some answer) = nat_le answer.precedence precedence
+
+-- the answer at a path's text and a field after one more setting, which was `before`
+unfoldable pub answer_after : List ℕ → List ℕ → ℕ → ℤ → List ℕ → List ℕ → Option Answer → Option Answer
+answer_after scope field precedence value text asked before =
+    if pointwise nat_eq field asked && matches scope text && gives_way precedence before
+    then Some (record { precedence = precedence; value = value })
+    else before

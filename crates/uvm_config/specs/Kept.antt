@@ -1,0 +1,26 @@
+-- What the settings keep, and what they give.
+use Rattle.std.specs.Prelude.{◌≡◌, ℕ, ℤ, List, length, Option, option_map}
+use Rattle.uvm_glob.specs.Paths.{path_text}
+use Rattle.uvm_config.specs.Choice.{Answer}
+use Rattle.uvm_config.specs.Answers.{Setting, strongest_answer}
+
+-- the accepted settings, the newest first
+pub record Kept : Type 0 where
+  pub settings : List Setting
+
+-- the precedence and the value of the setting that answers at a path and a field
+unfoldable pub answer_at : Kept → List (List ℕ) → List ℕ → Option Answer
+answer_at kept path asked = strongest_answer kept.settings (path_text path) asked
+
+-- its value
+abbrev pub value_at : Kept → List (List ℕ) → List ℕ → Option ℤ
+value_at kept path asked = option_map (λ answer. answer.value) (answer_at kept path asked)
+
+-- how many settings were accepted
+unfoldable pub accepted : Kept → ℕ
+accepted kept = length kept.settings
+
+-- each observation of the two is equal
+pub record IsSame (old new : Kept) : Type 0 where
+  pub answers : (path : List (List ℕ)) (asked : List ℕ) → answer_at new path asked ≡ answer_at old path asked
+  pub count : accepted new ≡ accepted old

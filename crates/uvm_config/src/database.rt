@@ -1,0 +1,123 @@
+//! The settings.
+
+ghost use Rattle.std.specs.Prelude.{◌≡◌, ◌+◌, ◌≤◌, ◌↔◌, ℕ, List, None, OnOk, OnErr, nat_le, option_map, option_copied};
+ghost use Rattle.uvm_glob.specs.Paths.{path_text};
+ghost use Rattle.uvm_config.specs.Answers.{answer_of};
+ghost use Rattle.uvm_config.specs.Choice.{answer_after, precedence_of};
+ghost use Rattle.uvm_config.specs.Kept.{answer_at, value_at, accepted, IsSame};
+
+use crate::faults::ConfigFault;
+use crate::resources::{Resource, stronger};
+use std::alloc::Global;
+use std::marker::Model;
+use uvm_glob::{Glob, Name, Path};
+
+/// The settings of fields for the paths that scopes match, as uvm_config_db holds them (IEEE 1800.2-2020, Annex C).
+/// Contracts see the precedence and the value of the setting that answers at each path and field, and how many settings
+/// were accepted.
+#[derive(Drop)]
+pub struct Settings {
+    // The accepted settings in the order in which they were set.
+    resources: Vec<Resource>,
+}
+
+impl Model for Settings {
+    ghost use Rattle.std.specs.Prelude.{reverse};
+    ghost use Rattle.uvm_config.specs.Kept.{Kept};
+
+    ghost Value = { Kept };
+
+    ghost view = { λ s. record { settings = reverse s.resources.items } };
+}
+
+// The precedence of a setting, unless it is made while phase build runs.
+const DEFAULT_PRECEDENCE: u16 = 1000;
+
+impl Settings {
+    /// The most settings that are accepted.
+    pub const MAX_SETS: usize = 65_536;
+
+    /// No settings.
+    #[tactic(auto, unfolding(crate::specs::Kept::answer_at, crate::specs::Kept::accepted, crate::specs::Answers::strongest_answer))]
+    pub fn new(alloc: Global) -> Settings
+        ensures answers { (path : List (List ℕ)) (asked : List ℕ) → answer_at result path asked ≡ None }
+        ensures accepted { accepted result ≡ 0 }
+    {
+        Settings {
+            resources: Vec::new(alloc),
+        }
+    }
+
+    /// Sets a field for the paths that the scope matches. The setter is a component at a depth of at most 32 (0 for the
+    /// top, 1 for its children), and `building` says whether phase build runs: while it does, a setting has precedence
+    /// 1000 less the depth, and 1000 afterwards. The greatest precedence answers, and among equals the last that was set.
+    /// Gives the first of `Full` and `Memory` that holds, if one does.
+    #[tactic(auto, unfolding(crate::specs::Kept::answer_at, crate::specs::Kept::accepted))]
+    pub fn set(
+        &mut self,
+        depth: u8,
+        building: bool,
+        scope: Glob,
+        field: Name,
+        value: i64,
+    ) -> Result<(), ConfigFault>
+        requires { depth ≤ 32 }
+        ensures answers { OnOk result ((path : List (List ℕ)) (asked : List ℕ) →
+            answer_at self.new path asked
+            ≡ answer_after scope field (precedence_of building depth) value (path_text path) asked (answer_at self.old path asked)) }
+        ensures accepted { OnOk result (accepted self.new ≡ accepted self.old + 1) }
+        ensures full { (result ≡ Err ConfigFault.Full) ↔ (65536 ≤ accepted self.old) }
+        ensures unchanged { OnErr result (IsSame self.old self.new) }
+    {
+        if self.is_full() {
+            return Err(ConfigFault::Full);
+        }
+        let precedence = precedence_of(building, depth);
+        self.resources.push(Resource {
+            scope,
+            field,
+            precedence,
+            value,
+        })?;
+        Ok(())
+    }
+
+    /// The value of a field at a path, if a setting answers there. Takes no memory.
+    pub fn get(&self, path: &Path, field: &Name) -> Option<i64>
+        ensures { result ≡ value_at self.now path.now field.now }
+    {
+        Some(self.strongest(path, field)?.value)
+    }
+
+    /// Whether as many settings were accepted as there can be.
+    #[tactic(auto, unfolding(crate::specs::Kept::accepted))]
+    pub fn is_full(&self) -> bool
+        ensures { result ≡ nat_le 65536 (accepted self.now) }
+    {
+        self.resources.len() >= Settings::MAX_SETS
+    }
+
+    // The setting that answers.
+    fn strongest(&self, path: &Path, field: &Name) -> Option<&Resource>
+        ensures { option_map answer_of (option_copied result) ≡ answer_at self.now path.now field.now }
+    {
+        let mut strongest = None;
+        for resource in &self.resources {
+            strongest = stronger(resource, path, field, strongest);
+        }
+        strongest
+    }
+}
+
+// The precedence of a setting of a component at a depth.
+#[tactic(auto, unfolding(crate::specs::Choice::precedence_of))]
+fn precedence_of(building: bool, depth: u8) -> u16
+    requires { depth ≤ 32 }
+    ensures { result ≡ precedence_of building depth }
+{
+    if building {
+        DEFAULT_PRECEDENCE - u16::from(depth)
+    } else {
+        DEFAULT_PRECEDENCE
+    }
+}

@@ -1,0 +1,12 @@
+//! The configuration database: the value that a field has at a path (IEEE 1800.2-2020, Annex C, uvm_config_db).
+#![tactic(auto)]
+
+mod database;
+mod faults;
+pub mod laws;
+mod resources;
+#[cfg(test)]
+mod tests;
+
+pub use database::Settings;
+pub use faults::ConfigFault;

@@ -1,0 +1,4 @@
+pub mod Before
+pub mod Ordered
+pub mod Added
+pub mod Firsts

@@ -1,0 +1,5 @@
+use Rattle.uvm_phase.proofs.Added.{in_order-filtered}
+use Rattle.uvm_phase.proofs.agendas.Agenda.clear.Goals as goal
+
+pub returns : goal.returns
+returns g c = rw (← c.self.view_is) (in_order-filtered _ c.self.inside.dues.items c.take_out_phase.new.dues.items c.take_out_phase.ensures)

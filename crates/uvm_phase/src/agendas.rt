@@ -1,0 +1,179 @@
+//! The calls that are due, each at its time.
+
+ghost use Rattle.std.specs.Prelude.{◌≡◌, ◌==◌, ◌<◌, ◌↔◌, [], not, length, filter, drop, slice_get, All, OnOk, OnErr, IsOk, IsNone, IfSome, option_copied, false};
+ghost use Rattle.uvm_phase.specs.Phases.{same_phase};
+ghost use Rattle.uvm_phase.specs.Dues.{is_before, insert_due, IsFirstPlace};
+
+use crate::phases::Phase;
+use std::alloc::{AllocError, Global};
+use std::marker::Model;
+
+/// What caused a call: the place of an entry of a log, and the number of the call among those of that entry.
+#[derive(Clone, Copy, Debug, PartialEq, Eq)]
+pub struct Cause {
+    pub place: u64,
+    pub number: u64,
+}
+
+/// A call that is due: when, why, in which phase it was asked for, who is called and with what.
+#[derive(Debug, Drop)]
+pub struct Due<O, N> {
+    /// In ticks.
+    pub time: u64,
+    pub cause: Cause,
+    pub phase: Phase,
+    pub owner: O,
+    pub notice: N,
+}
+
+impl<O, N> Due<O, N> {
+    // Whether it comes due before another.
+    #[tactic(auto, unfolding(crate::specs::Dues::is_before))]
+    fn is_before(&self, other: &Due<O, N>) -> bool
+        ensures { result ≡ is_before self.now other.now }
+    {
+        let (cause, others) = (self.cause, other.cause);
+        self.time < other.time
+            || (self.time == other.time
+                && (cause.place < others.place
+                    || (cause.place == others.place && cause.number < others.number)))
+    }
+}
+
+/// The calls that are due while a phase runs (Clause 9). They come due by time, at one time by the place of the cause, then
+/// by its number, and where these are equal in the order in which they were added. Contracts see them in this order, and
+/// beside them for how many more there is room.
+#[derive(Drop)]
+pub struct Agenda<O, N> {
+    // In the order in which they were added.
+    dues: Vec<Due<O, N>>,
+}
+
+impl<O, N> Model for Agenda<O, N> {
+    ghost use Rattle.std.specs.Prelude.{◌-◌, reverse, vec_len, vec_capacity};
+    ghost use Rattle.uvm_phase.specs.Dues.{AgendaValue, in_order};
+
+    ghost Value = { AgendaValue O N };
+
+    ghost view = { λ a. record { dues = in_order (reverse a.dues.items); spare = vec_capacity a.dues - vec_len a.dues } };
+}
+
+impl<O: Drop, N: Drop> Agenda<O, N> {
+    /// Nothing is due, and there is room for nothing.
+    pub fn new(alloc: Global) -> Agenda<O, N>
+        ensures { result.dues ≡ [] }
+    {
+        Agenda {
+            dues: Vec::new(alloc),
+        }
+    }
+
+    /// Makes room for a call: the next `due` then takes no memory.
+    pub fn reserve(&mut self) -> Result<(), AllocError>
+        ensures dues { self.new.dues ≡ self.old.dues }
+        ensures spare { OnOk result (0 < self.new.spare) }
+    {
+        self.dues.reserve(1)
+    }
+
+    /// Adds a call that is due at a time, in ticks. An error where there is no room for it and memory is refused; then
+    /// nothing was added.
+    pub fn due(
+        &mut self,
+        time: u64,
+        cause: Cause,
+        phase: Phase,
+        owner: O,
+        notice: N,
+    ) -> Result<(), AllocError>
+        ensures ok { OnOk result (self.new.dues ≡ insert_due (record { time = time; cause = cause; phase = phase; owner = owner; notice = notice }) self.old.dues) }
+        ensures err { OnErr result (self.new.dues ≡ self.old.dues) }
+        ensures room { 0 < self.old.spare → IsOk result }
+    {
+        self.dues.push(Due {
+            time,
+            cause,
+            phase,
+            owner,
+            notice,
+        })?;
+        Ok(())
+    }
+
+    /// The call that comes due first, if one is due. Takes no memory.
+    pub fn first(&self) -> Option<&Due<O, N>>
+        ensures value { option_copied result ≡ slice_get self.now.dues 0 }
+        ensures least { IfSome result (λ due. All (λ other. is_before other due.now ≡ false) self.now.dues) }
+    {
+        let place = first_place(self.dues.as_slice())?;
+        self.dues.get(place)
+    }
+
+    /// Takes out the call that comes due first, if one is due. Takes no memory.
+    pub fn take_first(&mut self) -> Option<Due<O, N>>
+        ensures value { result ≡ slice_get self.old.dues 0 }
+        ensures rest { self.new.dues ≡ drop 1 self.old.dues }
+    {
+        let place = first_place(self.dues.as_slice())?;
+        Some(self.dues.remove(place))
+    }
+
+    /// Takes out the calls of a phase. Takes no memory.
+    pub fn clear(&mut self, phase: Phase)
+        ensures { self.new.dues ≡ filter (λ due. not (same_phase due.phase phase)) self.old.dues }
+    {
+        take_out_phase(&mut self.dues, phase);
+    }
+
+    /// How many calls are due.
+    pub fn len(&self) -> usize
+        ensures { result ≡ length self.now.dues }
+    {
+        self.dues.len()
+    }
+
+    /// Whether none is due.
+    pub fn is_empty(&self) -> bool
+        ensures { result ≡ (length self.now.dues == 0) }
+    {
+        self.dues.is_empty()
+    }
+}
+
+impl<O: PartialEq + Drop, N: Drop> Agenda<O, N> {
+    /// Takes out the calls of an owner. Takes no memory.
+    pub fn cancel(&mut self, owner: &O)
+        ensures { self.new.dues ≡ filter (λ due. not (O.eq due.owner owner.now)) self.old.dues }
+    {
+        take_out_owner(&mut self.dues, owner);
+    }
+}
+
+// Where the call stands that comes due first, of equal ones the first.
+fn first_place<O, N>(dues: &[Due<O, N>]) -> Option<usize>
+    ensures none { IsNone result ↔ (dues.now ≡ []) }
+    ensures first { IfSome result (IsFirstPlace dues.now) }
+{
+    if dues.is_empty() {
+        return None;
+    }
+    let mut first = 0;
+    for place in 1..dues.len() {
+        if dues[place].is_before(&dues[first]) {
+            first = place;
+        }
+    }
+    Some(first)
+}
+
+fn take_out_phase<O: Drop, N: Drop>(dues: &mut Vec<Due<O, N>>, phase: Phase)
+    ensures { dues.new.items ≡ filter (λ due. not (same_phase due.phase phase)) dues.old.items }
+{
+    dues.retain(|due| due.phase != phase);
+}
+
+fn take_out_owner<O: PartialEq + Drop, N: Drop>(dues: &mut Vec<Due<O, N>>, owner: &O)
+    ensures { dues.new.items ≡ filter (λ due. not (O.eq due.owner owner.now)) dues.old.items }
+{
+    dues.retain(|due| due.owner != *owner);
+}

@@ -1,14 +1,12 @@
 -- What contracts see of the machine.
 use Rattle.std.specs.Prelude.{◌≡◌, ◌<◌, ◌≤◌, ℕ, Bool, true, false, List, ◌∷◌, length, [], Option, Some, None, Result, Ok, Err, IsSome}
-use Rattle.uvm_object.specs.declared.acts.Who.{Who}
-use Rattle.uvm_object.specs.declared.acts.Call.{Call}
+use Rattle.uvm_object.specs.declared.acts.Act.{Act}
 use Rattle.uvm_object.specs.declared.entries.Entry.{Entry}
+use Rattle.uvm_object.specs.declared.entries.Entry.TheVariants.{Heard}
 use Rattle.uvm_object.specs.Lines.{entry_line}
-use Rattle.uvm_phase.specs.declared.phases.Phase.{Phase}
 use Rattle.bench_script.specs.Scripts.{ScriptValue}
-use Rattle.bench_world.specs.declared.stages.Stage.{Stage}
-use Rattle.bench_world.specs.declared.stages.Stage.TheVariants.{During}
-use Rattle.bench_world.specs.History.{nodes_of}
+use Rattle.uvm_factory.specs.declared.types.Kind.{Kind}
+use Rattle.bench_world.specs.History.{nodes_of, kind_made}
 use Rattle.bench_core.specs.declared.cores.Need.{Need}
 use Rattle.bench_core.specs.declared.cores.Health.{Health}
 use Rattle.bench_core.specs.declared.cores.Health.TheVariants.{Good, Full, Broken}
@@ -49,14 +47,14 @@ failed_from health play = record play { standing = Nothing; health = health }
 -- what was asked is what comes next
 abbrev pub Comes : Standing → next.Next → Type 0
 Comes Nothing comes = Unit {0}
-Comes (Needed need) comes = IsNeedFor need.ty need.path comes
-Comes (Asked performer call) comes = comes ≡ next.Answer performer call
+Comes (Needed need) comes = IsNeedFor need comes
+Comes (Asked performer call cause) comes = comes ≡ next.Answer performer call cause
 
 -- there is room for the entry of what was asked
 abbrev pub HasRoom : Standing → Story → Type 0
 HasRoom Nothing story = Unit {0}
 HasRoom (Needed need) story = (length story.history < 1000000) × (story.ready ≡ true)
-HasRoom (Asked performer call) story = length story.history < 1000000
+HasRoom (Asked performer call cause) story = length story.history < 1000000
 
 -- while memory was not refused the world is sound; what was asked comes next, and is asked of a machine that goes on
 pub record IsCore (story : Story) (standing : Standing) (health : Health) : Type 0 where
@@ -65,17 +63,17 @@ pub record IsCore (story : Story) (standing : Standing) (health : Health) : Type
   pub room : HasRoom standing story
   pub none : is_good health ≡ false → standing ≡ Nothing
 
--- the object that is needed stands, and nothing else changed
-abbrev pub Stands : List ℕ → List (List ℕ) → Standing → Type 0
-Stands ty path Nothing = ⊥
-Stands ty path (Needed need) = (need.ty ≡ ty) × (need.path ≡ path)
-Stands ty path (Asked performer call) = ⊥
+-- the object that is needed stands
+abbrev pub Stands : Kind → List ℕ → List (List ℕ) → Standing → Type 0
+Stands kind ty path Nothing = ⊥
+Stands kind ty path (Needed need) = (need.kind ≡ kind) × (need.ty ≡ ty) × (need.path ≡ path)
+Stands kind ty path (Asked performer call cause) = ⊥
 
 -- what a turn is, by what comes next
 abbrev pub IsTurn : next.Next → turn.Turn → Play → Play → Type 0
 IsTurn (next.Exactly entry) result old new = (result ≡ turn.TheVariants.Moved) × (new ≡ after entry old)
-IsTurn (next.Answer performer call) result old new = (result ≡ turn.TheVariants.Ask performer call) × (new ≡ record old { standing = Asked performer call })
-IsTurn (next.Need ty path performer act) result old new = (result ≡ turn.TheVariants.Need) × Stands ty path new.standing × (new ≡ record old { standing = new.standing })
+IsTurn (next.Answer performer call cause) result old new = (result ≡ turn.TheVariants.Ask performer call) × (new ≡ record old { standing = Asked performer call cause })
+IsTurn (next.Need ty path performer act) result old new = (result ≡ turn.TheVariants.Need) × Stands (kind_made act) ty path new.standing × (new ≡ record old { standing = new.standing })
 IsTurn next.Nothing result old new = (result ≡ turn.TheVariants.Over) × (new ≡ old)
 
 -- something comes next
@@ -83,9 +81,9 @@ abbrev pub IsSomething : next.Next → Type 0
 IsSomething next.Nothing = ⊥
 IsSomething comes = Unit {0}
 
--- why a turn is refused
+-- why a turn is refused: something would come, and the log is full, or it is not and memory is refused; or it was before
 abbrev pub IsRefusedTurn : CoreFault → Play → Play → Type 0
-IsRefusedTurn Memory old new = (old.health ≡ Good) × (new ≡ failed_from Broken old)
+IsRefusedTurn Memory old new = (old.health ≡ Good) × (length old.history < 1000000) × IsSomething (next_of old.script old.history) × (new ≡ failed_from Broken old)
 IsRefusedTurn LogFull old new = (old.health ≡ Good) × (1000000 ≤ length old.history) × IsSomething (next_of old.script old.history) × (new ≡ failed_from Full old)
 IsRefusedTurn Failed old new = (is_good old.health ≡ false) × (new ≡ old)
 IsRefusedTurn NoTest old new = ⊥
@@ -95,7 +93,7 @@ abbrev pub IsNextTurn : Standing → Result turn.Turn CoreFault → Play → Pla
 IsNextTurn Nothing (Ok result) old new = (old.health ≡ Good) × IsTurn (next_of old.script old.history) result old new
 IsNextTurn Nothing (Err fault) old new = IsRefusedTurn fault old new
 IsNextTurn (Needed need) result old new = (result ≡ Ok turn.TheVariants.Need) × (new ≡ old)
-IsNextTurn (Asked performer call) result old new = (result ≡ Ok (turn.TheVariants.Ask performer call)) × (new ≡ old)
+IsNextTurn (Asked performer call cause) result old new = (result ≡ Ok (turn.TheVariants.Ask performer call)) × (new ≡ old)
 
 -- why there is no machine of a script
 abbrev pub IsUnmade : ScriptValue → CoreFault → Type 0
@@ -108,7 +106,7 @@ IsUnmade script Failed = ⊥
 abbrev pub turn_of : Standing → Option turn.Turn
 turn_of Nothing = None
 turn_of (Needed need) = Some turn.TheVariants.Need
-turn_of (Asked performer call) = Some (turn.TheVariants.Ask performer call)
+turn_of (Asked performer call cause) = Some (turn.TheVariants.Ask performer call)
 
 -- somebody is called
 abbrev pub IsAsk : Option turn.Turn → Type 0
@@ -119,17 +117,13 @@ IsAsk None = ⊥
 abbrev pub need_of : Standing → Option Need
 need_of Nothing = None
 need_of (Needed need) = Some need
-need_of (Asked performer call) = None
+need_of (Asked performer call cause) = None
 
-abbrev pub ask_of : Standing → Option (Who × Call)
-ask_of Nothing = None
-ask_of (Needed need) = None
-ask_of (Asked performer call) = Some (performer, call)
-
--- the phase that runs
-abbrev pub running : Stage → Option Phase
-running (During phase) = Some phase
-running stage = None
+-- the entry of an answer to what was asked
+abbrev pub answer_in : Standing → List Act → Option Entry
+answer_in Nothing acts = None
+answer_in (Needed need) acts = None
+answer_in (Asked performer call cause) acts = Some (Heard performer call cause acts)
 
 -- the text of the newest entry, where it is asked for
 abbrev pub last_text : Bool → List Entry → List ℕ

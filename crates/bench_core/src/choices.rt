@@ -10,7 +10,7 @@ use bench_world::{Creation, Stage, Uncreated, World};
 use std::alloc::AllocError;
 use uvm_factory::Kind;
 use uvm_object::{Act, Call, Fatal, Reason};
-use uvm_phase::{Phase, Schedule};
+use uvm_phase::{Cause, Phase, Schedule};
 use uvm_tree::NodeId;
 
 /// What comes next.
@@ -23,7 +23,7 @@ pub(crate) enum Choice {
     Note(Fatal, NodeId),
     Did,
     Need(Need),
-    Ask(NodeId, Call),
+    Ask(NodeId, Call, Option<Cause>),
 }
 
 // What comes next after the log of a world.
@@ -45,7 +45,10 @@ pub(crate) fn choose(world: &World) -> Result<Choice, AllocError>
             world.speaker().node(),
         )),
         Some(act) => choose_act(world, act),
-        None => Ok(choose_stage(world, stage)),
+        None => Ok(match world.due_now() {
+            Some(due) => Choice::Ask(due.owner.node(), due.notice, Some(due.cause)),
+            None => choose_stage(world, stage),
+        }),
     }
 }
 
@@ -78,7 +81,7 @@ fn choose_stage(world: &World, stage: Stage) -> Choice
     match stage {
         Stage::Before => Choice::Begin(Phase::Build),
         Stage::During(phase) => match world.next_call(phase) {
-            Some(node) => Choice::Ask(node, Call::Phase(phase)),
+            Some(node) => Choice::Ask(node, Call::Phase(phase), None),
             None => Choice::End(phase),
         },
         Stage::After(phase) => match Schedule::next(phase) {

@@ -5,11 +5,13 @@ ghost use Rattle.std.specs.Bool.{OnTrue, OnFalse};
 ghost use Rattle.std.specs.Option.{option_copied};
 ghost use Rattle.uvm_tree.specs.Nodes.{number_of};
 ghost use Rattle.uvm_object.specs.declared.acts.Who.TheVariants as who;
-ghost use Rattle.uvm_object.specs.declared.entries.Entry.TheVariants.{Heard};
-ghost use Rattle.bench_world.specs.History.{nodes_of, now_of, stage_of};
+ghost use Rattle.bench_world.specs.History.{nodes_of, now_of, running, stage_of};
+ghost use Rattle.uvm_glob.specs.Paths.{path_text};
+ghost use Rattle.uvm_config.specs.Answers.{config_answer};
+ghost use Rattle.bench_world.specs.Configuration.{settings_of};
 ghost use Rattle.bench_world.specs.Next.{next_of, made_in, declined_in, IsLegal};
 ghost use Rattle.bench_world.specs.Next as comes;
-ghost use Rattle.bench_core.specs.Plays.{IsNextTurn, IsTurn, IsSomething, IsUnmade, after, failed_from, is_sound, turn_of, need_of, ask_of, IsAsk, running, last_text};
+ghost use Rattle.bench_core.specs.Plays.{IsNextTurn, IsTurn, IsSomething, IsUnmade, after, failed_from, is_sound, turn_of, need_of, answer_in, IsAsk, last_text};
 ghost use Rattle.bench_core.specs.declared.cores.Standing.TheVariants.{Nothing, Needed, Asked};
 
 use crate::choices::{Choice, choose};
@@ -22,7 +24,7 @@ use std::marker::Model;
 use uvm_factory::Kind;
 use uvm_glob::{Name, Path};
 use uvm_object::{Acts, Call, Log, Who, line_of};
-use uvm_phase::Phase;
+use uvm_phase::{Cause, Phase};
 use uvm_tree::NodeId;
 
 /// An object that is needed: its kind, the type that the factory makes, and where it will stand.
@@ -53,8 +55,12 @@ pub enum Standing {
     Nothing,
     /// An object.
     Needed(Need),
-    /// The answer of somebody to a call.
-    Asked { who: Who, call: Call },
+    /// The answer of somebody to a call, which was due for a cause, or is a phase's.
+    Asked {
+        who: Who,
+        call: Call,
+        cause: Option<Cause>,
+    },
 }
 
 /// How a machine is.
@@ -110,17 +116,11 @@ impl Core {
     /// there; `Over` once the run is over. `LogFull` where an entry would be next and the log is full, `Memory` where memory is
     /// refused, and `Failed` from then on. No word is drawn yet.
     pub fn next<R: Rng>(&mut self, _words: &mut R) -> Result<Turn, CoreFault>
-        ensures { IsNextTurn self.old.standing result self.old self.new }
+        ensures turn { IsNextTurn self.old.standing result self.old self.new }
+        ensures words { _words.new ≡ _words.old }
     {
-        match &self.standing {
-            Standing::Needed(_) => return Ok(Turn::Need),
-            Standing::Asked { who, call } => {
-                return Ok(Turn::Ask {
-                    who: *who,
-                    call: *call,
-                });
-            }
-            Standing::Nothing => (),
+        if let Some(turn) = told(&self.standing) {
+            return Ok(turn);
         }
         match self.health {
             Health::Good => self.go_on(),
@@ -132,14 +132,7 @@ impl Core {
     pub fn turn(&self) -> Option<Turn>
         ensures { result ≡ turn_of self.now.standing }
     {
-        match &self.standing {
-            Standing::Nothing => None,
-            Standing::Needed(_) => Some(Turn::Need),
-            Standing::Asked { who, call } => Some(Turn::Ask {
-                who: *who,
-                call: *call,
-            }),
-        }
+        told(&self.standing)
     }
 
     /// The object that is needed, if one is.
@@ -185,16 +178,20 @@ impl Core {
     /// The answer that was asked for. `Memory` where memory is refused, and the machine has failed then.
     pub fn heard(&mut self, acts: Acts) -> Result<(), CoreFault>
         requires { IsAsk (turn_of self.old.standing) }
-        ensures ok { OnOk result (IfSome (ask_of self.old.standing) (λ ask. self.new ≡ after (Heard ask.0 ask.1 acts) self.old)) }
+        ensures ok { OnOk result (IfSome (answer_in self.old.standing acts) (λ entry. self.new ≡ after entry self.old)) }
         ensures err { IfErr result (λ fault. (fault ≡ CoreFault.Memory) × (self.new ≡ failed_from Health.Broken self.old)) }
     {
-        let Standing::Asked { who, call } = &self.standing else {
+        let Standing::Asked { who, call, cause } = &self.standing else {
             unreachable!()
         };
-        let (node, call) = (who.node(), *call);
+        let (node, call, cause) = (who.node(), *call, *cause);
         self.standing = Standing::Nothing;
         self.health = Health::Broken;
-        match self.world.heard(Who::Node(node), call, acts) {
+        let heard = match cause {
+            None => self.world.heard(Who::Node(node), call, acts),
+            Some(cause) => self.world.heard_due(Who::Node(node), call, cause, acts),
+        };
+        match heard {
             Ok(()) => {
                 self.health = Health::Good;
                 Ok(())
@@ -242,6 +239,16 @@ impl Core {
             return None;
         }
         self.world.tree().find(path)
+    }
+
+    /// The value that a field has at a path, if it has one (IEEE 1800.2-2020, Annex C). None once memory was refused.
+    pub fn config(&self, path: &Path, field: &Name) -> Option<i64>
+        ensures { result ≡ (if is_sound self.now.health then config_answer (settings_of self.now.script self.now.history) (path_text path.now) field.now else None) }
+    {
+        if !self.is_sound() {
+            return None;
+        }
+        self.world.config(path, field)
     }
 
     /// Appends the line of the newest entry, where `trace` asks for it and there is one; nothing where memory is refused,
@@ -310,19 +317,34 @@ impl Core {
                 self.standing = Standing::Needed(need);
                 Turn::Need
             }
-            Choice::Ask(node, call) => {
+            Choice::Ask(node, call, cause) => {
                 self.standing = Standing::Asked {
                     who: Who::Node(node),
                     call,
+                    cause,
                 };
-                Turn::Ask {
-                    who: Who::Node(node),
-                    call,
+                match told(&self.standing) {
+                    Some(turn) => turn,
+                    None => unreachable!(),
                 }
             }
         };
         self.health = Health::Good;
         Ok(turn)
+    }
+}
+
+// What was asked, as a turn.
+fn told(standing: &Standing) -> Option<Turn>
+    ensures { result ≡ turn_of standing.now }
+{
+    match standing {
+        Standing::Nothing => None,
+        Standing::Needed(_) => Some(Turn::Need),
+        Standing::Asked { who, call, .. } => Some(Turn::Ask {
+            who: *who,
+            call: *call,
+        }),
     }
 }
 

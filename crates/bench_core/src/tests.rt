@@ -5,12 +5,13 @@ use rand_pcg::Pcg32;
 use std::alloc::Global;
 use std::test::Fail;
 use uvm_factory::Kind;
-use uvm_glob::{Name, Path};
+use uvm_glob::{Glob, Name, Path};
 use uvm_object::{Act, Acts, Call, What};
 use uvm_phase::Phase;
 
 const SCRIPT: &[u8] =
-    b"version = 1\ntest = \"t\"\ntype = [{ name = \"t\", kind = \"component\" }, { name = \"c\", kind = \"component\" }]\n";
+    b"version = 1\ntest = \"t\"\ntype = [{ name = \"t\", kind = \"component\" }, { name = \"c\", kind = \"component\" }]
+set = [{ scope = \"*\", field = \"f\", value = 7 }]\n";
 
 /// What the test answers, in a run of which all other calls get no acts.
 #[derive(Clone, Copy, PartialEq, Eq)]
@@ -23,6 +24,10 @@ enum Bench {
     ManyActs,
     /// To connect: a child.
     LateChild,
+    /// To this phase: a field is set and asked for.
+    Setting(Phase),
+    /// To build: a child, and a field is asked for.
+    AskingParent,
     /// Each needed object is declined.
     Declined,
 }
@@ -61,6 +66,27 @@ fn more_than_64_acts_are_noted_and_none_performed(rt: HostRuntime) -> Result<(),
 fn creation_after_build_is_refused(rt: HostRuntime) -> Result<(), Fail> {
     let text = transcript(rt.alloc(), Bench::LateChild)?;
     assert!(rt; text.as_slice().ends_with(LATE_CHILD_END));
+    Ok(())
+}
+
+#[test]
+fn setting_of_the_script_prevails_while_build_runs(rt: HostRuntime) -> Result<(), Fail> {
+    let text = transcript(rt.alloc(), Bench::Setting(Phase::Build))?;
+    assert!(rt; text.as_slice().starts_with(SETTING_IN_BUILD));
+    Ok(())
+}
+
+#[test]
+fn last_setting_prevails_after_build(rt: HostRuntime) -> Result<(), Fail> {
+    let text = transcript(rt.alloc(), Bench::Setting(Phase::Connect))?;
+    assert!(rt; text.as_slice().starts_with(SETTING_IN_CONNECT));
+    Ok(())
+}
+
+#[test]
+fn due_call_goes_before_the_next_of_the_phase(rt: HostRuntime) -> Result<(), Fail> {
+    let text = transcript(rt.alloc(), Bench::AskingParent)?;
+    assert!(rt; text.as_slice().starts_with(ASKING_PARENT));
     Ok(())
 }
 
@@ -110,7 +136,13 @@ fn begins_to_build(alloc: Global, core: &mut Core) -> Result<bool, Fail> {
     let test = test_path(alloc)?;
     let went_on = step(alloc, core, Bench::Children, &test)?
         && step(alloc, core, Bench::Children, &test)?;
-    Ok(went_on && core.phase() == Some(Phase::Build) && core.find(&test).is_some())
+    let field = Name::new(b"f")?;
+    Ok(
+        went_on
+            && core.phase() == Some(Phase::Build)
+            && core.find(&test).is_some()
+            && core.config(&test, &field) == Some(7),
+    )
 }
 
 // The text of a run.
@@ -183,7 +215,9 @@ fn acts_of(alloc: Global, bench: Bench, is_test: bool, call: Call) -> Result<Act
     if !is_test {
         return Ok(acts);
     }
-    let Call::Phase(phase) = call;
+    let Call::Phase(phase) = call else {
+        return Ok(acts);
+    };
     match (bench, phase) {
         (Bench::Children, Phase::Build) => {
             acts.push(create(b"b")?)?;
@@ -198,6 +232,14 @@ fn acts_of(alloc: Global, bench: Bench, is_test: bool, call: Call) -> Result<Act
             for _ in 0..65 {
                 acts.push(add(b"x")?)?;
             }
+        }
+        (Bench::Setting(at), phase) if at == phase => {
+            acts.push(set(alloc)?)?;
+            acts.push(get()?)?;
+        }
+        (Bench::AskingParent, Phase::Build) => {
+            acts.push(create(b"b")?)?;
+            acts.push(get()?)?;
         }
         (Bench::LateChild, Phase::Connect) => acts.push(create(b"b")?)?,
         _ => (),
@@ -216,6 +258,20 @@ fn add(name: &[u8]) -> Result<Act, Fail> {
     Ok(Act::Add {
         name: Name::new(name)?,
         what: What::Fifo { size: 1 },
+    })
+}
+
+fn set(alloc: Global) -> Result<Act, Fail> {
+    Ok(Act::Set {
+        glob: Glob::new(alloc, b"")?,
+        field: Name::new(b"f")?,
+        value: 9,
+    })
+}
+
+fn get() -> Result<Act, Fail> {
+    Ok(Act::Get {
+        field: Name::new(b"f")?,
     })
 }
 
@@ -265,4 +321,35 @@ over exit
 const LATE_CHILD_END: &[u8] = b"heard uvm_test_top connect: 1
 did uvm_test_top create c b: refused ILLCRT
 over exit
+";
+
+const SETTING_IN_BUILD: &[u8] = b"did uvm_top create t uvm_test_top: made t
+begin build
+heard uvm_test_top build: 2
+did uvm_test_top set () f 9: done
+did uvm_test_top get f: value 7
+heard uvm_test_top config f 7: 0
+end build
+";
+
+const SETTING_IN_CONNECT: &[u8] = b"did uvm_top create t uvm_test_top: made t
+begin build
+heard uvm_test_top build: 0
+end build
+begin connect
+heard uvm_test_top connect: 2
+did uvm_test_top set () f 9: done
+did uvm_test_top get f: value 9
+heard uvm_test_top config f 9: 0
+end connect
+";
+
+const ASKING_PARENT: &[u8] = b"did uvm_top create t uvm_test_top: made t
+begin build
+heard uvm_test_top build: 2
+did uvm_test_top create c b: made c
+did uvm_test_top get f: value 7
+heard uvm_test_top config f 7: 0
+heard uvm_test_top.b build: 0
+end build
 ";

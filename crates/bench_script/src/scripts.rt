@@ -14,7 +14,7 @@ pub struct Probe {
     pub path: Path,
 }
 
-/// A setting of the configuration: the value of a field at the paths that the glob matches (IEEE 1800.2-2020, C.4.2).
+/// A setting of the configuration: the value of a field at the paths that the glob matches (IEEE 1800.2-2020, Annex C).
 #[derive(Debug, Drop)]
 pub struct Setting {
     pub scope: Glob,

@@ -1,63 +1,110 @@
--- Where a call is what comes next.
-use Rattle.std.proofs.Common.{◌≡◌, ℕ, ◌<◌, not, List, Option, Some, None, IfSome, Result, Ok, Err, refl, ap, ◌∙◌, sym, subst}
+-- Where a call is what comes next: a turn in a phase, or one that is due.
+use Rattle.std.proofs.Common.{◌≡◌, ◌==◌, ℕ, ◌<◌, Bool, true, false, if◌then◌else◌, not, List, Option, Some, None, IfSome, Result, Ok, Err, refl, ap, ◌∙◌, sym, subst}
 use Rattle.std.specs.List.{All}
 use Rattle.std.proofs.lemmas.List.Elements.{All-filter}
 use Rattle.uvm_phase.specs.declared.phases.Phase.{Phase}
+use Rattle.uvm_phase.specs.declared.agendas.Cause.{Cause}
+use Rattle.uvm_phase.specs.declared.agendas.Due.{Due}
 use Rattle.uvm_phase.specs.Phases.{phase_after, walk_of}
 use Rattle.uvm_tree.specs.Cursors.{is_before}
 use Rattle.uvm_object.specs.declared.acts.Who.{Who}
 use Rattle.uvm_object.specs.declared.acts.Who.TheVariants as who
-use Rattle.uvm_object.specs.declared.acts.Call.TheVariants as call
+use Rattle.uvm_object.specs.declared.acts.Call.{Call}
 use Rattle.uvm_object.specs.declared.acts.Act.{Act}
-use Rattle.uvm_object.specs.declared.acts.Act.TheVariants.{Create, Add, OverrideType, OverrideInst}
+use Rattle.uvm_object.specs.declared.acts.Act.TheVariants.{Create, Add, Set, Get, OverrideType, OverrideInst}
 use Rattle.uvm_object.specs.declared.fatals.Fatal.{Fatal}
 use Rattle.uvm_object.specs.declared.entries.Entry.{Entry}
 use Rattle.bench_script.specs.Scripts.{ScriptValue}
 use Rattle.bench_world.specs.declared.stages.Stage.{Stage}
 use Rattle.bench_world.specs.declared.stages.Stage.TheVariants.{Before, During, After, Ended}
-use Rattle.bench_world.specs.History.{stage_of, speaker_of, next_call, order_of, nodes_of, called_of, had_call, components_of}
+use Rattle.bench_world.specs.History.{stage_of, now_of, speaker_of, next_call, order_of, nodes_of, called_of, had_call, components_of}
+use Rattle.bench_world.specs.Dues.{first_due, due_at, due_now}
 use Rattle.bench_world.specs.Next.{Next, Answer, by_call, by_order, by_stage, by_creation, by_act, next_of}
-use Rattle.bench_world.proofs.Cases.{Case, AtEnd, ByReason, ByNote, ByAct, ByStage, case-of}
+use Rattle.bench_world.proofs.Cases.{Case, AtEnd, ByReason, ByNote, ByAct, ByDue, ByStage, case-of}
 use Rattle.bench_world.proofs.Turns.{least-holds}
 
-by-call : (history : List Entry) (node : ℕ) (phase running : Phase) (turn : Option ℕ) → next_call running history ≡ turn → by_call running turn ≡ Answer (who.Node node) (call.Phase phase) → next_call phase history ≡ Some node
-by-call history node phase running None is e = cc
-by-call history node phase running (Some other) is e =
-    let same_phase : running ≡ phase = cc in
-    let same_node : other ≡ node = cc in
-    rw (← same_phase) (is ∙ ap (λ (n : ℕ). Some n) same_node)
+-- the node's turn has come in a phase
+pub record HasTurn (history : List Entry) (node : ℕ) : Type 0 where
+  pub phase : Phase
+  pub turn : next_call phase history ≡ Some node
 
-by-order : (history : List Entry) (node : ℕ) (phase : Phase) (next : Option Phase) → by_order next ≡ Answer (who.Node node) (call.Phase phase) → next_call phase history ≡ Some node
-by-order history node phase None e = cc
-by-order history node phase (Some after) e = cc
+by-call : (history : List Entry) (node : ℕ) (asked : Call) (running : Phase) (turn : Option ℕ) → next_call running history ≡ turn → by_call running turn ≡ Answer (who.Node node) asked None → HasTurn history node
+by-call history node asked running None is e = cc
+by-call history node asked running (Some other) is e =
+    let same : other ≡ node = cc in
+    record { phase = running; turn = is ∙ ap (λ (n : ℕ). Some n) same }
 
-by-stage : (history : List Entry) (node : ℕ) (phase : Phase) (stage : Stage) → by_stage history stage ≡ Answer (who.Node node) (call.Phase phase) → next_call phase history ≡ Some node
-by-stage history node phase Before e = cc
-by-stage history node phase (During running) e = by-call history node phase running (next_call running history) refl e
-by-stage history node phase (After ended) e = by-order history node phase (phase_after ended) e
-by-stage history node phase Ended e = cc
+by-order : (history : List Entry) (node : ℕ) (asked : Call) (next : Option Phase) → by_order next ≡ Answer (who.Node node) asked None → HasTurn history node
+by-order history node asked None e = cc
+by-order history node asked (Some after) e = cc
 
--- an act asks nobody
-by-creation : (node : ℕ) (phase : Phase) (performer : Who) (act : Act) (path : List (List ℕ)) (made : Result (List ℕ) Fatal) → by_creation performer act path made ≡ Answer (who.Node node) (call.Phase phase) → ⊥
-by-creation node phase performer act path (Ok ty) e = cc
-by-creation node phase performer act path (Err fatal) e = cc
+by-stage : (history : List Entry) (node : ℕ) (asked : Call) (stage : Stage) → by_stage history stage ≡ Answer (who.Node node) asked None → HasTurn history node
+by-stage history node asked Before e = cc
+by-stage history node asked (During running) e = by-call history node asked running (next_call running history) refl e
+by-stage history node asked (After ended) e = by-order history node asked (phase_after ended) e
+by-stage history node asked Ended e = cc
 
-by-act : (script : ScriptValue) (history : List Entry) (node : ℕ) (phase : Phase) (performer : Who) (act : Act) → by_act script history performer act ≡ Answer (who.Node node) (call.Phase phase) → ⊥
-by-act script history node phase performer (Create ty name) e = by-creation node phase _ _ _ _ e
-by-act script history node phase performer (Add name what) e = cc
-by-act script history node phase performer (OverrideType original new replace) e = cc
-by-act script history node phase performer (OverrideInst original new glob) e = cc
+-- neither an act asks somebody, nor what comes of a phase for a cause
+by-creation : (who : Who) (asked : Call) (cause : Option Cause) (performer : Who) (act : Act) (path : List (List ℕ)) (made : Result (List ℕ) Fatal) → by_creation performer act path made ≡ Answer who asked cause → ⊥
+by-creation who asked cause performer act path (Ok ty) e = cc
+by-creation who asked cause performer act path (Err fatal) e = cc
 
-by-case : (script : ScriptValue) (history : List Entry) (node : ℕ) (phase : Phase) (next : Next) → next ≡ Answer (who.Node node) (call.Phase phase) → Case script history next → next_call phase history ≡ Some node
-by-case script history node phase next asks (AtEnd ended e) = cc
-by-case script history node phase next asks (ByReason reason e) = cc
-by-case script history node phase next asks (ByNote e) = cc
-by-case script history node phase next asks (ByAct act left e) = absurd (by-act script history node phase (speaker_of history) act (sym e ∙ asks))
-by-case script history node phase next asks (ByStage on e) = by-stage history node phase (stage_of history) (sym e ∙ asks)
+by-act : (script : ScriptValue) (history : List Entry) (who : Who) (asked : Call) (cause : Option Cause) (performer : Who) (act : Act) → by_act script history performer act ≡ Answer who asked cause → ⊥
+by-act script history who asked cause performer (Create ty name) e = by-creation who asked cause _ _ _ _ e
+by-act script history who asked cause performer (Add name what) e = cc
+by-act script history who asked cause performer (Set glob field value) e = cc
+by-act script history who asked cause performer (Get field) e = cc
+by-act script history who asked cause performer (OverrideType original new replace) e = cc
+by-act script history who asked cause performer (OverrideInst original new glob) e = cc
 
--- a node is asked in a phase where its turn has come
-pub turn-of : (script : ScriptValue) (history : List Entry) (node : ℕ) (phase : Phase) → next_of script history ≡ Answer (who.Node node) (call.Phase phase) → next_call phase history ≡ Some node
-turn-of script history node phase asks = by-case script history node phase _ asks (case-of script history)
+no-cause-call : (who : Who) (asked : Call) (cause : Cause) (running : Phase) (turn : Option ℕ) → by_call running turn ≡ Answer who asked (Some cause) → ⊥
+no-cause-call who asked cause running None e = cc
+no-cause-call who asked cause running (Some other) e = cc
+
+no-cause-order : (who : Who) (asked : Call) (cause : Cause) (next : Option Phase) → by_order next ≡ Answer who asked (Some cause) → ⊥
+no-cause-order who asked cause None e = cc
+no-cause-order who asked cause (Some after) e = cc
+
+no-cause-stage : (history : List Entry) (who : Who) (asked : Call) (cause : Cause) (stage : Stage) → by_stage history stage ≡ Answer who asked (Some cause) → ⊥
+no-cause-stage history who asked cause Before e = cc
+no-cause-stage history who asked cause (During running) e = no-cause-call who asked cause running (next_call running history) e
+no-cause-stage history who asked cause (After ended) e = no-cause-order who asked cause (phase_after ended) e
+no-cause-stage history who asked cause Ended e = cc
+
+by-case : (script : ScriptValue) (history : List Entry) (node : ℕ) (asked : Call) (next : Next) → next ≡ Answer (who.Node node) asked None → Case script history next → HasTurn history node
+by-case script history node asked next asks (AtEnd ended e) = cc
+by-case script history node asked next asks (ByReason reason e) = cc
+by-case script history node asked next asks (ByNote e) = cc
+by-case script history node asked next asks (ByAct act left e) = absurd (by-act script history (who.Node node) asked None (speaker_of history) act (sym e ∙ asks))
+by-case script history node asked next asks (ByDue due now e) = cc
+by-case script history node asked next asks (ByStage on e) = by-stage history node asked (stage_of history) (sym e ∙ asks)
+
+-- a node is asked with no cause where its turn has come
+pub turn-of : (script : ScriptValue) (history : List Entry) (node : ℕ) (asked : Call) → next_of script history ≡ Answer (who.Node node) asked None → HasTurn history node
+turn-of script history node asked asks = by-case script history node asked _ asks (case-of script history)
+
+due-case : (script : ScriptValue) (history : List Entry) (who : Who) (asked : Call) (cause : Cause) (next : Next) → next ≡ Answer who asked (Some cause) → Case script history next → (due : Due Who Call) × (due_now history ≡ Some due) × (due.cause ≡ cause)
+due-case script history who asked cause next asks (AtEnd ended e) = cc
+due-case script history who asked cause next asks (ByReason reason e) = cc
+due-case script history who asked cause next asks (ByNote e) = cc
+due-case script history who asked cause next asks (ByAct act left e) = absurd (by-act script history who asked (Some cause) (speaker_of history) act (sym e ∙ asks))
+due-case script history who asked cause next asks (ByDue due now e) = (due, now, cc)
+due-case script history who asked cause next asks (ByStage on e) = absurd (no-cause-stage history who asked cause (stage_of history) (sym e ∙ asks))
+
+-- and with a cause where that call is due
+first-at : (now : ℕ) (first : Option (Due Who Call)) (due : Due Who Call) → due_at now first ≡ Some due → first ≡ Some due
+first-at now None due e = cc
+first-at now (Some other) due e = first-tested (other.time == now) other due e
+  where
+    first-tested : (b : Bool) (other due : Due Who Call) → (if b then Some other else None) ≡ Some due → Some other ≡ Some due
+    first-tested true other due e = e
+    first-tested false other due e = cc
+
+pub due-of : (script : ScriptValue) (history : List Entry) (who : Who) (asked : Call) (cause : Cause) → next_of script history ≡ Answer who asked (Some cause) → (due : Due Who Call) × (first_due history ≡ Some due) × (due.cause ≡ cause)
+unfolding due_now
+due-of script history who asked cause asks =
+    let d = due-case script history who asked cause _ asks (case-of script history) in
+    (d.0, first-at (now_of history) (first_due history) d.0 d.1, d.2)
 
 -- and it is one of the components
 pub asked-within : (history : List Entry) (node count : ℕ) (phase : Phase) → next_call phase history ≡ Some node → All (λ n. n < count) (components_of history) → node < count

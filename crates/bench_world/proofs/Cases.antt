@@ -1,5 +1,8 @@
 -- Which case of the machine says what comes next.
 use Rattle.std.proofs.Common.{◌≡◌, Bool, true, false, List, [], ◌∷◌, length, nat_lt, Option, Some, None, refl, if◌then◌else◌}
+use Rattle.uvm_phase.specs.declared.agendas.Due.{Due}
+use Rattle.uvm_object.specs.declared.acts.Who.{Who}
+use Rattle.uvm_object.specs.declared.acts.Call.{Call}
 use Rattle.uvm_object.specs.declared.acts.Act.{Act}
 use Rattle.uvm_object.specs.declared.entries.Reason.{Reason}
 use Rattle.uvm_object.specs.declared.entries.Entry.{Entry}
@@ -8,7 +11,8 @@ use Rattle.bench_script.specs.Scripts.{ScriptValue}
 use Rattle.bench_world.specs.declared.stages.Stage.{Stage}
 use Rattle.bench_world.specs.declared.stages.Stage.TheVariants.{Before, During, After, Ended}
 use Rattle.bench_world.specs.History.{stage_of, left_of, rest_of, speaker_of, reason_of}
-use Rattle.bench_world.specs.Next.{Next, Exactly, Nothing, by_stage, by_act, by_answer, by_reason, unless_ended, next_of, noted_at}
+use Rattle.bench_world.specs.Dues.{due_now}
+use Rattle.bench_world.specs.Next.{Next, Exactly, Answer, Nothing, by_due, by_stage, by_act, by_answer, by_reason, unless_ended, next_of, noted_at}
 
 pub data Case (script : ScriptValue) (history : List Entry) (next : Next) : Type 0 where
   -- the run is over
@@ -19,6 +23,8 @@ pub data Case (script : ScriptValue) (history : List Entry) (next : Next) : Type
   ByNote : next ≡ Exactly (noted_at (speaker_of history)) → Case script history next
   -- or one that was not performed yet
   ByAct : (act : Act) → left_of script history ≡ act ∷ rest_of (left_of script history) → next ≡ by_act script history (speaker_of history) act → Case script history next
+  -- or a call is due
+  ByDue : (due : Due Who Call) → due_now history ≡ Some due → next ≡ Answer due.owner due.notice (Some due.cause) → Case script history next
   -- or none
   ByStage : (stage_of history ≡ Ended → ⊥) → next ≡ by_stage history (stage_of history) → Case script history next
 
@@ -28,8 +34,12 @@ case-many :
 case-many script history next act acts left true e = ByNote e
 case-many script history next act acts left false e = ByAct act (rw left refl) e
 
+case-due : (script : ScriptValue) (history : List Entry) (next : Next) → (stage_of history ≡ Ended → ⊥) → (due : Option (Due Who Call)) → due_now history ≡ due → next ≡ by_due history due → Case script history next
+case-due script history next on (Some due) is e = ByDue due is e
+case-due script history next on None is e = ByStage on e
+
 case-answer : (script : ScriptValue) (history : List Entry) (next : Next) → (stage_of history ≡ Ended → ⊥) → (left : List Act) → left_of script history ≡ left → next ≡ by_answer script history left → Case script history next
-case-answer script history next on [] is e = ByStage on e
+case-answer script history next on [] is e = case-due script history next on (due_now history) refl e
 case-answer script history next on (act ∷ acts) is e = case-many script history next act acts is (nat_lt 64 (length (act ∷ acts))) e
 
 case-reason : (script : ScriptValue) (history : List Entry) (next : Next) → (stage_of history ≡ Ended → ⊥) → (reason : Option Reason) → next ≡ by_reason script history reason → Case script history next

@@ -2,6 +2,7 @@ pub mod Answered
 pub mod Asked
 pub mod Attempts
 pub mod Cases
+pub mod Configured
 pub mod Did
 pub mod Entered
 pub mod Heard
@@ -9,4 +10,6 @@ pub mod Marks
 pub mod Needed
 pub mod Overriding
 pub mod Performed
+pub mod Phased
+pub mod Told
 pub mod Turns

@@ -11,7 +11,7 @@ use Rattle.bench_world.specs.Refusals.{child_refusal, fatal_of, made_unless, mad
 use Rattle.uvm_object.specs.Acts.{node_of}
 use Rattle.uvm_object.specs.declared.acts.Who.{Who}
 use Rattle.uvm_object.specs.declared.acts.Act.{Act}
-use Rattle.uvm_object.specs.declared.acts.Act.TheVariants.{Create, Add, OverrideType, OverrideInst}
+use Rattle.uvm_object.specs.declared.acts.Act.TheVariants.{Create, Add, Set, Get, OverrideType, OverrideInst}
 use Rattle.uvm_object.specs.declared.fatals.Fatal.{Fatal}
 use Rattle.uvm_object.specs.declared.entries.Outcome.TheVariants.{Made, Refused}
 use Rattle.uvm_object.specs.declared.entries.Entry.{Entry}
@@ -20,7 +20,7 @@ use Rattle.bench_script.specs.Scripts.{ScriptValue}
 use Rattle.bench_world.specs.declared.stages.Stage.{Stage}
 use Rattle.bench_world.specs.declared.stages.Stage.TheVariants.{Before, During, After, Ended}
 use Rattle.bench_world.specs.History.{stage_of, next_call, nodes_of, left_of, rest_of, speaker_of, is_built, overrides_of, IsCreation, created_name}
-use Rattle.bench_world.proofs.Cases.{Case, AtEnd, ByReason, ByNote, ByAct, ByStage, case-of}
+use Rattle.bench_world.proofs.Cases.{Case, AtEnd, ByReason, ByNote, ByAct, ByDue, ByStage, case-of}
 use Rattle.bench_world.specs.Next.{Next, Exactly, Answer, Need, Nothing, by_call, by_order, by_stage, by_creation, by_act, next_of, creation_now, IsNeed, IsNeedOf, Allows, IsNext, made_in, declined_in}
 
 -- the next act creates something that passes its checks
@@ -74,6 +74,8 @@ needed-act :
     → IsNeeded script history ty path performer act
 needed-act script history ty path performer act (Create asked name) left e = needed-creation script history asked name ty path performer act _ left (creation_now script history asked name) refl e
 needed-act script history ty path performer act (Add name what) left e = cc
+needed-act script history ty path performer act (Set glob field value) left e = cc
+needed-act script history ty path performer act (Get field) left e = cc
 needed-act script history ty path performer act (OverrideType original new replace) left e = cc
 needed-act script history ty path performer act (OverrideInst original new glob) left e = cc
 
@@ -84,6 +86,7 @@ needed-case script history ty path performer act next needs (AtEnd ended e) = cc
 needed-case script history ty path performer act next needs (ByReason reason e) = cc
 needed-case script history ty path performer act next needs (ByNote e) = cc
 needed-case script history ty path performer act next needs (ByAct first left e) = needed-act script history ty path performer act first left (sym e ∙ needs)
+needed-case script history ty path performer act next needs (ByDue due now e) = cc
 needed-case script history ty path performer act next needs (ByStage on e) = absurd (no-stage history (stage_of history) ty path performer act (sym e ∙ needs))
 
 pub needed :
@@ -95,7 +98,7 @@ needed script history ty path performer act needs = needed-case script history t
 pub need-of : (ty : List ℕ) (next : Next) → IsNeedOf ty next → IsNeed next
 need-of ty (Need made path performer act) need = tt
 need-of ty (Exactly entry) need = absurd need
-need-of ty (Answer performer call) need = absurd need
+need-of ty (Answer performer call cause) need = absurd need
 need-of ty Nothing need = absurd need
 
 -- an act is left
@@ -106,7 +109,7 @@ pub record HasAct (script : ScriptValue) (history : List Entry) : Type 0 where
 has-act : (script : ScriptValue) (history : List Entry) (next : Next) → next_of script history ≡ next → IsNeed next → HasAct script history
 has-act script history (Need ty path performer act) e need = let n = needed script history ty path performer act e in record { act = act; left = n.left }
 has-act script history (Exactly entry) e need = absurd need
-has-act script history (Answer performer call) e need = absurd need
+has-act script history (Answer performer call cause) e need = absurd need
 has-act script history Nothing e need = absurd need
 
 pub act-needed : (script : ScriptValue) (history : List Entry) → IsNeed (next_of script history) → HasAct script history
@@ -144,7 +147,7 @@ speaker-at script history (Need ty path performer act) e need =
     let n = needed script history ty path performer act e in
     some-node (nodes_of history) (node_of (speaker_of history)) n.name (name-free script history n.asked n.name ty n.made)
 speaker-at script history (Exactly entry) e need = absurd need
-speaker-at script history (Answer performer call) e need = absurd need
+speaker-at script history (Answer performer call cause) e need = absurd need
 speaker-at script history Nothing e need = absurd need
 
 pub speaker-known : (script : ScriptValue) (history : List Entry) → IsNeed (next_of script history) → IsSome (node_at (nodes_of history) (node_of (speaker_of history)))
@@ -160,7 +163,7 @@ declined-at script history deed (Need ty path performer act) e need left =
     let same = same-act (left_of script history) act deed n.left left in
     (inr (rw (same, n.performer_is) refl), rw (same, n.performer_is) refl)
 declined-at script history deed (Exactly entry) e need left = absurd need
-declined-at script history deed (Answer performer call) e need left = absurd need
+declined-at script history deed (Answer performer call cause) e need left = absurd need
 declined-at script history deed Nothing e need left = absurd need
 
 pub declined-next : (script : ScriptValue) (history : List Entry) (deed : Act) → IsNeed (next_of script history) → left_of script history ≡ deed ∷ rest_of (left_of script history) → IsNext script history (Did (speaker_of history) (Refused NoObject) deed) × (declined_in (next_of script history) ≡ Some (Did (speaker_of history) (Refused NoObject) deed))
@@ -191,7 +194,7 @@ made-at script history deed ty (Need made path performer act) e need left =
     let same = same-act (left_of script history) act deed n.left left in
     made-from script history deed ty made path performer act n.asked n.name e need (sym same ∙ n.act_is) n.act_is n.performer_is n.made
 made-at script history deed ty (Exactly entry) e need left = absurd need
-made-at script history deed ty (Answer performer call) e need left = absurd need
+made-at script history deed ty (Answer performer call cause) e need left = absurd need
 made-at script history deed ty Nothing e need left = absurd need
 
 pub made-next : (script : ScriptValue) (history : List Entry) (deed : Act) (ty : List ℕ) → IsNeedOf ty (next_of script history) → left_of script history ≡ deed ∷ rest_of (left_of script history) → IsMade script history deed ty

@@ -9,7 +9,7 @@ use Rattle.bench_world.specs.declared.stages.Stage.{Stage}
 use Rattle.bench_world.specs.declared.stages.Stage.TheVariants.{Before, During, After, Ended}
 use Rattle.bench_world.specs.History.{stage_of, next_call, left_of, head_of, rest_of, speaker_of}
 use Rattle.bench_world.specs.Next.{Next, by_call, by_order, by_stage, by_act, next_of, IsDid}
-use Rattle.bench_world.proofs.Cases.{Case, AtEnd, ByReason, ByNote, ByAct, ByStage, case-of}
+use Rattle.bench_world.proofs.Cases.{Case, AtEnd, ByReason, ByNote, ByAct, ByDue, ByStage, case-of}
 
 -- the next act, and that what it comes to is next
 pub record Performs (script : ScriptValue) (history : List Entry) (next : Next) : Type 0 where
@@ -37,6 +37,7 @@ by-case script history next did (AtEnd ended e) = absurd (subst IsDid e did)
 by-case script history next did (ByReason reason e) = absurd (subst IsDid e did)
 by-case script history next did (ByNote e) = absurd (subst IsDid e did)
 by-case script history next did (ByAct act left e) = record { act = act; left = left; next_is = e }
+by-case script history next did (ByDue due now e) = absurd (subst IsDid e did)
 by-case script history next did (ByStage on e) = absurd (no-stage history (stage_of history) (subst IsDid e did))
 
 pub performs : (script : ScriptValue) (history : List Entry) → IsDid (next_of script history) → Performs script history (next_of script history)

@@ -6,6 +6,8 @@ use Rattle.uvm_glob.specs.Paths.{path_text, dotted}
 use Rattle.uvm_glob.specs.Orders.{down_cmp, up_cmp}
 use Rattle.uvm_factory.specs.declared.overrides.Override.{Override}
 use Rattle.uvm_factory.specs.declared.overrides.Override.TheVariants.{Instance, Whole}
+use Rattle.uvm_factory.specs.declared.types.Kind.{Kind}
+use Rattle.uvm_factory.specs.declared.types.Kind.TheVariants.{Component}
 use Rattle.uvm_factory.specs.Faults.{Types, type_named}
 use Rattle.uvm_phase.specs.declared.phases.Phase.{Phase}
 use Rattle.uvm_phase.specs.declared.phases.Phase.TheVariants.{Build}
@@ -20,7 +22,6 @@ use Rattle.uvm_tree.specs.Cursors.{PathOrder, is_before, least}
 use Rattle.uvm_object.specs.declared.acts.Who.{Who}
 use Rattle.uvm_object.specs.declared.acts.Who.TheVariants as who
 use Rattle.uvm_object.specs.Acts.{node_of}
-use Rattle.uvm_object.specs.declared.acts.Call.TheVariants as call
 use Rattle.uvm_object.specs.declared.acts.What.{What}
 use Rattle.uvm_object.specs.declared.acts.What.TheVariants as what
 use Rattle.uvm_object.specs.declared.acts.Act.{Act}
@@ -47,6 +48,11 @@ stage_of (entry ∷ before) = stage_of before
 abbrev pub now_of : List Entry → ℕ
 now_of [] = 0
 now_of (entry ∷ before) = now_of before
+
+-- the phase that runs
+abbrev pub running : Stage → Option Phase
+running (During phase) = Some phase
+running stage = None
 
 -- the entries since a phase began last
 abbrev pub since_begin : List Entry → List Entry
@@ -79,9 +85,9 @@ components_of [] = []
 components_of (Did performer outcome act ∷ before) = components_after (length (nodes_of before)) (components_of before) outcome
 components_of (entry ∷ before) = components_of before
 
--- the nodes that had their call since the phase began
+-- the nodes that had their call since the phase began: a call without a cause is a phase's
 abbrev pub called_in : Entry → List ℕ
-called_in (Heard performer (call.Phase phase) acts) = node_of performer ∷ []
+called_in (Heard performer call None acts) = node_of performer ∷ []
 called_in entry = []
 
 abbrev pub called_of : List Entry → List ℕ
@@ -121,7 +127,7 @@ head_of (act ∷ acts) = Some act
 
 abbrev pub left_of : ScriptValue → List Entry → List Act
 left_of script [] = opening script ∷ []
-left_of script (Heard performer call acts ∷ before) = acts
+left_of script (Heard performer call cause acts ∷ before) = acts
 left_of script (Did performer outcome act ∷ before) = rest_of (left_of script before)
 left_of script (Note fatal node ∷ before) = []
 left_of script (entry ∷ before) = left_of script before
@@ -129,7 +135,7 @@ left_of script (entry ∷ before) = left_of script before
 -- who gave the last answer
 abbrev pub speaker_of : List Entry → Who
 speaker_of [] = who.Node 0
-speaker_of (Heard performer call acts ∷ before) = performer
+speaker_of (Heard performer call cause acts ∷ before) = performer
 speaker_of (entry ∷ before) = speaker_of before
 
 -- the overrides, the newest first: the script's, then those of the accepted acts
@@ -177,6 +183,10 @@ reason_from false false = None
 
 abbrev pub reason_of : List Entry → Option Reason
 reason_of history = reason_from (list_any refuses_test history) (list_any asks_exit history)
+
+-- the kind of the object that an act makes
+abbrev pub kind_made : Act → Kind
+kind_made act = Component
 
 -- the name of what an act creates
 abbrev pub IsCreation : Act → Type 0

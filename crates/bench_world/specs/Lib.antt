@@ -1,3 +1,5 @@
+pub mod Configuration
+pub mod Dues
 pub mod History
 pub mod Next
 pub mod Refusals

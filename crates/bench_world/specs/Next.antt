@@ -1,7 +1,11 @@
 -- What may come next in a log.
 use Rattle.std.specs.Prelude.{◌≡◌, ℕ, ◌≤◌, List, [], ◌∷◌, ◌++◌, length, nat_lt, Option, Some, None, Result, Ok, Err, ◌⊎◌, if◌then◌else◌}
+use Rattle.uvm_glob.specs.Paths.{path_text}
+use Rattle.uvm_config.specs.Answers.{config_answer}
 use Rattle.uvm_phase.specs.declared.phases.Phase.{Phase}
 use Rattle.uvm_phase.specs.declared.phases.Phase.TheVariants.{Build}
+use Rattle.uvm_phase.specs.declared.agendas.Cause.{Cause}
+use Rattle.uvm_phase.specs.declared.agendas.Due.{Due}
 use Rattle.uvm_phase.specs.Phases.{phase_after}
 use Rattle.uvm_tree.specs.Nodes.{path_at}
 use Rattle.uvm_object.specs.declared.acts.Who.{Who}
@@ -10,10 +14,10 @@ use Rattle.uvm_object.specs.Acts.{node_of}
 use Rattle.uvm_object.specs.declared.acts.Call.{Call}
 use Rattle.uvm_object.specs.declared.acts.Call.TheVariants as call
 use Rattle.uvm_object.specs.declared.acts.Act.{Act}
-use Rattle.uvm_object.specs.declared.acts.Act.TheVariants.{Create, Add, OverrideType, OverrideInst}
+use Rattle.uvm_object.specs.declared.acts.Act.TheVariants.{Create, Add, Set, Get, OverrideType, OverrideInst}
 use Rattle.uvm_object.specs.declared.fatals.Fatal.{Fatal}
 use Rattle.uvm_object.specs.declared.fatals.Fatal.TheVariants.{TooManyActs, NoObject}
-use Rattle.uvm_object.specs.declared.entries.Outcome.TheVariants.{Made, Refused}
+use Rattle.uvm_object.specs.declared.entries.Outcome.TheVariants.{Made, Value, Refused}
 use Rattle.uvm_object.specs.declared.entries.Reason.{Reason}
 use Rattle.uvm_object.specs.declared.entries.Reason.TheVariants.{Finished}
 use Rattle.uvm_object.specs.declared.entries.Entry.{Entry}
@@ -22,18 +26,20 @@ use Rattle.bench_script.specs.Scripts.{ScriptValue}
 use Rattle.bench_world.specs.declared.stages.Stage.{Stage}
 use Rattle.bench_world.specs.declared.stages.Stage.TheVariants.{Before, During, After, Ended}
 use Rattle.bench_world.specs.History.{stage_of, nodes_of, next_call, left_of, speaker_of, overrides_of, is_built, reason_of}
-use Rattle.bench_world.specs.Refusals.{creation_of, addition_of, overriding_of}
+use Rattle.bench_world.specs.Configuration.{settings_of}
+use Rattle.bench_world.specs.Dues.{due_now}
+use Rattle.bench_world.specs.Refusals.{creation_of, addition_of, setting_of, overriding_of}
 
 -- this entry; the answer of somebody to a call; an object of a type for a path, made or declined; or nothing
 pub data Next : Type 0 where
   Exactly : (entry : Entry) → Next
-  Answer : (performer : Who) → (call : Call) → Next
+  Answer : (performer : Who) → (call : Call) → (cause : Option Cause) → Next
   Need : (ty : List ℕ) → (path : List (List ℕ)) → (performer : Who) → (act : Act) → Next
   Nothing : Next
 
 -- the next call of a running phase, or its end
 abbrev pub by_call : Phase → Option ℕ → Next
-by_call phase (Some node) = Answer (who.Node node) (call.Phase phase)
+by_call phase (Some node) = Answer (who.Node node) (call.Phase phase) None
 by_call phase None = Exactly (End phase)
 
 -- after a phase the next one, and after the last the end of the run
@@ -66,13 +72,22 @@ by_act script history performer (OverrideType original new replace) =
     Exactly (Did performer (overriding_of script.types original new) (OverrideType original new replace))
 by_act script history performer (OverrideInst original new glob) =
     Exactly (Did performer (overriding_of script.types original new) (OverrideInst original new glob))
+by_act script history performer (Set glob field value) =
+    Exactly (Did performer (setting_of (length (settings_of script history))) (Set glob field value))
+by_act script history performer (Get field) =
+    Exactly (Did performer (Value (config_answer (settings_of script history) (path_text (path_at (nodes_of history) (node_of performer))) field)) (Get field))
+
+-- what is due goes before what the phase calls
+abbrev pub by_due : List Entry → Option (Due Who Call) → Next
+by_due history (Some due) = Answer due.owner due.notice (Some due.cause)
+by_due history None = by_stage history (stage_of history)
 
 -- of an answer of more than 64 acts none is performed
 abbrev pub noted_at : Who → Entry
 noted_at performer = Note TooManyActs (node_of performer)
 
 abbrev pub by_answer : ScriptValue → List Entry → List Act → Next
-by_answer script history [] = by_stage history (stage_of history)
+by_answer script history [] = by_due history (due_now history)
 by_answer script history (act ∷ acts) =
     if nat_lt 64 (length (act ∷ acts)) then Exactly (noted_at (speaker_of history))
     else by_act script history (speaker_of history) act
@@ -93,7 +108,7 @@ next_of script history = unless_ended (stage_of history) (by_reason script histo
 -- three things are free: the acts of an answer, and whether a needed object is made or declined
 abbrev pub Allows : Next → Entry → Type 0
 Allows (Exactly expected) entry = entry ≡ expected
-Allows (Answer performer call) entry = (acts : List Act) × (entry ≡ Heard performer call acts)
+Allows (Answer performer call cause) entry = (acts : List Act) × (entry ≡ Heard performer call cause acts)
 Allows (Need ty path performer act) entry = (entry ≡ Did performer (Made ty) act) ⊎ (entry ≡ Did performer (Refused NoObject) act)
 Allows Nothing entry = ⊥
 
@@ -114,13 +129,13 @@ IsDid next = ⊥
 abbrev pub IsNeed : Next → Type 0
 IsNeed (Need ty path performer act) = Unit {0}
 IsNeed (Exactly entry) = ⊥
-IsNeed (Answer performer call) = ⊥
+IsNeed (Answer performer call cause) = ⊥
 IsNeed Nothing = ⊥
 
 abbrev pub IsNeedOf : List ℕ → Next → Type 0
 IsNeedOf made (Need ty path performer act) = made ≡ ty
 IsNeedOf made (Exactly entry) = ⊥
-IsNeedOf made (Answer performer call) = ⊥
+IsNeedOf made (Answer performer call cause) = ⊥
 IsNeedOf made Nothing = ⊥
 
 -- the entry where it is made, and where it is declined

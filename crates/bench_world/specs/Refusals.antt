@@ -1,5 +1,5 @@
 -- Why acts are refused, by what a log says.
-use Rattle.std.specs.Prelude.{ℕ, Bool, List, [], ◌∷◌, ◌++◌, length, slice_get, Option, Some, None, Result, Ok, Err, option_and_then, if◌then◌else◌}
+use Rattle.std.specs.Prelude.{ℕ, Bool, List, [], ◌∷◌, ◌++◌, length, slice_get, Option, Some, None, Result, Ok, Err, option_and_then, nat_le, if◌then◌else◌}
 use Rattle.uvm_glob.specs.Paths.{path_text}
 use Rattle.uvm_factory.specs.declared.types.Kind.{Kind}
 use Rattle.uvm_factory.specs.declared.types.Kind.TheVariants.{Component, Sequence}
@@ -12,7 +12,7 @@ use Rattle.uvm_tree.specs.declared.faults.TreeFault.{TreeFault}
 use Rattle.uvm_tree.specs.declared.faults.TreeFault.TheVariants.{NameTaken}
 use Rattle.uvm_tree.specs.Nodes.{path_at, add_fault}
 use Rattle.uvm_object.specs.declared.fatals.Fatal.{Fatal}
-use Rattle.uvm_object.specs.declared.fatals.Fatal.TheVariants.{CreatedAfterBuild, InvalidType, ChildTaken, TreeLimit, OverrideLoop}
+use Rattle.uvm_object.specs.declared.fatals.Fatal.TheVariants.{CreatedAfterBuild, InvalidType, ChildTaken, TreeLimit, OverrideLoop, TooManySettings}
 use Rattle.uvm_object.specs.declared.entries.Outcome.{Outcome}
 use Rattle.uvm_object.specs.declared.entries.Outcome.TheVariants.{Done, Refused}
 use Rattle.bench_world.specs.History.{type_name}
@@ -63,6 +63,10 @@ done_unless (Some fatal) = Refused fatal
 -- nothing is added after build; the name has to be free and within the limits of the tree
 unfoldable pub addition_of : Bool → List Node → ℕ → List ℕ → Outcome
 addition_of built nodes parent name = if built then Refused CreatedAfterBuild else done_unless (child_refusal nodes parent name)
+
+-- so many settings are accepted
+unfoldable pub setting_of : ℕ → Outcome
+setting_of count = if nat_le 65536 count then Refused TooManySettings else Done
 
 -- an override goes between known types of one kind
 abbrev pub override_refusal : Option FactoryFault → Outcome

@@ -1,5 +1,5 @@
 -- What a world keeps beside its log, and that it is what the log says.
-use Rattle.std.specs.Prelude.{◌≡◌, ℕ, ◌<◌, ◌≤◌, false, ◌==◌, ◌||◌, List, [], ◌∷◌, length, map, drop, reverse, slice_get, Option, Some, None, All, Result, Ok, Err, if◌then◌else◌}
+use Rattle.std.specs.Prelude.{◌≡◌, ℕ, ◌<◌, ◌≤◌, ◌+◌, Bool, true, false, ◌==◌, ◌||◌, List, [], ◌∷◌, length, map, drop, filter, reverse, slice_get, Option, Some, None, All, AllPairs, Result, Ok, Err, if◌then◌else◌}
 use Rattle.std.specs.Option.{ForSome}
 use Rattle.std.specs.List.{list_any}
 use Rattle.uvm_glob.specs.Paths.{path_text}
@@ -7,7 +7,15 @@ use Rattle.uvm_factory.specs.declared.overrides.Override.{Override}
 use Rattle.uvm_factory.specs.Faults.{Types}
 use Rattle.uvm_factory.specs.Overrides.{type_step}
 use Rattle.uvm_factory.specs.Observed.{Kept, types_of, step_at}
+use Rattle.uvm_config.specs.Answers.{Setting, strongest_answer}
+use Rattle.uvm_config.specs.Observed as config
+use Rattle.uvm_phase.specs.declared.phases.Phase.{Phase}
+use Rattle.uvm_phase.specs.declared.agendas.Cause.{Cause}
+use Rattle.uvm_phase.specs.declared.agendas.Due.{Due}
+use Rattle.uvm_phase.specs.Phases.{number_of}
+use Rattle.uvm_phase.specs.Dues.{same_cause, in_order}
 use Rattle.uvm_object.specs.declared.acts.Who.{Who}
+use Rattle.uvm_object.specs.declared.acts.Call.{Call}
 use Rattle.uvm_object.specs.declared.acts.Act.{Act}
 use Rattle.uvm_object.specs.declared.fatals.Fatal.{Fatal}
 use Rattle.uvm_object.specs.declared.fatals.Fatal.TheVariants.{OverrideLoop}
@@ -18,6 +26,10 @@ use Rattle.bench_world.specs.declared.creations.Uncreated.{Uncreated}
 use Rattle.bench_world.specs.declared.creations.Uncreated.TheVariants.{Refused, Memory}
 use Rattle.bench_world.specs.declared.services.Component.{Component}
 use Rattle.bench_world.specs.declared.services.Services.{Services}
+use Rattle.bench_world.specs.declared.stages.Stage.{Stage}
+use Rattle.bench_world.specs.declared.stages.Stage.TheVariants.{Before, During, After, Ended}
+use Rattle.bench_world.specs.Configuration.{settings_of}
+use Rattle.bench_world.specs.Dues.{caused_of, heard_of, ended_of, is_open}
 use Rattle.bench_world.specs.History.{stage_of, now_of, nodes_of, components_of, called_of, had_call, opening, left_of, speaker_of, overrides_of, ends_build, asks_exit, refuses_test}
 
 -- the factory has the types, and gives what the overrides give
@@ -59,7 +71,7 @@ pub record AreTurns (components called : List ℕ) (count : ℕ) (kept : List Co
 
 -- the acts of the answer at a place, or the opening
 abbrev pub acts_in : Option Entry → List Act
-acts_in (Some (Heard performer call acts)) = acts
+acts_in (Some (Heard performer call cause acts)) = acts
 acts_in entry = []
 
 abbrev pub acts_at : Act → List Entry → Option ℕ → List Act
@@ -72,6 +84,29 @@ pub record IsAnswer (left : List Act) (last : Who) (acts : List Act) (speaker : 
   pub left_is : left ≡ drop done acts
   pub done_within : done ≤ length acts
 
+-- the settings give what the list of them gives
+pub record IsSettings (settings : List Setting) (kept : config.Kept) : Type 0 where
+  pub answers : (path : List (List ℕ)) (asked : List ℕ) → config.answer_at kept path asked ≡ strongest_answer settings (path_text path) asked
+  pub count : config.accepted kept ≡ length settings
+
+-- what is due, in its order: the calls that were caused and are open. Each has a cause of its own, an earlier entry
+pub record IsAgenda (caused : List (Due Who Call)) (heard : List Cause) (ended : List Phase) (count : ℕ) (dues : List (Due Who Call)) : Type 0 where
+  pub are : dues ≡ in_order (filter (is_open heard ended) caused)
+  pub distinct : AllPairs (λ due other. same_cause due.cause other.cause ≡ false) caused
+  pub caused_within : All (λ due. due.cause.place < count) caused
+  pub heard_within : All (λ cause. cause.place < count) heard
+
+-- the phases go in their order: the number of the next one that may begin, or of the one that runs
+abbrev pub next_number : Stage → ℕ
+next_number Before = 0
+next_number (During phase) = number_of phase
+next_number (After phase) = number_of phase + 1
+next_number Ended = 9
+
+-- those that have ended stand before it
+pub record ArePhases (stage : Stage) (ended : List Phase) : Type 0 where
+  pub before : All (λ phase. number_of phase < next_number stage) ended
+
 -- each thing that is kept is what the history says
 pub record ServicesMatch (script : ScriptValue) (history : List Entry) (services : Services) : Type 0 where
   pub stage : services.stage ≡ stage_of history
@@ -83,4 +118,7 @@ pub record ServicesMatch (script : ScriptValue) (history : List Entry) (services
   pub answered : ForSome services.answer (λ place. place < length history)
   pub built : services.built ≡ list_any ends_build history
   pub exit_asked : services.exit_asked ≡ list_any asks_exit history
+  pub settings : IsSettings (settings_of script history) services.settings
+  pub agenda : IsAgenda (caused_of history) (heard_of history) (ended_of history) (length history) services.agenda.dues
+  pub phases : ArePhases (stage_of history) (ended_of history)
   pub test_refused : services.test_refused ≡ list_any refuses_test history

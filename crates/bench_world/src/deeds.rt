@@ -102,6 +102,17 @@ impl World {
                 let (name, what) = (*name, *what);
                 self.did_add_or_not(deed, name, what)
             }
+            Act::Set { glob, field, value } => {
+                let (field, value) = (*field, *value);
+                match glob.copy() {
+                    Ok(glob) => self.did_set_or_not(deed, glob, field, value),
+                    Err(_) => Err(self.fail()),
+                }
+            }
+            Act::Get { field } => {
+                let field = *field;
+                self.did_get(deed, field)
+            }
             Act::OverrideType {
                 original,
                 new,

@@ -1,8 +1,8 @@
 //! The entries of a log that are no act's: one call for each kind.
 
-ghost use Rattle.std.specs.Prelude.{◌≡◌, ◌∷◌, ◌<◌, length, true, OnOk, OnErr, IsOk, Some, All};
+ghost use Rattle.std.specs.Prelude.{◌≡◌, ◌||◌, ◌∷◌, ◌<◌, length, true, OnOk, OnErr, IsOk, Some, None, All};
 ghost use Rattle.uvm_object.specs.declared.entries.Entry.TheVariants.{Begin, End, Heard, Note, Over};
-ghost use Rattle.bench_world.specs.History.{next_call, order_of, reason_of};
+ghost use Rattle.bench_world.specs.History.{next_call, order_of, reason_of, ends_build};
 ghost use Rattle.uvm_tree.specs.Cursors.{is_before, least, sooner};
 ghost use Rattle.std.specs.Option.{ForSome};
 ghost use Rattle.bench_world.specs.Services.{waiting_in};
@@ -15,7 +15,7 @@ use crate::stages::Stage;
 use crate::worlds::World;
 use std::alloc::AllocError;
 use uvm_object::{Acts, Call, Entry, Fatal, Log, Reason, Who};
-use uvm_phase::{Phase, Walk};
+use uvm_phase::{Cause, Phase, Walk};
 use uvm_tree::{NodeId, Tree};
 
 impl World {
@@ -48,17 +48,18 @@ impl World {
         self.room = None;
         push(&mut self.log, Entry::End(phase))?;
         self.services.stage = Stage::After(phase);
-        self.services.built = self.services.built || phase == Phase::Build;
+        self.services.agenda.clear(phase);
+        self.services.built = is_built_with(phase, self.services.built);
         self.sound = true;
         Ok(())
     }
 
-    /// Somebody was called and answered.
+    /// Somebody was called in the running phase and answered.
     pub fn heard(&mut self, who: Who, call: Call, acts: Acts) -> Result<(), AllocError>
         requires sound { self.old.sound ≡ true }
         requires room { length self.old.history < 1000000 }
-        requires next { next_of self.old.script self.old.history ≡ Answer who call }
-        ensures ok { OnOk result (self.new ≡ after (Heard who call acts) self.old) }
+        requires next { next_of self.old.script self.old.history ≡ Answer who call None }
+        ensures ok { OnOk result (self.new ≡ after (Heard who call None acts) self.old) }
         ensures err { OnErr result (self.new ≡ broken self.old) }
     {
         self.sound = false;
@@ -68,10 +69,44 @@ impl World {
         let entry = Entry::Heard {
             who: Who::Node(node),
             call,
+            cause: None,
             acts,
         };
         push(&mut self.log, entry)?;
         mark_call(&mut self.services.components, node);
+        self.services.speaker = Who::Node(node);
+        self.services.answer = Some(place);
+        self.services.done = 0;
+        self.sound = true;
+        Ok(())
+    }
+
+    /// Somebody had a call that was due, and answered.
+    pub fn heard_due(
+        &mut self,
+        who: Who,
+        call: Call,
+        cause: Cause,
+        acts: Acts,
+    ) -> Result<(), AllocError>
+        requires sound { self.old.sound ≡ true }
+        requires room { length self.old.history < 1000000 }
+        requires next { next_of self.old.script self.old.history ≡ Answer who call (Some cause) }
+        ensures ok { OnOk result (self.new ≡ after (Heard who call (Some cause) acts) self.old) }
+        ensures err { OnErr result (self.new ≡ broken self.old) }
+    {
+        self.sound = false;
+        self.room = None;
+        let place = self.log.len();
+        let node = who.node();
+        let entry = Entry::Heard {
+            who: Who::Node(node),
+            call,
+            cause: Some(cause),
+            acts,
+        };
+        push(&mut self.log, entry)?;
+        let _ = self.services.agenda.take_first();
         self.services.speaker = Who::Node(node);
         self.services.answer = Some(place);
         self.services.done = 0;
@@ -140,6 +175,13 @@ impl World {
             phase.walk(),
         )
     }
+}
+
+// Whether build has ended, once a phase has.
+fn is_built_with(phase: Phase, built: bool) -> bool
+    ensures { result ≡ (ends_build (End phase) || built) }
+{
+    matches!(phase, Phase::Build) || built
 }
 
 // Of the components that had no call the least in an order.

@@ -1,6 +1,7 @@
 //! The world of a run: the script, the log, and the services, each of which is what the log says.
 #![tactic(auto)]
 
+mod configuring;
 mod creations;
 mod deeds;
 mod entries;

@@ -110,7 +110,7 @@ impl World {
 }
 
 // The entry of an act that was performed.
-fn done(node: NodeId, deed: Deed) -> Entry
+pub(crate) fn done(node: NodeId, deed: Deed) -> Entry
     ensures { result ≡ Did (who.Node node) Done deed }
 {
     Entry::Did {
@@ -172,7 +172,12 @@ fn override_inst(
 }
 
 // The glob under the path of a node.
-fn scope_under(alloc: Global, tree: &Tree, node: NodeId, glob: &Glob) -> Result<Glob, AllocError>
+pub(crate) fn scope_under(
+    alloc: Global,
+    tree: &Tree,
+    node: NodeId,
+    glob: &Glob,
+) -> Result<Glob, AllocError>
     ensures { IfOk result (λ scope. scope ≡ dotted (path_text (path_at tree.now.nodes node)) glob.now) }
 {
     match tree.path(node) {

@@ -4,8 +4,10 @@ ghost use Rattle.std.specs.Prelude.{◌≡◌, map};
 ghost use Rattle.bench_world.specs.Services.{cleared, with_call};
 
 use crate::stages::Stage;
+use uvm_config::Settings;
 use uvm_factory::Factory;
-use uvm_object::Who;
+use uvm_object::{Call, Who};
+use uvm_phase::Agenda;
 use uvm_tree::{NodeId, Tree};
 
 /// A node that holds an object, and whether it had its call in the running phase.
@@ -32,6 +34,9 @@ pub(crate) struct Services {
     pub(crate) time: u64,
     pub(crate) tree: Tree,
     pub(crate) factory: Factory,
+    pub(crate) settings: Settings,
+    // The calls that are due.
+    pub(crate) agenda: Agenda<Who, Call>,
     // In the order in which they were made.
     pub(crate) components: Vec<Component>,
     // Who gave the last answer.

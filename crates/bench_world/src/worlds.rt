@@ -3,17 +3,24 @@
 ghost use Rattle.std.specs.Prelude.{◌≡◌, [], IfOk, true, false, IsSome, None, length, nat_le};
 ghost use Rattle.bench_script.specs.Factories.{IsFactoryOf};
 ghost use Rattle.bench_world.specs.History.{opening, stage_of, now_of, nodes_of};
+ghost use Rattle.std.specs.Option.{option_copied};
+ghost use Rattle.uvm_glob.specs.Paths.{path_text};
+ghost use Rattle.uvm_config.specs.Answers.{config_answer};
+ghost use Rattle.bench_world.specs.Configuration.{settings_of};
+ghost use Rattle.bench_world.specs.Dues.{due_now};
 ghost use Rattle.bench_world.specs.Next.{IsLegal};
 ghost use Rattle.bench_world.specs.Story.{Story};
 
+use crate::configuring::given_settings;
 use crate::services::Services;
 use crate::stages::Stage;
 use bench_script::Script;
 use std::alloc::{AllocError, Global};
 use std::marker::Model;
 use uvm_factory::Factory;
-use uvm_glob::Name;
-use uvm_object::{Act, Deed, Log, Who};
+use uvm_glob::{Name, Path};
+use uvm_object::{Act, Call, Deed, Log, Who};
+use uvm_phase::{Agenda, Due};
 use uvm_tree::{NodeId, Tree};
 
 /// A legal log with the script of the run and the services. While `sound()` is true each service is what the log says.
@@ -56,6 +63,7 @@ impl World {
         ensures { IfOk result (λ world. world ≡ record { script = script; history = []; sound = true; ready = false }) }
     {
         let factory = script.factory(alloc)?;
+        let settings = given_settings(alloc, script.settings())?;
         let creation = opening(&script, &factory);
         Ok(World {
             alloc,
@@ -66,6 +74,8 @@ impl World {
                 time: 0,
                 tree: Tree::new(alloc),
                 factory,
+                settings,
+                agenda: Agenda::new(alloc),
                 components: Vec::new(alloc),
                 speaker: Who::Node(NodeId::TOP),
                 answer: None,
@@ -123,6 +133,26 @@ impl World {
         ensures { result ≡ now_of self.now.history }
     {
         self.services.time
+    }
+
+    /// The value that a field has at a path, if it has one (IEEE 1800.2-2020, Annex C).
+    pub fn config(&self, path: &Path, field: &Name) -> Option<i64>
+        requires { self.now.sound ≡ true }
+        ensures { result ≡ config_answer (settings_of self.now.script self.now.history) (path_text path.now) field.now }
+    {
+        self.services.settings.get(path, field)
+    }
+
+    /// The call that is due at the present time, of several the first.
+    #[tactic(auto, unfolding(crate::specs::Dues::due_now))]
+    pub fn due_now(&self) -> Option<&Due<Who, Call>>
+        requires { self.now.sound ≡ true }
+        ensures { option_copied result ≡ due_now self.now.history }
+    {
+        match self.services.agenda.first() {
+            Some(due) if due.time == self.now() => Some(due),
+            _ => None,
+        }
     }
 
     /// The tree.

@@ -1,7 +1,7 @@
 -- The ids and texts of the kernel's fatal reports.
 use Rattle.std.specs.Prelude.{ℕ, List, codes}
 use Rattle.uvm_object.specs.declared.fatals.Fatal.{Fatal}
-use Rattle.uvm_object.specs.declared.fatals.Fatal.TheVariants.{CreatedAfterBuild, TooManyActs, InvalidType, ChildTaken, TreeLimit, OverrideLoop, NoObject}
+use Rattle.uvm_object.specs.declared.fatals.Fatal.TheVariants.{CreatedAfterBuild, TooManyActs, InvalidType, ChildTaken, TreeLimit, OverrideLoop, NoObject, TooManySettings}
 
 abbrev pub id_of : Fatal → List ℕ
 id_of CreatedAfterBuild = codes "ILLCRT"
@@ -11,6 +11,7 @@ id_of ChildTaken = codes "CLDEXT"
 id_of TreeLimit = codes "TREELIM"
 id_of OverrideLoop = codes "OVRDLOOP"
 id_of NoObject = codes "FCTTYP"
+id_of TooManySettings = codes "CFGFULL"
 
 abbrev pub text_of : Fatal → List ℕ
 text_of CreatedAfterBuild = codes "created after build"
@@ -20,3 +21,4 @@ text_of ChildTaken = codes "child name taken"
 text_of TreeLimit = codes "tree limit reached"
 text_of OverrideLoop = codes "override loop"
 text_of NoObject = codes "no object supplied"
+text_of TooManySettings = codes "too many settings"

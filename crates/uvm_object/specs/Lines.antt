@@ -1,6 +1,6 @@
 -- The line of an entry.
-use Rattle.std.specs.Prelude.{ℕ, Bool, true, false, List, [], ◌∷◌, ◌++◌, length, codes}
-use Rattle.std.specs.Fmt.{decimal}
+use Rattle.std.specs.Prelude.{ℕ, ℤ, Option, Some, None, Bool, true, false, List, [], ◌∷◌, ◌++◌, length, codes}
+use Rattle.std.specs.Fmt.{decimal, signed_decimal}
 use Rattle.uvm_glob.specs.Paths.{path_text}
 use Rattle.uvm_phase.specs.Phases.{name_of}
 use Rattle.uvm_tree.specs.declared.nodes.Node.{Node}
@@ -12,9 +12,9 @@ use Rattle.uvm_object.specs.declared.acts.Call.TheVariants as call
 use Rattle.uvm_object.specs.declared.acts.What.{What}
 use Rattle.uvm_object.specs.declared.acts.What.TheVariants.{Fifo}
 use Rattle.uvm_object.specs.declared.acts.Act.{Act}
-use Rattle.uvm_object.specs.declared.acts.Act.TheVariants.{Create, Add, OverrideType, OverrideInst}
+use Rattle.uvm_object.specs.declared.acts.Act.TheVariants.{Create, Add, Set, Get, OverrideType, OverrideInst}
 use Rattle.uvm_object.specs.declared.entries.Outcome.{Outcome}
-use Rattle.uvm_object.specs.declared.entries.Outcome.TheVariants.{Done, Made, Refused}
+use Rattle.uvm_object.specs.declared.entries.Outcome.TheVariants.{Done, Made, Value, Refused}
 use Rattle.uvm_object.specs.declared.entries.Reason.{Reason}
 use Rattle.uvm_object.specs.declared.entries.Reason.TheVariants.{Finished, Exit, NoTest}
 use Rattle.uvm_object.specs.declared.entries.Entry.{Entry}
@@ -29,8 +29,14 @@ shown_path (name ∷ names) = path_text (name ∷ names)
 abbrev pub who_text : List Node → Who → List ℕ
 who_text nodes (who.Node node) = shown_path (path_at nodes node)
 
+-- a value that may be absent
+abbrev pub value_text : Option ℤ → List ℕ
+value_text None = codes "none"
+value_text (Some value) = signed_decimal value
+
 abbrev pub call_text : Call → List ℕ
 call_text (call.Phase phase) = name_of phase
+call_text (call.Config field value) = codes "config " ++ field ++ 32 ∷ value_text value
 
 abbrev pub what_text : What → List ℕ
 what_text (Fifo size) = codes "fifo " ++ decimal size
@@ -42,12 +48,15 @@ replace_text false = []
 abbrev pub act_text : Act → List ℕ
 act_text (Create ty name) = codes "create " ++ ty ++ 32 ∷ name
 act_text (Add name what) = codes "add " ++ name ++ 32 ∷ what_text what
+act_text (Set glob field value) = codes "set (" ++ glob ++ codes ") " ++ field ++ 32 ∷ signed_decimal value
+act_text (Get field) = codes "get " ++ field
 act_text (OverrideType original new replace) = codes "override " ++ original ++ 32 ∷ new ++ replace_text replace
 act_text (OverrideInst original new glob) = codes "override " ++ original ++ 32 ∷ new ++ codes " at (" ++ glob ++ codes ")"
 
 abbrev pub outcome_text : Outcome → List ℕ
 outcome_text Done = codes "done"
 outcome_text (Made ty) = codes "made " ++ ty
+outcome_text (Value value) = codes "value " ++ value_text value
 outcome_text (Refused fatal) = codes "refused " ++ id_of fatal
 
 abbrev pub reason_text : Reason → List ℕ
@@ -58,7 +67,7 @@ reason_text NoTest = codes "no_test"
 abbrev pub entry_text : List Node → Entry → List ℕ
 entry_text nodes (Begin phase) = codes "begin " ++ name_of phase
 entry_text nodes (End phase) = codes "end " ++ name_of phase
-entry_text nodes (Heard who call acts) = codes "heard " ++ who_text nodes who ++ 32 ∷ call_text call ++ codes ": " ++ decimal (length acts)
+entry_text nodes (Heard who call cause acts) = codes "heard " ++ who_text nodes who ++ 32 ∷ call_text call ++ codes ": " ++ decimal (length acts)
 entry_text nodes (Did who outcome act) = codes "did " ++ who_text nodes who ++ 32 ∷ act_text act ++ codes ": " ++ outcome_text outcome
 entry_text nodes (Note fatal node) = codes "note " ++ id_of fatal ++ 32 ∷ shown_path (path_at nodes node)
 entry_text nodes (Over reason) = codes "over " ++ reason_text reason

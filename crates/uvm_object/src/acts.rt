@@ -32,6 +32,8 @@ impl Who {
 pub enum Call {
     /// Its turn in a phase (IEEE 1800.2-2020, Clause 9).
     Phase(Phase),
+    /// The value that a field has, if it has one: after `Act::Get` (Annex C).
+    Config { field: Name, value: Option<i64> },
 }
 
 /// What a component adds below itself.
@@ -53,6 +55,16 @@ pub enum Act {
     Add {
         name: Name,
         what: What,
+    },
+    /// Set a field for the paths that a glob matches (Annex C, uvm_config_db).
+    Set {
+        glob: Glob,
+        field: Name,
+        value: i64,
+    },
+    /// Ask for the value of a field at the performer's path; it comes as a call (Annex C).
+    Get {
+        field: Name,
     },
     /// Override a type everywhere (Clause 8); without `replace` an override of that type that is there stays.
     OverrideType {
@@ -82,6 +94,12 @@ impl Act {
                 name: *name,
                 what: *what,
             },
+            Act::Set { glob, field, value } => Act::Set {
+                glob: glob.copy()?,
+                field: *field,
+                value: *value,
+            },
+            Act::Get { field } => Act::Get { field: *field },
             Act::OverrideType {
                 original,
                 new,

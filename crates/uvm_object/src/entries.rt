@@ -7,7 +7,7 @@ use crate::fatals::Fatal;
 use std::alloc::{AllocError, Global};
 use std::marker::Model;
 use uvm_glob::Name;
-use uvm_phase::Phase;
+use uvm_phase::{Cause, Phase};
 use uvm_tree::NodeId;
 
 /// What became of an act.
@@ -17,6 +17,8 @@ pub enum Outcome {
     Done,
     /// An object of this type was created.
     Made(Name),
+    /// This value was found, or none.
+    Value(Option<i64>),
     /// It was refused.
     Refused(Fatal),
 }
@@ -71,10 +73,11 @@ pub enum Entry {
     Begin(Phase),
     /// A phase ends.
     End(Phase),
-    /// An object was called and answered.
+    /// An object was called and answered. A call that was due names its cause; a phase's call has none.
     Heard {
         who: Who,
         call: Call,
+        cause: Option<Cause>,
         acts: Acts,
     },
     /// An act of the last answer was performed or refused.

@@ -20,6 +20,8 @@ pub enum Fatal {
     OverrideLoop,
     /// FCTTYP: no object was supplied.
     NoObject,
+    /// CFGFULL: as many settings were accepted as there may be.
+    TooManySettings,
 }
 
 impl Fatal {
@@ -35,6 +37,7 @@ impl Fatal {
             Fatal::TreeLimit => "TREELIM",
             Fatal::OverrideLoop => "OVRDLOOP",
             Fatal::NoObject => "FCTTYP",
+            Fatal::TooManySettings => "CFGFULL",
         }
     }
 
@@ -50,6 +53,7 @@ impl Fatal {
             Fatal::TreeLimit => "tree limit reached",
             Fatal::OverrideLoop => "override loop",
             Fatal::NoObject => "no object supplied",
+            Fatal::TooManySettings => "too many settings",
         }
     }
 }

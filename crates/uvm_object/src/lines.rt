@@ -1,8 +1,8 @@
 //! The lines of entries.
 
 ghost use Rattle.std.specs.Prelude.{◌≡◌, ◌++◌, ◌∷◌, OnOk, OnErr};
-ghost use Rattle.std.specs.Fmt.{decimal};
-ghost use Rattle.uvm_object.specs.Lines.{entry_line, entry_text, who_text, shown_path, call_text, what_text, act_text, outcome_text, reason_text};
+ghost use Rattle.std.specs.Fmt.{decimal, signed_decimal};
+ghost use Rattle.uvm_object.specs.Lines.{entry_line, entry_text, who_text, shown_path, call_text, value_text, what_text, act_text, outcome_text, reason_text};
 ghost use Rattle.uvm_tree.specs.Nodes.{path_at};
 
 use crate::acts::{Act, Call, What, Who};
@@ -29,11 +29,16 @@ fn push_entry(entry: &Entry, tree: &Tree, line: &mut Vec<u8>) -> Result<(), Allo
     match entry {
         Entry::Begin(phase) => push_two(b"begin ", phase.name(), line),
         Entry::End(phase) => push_two(b"end ", phase.name(), line),
-        Entry::Heard { who, call, acts } => {
+        Entry::Heard {
+            who,
+            call,
+            acts,
+            ..
+        } => {
             line.extend_from_slice(b"heard ")?;
             push_who(*who, tree, line)?;
             line.push(b' ')?;
-            push_call(*call, line)?;
+            push_call(call, line)?;
             line.extend_from_slice(b": ")?;
             push_number(acts.len(), line)
         }
@@ -79,11 +84,26 @@ fn push_path(node: NodeId, tree: &Tree, line: &mut Vec<u8>) -> Result<(), AllocE
     }
 }
 
-fn push_call(call: Call, line: &mut Vec<u8>) -> Result<(), AllocError>
-    ensures { OnOk result (line.new.items ≡ line.old.items ++ call_text call) }
+fn push_call(call: &Call, line: &mut Vec<u8>) -> Result<(), AllocError>
+    ensures { OnOk result (line.new.items ≡ line.old.items ++ call_text call.now) }
 {
     match call {
         Call::Phase(phase) => line.extend_from_slice(phase.name().as_bytes()),
+        Call::Config { field, value } => {
+            line.extend_from_slice(b"config ")?;
+            line.extend_from_slice(field.as_bytes())?;
+            line.push(b' ')?;
+            push_value(*value, line)
+        }
+    }
+}
+
+fn push_value(value: Option<i64>, line: &mut Vec<u8>) -> Result<(), AllocError>
+    ensures { OnOk result (line.new.items ≡ line.old.items ++ value_text value) }
+{
+    match value {
+        Some(value) => push_integer(value, line),
+        None => line.extend_from_slice(b"none"),
     }
 }
 
@@ -97,6 +117,18 @@ fn push_act(act: &Act, line: &mut Vec<u8>) -> Result<(), AllocError>
             line.extend_from_slice(name.as_bytes())?;
             line.push(b' ')?;
             push_what(*what, line)
+        }
+        Act::Set { glob, field, value } => {
+            line.extend_from_slice(b"set (")?;
+            line.extend_from_slice(glob.as_bytes())?;
+            line.extend_from_slice(b") ")?;
+            line.extend_from_slice(field.as_bytes())?;
+            line.push(b' ')?;
+            push_integer(*value, line)
+        }
+        Act::Get { field } => {
+            line.extend_from_slice(b"get ")?;
+            line.extend_from_slice(field.as_bytes())
         }
         Act::OverrideType {
             original,
@@ -157,6 +189,10 @@ fn push_outcome(outcome: &Outcome, line: &mut Vec<u8>) -> Result<(), AllocError>
             line.extend_from_slice(b"made ")?;
             line.extend_from_slice(ty.as_bytes())
         }
+        Outcome::Value(value) => {
+            line.extend_from_slice(b"value ")?;
+            push_value(*value, line)
+        }
         Outcome::Refused(fatal) => push_two(b"refused ", fatal.id(), line),
     }
 }
@@ -173,6 +209,13 @@ fn reason_text(reason: Reason) -> &'static str
 
 fn push_number(n: usize, line: &mut Vec<u8>) -> Result<(), AllocError>
     ensures { OnOk result (line.new.items ≡ line.old.items ++ decimal n) }
+{
+    let digits = n.to_string(*line.allocator())?;
+    line.extend_from_slice(digits.as_bytes())
+}
+
+fn push_integer(n: i64, line: &mut Vec<u8>) -> Result<(), AllocError>
+    ensures { OnOk result (line.new.items ≡ line.old.items ++ signed_decimal n) }
 {
     let digits = n.to_string(*line.allocator())?;
     line.extend_from_slice(digits.as_bytes())

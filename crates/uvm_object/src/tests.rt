@@ -7,7 +7,7 @@ use std::alloc::Global;
 use std::mem::size_of;
 use std::test::Fail;
 use uvm_glob::{Glob, Name};
-use uvm_phase::Phase;
+use uvm_phase::{Cause, Phase};
 use uvm_tree::{NodeId, NodeKind, Tree};
 
 // A tree of `uvm_test_top` and `a` below it, and their nodes.
@@ -172,6 +172,7 @@ fn answer_line_is_right(alloc: Global, tree: &Tree, test: NodeId) -> Result<bool
     let heard = Entry::Heard {
         who: Who::Node(test),
         call: Call::Phase(Phase::Build),
+        cause: None,
         acts: three_acts(alloc)?,
     };
     line_is(alloc, tree, heard, "heard uvm_test_top build: 3\n")
@@ -224,6 +225,45 @@ fn override_lines_are_right(
     )
 }
 
+#[test]
+fn lines_of_settings_and_what_is_found(rt: HostRuntime) -> Result<(), Fail> {
+    let (tree, test, _) = small_tree(rt.alloc())?;
+    assert!(rt; setting_lines_are_right(rt.alloc(), &tree, test)?);
+    assert!(rt; due_line_is_right(rt.alloc(), &tree, test)?);
+    Ok(())
+}
+
+fn setting_lines_are_right(alloc: Global, tree: &Tree, test: NodeId) -> Result<bool, Fail> {
+    let set = Act::Set {
+        glob: Glob::new(alloc, b"")?,
+        field: Name::new(b"f")?,
+        value: -9,
+    };
+    let set = did(alloc, test, Outcome::Done, set.copy()?)?;
+    let set_line = line_is(alloc, tree, set, "did uvm_test_top set () f -9: done\n")?;
+    let get = Act::Get {
+        field: Name::new(b"f")?,
+    };
+    let get = did(alloc, test, Outcome::Value(Some(7)), get.copy()?)?;
+    Ok(set_line && line_is(alloc, tree, get, "did uvm_test_top get f: value 7\n")?)
+}
+
+fn due_line_is_right(alloc: Global, tree: &Tree, test: NodeId) -> Result<bool, Fail> {
+    let heard = Entry::Heard {
+        who: Who::Node(test),
+        call: Call::Config {
+            field: Name::new(b"f")?,
+            value: None,
+        },
+        cause: Some(Cause {
+            place: 4,
+            number: 0,
+        }),
+        acts: Acts::new(alloc),
+    };
+    line_is(alloc, tree, heard, "heard uvm_test_top config f none: 0\n")
+}
+
 // Whether that is the line of an entry.
 fn line_is(alloc: Global, tree: &Tree, entry: Entry, want: &str) -> Result<bool, Fail> {
     let mut line = Vec::new(alloc);
@@ -245,6 +285,7 @@ fn fatal_reports_have_ids_and_texts(rt: HostRuntime) {
         (Fatal::TreeLimit, "TREELIM", "tree limit reached"),
         (Fatal::OverrideLoop, "OVRDLOOP", "override loop"),
         (Fatal::NoObject, "FCTTYP", "no object supplied"),
+        (Fatal::TooManySettings, "CFGFULL", "too many settings"),
     ] {
         assert_eq!(rt; fatal.id(), id);
         assert_eq!(rt; fatal.text(), text);

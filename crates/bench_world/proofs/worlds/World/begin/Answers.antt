@@ -2,6 +2,8 @@ use Rattle.std.proofs.Common.{refl, ◌∙◌}
 use Rattle.uvm_object.specs.declared.entries.Entry.TheVariants.{Begin}
 use Rattle.bench_world.proofs.Entered.{legal-more, sound-again, acts-later, answered-later}
 use Rattle.bench_world.proofs.Turns.{turns-begin}
+use Rattle.bench_world.proofs.Phased.{phases-begin}
+use Rattle.bench_world.proofs.Told.{agenda-later}
 use Rattle.bench_world.proofs.worlds.World.begin.Goals as goal
 
 pub invariant_of-self-2 : goal.invariant_of-self-2
@@ -21,6 +23,9 @@ invariant_of-self-2 c =
         answer = rw (acts-later _ (Begin c.args.phase) _ _ m.answered) m.answer;
         answered = answered-later (Begin c.args.phase) _ _ m.answered;
         built = m.built;
+        settings = m.settings;
+        agenda = agenda-later m.agenda;
+        phases = phases-begin c.self.inside.script c.self.inside.log.entries c.args.phase _ next m.phases;
         exit_asked = m.exit_asked;
         test_refused = m.test_refused;
       }),

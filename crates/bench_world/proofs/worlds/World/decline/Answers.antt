@@ -8,6 +8,7 @@ use Rattle.bench_world.specs.History.{speaker_of}
 use Rattle.bench_world.proofs.Entered.{legal-more, sound-again}
 use Rattle.bench_world.proofs.Did.{did-match}
 use Rattle.bench_world.proofs.Heard.{at-node}
+use Rattle.bench_world.proofs.Told.{agenda-later}
 use Rattle.bench_world.proofs.Needed.{declined-next}
 use Rattle.bench_world.proofs.worlds.World.decline.Goals as goal
 
@@ -33,7 +34,9 @@ invariant_of-self c =
           (record { stage = refl; time = refl; speaker = refl; answer = refl; done = refl; built = refl; exit_asked = refl; test_refused = rw at refl })
           m.tree
           m.factory
-          m.turns)),
+          m.turns
+          m.settings
+          (agenda-later m.agenda))),
     )
 
 pub returns : goal.returns

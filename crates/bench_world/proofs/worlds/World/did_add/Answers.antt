@@ -8,6 +8,7 @@ use Rattle.bench_world.proofs.Entered.{legal-more, sound-again}
 use Rattle.bench_world.proofs.Answered.{turns-more, one-longer}
 use Rattle.bench_world.proofs.Did.{did-match}
 use Rattle.bench_world.proofs.Heard.{at-node}
+use Rattle.bench_world.proofs.Told.{agenda-later}
 use Rattle.bench_world.proofs.worlds.World.did_add.Goals as goal
 
 pub invariant_of-self-2 : goal.invariant_of-self-2
@@ -28,5 +29,7 @@ invariant_of-self-2 c =
           (record { stage = refl; time = refl; speaker = refl; answer = refl; done = c.one_more-self-inside.ensures; built = refl; exit_asked = refl; test_refused = refl })
           (rw c.requires.act (c.in_ok-add_child.ensures.nodes ∙ rw (at, c.kind_of.ensures, m.tree) refl))
           (rw c.requires.act m.factory)
-          (rw c.requires.act (turns-more _ (one-longer _ _) m.turns))),
+          (rw c.requires.act (turns-more _ (one-longer _ _) m.turns))
+          (rw c.requires.act m.settings)
+          (agenda-later m.agenda)),
     )

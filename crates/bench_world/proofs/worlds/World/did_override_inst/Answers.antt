@@ -7,6 +7,7 @@ use Rattle.bench_world.specs.History.{speaker_of}
 use Rattle.bench_world.proofs.Entered.{legal-more, sound-again}
 use Rattle.bench_world.proofs.Did.{did-match}
 use Rattle.bench_world.proofs.Heard.{at-node}
+use Rattle.bench_world.proofs.Told.{agenda-later}
 use Rattle.bench_world.proofs.worlds.World.did_override_inst.Goals as goal
 
 pub invariant_of-self-2 : goal.invariant_of-self-2
@@ -27,5 +28,7 @@ invariant_of-self-2 c =
           (record { stage = refl; time = refl; speaker = refl; answer = refl; done = c.one_more-self-inside.ensures; built = refl; exit_asked = refl; test_refused = refl })
           (rw c.requires.act m.tree)
           (rw c.requires.act (rw (c.in_ok-scope.ensures, at, m.tree) at c.in_ok-override_inst.ensures _ _ m.factory))
-          (rw c.requires.act m.turns)),
+          (rw c.requires.act m.turns)
+          (rw c.requires.act m.settings)
+          (agenda-later m.agenda)),
     )

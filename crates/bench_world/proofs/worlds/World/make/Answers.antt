@@ -12,6 +12,7 @@ use Rattle.bench_world.proofs.Entered.{legal-more, sound-again}
 use Rattle.bench_world.proofs.Answered.{length-snoc}
 use Rattle.bench_world.proofs.Did.{did-match, nodes-made}
 use Rattle.bench_world.proofs.Heard.{at-node}
+use Rattle.bench_world.proofs.Told.{agenda-later}
 use Rattle.bench_world.proofs.Needed.{made-next, speaker-known, need-of}
 use Rattle.bench_world.proofs.Turns.{turns-made}
 use Rattle.bench_world.proofs.worlds.World.make.Goals as goal
@@ -79,7 +80,9 @@ invariant_of-self c =
           })
           (rw (nodes, grown.nodes, c.created_name-name.ensures, at, m.tree) refl)
           (rw (ap (λ (s : Services). s.factory) grown.rest) m.factory)
-          (rw (nodes, grown.components, length-snoc (nodes_of before) (child (nodes_of before) (node_of performer) (created_name deed) Component), m.tree) (turns-made m.turns))),
+          (rw (nodes, grown.components, length-snoc (nodes_of before) (child (nodes_of before) (node_of performer) (created_name deed) Component), m.tree) (turns-made m.turns))
+          (rw (ap (λ (s : Services). s.settings) grown.rest) m.settings)
+          (rw (ap (λ (s : Services). s.agenda) grown.rest) (agenda-later m.agenda))),
     )
 
 pub returns-clause-ok : goal.returns-clause-ok

@@ -3,6 +3,7 @@ use Rattle.uvm_object.specs.declared.entries.Entry.TheVariants.{Note}
 use Rattle.bench_world.specs.History.{opening}
 use Rattle.bench_world.proofs.Entered.{legal-more, sound-again, acts-later, answered-later}
 use Rattle.bench_world.proofs.Answered.{answer-passed}
+use Rattle.bench_world.proofs.Told.{agenda-later}
 use Rattle.bench_world.proofs.worlds.World.note.Goals as goal
 
 pub invariant_of-self-2 : goal.invariant_of-self-2
@@ -25,6 +26,9 @@ invariant_of-self-2 c =
         answer = rw (acts-later opened entry before _ m.answered, c.count_acts-count.ensures opened) (answer-passed m.answer);
         answered = answered-later entry before _ m.answered;
         built = m.built;
+        settings = m.settings;
+        agenda = agenda-later m.agenda;
+        phases = m.phases;
         exit_asked = refl;
         test_refused = m.test_refused;
       }),

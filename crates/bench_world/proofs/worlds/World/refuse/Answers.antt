@@ -7,6 +7,7 @@ use Rattle.bench_world.specs.History.{speaker_of}
 use Rattle.bench_world.proofs.Entered.{legal-more, sound-again}
 use Rattle.bench_world.proofs.Did.{did-match}
 use Rattle.bench_world.proofs.Heard.{at-node}
+use Rattle.bench_world.proofs.Told.{agenda-later}
 use Rattle.bench_world.proofs.worlds.World.refuse.Goals as goal
 
 pub invariant_of-self-2 : goal.invariant_of-self-2
@@ -28,5 +29,7 @@ invariant_of-self-2 c =
           (record { stage = refl; time = refl; speaker = refl; answer = refl; done = refl; built = refl; exit_asked = refl; test_refused = rw at refl })
           m.tree
           m.factory
-          m.turns)),
+          m.turns
+          m.settings
+          (agenda-later m.agenda))),
     )

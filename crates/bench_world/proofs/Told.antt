@@ -1,0 +1,137 @@
+-- What is due, over lists alone.
+use Rattle.std.proofs.Common.{◌≡◌, ℕ, ℤ, suc, ◌<◌, Bool, true, false, not, ◌&&◌, ◌||◌, List, [], ◌∷◌, ◌++◌, drop, filter, slice_get, Option, Some, None, All, AllPairs, refl, ap, ◌∙◌, sym, subst, arith, if◌then◌else◌}
+use Rattle.std.proofs.lemmas.Bool.Decides.{nat_tests}
+use Rattle.std.specs.List.{list_any}
+use Rattle.std.proofs.lemmas.List.Elements.{All-cons, All-head, All-weaker, All-filter}
+use Rattle.std.proofs.lemmas.List.Folds.{list_any_none}
+use Rattle.std.proofs.lemmas.List.Kept.{AllPairs-cons, AllPairs-filter}
+use Rattle.uvm_phase.specs.declared.phases.Phase.{Phase}
+use Rattle.uvm_phase.specs.declared.agendas.Cause.{Cause}
+use Rattle.uvm_phase.specs.declared.agendas.Due.{Due}
+use Rattle.uvm_phase.specs.Phases.{number_of, same_phase}
+use Rattle.uvm_phase.specs.Dues.{same_cause, in_order}
+use Rattle.uvm_phase.proofs.Ordered.{filter-in_order, All-in_order, without-taken}
+use Rattle.uvm_object.specs.declared.acts.Who.{Who}
+use Rattle.uvm_object.specs.declared.acts.Call.{Call}
+use Rattle.uvm_object.specs.declared.acts.Call.TheVariants as call
+use Rattle.uvm_object.specs.declared.acts.Act.TheVariants.{Get}
+use Rattle.uvm_object.specs.declared.entries.Outcome.TheVariants.{Value}
+use Rattle.bench_world.specs.declared.stages.Stage.{Stage}
+use Rattle.bench_world.specs.declared.stages.Stage.TheVariants.{Before, During, After, Ended}
+use Rattle.bench_world.specs.History.{running}
+use Rattle.bench_world.specs.Dues.{calls_after, is_open}
+use Rattle.bench_world.specs.Services.{IsAgenda, ArePhases}
+
+-- a filter by two tests is one filter after the other
+filter-tested : {A : Type 0} (p : A → Bool) (x : A) (rest known : List A) (b : Bool) → rest ≡ filter p known → (if b && p x then x ∷ rest else rest) ≡ filter p (if b then x ∷ known else known)
+filter-tested p x rest known false e = e
+filter-tested p x rest known true e = rw e refl
+
+filter-twice : {A : Type 0} (p q both : A → Bool) → ((x : A) → both x ≡ (q x && p x)) → (xs : List A) → filter both xs ≡ filter p (filter q xs)
+filter-twice p q both same [] = refl
+filter-twice p q both same (x ∷ xs) = rw (same x) (filter-tested p x (filter both xs) (filter q xs) (q x) (filter-twice p q both same xs))
+
+one-heard : (a b e : Bool) → (not (a || b) && e) ≡ ((not b && e) && not a)
+one-heard true true true = refl
+one-heard true true false = refl
+one-heard true false true = refl
+one-heard true false false = refl
+one-heard false true true = refl
+one-heard false true false = refl
+one-heard false false true = refl
+one-heard false false false = refl
+
+one-ended : (h a b : Bool) → (h && not (a || b)) ≡ ((h && not b) && not a)
+one-ended true true true = refl
+one-ended true true false = refl
+one-ended true false true = refl
+one-ended true false false = refl
+one-ended false a b = refl
+
+-- the cause of a later entry was not heard
+fresh : (heard : List Cause) (cause : Cause) → All (λ other. other.place < cause.place) heard → list_any (same_cause cause) heard ≡ false
+fresh heard cause within =
+    list_any_none (same_cause cause) heard (All-weaker (λ other. other.place < cause.place) (λ other. same_cause cause other ≡ false) (λ other lt. grind (arith, nat_tests)) heard within)
+
+-- nor has a phase ended that stands behind all that have
+runs : (ended : List Phase) (phase : Phase) → All (λ other. number_of other < number_of phase) ended → list_any (same_phase phase) ended ≡ false
+runs ended phase within =
+    list_any_none (same_phase phase) ended (All-weaker (λ other. number_of other < number_of phase) (λ other. same_phase phase other ≡ false) (λ other lt. grind (arith, nat_tests)) ended within)
+
+-- one more entry
+pub agenda-later : {caused : List (Due Who Call)} {heard : List Cause} {ended : List Phase} {count : ℕ} {dues : List (Due Who Call)} → IsAgenda caused heard ended count dues → IsAgenda caused heard ended (suc count) dues
+agenda-later {caused} {heard} {ended} {count} a = record {
+  are = a.are;
+  distinct = a.distinct;
+  caused_within = All-weaker (λ due. due.cause.place < count) (λ due. due.cause.place < suc count) (λ due lt. omega (arith, lt)) caused a.caused_within;
+  heard_within = All-weaker (λ cause. cause.place < count) (λ cause. cause.place < suc count) (λ cause lt. omega (arith, lt)) heard a.heard_within;
+}
+
+-- one that causes a call
+agenda-caused :
+    (caused : List (Due Who Call)) (heard : List Cause) (ended : List Phase) (dues more : List (Due Who Call)) (due : Due Who Call)
+    → IsAgenda caused heard ended due.cause.place dues → All (λ other. number_of other < number_of due.phase) ended
+    → more ≡ in_order (due ∷ filter (is_open heard ended) caused)
+    → IsAgenda (due ∷ caused) heard ended (suc due.cause.place) more
+agenda-caused caused heard ended dues more due a before is =
+    let l = agenda-later a in
+    record {
+      are = rw (fresh heard due.cause a.heard_within, runs ended due.phase before) is;
+      distinct = AllPairs-cons (λ one other. same_cause one.cause other.cause ≡ false) due caused (All-weaker (λ other. other.cause.place < due.cause.place) (λ other. same_cause due.cause other.cause ≡ false) (λ other lt. grind (arith, nat_tests)) caused a.caused_within) a.distinct;
+      caused_within = All-cons (λ other. other.cause.place < suc due.cause.place) due caused (omega arith) l.caused_within;
+      heard_within = l.heard_within;
+    }
+
+pub agenda-told :
+    (value : Option ℤ) (field : List ℕ) (performer : Who) (time : ℕ) (stage : Stage)
+    (caused : List (Due Who Call)) (heard : List Cause) (ended : List Phase) (count : ℕ) (dues more : List (Due Who Call))
+    → ArePhases stage ended → IsAgenda caused heard ended count dues
+    → more ≡ in_order (calls_after (Value value) (Get field) performer (running stage) time count ++ filter (is_open heard ended) caused)
+    → IsAgenda (calls_after (Value value) (Get field) performer (running stage) time count ++ caused) heard ended (suc count) more
+agenda-told value field performer time (During phase) caused heard ended count dues more phases a is =
+    agenda-caused caused heard ended dues more (record { time = time; cause = record { place = count; number = 0 }; phase = phase; owner = performer; notice = call.Config field value }) a phases.before is
+agenda-told value field performer time Before caused heard ended count dues more phases a is = rw (is, ← a.are) (agenda-later a)
+agenda-told value field performer time (After phase) caused heard ended count dues more phases a is = rw (is, ← a.are) (agenda-later a)
+agenda-told value field performer time Ended caused heard ended count dues more phases a is = rw (is, ← a.are) (agenda-later a)
+
+-- what holds of all holds of the first
+first-holds : {A : Type 0} (P : A → Type 0) (xs : List A) (first : A) → All P xs → slice_get xs 0 ≡ Some first → P first
+first-holds P [] first all e = cc
+first-holds P (x ∷ xs) first all e = let same : x ≡ first = cc in subst P same (All-head P x xs all)
+
+-- one call is heard
+pub agenda-heard :
+    (caused : List (Due Who Call)) (heard : List Cause) (ended : List Phase) (count : ℕ) (dues left : List (Due Who Call)) (due : Due Who Call)
+    → IsAgenda caused heard ended count dues → slice_get dues 0 ≡ Some due → left ≡ drop 1 dues
+    → IsAgenda caused (due.cause ∷ heard) ended (suc count) left
+agenda-heard caused heard ended count dues left due a first is =
+    let known = filter (is_open heard ended) caused in
+    let apart = AllPairs-filter (λ one other. same_cause one.cause other.cause ≡ false) (is_open heard ended) caused a.distinct in
+    let taken = without-taken known dues left (Some due) apart a.are (sym first) is in
+    let within : All (λ other. other.cause.place < count) dues = rw a.are (All-in_order (λ other. other.cause.place < count) known (All-filter (is_open heard ended) (λ other. other.cause.place < count) caused a.caused_within)) in
+    let here : due.cause.place < count = first-holds (λ other. other.cause.place < count) dues due within first in
+    let l = agenda-later a in
+    record {
+      are = taken ∙ ap in_order (sym (filter-twice (λ other. not (same_cause other.cause due.cause)) (is_open heard ended) (is_open (due.cause ∷ heard) ended) (λ other. one-heard (same_cause other.cause due.cause) (list_any (same_cause other.cause) heard) (not (list_any (same_phase other.phase) ended))) caused));
+      distinct = a.distinct;
+      caused_within = l.caused_within;
+      heard_within = All-cons (λ cause. cause.place < suc count) due.cause heard (omega (arith, here)) l.heard_within;
+    }
+
+-- a phase ends
+pub agenda-ended :
+    (caused : List (Due Who Call)) (heard : List Cause) (ended : List Phase) (count : ℕ) (dues left : List (Due Who Call)) (phase : Phase)
+    → IsAgenda caused heard ended count dues → left ≡ filter (λ due. not (same_phase due.phase phase)) dues
+    → IsAgenda caused heard (phase ∷ ended) (suc count) left
+agenda-ended caused heard ended count dues left phase a is =
+    let known = filter (is_open heard ended) caused in
+    let l = agenda-later a in
+    record {
+      are =
+          is ∙ ap (filter (λ due. not (same_phase due.phase phase))) a.are
+          ∙ filter-in_order (λ due. not (same_phase due.phase phase)) known
+          ∙ ap in_order (sym (filter-twice (λ due. not (same_phase due.phase phase)) (is_open heard ended) (is_open heard (phase ∷ ended)) (λ due. one-ended (not (list_any (same_cause due.cause) heard)) (same_phase due.phase phase) (list_any (same_phase due.phase) ended)) caused));
+      distinct = a.distinct;
+      caused_within = l.caused_within;
+      heard_within = l.heard_within;
+    }

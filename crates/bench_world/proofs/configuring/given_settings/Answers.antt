@@ -1,0 +1,11 @@
+use Rattle.bench_world.proofs.Configured.{settings-none, given-more}
+use Rattle.bench_world.proofs.configuring.given_settings.Goals as goal
+
+pub loop-setting-init : goal.loop-setting-init
+loop-setting-init c = settings-none c.new-settings.ensures.answers c.new-settings.ensures.accepted
+
+-- one more setting
+pub loop-setting-preserved : goal.loop-setting-preserved
+loop-setting-preserved c =
+    rw (given-more c.args.given.now c.loop-setting.setting-index c.setting-item.result c.loop-setting-test.true, ← c.setting-item.is)
+    (c.in_ok-set_given.ensures _ c.loop-setting.invariant)

@@ -1,1 +1,4 @@
+pub mod Called
 pub mod Comings
+pub mod Grown
+pub mod Turns

@@ -1,12 +1,13 @@
 -- What contracts see of the machine.
-use Rattle.std.specs.Prelude.{◌≡◌, ◌<◌, ◌≤◌, ℕ, Bool, true, false, List, ◌∷◌, length, [], Option, Some, None, Result, Ok, Err, IsSome}
+use Rattle.std.specs.Prelude.{◌≡◌, ◌<◌, ◌≤◌, ℕ, Bool, true, false, List, ◌∷◌, length, [], Option, Some, None, Result, Ok, Err, IsSome, Contains}
+use Rattle.uvm_object.specs.Acts.{node_of}
 use Rattle.uvm_object.specs.declared.acts.Act.{Act}
 use Rattle.uvm_object.specs.declared.entries.Entry.{Entry}
-use Rattle.uvm_object.specs.declared.entries.Entry.TheVariants.{Heard}
+use Rattle.uvm_object.specs.declared.entries.Entry.TheVariants.{Heard, Over}
 use Rattle.uvm_object.specs.Lines.{entry_line}
 use Rattle.bench_script.specs.Scripts.{ScriptValue}
 use Rattle.uvm_factory.specs.declared.types.Kind.{Kind}
-use Rattle.bench_world.specs.History.{nodes_of, kind_made}
+use Rattle.bench_world.specs.History.{nodes_of, components_of, kind_made}
 use Rattle.bench_core.specs.declared.cores.Need.{Need}
 use Rattle.bench_core.specs.declared.cores.Health.{Health}
 use Rattle.bench_core.specs.declared.cores.Health.TheVariants.{Good, Full, Broken}
@@ -108,6 +109,11 @@ turn_of Nothing = None
 turn_of (Needed need) = Some turn.TheVariants.Need
 turn_of (Asked performer call cause) = Some (turn.TheVariants.Ask performer call)
 
+-- who is called, if somebody is, is a component
+abbrev pub AsksComponent : turn.Turn → List Entry → Type 0
+AsksComponent (turn.TheVariants.Ask performer call) history = Contains (components_of history) (node_of performer)
+AsksComponent result history = Unit {0}
+
 -- somebody is called
 abbrev pub IsAsk : Option turn.Turn → Type 0
 IsAsk (Some (turn.TheVariants.Ask performer call)) = Unit {0}
@@ -124,6 +130,12 @@ abbrev pub answer_in : Standing → List Act → Option Entry
 answer_in Nothing acts = None
 answer_in (Needed need) acts = None
 answer_in (Asked performer call cause) acts = Some (Heard performer call cause acts)
+
+-- the newest entry is the end of the run
+abbrev pub is_over : List Entry → Bool
+is_over [] = false
+is_over (Over reason ∷ before) = true
+is_over (entry ∷ before) = false
 
 -- the text of the newest entry, where it is asked for
 abbrev pub last_text : Bool → List Entry → List ℕ

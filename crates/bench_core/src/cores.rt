@@ -1,9 +1,9 @@
 //! The machine.
 
-ghost use Rattle.std.specs.Prelude.{◌≡◌, ◌<◌, [], true, false, OnOk, OnErr, IfOk, IfErr, IfSome, IsSome, Some, IsOk, IsErr, None, ◌&&◌, length, ◌++◌, if◌then◌else◌};
+ghost use Rattle.std.specs.Prelude.{◌≡◌, ◌<◌, [], true, false, OnOk, OnErr, IfOk, IfErr, IfSome, IsSome, Some, IsOk, IsErr, None, ◌&&◌, length, ◌++◌, if◌then◌else◌, option_map};
 ghost use Rattle.std.specs.Bool.{OnTrue, OnFalse};
 ghost use Rattle.std.specs.Option.{option_copied};
-ghost use Rattle.uvm_tree.specs.Nodes.{number_of};
+ghost use Rattle.uvm_tree.specs.Nodes.{node_at, number_of};
 ghost use Rattle.uvm_object.specs.declared.acts.Who.TheVariants as who;
 ghost use Rattle.bench_world.specs.History.{nodes_of, now_of, running, stage_of};
 ghost use Rattle.uvm_glob.specs.Paths.{path_text};
@@ -11,7 +11,7 @@ ghost use Rattle.uvm_config.specs.Answers.{config_answer};
 ghost use Rattle.bench_world.specs.Configuration.{settings_of};
 ghost use Rattle.bench_world.specs.Next.{next_of, made_in, declined_in, IsLegal};
 ghost use Rattle.bench_world.specs.Next as comes;
-ghost use Rattle.bench_core.specs.Plays.{IsNextTurn, IsTurn, IsSomething, IsUnmade, after, failed_from, is_sound, turn_of, need_of, answer_in, IsAsk, last_text};
+ghost use Rattle.bench_core.specs.Plays.{IsNextTurn, IsTurn, IsSomething, IsUnmade, after, failed_from, is_sound, turn_of, need_of, answer_in, IsAsk, AsksComponent, is_over, last_text};
 ghost use Rattle.bench_core.specs.declared.cores.Standing.TheVariants.{Nothing, Needed, Asked};
 
 use crate::choices::{Choice, choose};
@@ -23,7 +23,7 @@ use std::alloc::{AllocError, Global};
 use std::marker::Model;
 use uvm_factory::Kind;
 use uvm_glob::{Name, Path};
-use uvm_object::{Acts, Call, Log, Who, line_of};
+use uvm_object::{Acts, Call, Entry, Log, Who, line_of};
 use uvm_phase::{Cause, Phase};
 use uvm_tree::NodeId;
 
@@ -113,12 +113,16 @@ impl Core {
     }
 
     /// Makes the next entry, or says what it needs: an object (`Need`) or an answer (`Ask`), again and again until that is
-    /// there; `Over` once the run is over. `LogFull` where an entry would be next and the log is full, `Memory` where memory is
-    /// refused, and `Failed` from then on. No word is drawn yet.
+    /// there; `Over` once the run is over. Whoever is asked is a component. `LogFull` where an entry would be next and the log is
+    /// full, `Memory` where memory is refused, and `Failed` from then on. No word is drawn yet.
     pub fn next<R: Rng>(&mut self, _words: &mut R) -> Result<Turn, CoreFault>
         ensures turn { IsNextTurn self.old.standing result self.old self.new }
+        ensures asked { IfOk result (λ turn. AsksComponent turn self.old.history) }
+        ensures over { IfOk result (λ turn. turn ≡ Turn.Over → is_over self.new.history ≡ true) }
         ensures words { _words.new ≡ _words.old }
     {
+        // It is legal: whoever is called next is a component, and a run that has ended is over.
+        let _log = self.log();
         if let Some(turn) = told(&self.standing) {
             return Ok(turn);
         }
@@ -229,6 +233,23 @@ impl Core {
         ensures legal { IsLegal self.now.script self.now.history }
     {
         self.world.log()
+    }
+
+    /// Whether the run is over: the newest entry of the log is its end. Also told once memory was refused.
+    pub fn is_over(&self) -> bool
+        ensures { result ≡ is_over self.now.history }
+    {
+        matches!(self.world.log().last(), Some(Entry::Over(_)))
+    }
+
+    /// The path of a node, the top's own included. None where there is no such node, or once memory was refused.
+    pub fn path(&self, node: NodeId) -> Option<&Path>
+        ensures { option_copied result ≡ (if is_sound self.now.health then option_map (λ node. node.path) (node_at (nodes_of self.now.history) node) else None) }
+    {
+        if !self.is_sound() {
+            return None;
+        }
+        self.world.tree().path(node)
     }
 
     /// The node at a path, the top at its own. None once memory was refused.

@@ -17,6 +17,11 @@ pub enum CoreFault {
 }
 
 impl fmt::Display for CoreFault {
+    ghost use Rattle.std.specs.Prelude.{Some};
+    ghost use Rattle.bench_core.specs.Faults.{fault_text};
+
+    ghost output = { λ fault. Some (fault_text fault) };
+
     fn fmt<W: fmt::Write>(&self, f: &mut fmt::Formatter<W>) -> fmt::Result {
         f.write_str(match self {
             CoreFault::Memory => "out of memory",

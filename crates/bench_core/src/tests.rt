@@ -43,8 +43,10 @@ fn nodes_have_their_calls_in_the_orders_of_the_phases(rt: HostRuntime) -> Result
 
 #[test]
 fn declined_test_ends_the_run(rt: HostRuntime) -> Result<(), Fail> {
-    let text = transcript(rt.alloc(), Bench::Declined)?;
+    let mut core = machine(rt.alloc())?;
+    let text = play(rt.alloc(), &mut core, Bench::Declined)?;
     assert_eq!(rt; text.as_slice(), DECLINED);
+    assert!(rt; core.is_over());
     Ok(())
 }
 
@@ -140,7 +142,10 @@ fn begins_to_build(alloc: Global, core: &mut Core) -> Result<bool, Fail> {
     Ok(
         went_on
             && core.phase() == Some(Phase::Build)
-            && core.find(&test).is_some()
+            && core
+                .find(&test)
+                .is_some_and(|node| core.path(node) == Some(&test))
+            && !core.is_over()
             && core.config(&test, &field) == Some(7),
     )
 }

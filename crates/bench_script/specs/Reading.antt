@@ -1,5 +1,5 @@
 -- Reading in steps, of which the first that fails gives the fault.
-use Rattle.std.specs.Prelude.{◌≡◌, ◌≢◌, Result, Ok, Err, MatchResult}
+use Rattle.std.specs.Prelude.{◌≡◌, ◌≢◌, Result, Ok, Err, IsOk, MatchResult}
 use Rattle.bench_script.specs.declared.faults.ScriptFault.{ScriptFault}
 use Rattle.bench_script.specs.declared.faults.ScriptFault.TheVariants.{Memory}
 
@@ -11,3 +11,8 @@ and_then (Err fault) next = Err fault
 -- a call gave what the definition says, unless memory was refused
 abbrev pub IsReading : {A : Type 0} → Result A ScriptFault → Result A ScriptFault → Type 0
 IsReading reading result = MatchResult result (λ value. reading ≡ Ok value) (λ fault. fault ≢ Memory → reading ≡ Err fault)
+
+-- a fault of a call that fails as the definition does, and for want of memory only where the definition does not fail
+abbrev pub IsFaultOf : {A : Type 0} → Result A ScriptFault → ScriptFault → Type 0
+IsFaultOf reading Memory = IsOk reading
+IsFaultOf reading fault = reading ≡ Err fault

@@ -1,5 +1,5 @@
 -- The script that a TOML tree stands for, or its first fault.
-use Rattle.std.specs.Prelude.{ℕ, ℤ, pos, negsuc, ◌==◌, List, [], ◌∷◌, Option, Some, None, Result, Ok, Err, ok_or, slice_get, codes, nat_lt, not, length, if◌then◌else◌}
+use Rattle.std.specs.Prelude.{ℕ, ℤ, pos, negsuc, ◌==◌, List, [], ◌∷◌, Option, Some, None, Result, Ok, Err, ok_or, option_map, option_and_then, slice_get, codes, nat_lt, not, length, if◌then◌else◌}
 use Rattle.std.specs.Str.{is_utf8}
 use Rattle.toml.specs.Parse.{parse_document}
 use Rattle.toml.specs.Data.{Data, Members}
@@ -37,6 +37,10 @@ version_in value = and_then (integer_in value) version_one
 
 abbrev pub root_keys : List (List ℕ)
 root_keys = codes "version" ∷ codes "test" ∷ codes "time_limit" ∷ codes "quit_limit" ∷ codes "type" ∷ codes "override" ∷ codes "set" ∷ codes "probe" ∷ []
+
+-- the kind of the type of a name
+abbrev pub kind_named : Types → List ℕ → Option Kind
+kind_named types name = option_and_then (λ place. option_map (λ t. t.1) (slice_get types place)) (type_named types name)
 
 -- the test is a component
 abbrev pub component_at : ℕ → Option (List ℕ × Kind) → Result (Option ℕ) ScriptFault

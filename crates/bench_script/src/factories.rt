@@ -29,7 +29,7 @@ impl Script {
 }
 
 // Registers types that can be registered one after another.
-fn register_all(factory: &mut Factory, types: &[(Name, Kind)]) -> Result<(), AllocError>
+pub(crate) fn register_all(factory: &mut Factory, types: &[(Name, Kind)]) -> Result<(), AllocError>
     requires none { types_of factory.old ≡ [] }
     requires sound { CanRegister [] types.now }
     ensures types { OnOk result (types_of factory.new ≡ types.now) }

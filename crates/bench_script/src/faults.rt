@@ -1,6 +1,6 @@
 //! Why a script is refused.
 
-use std::alloc::AllocFailed;
+use std::alloc::{AllocError, AllocFailed};
 use thiserror::Error;
 
 /// Why a script is refused. `Display` gives the number and the name, as in `script fault 2 NotToml`.
@@ -39,6 +39,17 @@ pub enum ScriptFault {
     /// Memory was refused.
     #[error("script fault 11 Memory")]
     Memory,
+}
+
+impl From<AllocError> for ScriptFault {
+    ghost use Rattle.std.specs.Prelude.{◌≡◌};
+    ghost use Rattle.bench_script.specs.declared.faults.ScriptFault.TheVariants.{Memory};
+
+    ghost from_gives = { λ _ fault. fault ≡ Memory };
+
+    fn from(_: AllocError) -> ScriptFault {
+        ScriptFault::Memory
+    }
 }
 
 impl<T: Drop> From<AllocFailed<T>> for ScriptFault {

@@ -1,6 +1,7 @@
 //! The scripts of the bench: TOML documents that name types, overrides, settings and probes.
 #![tactic(auto)]
 
+mod copying;
 mod factories;
 mod faults;
 mod heads;

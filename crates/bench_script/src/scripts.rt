@@ -1,8 +1,9 @@
 //! What a script says.
 
-ghost use Rattle.std.specs.Prelude.{◌≡◌, ◌≤◌, [], All, length};
+ghost use Rattle.std.specs.Prelude.{◌≡◌, ◌≤◌, [], All, IfOk, length};
 ghost use Rattle.bench_script.specs.Sound.{IsComponentAt, CanRegister, CanOverride, CanProbe};
 
+use std::alloc::AllocError;
 use std::marker::Model;
 use uvm_factory::{Kind, Override, TypeId};
 use uvm_glob::{Glob, Name, Path};
@@ -14,12 +15,37 @@ pub struct Probe {
     pub path: Path,
 }
 
+impl Probe {
+    // An equal probe.
+    pub(crate) fn copy(&self) -> Result<Probe, AllocError>
+        ensures { IfOk result (λ probe. probe ≡ self.now) }
+    {
+        Ok(Probe {
+            kind: self.kind,
+            path: self.path.copy()?,
+        })
+    }
+}
+
 /// A setting of the configuration: the value of a field at the paths that the glob matches (IEEE 1800.2-2020, Annex C).
 #[derive(Debug, Drop)]
 pub struct Setting {
     pub scope: Glob,
     pub field: Name,
     pub value: i64,
+}
+
+impl Setting {
+    // An equal setting.
+    pub(crate) fn copy(&self) -> Result<Setting, AllocError>
+        ensures { IfOk result (λ setting. setting ≡ self.now) }
+    {
+        Ok(Setting {
+            scope: self.scope.copy()?,
+            field: self.field,
+            value: self.value,
+        })
+    }
 }
 
 /// A script. Contracts see what it says; a type is its place among the types of the script, from 0.

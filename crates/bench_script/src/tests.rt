@@ -236,6 +236,58 @@ fn defaults_of_what_is_not_written(rt: HostRuntime) -> Result<(), Fail> {
     Ok(())
 }
 
+// The arrays of a script, as `Debug` writes them.
+fn arrays(alloc: Global, script: &Script) -> Result<String, Fail> {
+    let (types, overrides) = (script.types(), script.overrides());
+    let (settings, probes) = (script.settings(), script.probes());
+    Ok(format!(in alloc; "{types:?} {overrides:?} {settings:?} {probes:?}")?)
+}
+
+#[test]
+fn a_copy_says_the_same(rt: HostRuntime) -> Result<(), Fail> {
+    let alloc = rt.alloc();
+    let script = read(alloc, SCRIPT.as_bytes())?;
+    let copy = script.copy()?;
+    assert_eq!(rt; copy.test(), script.test());
+    assert_eq!(rt; copy.time_limit(), 5000);
+    assert_eq!(rt; copy.quit_limit(), 7);
+    assert_eq!(rt;
+        arrays(alloc, &copy)?.as_str(),
+        arrays(alloc, &script)?.as_str()
+    );
+    Ok(())
+}
+
+#[test]
+fn another_test_changes_the_test_alone(rt: HostRuntime) -> Result<(), Fail> {
+    let alloc = rt.alloc();
+    let [base, better, _] = places(alloc)?;
+    let script = read(alloc, SCRIPT.as_bytes())?;
+    let other = script.with_test(&Name::new(b"base")?)?;
+    assert_eq!(rt; script.test(), Some(better));
+    assert_eq!(rt; other.test(), Some(base));
+    assert_eq!(rt; other.time_limit(), 5000);
+    assert_eq!(rt; other.quit_limit(), 7);
+    assert_eq!(rt;
+        arrays(alloc, &other)?.as_str(),
+        arrays(alloc, &script)?.as_str()
+    );
+    Ok(())
+}
+
+#[test]
+fn another_test_is_a_component_of_the_script(rt: HostRuntime) -> Result<(), Fail> {
+    let script = read(rt.alloc(), TYPES.as_bytes())?;
+    for (name, fault) in [
+        ("other", ScriptFault::UnknownType),
+        ("items", ScriptFault::WrongKind),
+    ] {
+        let name = Name::new(name.as_bytes())?;
+        assert_eq!(rt; script.with_test(&name).err(), Some(fault), "of {name}");
+    }
+    Ok(())
+}
+
 #[test]
 fn memory_is_the_one_fault_of_a_good_script(rt: HostRuntime) {
     if let Err(fault) = read(rt.alloc(), SCRIPT.as_bytes()) {

@@ -130,6 +130,7 @@ checks_none false false true e = cc
 pub record LevelParts (s : Shape) (names : Names) (h : Held) (words : List Text) (has_subcommand : Bool) (below : Kinds) : Type 0 where
   pub no_walk : walk_fault s names (walk_from h) words ≡ []
   pub no_below : below ≡ []
+  pub no_settle : settle_fault s.rules s.args_override_self (walk s.rules names h words).held ≡ []
   pub no_check : check_fault s (finished s.rules (walk s.rules names h words).held) has_subcommand ≡ []
 
 pub level_parts : (s : Shape) (names : Names) (h : Held) (words : List Text) (has_subcommand : Bool) (below : Kinds)
@@ -145,5 +146,6 @@ level_parts s names h words has_subcommand below fault =
     record {
       no_walk = no_first (walk_fault s names (walk_from h) words) _ fault;
       no_below = no_first below (or_else settle (or_else defaults check)) after_walk;
+      no_settle = no_first settle (or_else defaults check) after_below;
       no_check = no_next defaults check after_settle;
     }

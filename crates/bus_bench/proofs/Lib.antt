@@ -1,5 +1,5 @@
-pub mod RowLemmas
 pub mod LevelLemmas
+pub mod RowLemmas
 pub mod CommandLemmas
 pub mod PlainLemmas
 pub mod ReadLemmas

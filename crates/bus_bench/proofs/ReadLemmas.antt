@@ -3,9 +3,9 @@ use Rattle.std.proofs.Common.{◌≡◌, ◌≢◌, ◌⊎◌, ◌∙◌, ◌≤
 use Rattle.std.proofs.lemmas.List.{take-append-le, take_all}
 use Rattle.std.specs.Io.KnownBytes.{Consumes, IsAtEnd}
 use Rattle.std.proofs.KnownBytes.{Consumes-trans}
-use Rattle.bus_bench.specs.declared.verdicts.Breakage.TheVariants.{Memory, Output, Unread}
+use Rattle.bus_bench.specs.declared.verdicts.Breakage.TheVariants.{Memory, LogFull, Output, Unread}
 use Rattle.bus_bench.specs.declared.verdicts.Verdict.{Verdict}
-use Rattle.bus_bench.specs.declared.verdicts.Verdict.TheVariants.{Clean, Refused, Broken}
+use Rattle.bus_bench.specs.declared.verdicts.Verdict.TheVariants.{Clean, Faulty, Refused, Broken}
 use Rattle.bus_bench.specs.Verdicts.{IsReadFault}
 
 -- what was read is the front of what there was: as much as was wanted, or all
@@ -32,7 +32,9 @@ some-after (b ∷ bs) more some none =
 -- the fault of a read is one of the reads before it, too
 pub fault_after : (old mid new : Option (List ℕ)) (bs : List ℕ) (verdict : Verdict) → Consumes old mid bs → IsReadFault mid new verdict → IsReadFault old new verdict
 fault_after old mid new bs Clean first fault = fault
+fault_after old mid new bs Faulty first fault = fault
 fault_after old mid new bs (Refused why) first fault = fault
 fault_after old mid new bs (Broken Memory) first fault = (bs ++ fault.0, some-after bs fault.0 fault.1, Consumes-trans old mid new bs fault.0 first fault.2)
+fault_after old mid new bs (Broken LogFull) first fault = fault
 fault_after old mid new bs (Broken Output) first fault = fault
 fault_after old mid new bs (Broken Unread) first fault = fault

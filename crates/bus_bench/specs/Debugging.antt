@@ -11,9 +11,9 @@ use Rattle.bench_script.specs.declared.faults.ScriptFault.{ScriptFault}
 use Rattle.bench_script.specs.declared.faults.ScriptFault.TheVariants as faults
 use Rattle.bench_script.specs.Scripts.{ScriptValue, script_of_bytes}
 use Rattle.bus_bench.specs.declared.verdicts.Breakage.{Breakage}
-use Rattle.bus_bench.specs.declared.verdicts.Breakage.TheVariants.{Memory, Output, Unread}
+use Rattle.bus_bench.specs.declared.verdicts.Breakage.TheVariants.{Memory, LogFull, Output, Unread}
 use Rattle.bus_bench.specs.declared.verdicts.Verdict.{Verdict}
-use Rattle.bus_bench.specs.declared.verdicts.Verdict.TheVariants.{Clean, Refused, Broken}
+use Rattle.bus_bench.specs.declared.verdicts.Verdict.TheVariants.{Clean, Faulty, Refused, Broken}
 
 -- the name of a type
 abbrev pub name_at : Types → ℕ → List ℕ
@@ -49,6 +49,7 @@ SomeLinesWritten lines old new = (n : ℕ) × Appends old new (concat (take n li
 -- what was written where the answers broke off; only where there is a line can the output fail
 abbrev pub BrokeOff : List (List ℕ) → Option (List ℕ) → Option (List ℕ) → Breakage → Type 0
 BrokeOff lines old new Memory = SomeLinesWritten lines old new
+BrokeOff lines old new LogFull = ⊥
 BrokeOff lines old new Output = lines ≢ []
 BrokeOff lines old new Unread = ⊥
 
@@ -60,11 +61,13 @@ lines_of (Err fault) = []
 -- what the verdict on a file's bytes says of the script and of the bytes that the writer holds before and after
 abbrev pub IsDebugRun : List ℕ → Option (List ℕ) → Option (List ℕ) → Verdict → Type 0
 IsDebugRun bytes old new Clean = IsOk (script_of_bytes bytes) × Appends old new (concat (lines_of (script_of_bytes bytes)))
+IsDebugRun bytes old new Faulty = ⊥
 IsDebugRun bytes old new (Refused fault) = (script_of_bytes bytes ≡ Err fault) × (fault ≢ faults.Memory) × Keeps old new
 IsDebugRun bytes old new (Broken breakage) = BrokeOff (lines_of (script_of_bytes bytes)) old new breakage
 
 -- what a verdict on a file's bytes says of the script alone
 abbrev pub IsVerdictOn : List ℕ → Verdict → Type 0
 IsVerdictOn bytes Clean = IsOk (script_of_bytes bytes)
+IsVerdictOn bytes Faulty = ⊥
 IsVerdictOn bytes (Refused fault) = (script_of_bytes bytes ≡ Err fault) × (fault ≢ faults.Memory)
-IsVerdictOn bytes (Broken breakage) = breakage ≢ Unread
+IsVerdictOn bytes (Broken breakage) = (breakage ≢ LogFull) × (breakage ≢ Unread)

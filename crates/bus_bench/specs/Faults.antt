@@ -1,22 +1,25 @@
 -- Why the words of the command line ask for nothing.
-use Rattle.std.specs.Prelude.{◌≡◌, ◌≢◌, ℕ}
+use Rattle.std.specs.Prelude.{◌≡◌, ◌≢◌, ℕ, []}
 use Rattle.clap.specs.Words.{IsAmong, Kinds, kind_of}
 use Rattle.clap.specs.declared.error.Error.{Error}
 use Rattle.clap.specs.declared.error.kind.ErrorKind.TheVariants.{OutOfMemory}
 use Rattle.bus_bench.specs.declared.jobs.JobFault.{JobFault}
-use Rattle.bus_bench.specs.declared.jobs.JobFault.TheVariants.{Refused, Memory}
+use Rattle.bus_bench.specs.declared.jobs.JobFault.TheVariants.{Refused, BadName, Memory}
 
 -- the fault that clap's error comes to: want of memory is one of its own
 abbrev pub IsFaultOf : Error → JobFault → Type 0
 IsFaultOf error (Refused given) = (given ≡ error) × (kind_of error ≢ OutOfMemory)
+IsFaultOf error BadName = ⊥
 IsFaultOf error Memory = kind_of error ≡ OutOfMemory
 
--- a refusal has one of these kinds
+-- a refusal has one of these kinds, and a bad name is told only where there are none
 abbrev pub IsRefusedBy : Kinds → JobFault → Type 0
 IsRefusedBy kinds (Refused error) = IsAmong (kind_of error) kinds
+IsRefusedBy kinds BadName = kinds ≡ []
 IsRefusedBy kinds Memory = Unit {0}
 
 -- the exit status where the words ask for nothing
 abbrev pub status_of_fault : JobFault → ℕ
 status_of_fault (Refused error) = 2
+status_of_fault BadName = 2
 status_of_fault Memory = 3

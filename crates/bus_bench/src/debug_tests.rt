@@ -128,8 +128,8 @@ fn a_refused_script_has_status_2_and_writes_nothing(rt: HostRuntime) -> Result<(
 
 // A writer that takes so many writes and fails at the next.
 #[derive(Drop)]
-struct Failing {
-    left: usize,
+pub(crate) struct Failing {
+    pub(crate) left: usize,
 }
 
 impl Write for Failing {

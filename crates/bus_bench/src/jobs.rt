@@ -5,12 +5,23 @@ ghost use Rattle.bus_bench.specs.declared.jobs.JobFault.TheVariants.{Memory};
 
 use clap::error::ErrorKind;
 use std::alloc::AllocError;
+use uvm_glob::Name;
 
 /// What the words of the command line ask for.
 #[derive(Clone, Copy, Debug)]
 pub enum Job<'a> {
     /// `debug FILE`: read the script in `file`, and print the answers.
-    Debug { file: &'a str },
+    Debug {
+        file: &'a str,
+    },
+    /// `run FILE`: run the script in `file`. With `trace` each entry of the log is printed, `seed`
+    /// seeds the random numbers, and `test` stands for the script's own test.
+    Run {
+        trace: bool,
+        seed: u64,
+        test: Option<Name>,
+        file: &'a str,
+    },
 }
 
 /// Why the words of the command line ask for nothing.
@@ -19,6 +30,8 @@ pub enum JobFault {
     /// The words are none that the program takes, or ask for help. The error's `Display` is the
     /// text for the user.
     Refused(clap::Error),
+    /// What was given as the test is no name.
+    BadName,
     /// An allocation was refused.
     Memory,
 }

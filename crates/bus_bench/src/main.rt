@@ -1,4 +1,5 @@
-//! The program `bus_bench`: `debug FILE` prints which types a script's factory makes.
+//! The program `bus_bench`: `debug FILE` prints which types a script's factory makes, and `run FILE`
+//! runs the script.
 #![tactic(auto)]
 
 mod commands;
@@ -7,7 +8,11 @@ mod debug_tests;
 mod debugging;
 mod files;
 mod jobs;
+mod objects;
 mod program;
+#[cfg(test)]
+mod run_tests;
+mod running;
 #[cfg(test)]
 mod tests;
 mod verdicts;

@@ -1,18 +1,21 @@
 //! What the program does, on any runtime.
-ghost use Rattle.std.specs.Prelude.{◌≡◌, ◌⊎◌, ◌≤◌, IfErr, IfOk, MatchResult, vec_len};
+ghost use Rattle.std.specs.Prelude.{◌≡◌, ◌≢◌, ◌⊎◌, ◌≤◌, IfErr, IfOk, MatchResult, OnErr, OnOk, vec_len};
 ghost use Rattle.bus_bench.specs.Debugging.{IsVerdictOn};
 ghost use Rattle.bus_bench.specs.Faults.{status_of_fault};
-ghost use Rattle.bus_bench.specs.Verdicts.{IsStatus};
+ghost use Rattle.bus_bench.specs.Verdicts.{unflushed, IsStatus, IsStatusOf};
 
 use crate::commands::job;
 use crate::debugging::debug_bench;
 use crate::files::{MOST_BYTES, read_file};
 use crate::jobs::{Job, JobFault};
+use crate::running::run_bench;
 use crate::verdicts::{Breakage, Verdict, tell};
+use bench_script::ScriptFault;
 use std::fs::File;
 use std::io::{BufWriter, Write};
 use std::rt::{Env, Files};
 use std::{env, io};
+use uvm_glob::Name;
 
 // The exit status where the words are none that the program takes, or ask for help.
 const REFUSED: u8 = 2;
@@ -45,20 +48,35 @@ pub fn obey<R: Files + Print + AllocGlobal, E: Write>(
     err: &mut E,
 ) -> u8
     ensures status { IsStatus result }
+    ensures job { IfOk asked.entry (λ job. IsStatusOf job result) }
     ensures fault { IfErr asked.entry (λ fault. result ≡ status_of_fault fault) }
 {
     match asked {
         Ok(Job::Debug { file }) => tell(&debug(rt, file), err),
+        Ok(
+            Job::Run {
+                trace,
+                seed,
+                test,
+                file,
+            },
+        ) => {
+            let read = script_in(rt, file);
+            tell(&run_on(rt, read, seed, test.as_ref(), trace), err)
+        }
         Err(JobFault::Refused(error)) => {
             let _ = write!(err, "{error}");
             REFUSED
         }
+        Err(JobFault::BadName) => tell(&Verdict::Refused(ScriptFault::BadName), err),
         Err(JobFault::Memory) => tell(&Verdict::Broken(Breakage::Memory), err),
     }
 }
 
 // The command `debug`.
-fn debug<R: Files + Print + AllocGlobal>(rt: &R, file: &str) -> Verdict {
+fn debug<R: Files + Print + AllocGlobal>(rt: &R, file: &str) -> Verdict
+    ensures { result ≢ Verdict.Faulty }
+{
     verdict_on(rt, script_in(rt, file))
 }
 
@@ -69,6 +87,22 @@ fn verdict_on<R: Print + AllocGlobal>(rt: &R, read: Result<Vec<u8>, Verdict>) ->
     match read {
         Ok(bytes) => answer(rt, bytes.as_slice()),
         Err(verdict) => verdict,
+    }
+}
+
+// The verdict on a run of what was read: that of the run, or why there are no bytes.
+fn run_on<R: Print + AllocGlobal>(
+    rt: &R,
+    read: Result<Vec<u8>, Verdict>,
+    seed: u64,
+    test: Option<&Name>,
+    trace: bool,
+) -> Verdict
+    ensures { IfErr read (λ verdict. result ≡ verdict) }
+{
+    match read {
+        Ok(bytes) => report(rt, bytes.as_slice(), seed, test, trace),
+        Err(unread) => unread,
     }
 }
 
@@ -92,8 +126,31 @@ fn answer<R: Print + AllocGlobal>(rt: &R, bytes: &[u8]) -> Verdict
         return Verdict::Broken(Breakage::Memory);
     };
     let verdict = debug_bench(rt.alloc(), bytes, &mut out);
-    if out.flush().is_err() && verdict == Verdict::Clean {
-        return Verdict::Broken(Breakage::Output);
+    flushed(verdict, out.flush())
+}
+
+// Prints what a run of the script in `bytes` reports.
+fn report<R: Print + AllocGlobal>(
+    rt: &R,
+    bytes: &[u8],
+    seed: u64,
+    test: Option<&Name>,
+    trace: bool,
+) -> Verdict {
+    let Ok(mut out) = BufWriter::new(rt.alloc(), io::writer(rt)) else {
+        return Verdict::Broken(Breakage::Memory);
+    };
+    let verdict = run_bench(rt.alloc(), bytes, seed, test, trace, &mut out);
+    flushed(verdict, out.flush())
+}
+
+// The verdict on work whose output was flushed, or was not.
+fn flushed(verdict: Verdict, flush: io::Result<()>) -> Verdict
+    ensures ok { OnOk flush (result ≡ verdict) }
+    ensures err { OnErr flush (result ≡ unflushed verdict) }
+{
+    match (verdict, flush) {
+        (Verdict::Clean | Verdict::Faulty, Err(_)) => Verdict::Broken(Breakage::Output),
+        (verdict, _) => verdict,
     }
-    verdict
 }

@@ -14,6 +14,8 @@ use std::io;
 pub enum Verdict {
     /// All that was asked for was done.
     Clean,
+    /// The run counted an error or a fatal one, or ended otherwise than by finishing.
+    Faulty,
     /// The script is refused.
     Refused(ScriptFault),
     /// The program could not do what was asked for.
@@ -25,6 +27,8 @@ pub enum Verdict {
 pub enum Breakage {
     /// An allocation was refused.
     Memory,
+    /// The log of the run is full.
+    LogFull,
     /// The answers could not be written.
     Output,
     /// The file could not be opened, or not be read to its end.
@@ -40,16 +44,18 @@ impl From<AllocError> for Verdict {
 }
 
 /// Writes the fault to `err`, if there is one, and answers the exit status: 0 where the verdict is
-/// `Clean`, 2 where it is `Refused` and 3 where it is `Broken`.
+/// `Clean`, 1 where it is `Faulty`, 2 where it is `Refused` and 3 where it is `Broken`.
 ///
 /// The status is the same where the line cannot be written.
 pub fn tell<W: io::Write>(verdict: &Verdict, err: &mut W) -> u8
     ensures status { result ≡ status_of verdict.now }
     ensures clean { verdict.now ≡ Verdict.Clean → Keeps (W.contents err.old) (W.contents err.new) }
+    ensures faulty { verdict.now ≡ Verdict.Faulty → Keeps (W.contents err.old) (W.contents err.new) }
 {
     let _ = write_line(verdict, err);
     match verdict {
         Verdict::Clean => 0,
+        Verdict::Faulty => 1,
         Verdict::Refused(_) => 2,
         Verdict::Broken(_) => 3,
     }
@@ -60,11 +66,12 @@ pub fn tell<W: io::Write>(verdict: &Verdict, err: &mut W) -> u8
 /// The error is the writer's, which may then have taken a part of the line.
 pub fn write_line<W: io::Write>(verdict: &Verdict, err: &mut W) -> io::Result<()>
     ensures clean { verdict.now ≡ Verdict.Clean → Keeps (W.contents err.old) (W.contents err.new) }
+    ensures faulty { verdict.now ≡ Verdict.Faulty → Keeps (W.contents err.old) (W.contents err.new) }
     ensures line { OnOk result (IfSome (known_line verdict.now)
         (Appends (W.contents err.old) (W.contents err.new))) }
 {
     match verdict {
-        Verdict::Clean => Ok(()),
+        Verdict::Clean | Verdict::Faulty => Ok(()),
         Verdict::Refused(fault) => writeln!(err, "bus_bench: {fault}"),
         Verdict::Broken(breakage) => {
             let message = message(*breakage);
@@ -78,6 +85,7 @@ fn message(breakage: Breakage) -> &'static str
 {
     match breakage {
         Breakage::Memory => "memory",
+        Breakage::LogFull => "log full",
         Breakage::Output => "output fault",
         Breakage::Unread => "cannot read the file",
     }

@@ -1,6 +1,6 @@
 //! Overrides, and what they do to a type.
 
-ghost use Rattle.std.specs.Prelude.{◌≡◌};
+ghost use Rattle.std.specs.Prelude.{◌≡◌, IfOk};
 ghost use Rattle.uvm_glob.specs.Paths.{path_text};
 ghost use Rattle.uvm_factory.specs.Steps.{type_in, original_of, new_of, after_override};
 
@@ -46,6 +46,32 @@ impl Step {
 }
 
 impl Override {
+    /// An equal override.
+    pub fn copy(&self) -> Result<Override, AllocError>
+        ensures { IfOk result (λ o. o ≡ self.now) }
+    {
+        Ok(match self {
+            Override::Instance {
+                original,
+                new,
+                scope,
+            } => Override::Instance {
+                original: *original,
+                new: *new,
+                scope: scope.copy()?,
+            },
+            Override::Whole {
+                original,
+                new,
+                replace,
+            } => Override::Whole {
+                original: *original,
+                new: *new,
+                replace: *replace,
+            },
+        })
+    }
+
     // The type that is replaced.
     pub(crate) fn original(&self) -> TypeId
         ensures { result ≡ original_of self.now }

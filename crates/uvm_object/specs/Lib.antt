@@ -2,3 +2,4 @@ pub mod Acts
 pub mod Fatals
 pub mod Lines
 pub mod Logs
+pub mod Objects

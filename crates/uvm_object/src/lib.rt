@@ -6,6 +6,7 @@ mod entries;
 mod fatals;
 mod lines;
 mod logs;
+mod objects;
 #[cfg(test)]
 mod tests;
 
@@ -14,3 +15,4 @@ pub use entries::{Deed, Entry, Outcome, Reason};
 pub use fatals::Fatal;
 pub use lines::line_of;
 pub use logs::{Log, LogFault};
+pub use objects::UvmObject;

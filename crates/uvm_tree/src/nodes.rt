@@ -19,7 +19,7 @@ pub enum NodeKind {
 
 /// A node of a tree: 0 for the top, then by the order in which nodes were added. A tree gives these numbers; one of another
 /// tree stands for the node of that number.
-#[derive(Clone, Copy, Debug, PartialEq, Eq)]
+#[derive(Clone, Copy, Debug, PartialEq, Eq, Hash)]
 pub struct NodeId {
     number: u16,
 }

@@ -1,8 +1,8 @@
-use Rattle.std.proofs.Common.{◌∙◌, ap, sym, map}
-use Rattle.clap.specs.Words.{App, takes}
-use Rattle.bus_bench.specs.Commands.{job_named}
-use Rattle.bus_bench.proofs.CommandLemmas.{faultless_job, found_rows, no_fault, only_memory}
-use Rattle.bus_bench.proofs.PlainLemmas.{plain_fault, plain_job}
+use Rattle.std.proofs.Common.{◌∙◌, ap, refl, map}
+use Rattle.clap.specs.Words.{App, fault_of, takes}
+use Rattle.bus_bench.specs.Commands.{bus_bench_app, job_named}
+use Rattle.bus_bench.proofs.CommandLemmas.{bad_name_alone, faultless_job, found_rows, no_fault, on_ok, only_memory}
+use Rattle.bus_bench.proofs.PlainLemmas.{asks_debug, asks_run, gives_job, gives_memory}
 use Rattle.bus_bench.proofs.commands.job.Goals as goal
 
 pub returns-in_err-matches-clause-taken : goal.returns-in_err-matches-clause-taken
@@ -14,20 +14,37 @@ returns-in_err-matches-clause-taken g c =
 pub returns-in_err-matches-clause-plain : goal.returns-in_err-matches-clause-plain
 returns-in_err-matches-clause-plain g c =
     let words = map g.S.AsStr.text c.args.words.now in
-    λ file asks. plain_fault words file c.from_residual-in_err-matches.result c.in_err-matches.field-0.0 asks c.from_residual-in_err-matches.ensures.1
+    λ file asks. gives_memory words _ c.from_residual-in_err-matches.result c.in_err-matches.field-0.0 (asks_debug words file asks).0 c.from_residual-in_err-matches.ensures.1
+    (λ taken. c.in_err-matches.ensures.passes (ap (λ (a : App). takes a words) c.in_ok-command.ensures ∙ taken))
+
+pub returns-in_err-matches-clause-plain_run : goal.returns-in_err-matches-clause-plain_run
+returns-in_err-matches-clause-plain_run g c =
+    let words = map g.S.AsStr.text c.args.words.now in
+    λ file asks. gives_memory words _ c.from_residual-in_err-matches.result c.in_err-matches.field-0.0 (asks_run words file asks).0 c.from_residual-in_err-matches.ensures.1
     (λ taken. c.in_err-matches.ensures.passes (ap (λ (a : App). takes a words) c.in_ok-command.ensures ∙ taken))
 
 pub job_of-requires : goal.job_of-requires
 job_of-requires g c =
     let words = map g.S.AsStr.text c.args.words.now in
-    let named = faultless_job words (no_fault _ words c.in_ok-command.ensures c.in_ok-matches.ensures.kinds) in
-    (named.0, ap job_named (found_rows _ words c.in_ok-matches.matches c.in_ok-command.ensures c.in_ok-matches.ensures.matches) ∙ named.1)
+    rw (found_rows _ words c.in_ok-matches.matches c.in_ok-command.ensures c.in_ok-matches.ensures.matches)
+    (faultless_job words (no_fault _ words c.in_ok-command.ensures c.in_ok-matches.ensures.kinds))
 
 pub returns-clause-faultless : goal.returns-clause-faultless
-returns-clause-faultless g c = no_fault _ (map g.S.AsStr.text c.args.words.now) c.in_ok-command.ensures c.in_ok-matches.ensures.kinds
+returns-clause-faultless g c = on_ok c.job_of.result (no_fault _ (map g.S.AsStr.text c.args.words.now) c.in_ok-command.ensures c.in_ok-matches.ensures.kinds)
+
+pub returns-clause-refused : goal.returns-clause-refused
+returns-clause-refused g c =
+    let words = map g.S.AsStr.text c.args.words.now in
+    bad_name_alone (fault_of bus_bench_app words) _ c.job_of.result (no_fault _ words c.in_ok-command.ensures c.in_ok-matches.ensures.kinds) c.job_of.ensures.bad_name
 
 pub returns-clause-plain : goal.returns-clause-plain
 returns-clause-plain g c =
     let words = map g.S.AsStr.text c.args.words.now in
-    let found = found_rows _ words c.in_ok-matches.matches c.in_ok-command.ensures c.in_ok-matches.ensures.matches in
-    λ file asks. plain_job words file c.job_of.result asks (sym (ap job_named found) ∙ c.job_of.ensures)
+    let found = ap job_named (found_rows _ words c.in_ok-matches.matches c.in_ok-command.ensures c.in_ok-matches.ensures.matches) in
+    λ file asks. gives_job _ _ c.job_of.result (found ∙ (asks_debug words file asks).1) refl c.job_of.ensures.named c.job_of.ensures.bad_name
+
+pub returns-clause-plain_run : goal.returns-clause-plain_run
+returns-clause-plain_run g c =
+    let words = map g.S.AsStr.text c.args.words.now in
+    let found = ap job_named (found_rows _ words c.in_ok-matches.matches c.in_ok-command.ensures c.in_ok-matches.ensures.matches) in
+    λ file asks. gives_job _ _ c.job_of.result (found ∙ (asks_run words file asks).1) refl c.job_of.ensures.named c.job_of.ensures.bad_name

@@ -1,0 +1,370 @@
+-- Who is called: a component, which is a node of the tree.
+use Rattle.std.proofs.Common.{◌≡◌, ℕ, ◌<◌, ◌≤◌, ◌==◌, ◌⊎◌, inl, inr, Bool, true, false, not, if◌then◌else◌, List, [], ◌∷◌, length, slice_get, Option, Some, None, IfSome, Result, Ok, Err, refl, ap, ◌∙◌, sym, subst, arith}
+use Rattle.std.specs.List.{All, Contains}
+use Rattle.std.proofs.lemmas.Bool.Decides.{nat_tests}
+use Rattle.std.proofs.lemmas.List.Elements.{All-nil, All-cons, All-head, All-push, All-append, All-weaker, All-filter, All-contains, All-contains_itself, Contains-append_left}
+use Rattle.uvm_phase.specs.declared.phases.Phase.{Phase}
+use Rattle.uvm_phase.specs.declared.agendas.Cause.{Cause}
+use Rattle.uvm_phase.specs.declared.agendas.Due.{Due}
+use Rattle.uvm_phase.specs.Dues.{in_order}
+use Rattle.uvm_phase.specs.Phases.{phase_after, walk_of}
+use Rattle.uvm_phase.proofs.Ordered.{All-in_order}
+use Rattle.uvm_tree.specs.Cursors.{is_before}
+use Rattle.uvm_object.specs.Acts.{node_of}
+use Rattle.uvm_object.specs.Objects.{exchanged_in, life_of}
+use Rattle.uvm_object.specs.declared.acts.Who.{Who}
+use Rattle.uvm_object.specs.declared.acts.Call.{Call}
+use Rattle.uvm_object.specs.declared.acts.Act.{Act}
+use Rattle.uvm_object.specs.declared.acts.Act.TheVariants.{Create, Add, Set, Get, OverrideType, OverrideInst}
+use Rattle.uvm_object.specs.declared.fatals.Fatal.{Fatal}
+use Rattle.uvm_object.specs.declared.entries.Outcome.{Outcome}
+use Rattle.uvm_object.specs.declared.entries.Outcome.TheVariants.{Done, Made, Value, Refused}
+use Rattle.uvm_object.specs.declared.entries.Entry.{Entry}
+use Rattle.uvm_object.specs.declared.entries.Entry.TheVariants.{Begin, End, Heard, Did, Note, Over}
+use Rattle.bench_script.specs.Scripts.{ScriptValue}
+use Rattle.bench_world.specs.declared.stages.Stage.{Stage}
+use Rattle.bench_world.specs.declared.stages.Stage.TheVariants.{Before, During, After, Ended}
+use Rattle.bench_world.specs.History.{stage_of, now_of, running, nodes_of, components_of, left_of, rest_of, speaker_of, order_of, called_of, had_call, next_call, IsCreation}
+use Rattle.bench_world.specs.Dues.{calls_after, caused_of, heard_of, ended_of, is_open, due_calls, first_due, due_at, due_now}
+use Rattle.bench_world.specs.Next.{Next, Exactly, Answer, Need, Nothing, by_call, by_order, by_stage, by_creation, by_act, next_of, Allows, IsNext, EachIsNext}
+use Rattle.bench_world.proofs.Cases.{Case, AtEnd, ByReason, ByNote, ByAct, ByDue, ByStage, case-of}
+use Rattle.bench_world.proofs.Needed.{needed}
+use Rattle.bench_world.proofs.Turns.{least-holds}
+use Rattle.bench_core.specs.Plays.{is_over}
+use Rattle.bench_core.proofs.Comings.{nothing-comes}
+use Rattle.bench_core.proofs.Grown.{IsPlain, IsPlainNext, plain-next, exact-keeps-components, nodes-more, components-grow, made-grows, HasGrown}
+
+-- the components are below the nodes of one more entry, too
+below-weaker : (entry : Entry) (before : List Entry) → All (λ node. node < length (nodes_of before)) (components_of before) → All (λ node. node < length (nodes_of (entry ∷ before))) (components_of before)
+below-weaker entry before below =
+    let more = nodes-more entry before in
+    All-weaker (λ node. node < length (nodes_of before)) (λ node. node < length (nodes_of (entry ∷ before))) (λ node lt. omega (arith, more, lt)) (components_of before) below
+
+-- an entry that leaves the components as they were keeps them below the nodes
+below-same : (entry : Entry) (before : List Entry) → components_of (entry ∷ before) ≡ components_of before → All (λ node. node < length (nodes_of before)) (components_of before) → All (λ node. node < length (nodes_of (entry ∷ before))) (components_of (entry ∷ before))
+below-same entry before e below = subst (All (λ node. node < length (nodes_of (entry ∷ before)))) (sym e) (below-weaker entry before below)
+
+-- so does one that makes an object
+below-made : (entry : Entry) (before : List Entry) (path : List (List ℕ)) → HasGrown before path entry → All (λ node. node < length (nodes_of before)) (components_of before) → All (λ node. node < length (nodes_of (entry ∷ before))) (components_of (entry ∷ before))
+below-made entry before path g below =
+    let count = g.count in
+    subst (All (λ node. node < length (nodes_of (entry ∷ before)))) (sym g.components)
+    (All-push (λ node. node < length (nodes_of (entry ∷ before))) (components_of before) (length (nodes_of before)) (below-weaker entry before below) (omega (arith, count)))
+
+-- and so does each entry that is next
+below-next : (script : ScriptValue) (before : List Entry) (entry : Entry) (next : Next) → next_of script before ≡ next → Allows next entry → All (λ node. node < length (nodes_of before)) (components_of before) → All (λ node. node < length (nodes_of (entry ∷ before))) (components_of (entry ∷ before))
+below-next script before entry (Exactly expected) is allows below = below-same entry before (exact-keeps-components script before entry (is ∙ ap Exactly (sym allows))) below
+below-next script before entry (Answer performer call cause) is allows below = below-same entry before (ap (λ (e : Entry). components_of (e ∷ before)) allows.1) below
+below-next script before entry (Need ty path performer act) is (inl made) below = below-made entry before path (subst (HasGrown before path) (sym made) (made-grows script before ty path performer act is)) below
+below-next script before entry (Need ty path performer act) is (inr declined) below = below-same entry before (ap (λ (e : Entry). components_of (e ∷ before)) declined) below
+below-next script before entry Nothing is allows below = absurd allows
+
+-- each component is a node of the tree
+pub components-below : (script : ScriptValue) (history : List Entry) → EachIsNext script history → All (λ node. node < length (nodes_of history)) (components_of history)
+components-below script [] each = All-nil (λ node. node < 1)
+components-below script (entry ∷ before) each = below-next script before entry (next_of script before) refl each.0 (components-below script before each.1)
+
+-- a component stays one
+contains-more : (entry : Entry) (before : List Entry) (node : ℕ) → Contains (components_of before) node → Contains (components_of (entry ∷ before)) node
+contains-more entry before node has =
+    let more = components-grow entry before in
+    subst (λ (components : List ℕ). Contains components node) (sym more.1) (Contains-append_left (components_of before) more.0 node has)
+
+-- the acts create, and do nothing else
+abbrev AreCreations : List Act → Type 0
+AreCreations [] = Unit {0}
+AreCreations (act ∷ acts) = IsCreation act × AreCreations acts
+
+-- the acts behind the first create as well
+creations-rest : (acts : List Act) → AreCreations acts → AreCreations (rest_of acts)
+creations-rest [] creations = creations
+creations-rest (act ∷ acts) creations = creations.1
+
+-- the first of acts that create does
+creations-first : (left : List Act) (act : Act) → left ≡ act ∷ rest_of left → AreCreations left → IsCreation act
+creations-first left act e creations = let first : AreCreations (act ∷ rest_of left) = subst AreCreations e creations in first.0
+
+-- whoever waits for a call and whoever spoke last is a component, unless that was the opening of the run
+record Known (script : ScriptValue) (history : List Entry) : Type 0 where
+  owners : All (λ due. Contains (components_of history) (node_of due.owner)) (caused_of history)
+  speaker : Contains (components_of history) (node_of (speaker_of history)) ⊎ AreCreations (left_of script history)
+
+-- who is asked is a component
+abbrev AsksOne : List Entry → Next → Type 0
+AsksOne history (Answer performer call cause) = Contains (components_of history) (node_of performer)
+AsksOne history next = Unit {0}
+
+-- a phase asks a component whose turn it is
+asks-call : (history : List Entry) (phase : Phase) (turn : Option ℕ) → IfSome turn (Contains (components_of history)) → AsksOne history (by_call phase turn)
+asks-call history phase None one = tt
+asks-call history phase (Some node) one = one
+
+-- the node whose turn has come is a component
+turn-one : (history : List Entry) (phase : Phase) → IfSome (next_call phase history) (Contains (components_of history))
+unfolding next_call
+turn-one history phase =
+    let components = components_of history in
+    least-holds (Contains components) (is_before (order_of (walk_of phase)) (nodes_of history)) _
+    (All-filter (λ node. not (had_call (called_of history) node)) (Contains components) components (All-contains_itself components))
+
+-- between phases nobody is asked
+asks-order : (history : List Entry) (next : Option Phase) → AsksOne history (by_order next)
+asks-order history None = tt
+asks-order history (Some phase) = tt
+
+-- where no act is left a component is asked, if anybody is
+asks-stage : (history : List Entry) (stage : Stage) → AsksOne history (by_stage history stage)
+asks-stage history Before = tt
+asks-stage history (During phase) = asks-call history phase (next_call phase history) (turn-one history phase)
+asks-stage history (After phase) = asks-order history (phase_after phase)
+asks-stage history Ended = tt
+
+-- a creation asks nobody
+asks-creation : (history : List Entry) (performer : Who) (act : Act) (path : List (List ℕ)) (made : Result (List ℕ) Fatal) → AsksOne history (by_creation performer act path made)
+asks-creation history performer act path (Ok ty) = tt
+asks-creation history performer act path (Err fatal) = tt
+
+-- nor does any other act
+asks-act : (script : ScriptValue) (history : List Entry) (performer : Who) (act : Act) → AsksOne history (by_act script history performer act)
+asks-act script history performer (Create ty name) = asks-creation history performer (Create ty name) _ _
+asks-act script history performer (Add name what) = tt
+asks-act script history performer (Set glob field value) = tt
+asks-act script history performer (Get field) = tt
+asks-act script history performer (OverrideType original new replace) = tt
+asks-act script history performer (OverrideInst original new glob) = tt
+
+-- what holds of each call holds of the one that is due
+first-of : (P : Due Who Call → Type 0) (dues : List (Due Who Call)) → All P dues → IfSome (slice_get dues 0) P
+first-of P [] all = tt
+first-of P (due ∷ dues) all = All-head P due dues all
+
+-- or of none, by a test
+due-tested : (P : Due Who Call → Type 0) (due : Due Who Call) (b : Bool) → P due → IfSome (if b then Some due else None) P
+due-tested P due true holds = holds
+due-tested P due false holds = tt
+
+-- at the present time
+due-holds : (P : Due Who Call → Type 0) (now : ℕ) (first : Option (Due Who Call)) → IfSome first P → IfSome (due_at now first) P
+due-holds P now None holds = tt
+due-holds P now (Some due) holds = due-tested P due (due.time == now) holds
+
+-- of all calls that were caused, of the one that is due now
+due-one : (history : List Entry) (P : Due Who Call → Type 0) → All P (caused_of history) → IfSome (due_now history) P
+unfolding due_now
+due-one history P all =
+    due-holds P (now_of history) (first_due history)
+    (first-of P (in_order (due_calls history)) (All-in_order P (due_calls history) (All-filter (is_open (heard_of history) (ended_of history)) P (caused_of history) all)))
+
+-- its owner is a component
+asks-due : (history : List Entry) (due : Due Who Call) → All (λ due. Contains (components_of history) (node_of due.owner)) (caused_of history) → due_now history ≡ Some due → Contains (components_of history) (node_of due.owner)
+asks-due history due owners now =
+    let P : Due Who Call → Type 0 = λ due. Contains (components_of history) (node_of due.owner) in
+    subst (λ (found : Option (Due Who Call)). IfSome found P) now (due-one history P owners)
+
+-- in each case of the machine a component is asked, if anybody is
+asks-case : (script : ScriptValue) (history : List Entry) (next : Next) → Known script history → Case script history next → AsksOne history next
+asks-case script history next known (AtEnd ended e) = subst (AsksOne history) (sym e) tt
+asks-case script history next known (ByReason reason e) = subst (AsksOne history) (sym e) tt
+asks-case script history next known (ByNote e) = subst (AsksOne history) (sym e) tt
+asks-case script history next known (ByAct act left e) = subst (AsksOne history) (sym e) (asks-act script history (speaker_of history) act)
+asks-case script history next known (ByDue due now e) = subst (AsksOne history) (sym e) (asks-due history due known.owners now)
+asks-case script history next known (ByStage on e) = subst (AsksOne history) (sym e) (asks-stage history (stage_of history))
+
+-- so that an answer is a component's
+asks-one : (script : ScriptValue) (history : List Entry) (performer : Who) (call : Call) (cause : Option Cause) → Known script history → next_of script history ≡ Answer performer call cause → Contains (components_of history) (node_of performer)
+asks-one script history performer call cause known e = subst (AsksOne history) e (asks-case script history _ known (case-of script history))
+
+-- an answer was asked for
+heard-asked : (performer : Who) (call : Call) (cause : Option Cause) (acts : List Act) (next : Next) → IsPlainNext next → Allows next (Heard performer call cause acts) → next ≡ Answer performer call cause
+heard-asked performer call cause acts (Exactly entry) plain allows = absurd (subst IsPlain (sym allows) plain)
+heard-asked performer call cause acts (Answer other asked why) plain allows = let same : Heard performer call cause acts ≡ Heard other asked why allows.0 = allows.1 in cc
+heard-asked performer call cause acts (Need ty path other act) plain (inl made) = cc
+heard-asked performer call cause acts (Need ty path other act) plain (inr declined) = cc
+heard-asked performer call cause acts Nothing plain allows = absurd allows
+
+-- and who was heard is a component
+heard-one : (script : ScriptValue) (before : List Entry) (performer : Who) (call : Call) (cause : Option Cause) (acts : List Act) → Known script before → IsNext script before (Heard performer call cause acts) → Contains (components_of before) (node_of performer)
+heard-one script before performer call cause acts known next =
+    asks-one script before performer call cause known (heard-asked performer call cause acts (next_of script before) (plain-next script before) next)
+
+-- an act was the speaker's next
+record IsDeed (script : ScriptValue) (history : List Entry) (performer : Who) (act : Act) : Type 0 where
+  performer_is : performer ≡ speaker_of history
+  left : left_of script history ≡ act ∷ rest_of (left_of script history)
+
+-- the entry that alone is next, where it is an act's
+abbrev DeedIn : ScriptValue → List Entry → Next → Type 0
+DeedIn script history (Exactly (Did performer outcome act)) = IsDeed script history performer act
+DeedIn script history next = Unit {0}
+
+-- what a running phase comes to is no act's
+deed-call : (script : ScriptValue) (history : List Entry) (phase : Phase) (turn : Option ℕ) → DeedIn script history (by_call phase turn)
+deed-call script history phase None = tt
+deed-call script history phase (Some node) = tt
+
+-- nor is what comes behind a phase
+deed-order : (script : ScriptValue) (history : List Entry) (next : Option Phase) → DeedIn script history (by_order next)
+deed-order script history None = tt
+deed-order script history (Some phase) = tt
+
+-- nor what comes where no act is left
+deed-stage : (script : ScriptValue) (history : List Entry) (stage : Stage) → DeedIn script history (by_stage history stage)
+deed-stage script history Before = tt
+deed-stage script history (During phase) = deed-call script history phase (next_call phase history)
+deed-stage script history (After phase) = deed-order script history (phase_after phase)
+deed-stage script history Ended = tt
+
+-- a creation is the speaker's next act, where it is refused
+deed-creation : (script : ScriptValue) (history : List Entry) (act : Act) (path : List (List ℕ)) (made : Result (List ℕ) Fatal) → IsDeed script history (speaker_of history) act → DeedIn script history (by_creation (speaker_of history) act path made)
+deed-creation script history act path (Ok ty) deed = tt
+deed-creation script history act path (Err fatal) deed = deed
+
+-- what an act comes to is that act's
+deed-act : (script : ScriptValue) (history : List Entry) (act : Act) → IsDeed script history (speaker_of history) act → DeedIn script history (by_act script history (speaker_of history) act)
+deed-act script history (Create ty name) deed = deed-creation script history (Create ty name) _ _ deed
+deed-act script history (Add name what) deed = deed
+deed-act script history (Set glob field value) deed = deed
+deed-act script history (Get field) deed = deed
+deed-act script history (OverrideType original new replace) deed = deed
+deed-act script history (OverrideInst original new glob) deed = deed
+
+-- in each case of the machine an act that comes is the speaker's next
+deed-case : (script : ScriptValue) (history : List Entry) (next : Next) → Case script history next → DeedIn script history next
+deed-case script history next (AtEnd ended e) = subst (DeedIn script history) (sym e) tt
+deed-case script history next (ByReason reason e) = subst (DeedIn script history) (sym e) tt
+deed-case script history next (ByNote e) = subst (DeedIn script history) (sym e) tt
+deed-case script history next (ByAct act left e) = subst (DeedIn script history) (sym e) (deed-act script history act (record { performer_is = refl; left = left }))
+deed-case script history next (ByDue due now e) = subst (DeedIn script history) (sym e) tt
+deed-case script history next (ByStage on e) = subst (DeedIn script history) (sym e) (deed-stage script history (stage_of history))
+
+-- and so is one that needs an object
+deed-needed : (script : ScriptValue) (history : List Entry) (ty : List ℕ) (path : List (List ℕ)) (performer other : Who) (outcome expected : Outcome) (act deed : Act) → next_of script history ≡ Need ty path other deed → Did performer outcome act ≡ Did other expected deed → IsDeed script history performer act
+deed-needed script history ty path performer other outcome expected act deed is e =
+    let n = needed script history ty path other deed is in
+    let who : performer ≡ other = cc in
+    let what : act ≡ deed = cc in
+    record { performer_is = who ∙ n.performer_is; left = rw what n.left }
+
+-- an entry of an act that is next is of the speaker's next act
+deed-next : (script : ScriptValue) (history : List Entry) (performer : Who) (outcome : Outcome) (act : Act) (next : Next) → next_of script history ≡ next → Allows next (Did performer outcome act) → IsDeed script history performer act
+deed-next script history performer outcome act (Exactly expected) is allows =
+    let here : DeedIn script history (Exactly expected) = subst (DeedIn script history) is (deed-case script history _ (case-of script history)) in
+    subst (λ (entry : Entry). DeedIn script history (Exactly entry)) (sym allows) here
+deed-next script history performer outcome act (Answer other call cause) is allows = let same : Did performer outcome act ≡ Heard other call cause allows.0 = allows.1 in cc
+deed-next script history performer outcome act (Need ty path other deed) is (inl made) = deed-needed script history ty path performer other outcome (Made ty) act deed is made
+deed-next script history performer outcome act (Need ty path other deed) is (inr declined) = deed-needed script history ty path performer other outcome _ act deed is declined
+deed-next script history performer outcome act Nothing is allows = absurd allows
+
+-- the call that an act causes is its performer's, and no creation causes one
+calls-owner : (P : Who → Type 0) (outcome : Outcome) (act : Act) (performer : Who) (phase : Option Phase) (time place : ℕ) → IsCreation act ⊎ P performer → All (λ due. P due.owner) (calls_after outcome act performer phase time place)
+calls-owner P Done act performer phase time place who = All-nil _
+calls-owner P (Made ty) act performer phase time place who = All-nil _
+calls-owner P (Refused fatal) act performer phase time place who = All-nil _
+calls-owner P (Value value) (Create ty name) performer phase time place who = All-nil _
+calls-owner P (Value value) (Add name what) performer phase time place who = All-nil _
+calls-owner P (Value value) (Set glob field set) performer phase time place who = All-nil _
+calls-owner P (Value value) (OverrideType original new replace) performer phase time place who = All-nil _
+calls-owner P (Value value) (OverrideInst original new glob) performer phase time place who = All-nil _
+calls-owner P (Value value) (Get field) performer None time place who = All-nil _
+calls-owner P (Value value) (Get field) performer (Some phase) time place (inl creates) = absurd creates
+calls-owner P (Value value) (Get field) performer (Some phase) time place (inr holds) = All-cons (λ due. P due.owner) _ [] holds (All-nil (λ due. P due.owner))
+
+-- with one more entry the owners stay components
+owners-more : (script : ScriptValue) (before : List Entry) (entry : Entry) → Known script before → All (λ due. Contains (components_of (entry ∷ before)) (node_of due.owner)) (caused_of before)
+owners-more script before entry known =
+    All-weaker (λ due. Contains (components_of before) (node_of due.owner)) (λ due. Contains (components_of (entry ∷ before)) (node_of due.owner)) (λ due has. contains-more entry before (node_of due.owner) has) (caused_of before) known.owners
+
+-- an act creates, or its performer is a component
+deed-owner : (script : ScriptValue) (before : List Entry) (entry : Entry) (performer : Who) (act : Act) → IsDeed script before performer act → Contains (components_of before) (node_of (speaker_of before)) ⊎ AreCreations (left_of script before) → IsCreation act ⊎ Contains (components_of (entry ∷ before)) (node_of performer)
+deed-owner script before entry performer act deed (inl has) = inr (contains-more entry before (node_of performer) (rw deed.performer_is has))
+deed-owner script before entry performer act deed (inr creations) = inl (creations-first (left_of script before) act deed.left creations)
+
+-- with one more act the speaker stays a component, or all that is left creates
+speaker-more : (script : ScriptValue) (before : List Entry) (entry : Entry) → Contains (components_of before) (node_of (speaker_of before)) ⊎ AreCreations (left_of script before) → Contains (components_of (entry ∷ before)) (node_of (speaker_of before)) ⊎ AreCreations (rest_of (left_of script before))
+speaker-more script before entry (inl has) = inl (contains-more entry before (node_of (speaker_of before)) has)
+speaker-more script before entry (inr creations) = inr (creations-rest (left_of script before) creations)
+
+-- an act keeps what is known
+known-did : (script : ScriptValue) (before : List Entry) (performer : Who) (outcome : Outcome) (act : Act) → Known script before → IsNext script before (Did performer outcome act) → Known script (Did performer outcome act ∷ before)
+known-did script before performer outcome act known next =
+    let entry = Did performer outcome act in
+    let deed = deed-next script before performer outcome act (next_of script before) refl next in
+    record {
+      owners =
+          All-append (λ due. Contains (components_of (entry ∷ before)) (node_of due.owner)) (calls_after outcome act performer (running (stage_of before)) (now_of before) (length before)) (caused_of before)
+          (calls-owner (λ who. Contains (components_of (entry ∷ before)) (node_of who)) outcome act performer (running (stage_of before)) (now_of before) (length before) (deed-owner script before entry performer act deed known.speaker))
+          (owners-more script before entry known);
+      speaker = speaker-more script before entry known.speaker;
+    }
+
+-- so does each entry that is next
+known-more : (script : ScriptValue) (before : List Entry) (entry : Entry) → Known script before → IsNext script before entry → Known script (entry ∷ before)
+known-more script before (Begin phase) known next = record { owners = known.owners; speaker = known.speaker }
+known-more script before (End phase) known next = record { owners = known.owners; speaker = known.speaker }
+known-more script before (Heard performer call cause acts) known next = record { owners = known.owners; speaker = inl (heard-one script before performer call cause acts known next) }
+known-more script before (Did performer outcome act) known next = known-did script before performer outcome act known next
+known-more script before (Note fatal node) known next = record { owners = known.owners; speaker = inr tt }
+known-more script before (Over reason) known next = record { owners = known.owners; speaker = known.speaker }
+
+-- so that it is known of every log of which each entry was next
+known-of : (script : ScriptValue) (history : List Entry) → EachIsNext script history → Known script history
+known-of script [] each = record { owners = All-nil _; speaker = inr (tt, tt) }
+known-of script (entry ∷ before) each = known-more script before entry (known-of script before each.1) each.0
+
+-- who is asked is a component
+pub answers-component : (script : ScriptValue) (history : List Entry) (performer : Who) (call : Call) (cause : Option Cause) → EachIsNext script history → next_of script history ≡ Answer performer call cause → Contains (components_of history) (node_of performer)
+answers-component script history performer call cause each e = asks-one script history performer call cause (known-of script history each) e
+
+-- an answer of another is not the node's
+apart : (performer : Who) (node : ℕ) (call : Call) (cause : Option Cause) (acts : List Act) → node_of performer < node → exchanged_in node (Heard performer call cause acts) ≡ []
+apart performer node call cause acts lt =
+    let other : (node_of performer == node) ≡ false = grind (arith, nat_tests) in
+    rw other refl
+
+-- an entry that is next asks no node behind those of the tree
+unasked-in : (script : ScriptValue) (before : List Entry) (node : ℕ) (entry : Entry) → EachIsNext script before → IsNext script before entry → length (nodes_of before) ≤ node → exchanged_in node entry ≡ []
+unasked-in script before node (Begin phase) each next le = refl
+unasked-in script before node (End phase) each next le = refl
+unasked-in script before node (Heard performer call cause acts) each next le =
+    let has = heard-one script before performer call cause acts (known-of script before each) next in
+    let lt : node_of performer < length (nodes_of before) = All-contains (λ other. other < length (nodes_of before)) (components_of before) (node_of performer) (components-below script before each) has in
+    apart performer node call cause acts (omega (arith, lt, le))
+unasked-in script before node (Did performer outcome act) each next le = refl
+unasked-in script before node (Note fatal place) each next le = refl
+unasked-in script before node (Over reason) each next le = refl
+
+-- behind the nodes of the tree nobody was asked
+pub unasked : (script : ScriptValue) (history : List Entry) (node : ℕ) → EachIsNext script history → length (nodes_of history) ≤ node → life_of node history ≡ []
+unasked script [] node each le = refl
+unasked script (entry ∷ before) node each le =
+    let more = nodes-more entry before in
+    let fewer : length (nodes_of before) ≤ node = omega (arith, more, le) in
+    rw (unasked-in script before node entry each.1 each.0 fewer) (unasked script before node each.1 fewer)
+
+-- nothing comes after the end
+none-after : (script : ScriptValue) (before : List Entry) (entry : Entry) → IsNext script before entry → stage_of before ≡ Ended → ⊥
+none-after script before entry next ended = subst (λ (comes : Next). Allows comes entry) (nothing-comes script before ended) next
+
+-- where the stage is the end the entry that came last is it
+over-more : (script : ScriptValue) (before : List Entry) (entry : Entry) → IsNext script before entry → stage_of (entry ∷ before) ≡ Ended → is_over (entry ∷ before) ≡ true
+over-more script before (Begin phase) next ended = cc
+over-more script before (End phase) next ended = cc
+over-more script before (Heard performer call cause acts) next ended = absurd (none-after script before (Heard performer call cause acts) next ended)
+over-more script before (Did performer outcome act) next ended = absurd (none-after script before (Did performer outcome act) next ended)
+over-more script before (Note fatal node) next ended = absurd (none-after script before (Note fatal node) next ended)
+over-more script before (Over reason) next ended = refl
+
+-- a run that has ended is over
+pub ended-is-over : (script : ScriptValue) (history : List Entry) → EachIsNext script history → stage_of history ≡ Ended → is_over history ≡ true
+ended-is-over script [] each ended = cc
+ended-is-over script (entry ∷ before) each ended = over-more script before entry each.0 ended
+
+-- and one that is over has ended
+pub over-is-ended : (history : List Entry) → is_over history ≡ true → stage_of history ≡ Ended
+over-is-ended [] over = cc
+over-is-ended (Begin phase ∷ before) over = cc
+over-is-ended (End phase ∷ before) over = cc
+over-is-ended (Heard performer call cause acts ∷ before) over = cc
+over-is-ended (Did performer outcome act ∷ before) over = cc
+over-is-ended (Note fatal node ∷ before) over = cc
+over-is-ended (Over reason ∷ before) over = refl

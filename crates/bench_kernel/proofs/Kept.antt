@@ -1,0 +1,237 @@
+-- What stays true of a kernel.
+use Rattle.std.proofs.Common.{◌≡◌, ◌∙◌, ◌<◌, ℕ, Bool, true, false, nat_eq, List, [], ◌∷◌, ◌++◌, length, take, drop, insert, Option, Some, None, IsSome, Ok, Result, inl, inr, refl, sym, ap, subst, if◌then◌else◌, arith}
+use Rattle.std.proofs.lemmas.Bool.Decides.{nat_tests}
+use Rattle.std.proofs.lemmas.List.{map-append, take-append-drop}
+use Rattle.std.proofs.lemmas.List.Elements.{All-weaker, All-contains, All-push, Contains-append_left, Contains-push}
+use Rattle.std.specs.Prelude.{All, Contains}
+use Rattle.std.proofs.lemmas.Map.{keys-set_value}
+use Rattle.std.specs.Map.{keys_of}
+use Rattle.std.specs.declared.alloc.AllocError.{AllocError}
+use Rattle.uvm_phase.specs.declared.agendas.Cause.{Cause}
+use Rattle.uvm_object.specs.Acts.{node_of}
+use Rattle.uvm_object.specs.Objects.{View, Says}
+use Rattle.uvm_object.specs.declared.acts.Who.{Who}
+use Rattle.uvm_object.specs.declared.acts.Call.{Call}
+use Rattle.uvm_object.specs.declared.acts.Act.{Act}
+use Rattle.uvm_object.specs.declared.entries.Outcome.TheVariants.{Made, Refused}
+use Rattle.uvm_object.specs.declared.entries.Entry.{Entry}
+use Rattle.uvm_object.specs.declared.entries.Entry.TheVariants.{Heard, Did}
+use Rattle.uvm_object.specs.declared.fatals.Fatal.TheVariants.{NoObject}
+use Rattle.bench_script.specs.Scripts.{ScriptValue}
+use Rattle.bench_world.specs.History.{nodes_of, components_of}
+use Rattle.bench_world.specs.Next.{Next, Exactly, Answer, Need, next_of, EachIsNext}
+use Rattle.bench_core.specs.Plays.{Play, Comes, IsSomething, after, is_over}
+use Rattle.bench_core.proofs.Comings.{nothing-comes}
+use Rattle.bench_core.proofs.Grown.{exact-is-silent, exact-keeps-components, nodes-grow, made-grows}
+use Rattle.bench_core.proofs.Called.{components-below, unasked, over-is-ended}
+use Rattle.bench_kernel.specs.Casts.{Cast, IsCast, object_at, is_done}
+use Rattle.bench_kernel.specs.Orders.{IsFirstDown, IsFromLast}
+use Rattle.bench_kernel.specs.Steps.{IsAsked, IsSameLog}
+use Rattle.bench_kernel.proofs.Ranks.{IsPlace, All-front, All-insert, IsFromLast-held, IsFromLast-last, IsFromLast-more, place-more}
+use Rattle.bench_kernel.proofs.Lives.{LiveHonestly-heard, LiveHonestly-unanswered, LiveHonestly-silent, LiveHonestly-more, LiveHonestly-less, object_at-asked}
+
+-- where something comes the run is not over
+pub on-where-some : (script : ScriptValue) (history : List Entry) (next : Next) → next_of script history ≡ next → IsSomething next → is_over history ≡ false
+on-where-some script history next is some = go (is_over history) refl
+  where
+    go : (b : Bool) → is_over history ≡ b → is_over history ≡ false
+    go false e = e
+    go true e = absurd (subst IsSomething (sym is ∙ nothing-comes script history (over-is-ended history e)) some)
+
+-- who is held is a node of the tree
+pub held-below : (script : ScriptValue) (history : List Entry) (keys : List ℕ) → EachIsNext script history → All (Contains (components_of history)) keys
+    → All (λ node. node < length (nodes_of history)) keys
+held-below script history keys each made =
+    All-weaker (Contains (components_of history)) (λ node. node < length (nodes_of history))
+    (λ node there. All-contains (λ node. node < length (nodes_of history)) (components_of history) node (components-below script history each) there) keys made
+
+-- the order stays after an entry
+order-after : (script : ScriptValue) (history : List Entry) (entry : Entry) (keys : List ℕ) → EachIsNext script history → All (Contains (components_of history)) keys
+    → IsFromLast (nodes_of history) keys → IsFromLast (nodes_of (entry ∷ history)) keys
+order-after script history entry keys each made ordered =
+    let grown = nodes-grow entry history in
+    rw grown.1 (IsFromLast-more (nodes_of history) grown.0 keys (held-below script history keys each made) ordered)
+
+-- an object that is there stays there
+still-some : {O : Type 0} (b : Bool) (object : O) (found : Option O) → IsSome found → IsSome (if b then Some object else found)
+still-some true object found some = refl
+still-some false object found some = some
+
+module _ {O : Type 0} (view : O → View) (name : O → List ℕ) (says : O → Says) where
+  -- the machine made an entry
+  pub kept-moved : (cast : Cast O) (entry : Entry) → next_of cast.core.script cast.core.history ≡ Exactly entry
+      → cast.failed ≡ false → IsCast view says cast → IsCast view says (record cast { core = after entry cast.core })
+  kept-moved cast entry exact going kept =
+      let history = cast.core.history in
+      let each = kept.each in
+      let on : is_over history ≡ false = on-where-some cast.core.script history (Exactly entry) exact tt in
+      let same = exact-keeps-components cast.core.script history entry exact in
+      record {
+        each = (rw exact refl, each);
+        honest = LiveHonestly-silent view name says entry history cast.held cast.unknown (λ node. exact-is-silent cast.core.script history entry node exact) kept.honest;
+        made = rw same kept.made;
+        whole = λ done. rw same (kept.whole (rw (going, on) refl));
+        in_order = order-after cast.core.script history entry (keys_of cast.held) each kept.made kept.in_order;
+        good = kept.good;
+        comes = λ h. tt;
+        known = kept.known;
+      }
+
+  -- who is asked is held
+  pub asked-held : (cast : Cast O) (performer : Who) (call : Call) (cause : Option Cause) → next_of cast.core.script cast.core.history ≡ Answer performer call cause → cast.failed ≡ false
+      → Contains (components_of cast.core.history) (node_of performer) → IsCast view says cast → IsSome (object_at cast.held (node_of performer))
+  asked-held cast performer call cause answers going there kept =
+      let on : is_over cast.core.history ≡ false = on-where-some cast.core.script cast.core.history (Answer performer call cause) answers tt in
+      All-contains (λ node. IsSome (object_at cast.held node)) (components_of cast.core.history) (node_of performer) (kept.whole (rw (going, on) refl)) there
+
+  -- an object answered
+  pub kept-heard : (cast : Cast O) (core : Play) (held : List (ℕ × O)) (performer : Who) (node : ℕ) (call : Call) (cause : Option Cause) (acts : List Act)
+      → next_of cast.core.script cast.core.history ≡ Answer performer call cause → cast.failed ≡ false → core ≡ after (Heard performer call cause acts) cast.core → node ≡ node_of performer
+      → IsAsked view name says node call (Ok acts) cast.held held → IsCast view says cast
+      → IsCast view says (record { core = core; held = held; failed = false; unknown = None })
+  kept-heard cast core held performer node call cause acts answers going is same_node asked_there kept =
+      let on : is_over cast.core.history ≡ false = on-where-some cast.core.script cast.core.history (Answer performer call cause) answers tt in
+      let asked : IsAsked view name says (node_of performer) call (Ok acts) cast.held held = subst (λ n. IsAsked view name says n call (Ok acts) cast.held held) same_node asked_there in
+      let keys : keys_of held ≡ keys_of cast.held = rw asked.is (keys-set_value (nat_eq (node_of performer)) cast.held asked.after) in
+      rw is (record {
+        each = (rw answers (acts, refl), kept.each);
+        honest = LiveHonestly-heard view name says performer call cause acts cast.held held cast.core.history asked (rw (kept.known going) at (kept.honest));
+        made = rw keys kept.made;
+        whole = λ done.
+            All-weaker (λ n. IsSome (object_at cast.held n)) (λ n. IsSome (object_at held n))
+            (λ n some. rw (object_at-asked view name says (node_of performer) call (Ok acts) cast.held held asked n) (still-some (nat_eq (node_of performer) n) asked.after (object_at cast.held n) some))
+            (components_of cast.core.history) (kept.whole (rw (going, on) refl));
+        in_order = rw keys kept.in_order;
+        good = λ h. kept.good going;
+        comes = λ h. tt;
+        known = λ h. refl;
+      })
+
+  -- an object gave no answer
+  pub kept-unanswered : (cast : Cast O) (held : List (ℕ × O)) (core : Play) (node : ℕ) (call : Call) (answer : Result (List Act) AllocError) → cast.failed ≡ false
+      → IsSameLog cast.core core → IsAsked view name says node call answer cast.held held → IsCast view says cast
+      → IsCast view says (record { core = core; held = held; failed = true; unknown = Some node })
+  kept-unanswered cast held core node call answer going same_log asked kept =
+      let same = same_log.history in
+      let keys : keys_of held ≡ keys_of cast.held = rw asked.is (keys-set_value (nat_eq node) cast.held asked.after) in
+      record {
+        each = rw (same, same_log.script) kept.each;
+        honest = rw same (LiveHonestly-unanswered view name says node call answer cast.held held cast.core.history asked (rw (kept.known going) at (kept.honest)));
+        made = rw (same, keys) kept.made;
+        whole = λ done. cc;
+        in_order = rw (same, keys) kept.in_order;
+        good = λ h. cc;
+        comes = λ h. cc;
+        known = λ h. cc;
+      }
+
+  -- the machine asks for an object
+  pub kept-core : (cast : Cast O) (core : Play) → IsSameLog cast.core core → core.health ≡ cast.core.health → Comes core.standing (next_of core.script core.history)
+      → IsCast view says cast → IsCast view says (record cast { core = core })
+  kept-core cast core same health comes kept = record {
+    each = rw (same.history, same.script) kept.each;
+    honest = rw same.history kept.honest;
+    made = rw same.history kept.made;
+    whole = rw same.history kept.whole;
+    in_order = rw same.history kept.in_order;
+    good = λ going. health ∙ kept.good going;
+    comes = λ going. comes;
+    known = kept.known;
+  }
+
+  -- the machine has failed
+  pub kept-failed : (cast : Cast O) (core : Play) → IsSameLog cast.core core → IsCast view says cast → IsCast view says (record cast { core = core; failed = true })
+  kept-failed cast core same kept = record {
+    each = rw (same.history, same.script) kept.each;
+    honest = rw same.history kept.honest;
+    made = rw same.history kept.made;
+    whole = λ done. cc;
+    in_order = rw same.history kept.in_order;
+    good = λ going. cc;
+    comes = λ going. cc;
+    known = λ going. cc;
+  }
+
+  -- a needed object was taken
+  pub kept-supplied : (cast : Cast O) (held : List (ℕ × O)) (place : ℕ) (object : O) (ty : List ℕ) (path : List (List ℕ)) (performer : Who) (act : Act)
+      → next_of cast.core.script cast.core.history ≡ Need ty path performer act → cast.failed ≡ false
+      → IsPlace (nodes_of cast.core.history) path cast.held place
+      → held ≡ insert cast.held place (length (nodes_of cast.core.history), object)
+      → ((other : ℕ) → object_at held other ≡ (if nat_eq (length (nodes_of cast.core.history)) other then Some object else object_at cast.held other))
+      → IsCast view says cast → IsCast view says (record cast { core = after (Did performer (Made ty) act) cast.core; held = held })
+  kept-supplied cast held place object ty path performer act need going p is found kept =
+      let history = cast.core.history in
+      let each = kept.each in
+      let entry : Entry = Did performer (Made ty) act in
+      let node : ℕ = length (nodes_of history) in
+      let grown = made-grows cast.core.script history ty path performer act need in
+      let more = nodes-grow entry history in
+      let on : is_over history ≡ false = on-where-some cast.core.script history (Need ty path performer act) need tt in
+      let below = held-below cast.core.script history (keys_of cast.held) each kept.made in
+      let split : keys_of (take place cast.held) ++ keys_of (drop place cast.held) ≡ keys_of cast.held =
+      sym (map-append (λ (s : ℕ × O). s.0) (take place cast.held) (drop place cast.held)) ∙ ap keys_of (take-append-drop place cast.held) in
+      record {
+        each = (rw need (inl refl), each);
+        honest = LiveHonestly-silent view name says entry history held cast.unknown (λ n. refl)
+            (LiveHonestly-more view name says cast.held held history node object cast.unknown found (unasked cast.core.script history node each (omega arith)) kept.honest);
+        made =
+            rw (is, map-append (λ (s : ℕ × O). s.0) (take place cast.held) ((node, object) ∷ drop place cast.held), grown.components)
+            (All-insert (Contains (components_of history ++ node ∷ [])) (keys_of (take place cast.held)) (keys_of (drop place cast.held)) node
+            (rw split (All-weaker (Contains (components_of history)) (Contains (components_of history ++ node ∷ [])) (λ other there. Contains-append_left (components_of history) (node ∷ []) other there) (keys_of cast.held) kept.made))
+            (Contains-push (components_of history) node));
+        whole = λ done.
+            rw grown.components
+            (All-push (λ other. IsSome (object_at held other)) (components_of history) node
+            (All-weaker (λ other. IsSome (object_at cast.held other)) (λ other. IsSome (object_at held other))
+            (λ other some. rw (found other) (still-some (nat_eq node other) object (object_at cast.held other) some)) (components_of history) (kept.whole (rw (going, on) refl)))
+            (rw (found node) (let e : nat_eq node node ≡ true = grind (arith, nat_tests) in rw e refl)));
+        in_order =
+            rw (is, more.1)
+            (IsFromLast-held (nodes_of history ++ more.0) cast.held node object path place (rw (← more.1) grown.path_is)
+            (IsFromLast-more (nodes_of history) more.0 (keys_of cast.held) below kept.in_order)
+            (place-more (nodes_of history) more.0 path cast.held place below p));
+        good = kept.good;
+        comes = λ h. tt;
+        known = kept.known;
+      }
+
+  -- a needed object was declined
+  pub kept-declined : (cast : Cast O) (ty : List ℕ) (path : List (List ℕ)) (performer : Who) (act : Act) → next_of cast.core.script cast.core.history ≡ Need ty path performer act → cast.failed ≡ false
+      → IsCast view says cast → IsCast view says (record cast { core = after (Did performer (Refused NoObject) act) cast.core })
+  kept-declined cast ty path performer act need going kept =
+      let history = cast.core.history in
+      let on : is_over history ≡ false = on-where-some cast.core.script history (Need ty path performer act) need tt in
+      record {
+        each = (rw need (inr refl), kept.each);
+        honest = LiveHonestly-silent view name says (Did performer (Refused NoObject) act) history cast.held cast.unknown (λ node. refl) kept.honest;
+        made = kept.made;
+        whole = λ done. kept.whole (rw (going, on) refl);
+        in_order = kept.in_order;
+        good = kept.good;
+        comes = λ h. tt;
+        known = kept.known;
+      }
+
+  -- an object was given back
+  pub kept-given : (cast : Cast O) (held : List (ℕ × O)) (node : ℕ) (object : O) → is_done cast ≡ true → cast.held ≡ held ++ (node, object) ∷ []
+      → ((other : ℕ) → object_at held other ≡ (if nat_eq node other then None else object_at cast.held other))
+      → IsCast view says cast → IsCast view says (record cast { held = held })
+  kept-given cast held node object done is found kept =
+      let keys : keys_of cast.held ≡ keys_of held ++ node ∷ [] = ap keys_of is ∙ map-append (λ (s : ℕ × O). s.0) held ((node, object) ∷ []) in
+      record {
+        each = kept.each;
+        honest = LiveHonestly-less view name says cast.held held cast.core.history node cast.unknown found kept.honest;
+        made = All-front (Contains (components_of cast.core.history)) (keys_of held) (node ∷ []) (rw keys at (kept.made));
+        whole = λ going. let bad : true ≡ false = sym done ∙ going in cc;
+        in_order = (IsFromLast-last (nodes_of cast.core.history) (keys_of held) node (rw keys at (kept.in_order))).0;
+        good = kept.good;
+        comes = kept.comes;
+        known = kept.known;
+      }
+
+  -- and it was the first of those held
+  pub given-first : (cast : Cast O) (held : List (ℕ × O)) (node : ℕ) (object : O) → cast.held ≡ held ++ (node, object) ∷ [] → IsCast view says cast
+      → IsFirstDown (nodes_of cast.core.history) node (keys_of held)
+  given-first cast held node object is kept =
+      let keys : keys_of cast.held ≡ keys_of held ++ node ∷ [] = ap keys_of is ∙ map-append (λ (s : ℕ × O). s.0) held ((node, object) ∷ []) in
+      (IsFromLast-last (nodes_of cast.core.history) (keys_of held) node (rw keys at (kept.in_order))).1

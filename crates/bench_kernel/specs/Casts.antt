@@ -1,0 +1,62 @@
+-- What contracts see of a kernel.
+use Rattle.std.specs.Prelude.{◌≡◌, ◌≢◌, ℕ, Bool, true, false, ◌||◌, nat_eq, List, [], All, Contains, Option, Some, None, IsSome, if◌then◌else◌}
+use Rattle.std.specs.Map.{keys_of, lookup}
+use Rattle.std.specs.Option.{option_map_or}
+use Rattle.uvm_object.specs.Objects.{View, Says, IsHonestNow, life_of}
+use Rattle.uvm_object.specs.declared.entries.Entry.{Entry}
+use Rattle.bench_world.specs.History.{nodes_of, components_of}
+use Rattle.bench_world.specs.Next.{EachIsNext, next_of}
+use Rattle.bench_core.specs.Plays.{Comes, Play, is_over, need_of}
+use Rattle.bench_core.specs.declared.cores.Need.{Need}
+use Rattle.bench_core.specs.declared.cores.Health.TheVariants.{Good}
+use Rattle.bench_kernel.specs.Orders.{IsFromLast}
+
+-- the machine, the objects that are held, each by its node, whether the kernel has failed, and the object that gave no
+-- answer, if one did not
+pub record Cast (O : Type 0) : Type 0 where
+  pub core : Play
+  pub held : List (ℕ × O)
+  pub failed : Bool
+  pub unknown : Option ℕ
+
+-- the object at a node
+abbrev pub object_at : {O : Type 0} → List (ℕ × O) → ℕ → Option O
+object_at held node = lookup (nat_eq node) held
+
+-- the object that is needed, which a failed kernel does not say
+abbrev pub need_in : {O : Type 0} → Cast O → Option Need
+need_in cast = if cast.failed then None else need_of cast.core.standing
+
+-- the name of its type
+abbrev pub wanted_in : {O : Type 0} → Cast O → List ℕ
+wanted_in cast = option_map_or (λ need. need.ty) (need_in cast) []
+
+-- objects are given back once the run is over, or the kernel has failed
+abbrev pub is_done : {O : Type 0} → Cast O → Bool
+is_done cast = cast.failed || is_over cast.core.history
+
+-- the kernel was told to give up
+abbrev pub abandoned : {O : Type 0} → Cast O → Cast O
+abandoned cast = if is_over cast.core.history then cast else record cast { failed = true }
+
+module _ {O : Type 0} (view : O → View) (says : O → Says) where
+  -- each object that is held has lived the life that the log says, but for one that gave no answer
+  abbrev pub LiveHonestly : List (ℕ × O) → Option ℕ → List Entry → Type 0
+  LiveHonestly held unknown history = (node : ℕ) (object : O) → object_at held node ≡ Some object → unknown ≢ Some node
+      → IsHonestNow (says object) (view object) (life_of node history)
+
+  abbrev pub AreHonest : Cast O → Type 0
+  AreHonest cast = LiveHonestly cast.held cast.unknown cast.core.history
+
+  -- what stays true of a kernel: each entry was next; objects are honest; each stands at a component that was made; while the
+  -- run goes on, each component is held; they stand in the order in which they are given back; and a kernel that has not
+  -- failed has a machine that has not, which asks for what comes next, and knows the view of each object
+  pub record IsCast (cast : Cast O) : Type 0 where
+    pub each : EachIsNext cast.core.script cast.core.history
+    pub honest : AreHonest cast
+    pub made : All (Contains (components_of cast.core.history)) (keys_of cast.held)
+    pub whole : is_done cast ≡ false → All (λ node. IsSome (object_at cast.held node)) (components_of cast.core.history)
+    pub in_order : IsFromLast (nodes_of cast.core.history) (keys_of cast.held)
+    pub good : cast.failed ≡ false → cast.core.health ≡ Good
+    pub comes : cast.failed ≡ false → Comes cast.core.standing (next_of cast.core.script cast.core.history)
+    pub known : cast.failed ≡ false → cast.unknown ≡ None

@@ -1,0 +1,3 @@
+pub mod Casts
+pub mod Orders
+pub mod Steps

@@ -1,0 +1,9 @@
+//! The kernel: it holds the objects of a testbench, asks them, and gives each of them back.
+#![tactic(auto)]
+
+mod asking;
+mod kernels;
+#[cfg(test)]
+mod tests;
+
+pub use kernels::{Kernel, Misfit, Step, Unfit};

@@ -1,0 +1,18 @@
+use Rattle.std.proofs.Common.{◌≡◌, ◌-◌, length}
+use Rattle.bench_world.specs.Next.{IsLegal}
+use Rattle.bench_core.specs.declared.cores.Health.TheVariants.{Good}
+use Rattle.bus_bench.specs.Running.{Wrote}
+use Rattle.bus_bench.proofs.running.run_to_end.Given as goal
+
+-- the text of the log so far was written
+abbrev pub invariant-loop-kernel : goal.invariant-loop-kernel
+invariant-loop-kernel g l = record {
+  good : l.kernel.core.health ≡ Good;
+  script : l.kernel.core.script ≡ l.fn.kernel.core.script;
+  legal : IsLegal l.kernel.core.script l.kernel.core.history;
+  wrote : Wrote l.trace (g.W.Write.contents l.fn.out) (g.W.Write.contents l.out) l.kernel.core.history;
+}
+
+-- the log grows
+abbrev pub decreases-loop-kernel : goal.decreases-loop-kernel
+decreases-loop-kernel g l = 1000000 - length l.kernel.core.history

@@ -1,0 +1,51 @@
+//! The objects of a testbench.
+
+ghost use Rattle.std.specs.Prelude.{◌≡◌, ℕ, List, IfOk};
+ghost use Rattle.uvm_object.specs.declared.acts.Call.{Call};
+ghost use Rattle.uvm_object.specs.declared.acts.Act.{Act};
+ghost use Rattle.uvm_object.specs.Objects.{SameSays};
+
+use crate::acts::{Acts, Call};
+use std::alloc::{AllocError, Global};
+use uvm_glob::Name;
+
+/// An object of a testbench: a component (IEEE 1800.2-2020, Clause 13). It hears a call and answers with acts.
+///
+/// What it means is written in three ghost members. Its `view` is what it shows of itself, as numbers; its `name` is that of
+/// its type; and its relation `says` holds of a view, a call, the acts that may answer it there, and the view that comes after.
+/// An object that allows one answer and one next view at each call is a function of its calls.
+pub trait UvmObject: Drop {
+    ghost view: { Self → List ℕ };
+
+    ghost name: { Self → List ℕ };
+
+    ghost says: { Self → List ℕ → Call → List Act → List ℕ → Type 0 };
+
+    /// The name of its type, by which the factory makes it (Clause 8).
+    fn type_name(&self) -> &Name
+        ensures { result.now ≡ name self.now };
+
+    /// Answers a call. The error is want of memory: its view is unknown then. Its type name and its relation stay, whatever
+    /// it answers.
+    fn hear(&mut self, alloc: Global, call: &Call) -> Result<Acts, AllocError>
+        ensures same_name { name self.new ≡ name self.old }
+        ensures same_says { SameSays (says self.new) (says self.old) }
+        ensures said { IfOk result (λ acts. says self.old (view self.old) call.now acts (view self.new)) };
+}
+
+/// A boxed object is the object in the box.
+impl UvmObject for Box<dyn UvmObject> {
+    ghost view = { λ b. (UvmObject-box b).view b.value };
+
+    ghost name = { λ b. (UvmObject-box b).name b.value };
+
+    ghost says = { λ b. (UvmObject-box b).says b.value };
+
+    fn type_name(&self) -> &Name {
+        self.as_ref().type_name()
+    }
+
+    fn hear(&mut self, alloc: Global, call: &Call) -> Result<Acts, AllocError> {
+        self.as_mut().hear(alloc, call)
+    }
+}

@@ -26,7 +26,7 @@ use Rattle.bench_core.specs.declared.faults.CoreFault.TheVariants.{Memory, LogFu
 use Rattle.bench_core.specs.Plays.{Play, Stands, IsTurn, IsNextTurn, IsRefusedTurn, Comes, after, answer_in, failed_from, need_of}
 use Rattle.bench_core.proofs.Grown.{exact-is-silent}
 use Rattle.bench_kernel.specs.Casts.{Cast}
-use Rattle.bench_kernel.specs.Steps.{IsAsked, IsMoved, IsRefusedStep, IsSameLog, WasGiven}
+use Rattle.bench_kernel.specs.Steps.{IsAsked, IsMoved, IsRefusedStep, IsSameLog, WasGiven, unanswered_from}
 
 -- the machine made an entry: what alone could come
 pub record HasMoved (old new : Play) : Type 0 where
@@ -246,11 +246,11 @@ module _ {O : Type 0} (view : O → View) (name : O → List ℕ) (says : O → 
 
   -- an object was asked, and memory was refused
   pub unanswered-step : (cast : Cast O) (core : Play) (performer : Who) (node : ℕ) (call : Call) (cause : Option Cause) (answer : Result (List Act) AllocError) (held : List (ℕ × O))
-      → next_of cast.core.script cast.core.history ≡ next.Answer performer call cause → need_of cast.core.standing ≡ None → cast.failed ≡ false → IsSameLog cast.core core → node ≡ node_of performer
+      → next_of cast.core.script cast.core.history ≡ next.Answer performer call cause → need_of cast.core.standing ≡ None → cast.failed ≡ false → IsSameLog cast.core core → core ≡ unanswered_from performer call cause answer cast.core → node ≡ node_of performer
       → IsAsked view name says node call answer cast.held held → IsRefusedStep view name says Memory cast (record { core = core; held = held; failed = true; unknown = Some node })
-  unanswered-step cast core (who.Node other) node call cause answer held answers none going same same_node asked = (
+  unanswered-step cast core (who.Node other) node call cause answer held answers none going same left same_node asked = (
     record { going = going; some = rw answers tt; nothing_needed = rw (going, none) refl },
-    inr (record { node = node; call = call; cause = cause; next = rw same_node answers; answer = answer; asked = asked; same_log = same; is = refl }),
+    inr (record { node = node; call = call; cause = cause; next = rw same_node answers; answer = answer; asked = asked; same_log = same; left = rw same_node left; is = refl }),
   )
 
 -- where the machine refuses, the log stays

@@ -4,6 +4,7 @@ use Rattle.std.specs.Map.{set_value}
 use Rattle.std.specs.declared.alloc.AllocError.{AllocError}
 use Rattle.uvm_object.specs.Acts.{node_of}
 use Rattle.uvm_object.specs.Objects.{View, Says, SameSays}
+use Rattle.uvm_object.specs.declared.acts.Who.{Who}
 use Rattle.uvm_object.specs.declared.acts.Who.TheVariants as who
 use Rattle.uvm_object.specs.declared.acts.Call.{Call}
 use Rattle.uvm_object.specs.declared.acts.Act.{Act}
@@ -12,6 +13,7 @@ use Rattle.uvm_object.specs.declared.entries.Entry.TheVariants.{Heard}
 use Rattle.uvm_phase.specs.declared.agendas.Cause.{Cause}
 use Rattle.bench_world.specs.History.{nodes_of}
 use Rattle.bench_world.specs.Next.{next_of, IsNext, Answer, made_in}
+use Rattle.bench_core.specs.declared.cores.Standing.TheVariants.{Asked}
 use Rattle.bench_core.specs.declared.cores.Turn as turn
 use Rattle.bench_core.specs.declared.cores.Health.TheVariants.{Full, Broken}
 use Rattle.bench_core.specs.declared.faults.CoreFault.{CoreFault}
@@ -26,6 +28,12 @@ use Rattle.bench_kernel.specs.Casts.{Cast, object_at, need_in, wanted_in}
 -- the objects with another at a node that has one
 abbrev pub with_object : {O : Type 0} → List (ℕ × O) → ℕ → O → List (ℕ × O)
 with_object held node object = set_value (nat_eq node) held object
+
+-- what is left of the machine where memory is refused: it waits on for an object that gave no answer, and has failed where
+-- one answered
+abbrev pub unanswered_from : Who → Call → Option Cause → Result (List Act) AllocError → Play → Play
+unanswered_from performer call cause (Ok acts) play = failed_from Broken play
+unanswered_from performer call cause (Err fault) play = record play { standing = Asked performer call cause }
 
 -- the script and the entries are the same
 pub record IsSameLog (old new : Play) : Type 0 where
@@ -70,6 +78,7 @@ module _ {O : Type 0} (view : O → View) (name : O → List ℕ) (says : O → 
     pub answer : Result (List Act) AllocError
     pub asked : IsAsked node call answer old.held new.held
     pub same_log : IsSameLog old.core new.core
+    pub left : new.core ≡ unanswered_from (who.Node node) call cause answer old.core
     pub is : new ≡ record { core = new.core; held = new.held; failed = true; unknown = Some node }
 
   -- something would come next, and no object is needed

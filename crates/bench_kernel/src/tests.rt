@@ -52,7 +52,7 @@ struct Parent {
 }
 
 /// The children of a parent, by their names.
-#[derive(Clone, Copy, Debug, PartialEq, Eq)]
+#[derive(Clone, Copy)]
 enum Children {
     Env,
     BAndAAndC,

@@ -32,7 +32,7 @@ returns-in_default-clause-step g c =
     let asks = ask-turn c.in-Ok-Ask.who c.in-Ok-Ask.call c.self.inside.core c.next.new.self (kept.comes c.if-self.false) (rw c.in-Ok-Ask.field-0-is at (c.in-Ok-Ask.ensures.turn)) in
     rw (← c.self.view_is)
     (unanswered-step m.view m.name m.says (record { core = c.self.inside.core; held = c.self.inside.held.entries; failed = c.self.inside.failed; unknown = c.self.inside.unknown }) c.next.new.self c.in-Ok-Ask.who c.node-node.result c.in-Ok-Ask.call asks.cause c.ask_at.result c.ask_at.new.held.entries
-    asks.answers asks.nothing_needed c.if-self.false (asked-log c.in-Ok-Ask.who c.in-Ok-Ask.call c.self.inside.core c.next.new.self asks) c.node-node.ensures c.ask_at.ensures)
+    asks.answers asks.nothing_needed c.if-self.false (asked-log c.in-Ok-Ask.who c.in-Ok-Ask.call c.self.inside.core c.next.new.self asks) (rw c.in_default.is asks.is) c.node-node.ensures c.ask_at.ensures)
 
 pub invariant_of-self-in_err-heard-in-Ok-Ask : goal.invariant_of-self-in_err-heard-in-Ok-Ask
 invariant_of-self-in_err-heard-in-Ok-Ask g c =

@@ -1,5 +1,5 @@
 -- Who is called: a component, which is a node of the tree.
-use Rattle.std.proofs.Common.{◌≡◌, ℕ, ◌<◌, ◌≤◌, ◌==◌, ◌⊎◌, inl, inr, Bool, true, false, not, if◌then◌else◌, List, [], ◌∷◌, length, slice_get, Option, Some, None, IfSome, Result, Ok, Err, refl, ap, ◌∙◌, sym, subst, arith}
+use Rattle.std.proofs.Common.{◌≡◌, ℕ, zero, suc, ◌<◌, ◌≤◌, ◌==◌, ◌⊎◌, inl, inr, Bool, true, false, not, if◌then◌else◌, List, [], ◌∷◌, length, drop, slice_get, Option, Some, None, IfSome, refl, ap, ◌∙◌, sym, subst, arith}
 use Rattle.std.specs.List.{All, Contains}
 use Rattle.std.proofs.lemmas.Bool.Decides.{nat_tests}
 use Rattle.std.proofs.lemmas.List.Elements.{All-nil, All-cons, All-head, All-push, All-append, All-weaker, All-filter, All-contains, All-contains_itself, Contains-append_left}
@@ -15,19 +15,18 @@ use Rattle.uvm_object.specs.Objects.{exchanged_in, life_of}
 use Rattle.uvm_object.specs.declared.acts.Who.{Who}
 use Rattle.uvm_object.specs.declared.acts.Call.{Call}
 use Rattle.uvm_object.specs.declared.acts.Act.{Act}
-use Rattle.uvm_object.specs.declared.acts.Act.TheVariants.{Create, Add, Set, Get, OverrideType, OverrideInst}
-use Rattle.uvm_object.specs.declared.fatals.Fatal.{Fatal}
 use Rattle.uvm_object.specs.declared.entries.Outcome.{Outcome}
-use Rattle.uvm_object.specs.declared.entries.Outcome.TheVariants.{Done, Made, Value, Refused}
+use Rattle.uvm_object.specs.declared.entries.Outcome.TheVariants.{Made, Value}
 use Rattle.uvm_object.specs.declared.entries.Entry.{Entry}
-use Rattle.uvm_object.specs.declared.entries.Entry.TheVariants.{Begin, End, Heard, Did, Note, Over}
+use Rattle.uvm_object.specs.declared.entries.Entry.TheVariants.{Begin, End, Heard, Did, Over}
 use Rattle.bench_script.specs.Scripts.{ScriptValue}
+use Rattle.bench_world.specs.declared.creations.Need as creations
 use Rattle.bench_world.specs.declared.stages.Stage.{Stage}
 use Rattle.bench_world.specs.declared.stages.Stage.TheVariants.{Before, During, After, Ended}
-use Rattle.bench_world.specs.History.{stage_of, now_of, running, nodes_of, components_of, left_of, rest_of, speaker_of, order_of, called_of, had_call, next_call, IsCreation}
-use Rattle.bench_world.specs.Dues.{calls_after, caused_of, heard_of, ended_of, is_open, due_calls, first_due, due_at, due_now}
-use Rattle.bench_world.specs.Next.{Next, Exactly, Answer, Need, Nothing, by_call, by_order, by_stage, by_creation, by_act, next_of, Allows, IsNext, EachIsNext}
-use Rattle.bench_world.proofs.Cases.{Case, AtEnd, ByReason, ByNote, ByAct, ByDue, ByStage, case-of}
+use Rattle.bench_world.specs.History.{stage_of, now_of, running, nodes_of, components_of, left_of, rest_of, speaker_of, order_of, called_of, had_call, next_call, opening, answer_of, done_of, is_noted, unless_noted}
+use Rattle.bench_world.specs.Dues.{told_by, due_from, calls_after, caused_of, heard_of, ended_of, is_open, due_calls, first_due, due_at, due_now}
+use Rattle.bench_world.specs.Next.{Next, Exactly, Answer, Need, Nothing, by_call, by_order, by_stage, next_of, Allows, IsNext, EachIsNext}
+use Rattle.bench_world.proofs.Cases.{Case, AtEnd, ByReason, ByNote, ByNeed, ByDeed, ByDue, ByStage, case-of}
 use Rattle.bench_world.proofs.Needed.{needed}
 use Rattle.bench_world.proofs.Turns.{least-holds}
 use Rattle.bench_core.specs.Plays.{is_over}
@@ -55,8 +54,8 @@ below-made entry before path g below =
 below-next : (script : ScriptValue) (before : List Entry) (entry : Entry) (next : Next) → next_of script before ≡ next → Allows next entry → All (λ node. node < length (nodes_of before)) (components_of before) → All (λ node. node < length (nodes_of (entry ∷ before))) (components_of (entry ∷ before))
 below-next script before entry (Exactly expected) is allows below = below-same entry before (exact-keeps-components script before entry (is ∙ ap Exactly (sym allows))) below
 below-next script before entry (Answer performer call cause) is allows below = below-same entry before (ap (λ (e : Entry). components_of (e ∷ before)) allows.1) below
-below-next script before entry (Need ty path performer act) is (inl made) below = below-made entry before path (subst (HasGrown before path) (sym made) (made-grows script before ty path performer act is)) below
-below-next script before entry (Need ty path performer act) is (inr declined) below = below-same entry before (ap (λ (e : Entry). components_of (e ∷ before)) declined) below
+below-next script before entry (Need need performer act) is (inl made) below = below-made entry before need.path (subst (HasGrown before need.path) (sym made) (made-grows script before need performer act is)) below
+below-next script before entry (Need need performer act) is (inr declined) below = below-same entry before (ap (λ (e : Entry). components_of (e ∷ before)) declined) below
 below-next script before entry Nothing is allows below = absurd allows
 
 -- each component is a node of the tree
@@ -70,24 +69,10 @@ contains-more entry before node has =
     let more = components-grow entry before in
     subst (λ (components : List ℕ). Contains components node) (sym more.1) (Contains-append_left (components_of before) more.0 node has)
 
--- the acts create, and do nothing else
-abbrev AreCreations : List Act → Type 0
-AreCreations [] = Unit {0}
-AreCreations (act ∷ acts) = IsCreation act × AreCreations acts
-
--- the acts behind the first create as well
-creations-rest : (acts : List Act) → AreCreations acts → AreCreations (rest_of acts)
-creations-rest [] creations = creations
-creations-rest (act ∷ acts) creations = creations.1
-
--- the first of acts that create does
-creations-first : (left : List Act) (act : Act) → left ≡ act ∷ rest_of left → AreCreations left → IsCreation act
-creations-first left act e creations = let first : AreCreations (act ∷ rest_of left) = subst AreCreations e creations in first.0
-
--- whoever waits for a call and whoever spoke last is a component, unless that was the opening of the run
+-- whoever waits for a call is a component, and so is whoever spoke last, unless nobody did and the answer is the script's
 record Known (script : ScriptValue) (history : List Entry) : Type 0 where
   owners : All (λ due. Contains (components_of history) (node_of due.owner)) (caused_of history)
-  speaker : Contains (components_of history) (node_of (speaker_of history)) ⊎ AreCreations (left_of script history)
+  speaker : Contains (components_of history) (node_of (speaker_of history)) ⊎ (answer_of script history ≡ opening script ∷ [])
 
 -- who is asked is a component
 abbrev AsksOne : List Entry → Next → Type 0
@@ -118,20 +103,6 @@ asks-stage history Before = tt
 asks-stage history (During phase) = asks-call history phase (next_call phase history) (turn-one history phase)
 asks-stage history (After phase) = asks-order history (phase_after phase)
 asks-stage history Ended = tt
-
--- a creation asks nobody
-asks-creation : (history : List Entry) (performer : Who) (act : Act) (path : List (List ℕ)) (made : Result (List ℕ) Fatal) → AsksOne history (by_creation performer act path made)
-asks-creation history performer act path (Ok ty) = tt
-asks-creation history performer act path (Err fatal) = tt
-
--- nor does any other act
-asks-act : (script : ScriptValue) (history : List Entry) (performer : Who) (act : Act) → AsksOne history (by_act script history performer act)
-asks-act script history performer (Create ty name) = asks-creation history performer (Create ty name) _ _
-asks-act script history performer (Add name what) = tt
-asks-act script history performer (Set glob field value) = tt
-asks-act script history performer (Get field) = tt
-asks-act script history performer (OverrideType original new replace) = tt
-asks-act script history performer (OverrideInst original new glob) = tt
 
 -- what holds of each call holds of the one that is due
 first-of : (P : Due Who Call → Type 0) (dues : List (Due Who Call)) → All P dues → IfSome (slice_get dues 0) P
@@ -166,7 +137,8 @@ asks-case : (script : ScriptValue) (history : List Entry) (next : Next) → Know
 asks-case script history next known (AtEnd ended e) = subst (AsksOne history) (sym e) tt
 asks-case script history next known (ByReason reason e) = subst (AsksOne history) (sym e) tt
 asks-case script history next known (ByNote e) = subst (AsksOne history) (sym e) tt
-asks-case script history next known (ByAct act left e) = subst (AsksOne history) (sym e) (asks-act script history (speaker_of history) act)
+asks-case script history next known (ByNeed act need left upshot e) = subst (AsksOne history) (sym e) tt
+asks-case script history next known (ByDeed act effect left upshot e) = subst (AsksOne history) (sym e) tt
 asks-case script history next known (ByDue due now e) = subst (AsksOne history) (sym e) (asks-due history due known.owners now)
 asks-case script history next known (ByStage on e) = subst (AsksOne history) (sym e) (asks-stage history (stage_of history))
 
@@ -178,8 +150,8 @@ asks-one script history performer call cause known e = subst (AsksOne history) e
 heard-asked : (performer : Who) (call : Call) (cause : Option Cause) (acts : List Act) (next : Next) → IsPlainNext next → Allows next (Heard performer call cause acts) → next ≡ Answer performer call cause
 heard-asked performer call cause acts (Exactly entry) plain allows = absurd (subst IsPlain (sym allows) plain)
 heard-asked performer call cause acts (Answer other asked why) plain allows = let same : Heard performer call cause acts ≡ Heard other asked why allows.0 = allows.1 in cc
-heard-asked performer call cause acts (Need ty path other act) plain (inl made) = cc
-heard-asked performer call cause acts (Need ty path other act) plain (inr declined) = cc
+heard-asked performer call cause acts (Need need other act) plain (inl made) = cc
+heard-asked performer call cause acts (Need need other act) plain (inr declined) = cc
 heard-asked performer call cause acts Nothing plain allows = absurd allows
 
 -- and who was heard is a component
@@ -214,33 +186,22 @@ deed-stage script history (During phase) = deed-call script history phase (next_
 deed-stage script history (After phase) = deed-order script history (phase_after phase)
 deed-stage script history Ended = tt
 
--- a creation is the speaker's next act, where it is refused
-deed-creation : (script : ScriptValue) (history : List Entry) (act : Act) (path : List (List ℕ)) (made : Result (List ℕ) Fatal) → IsDeed script history (speaker_of history) act → DeedIn script history (by_creation (speaker_of history) act path made)
-deed-creation script history act path (Ok ty) deed = tt
-deed-creation script history act path (Err fatal) deed = deed
-
--- what an act comes to is that act's
-deed-act : (script : ScriptValue) (history : List Entry) (act : Act) → IsDeed script history (speaker_of history) act → DeedIn script history (by_act script history (speaker_of history) act)
-deed-act script history (Create ty name) deed = deed-creation script history (Create ty name) _ _ deed
-deed-act script history (Add name what) deed = deed
-deed-act script history (Set glob field value) deed = deed
-deed-act script history (Get field) deed = deed
-deed-act script history (OverrideType original new replace) deed = deed
-deed-act script history (OverrideInst original new glob) deed = deed
-
 -- in each case of the machine an act that comes is the speaker's next
 deed-case : (script : ScriptValue) (history : List Entry) (next : Next) → Case script history next → DeedIn script history next
 deed-case script history next (AtEnd ended e) = subst (DeedIn script history) (sym e) tt
 deed-case script history next (ByReason reason e) = subst (DeedIn script history) (sym e) tt
 deed-case script history next (ByNote e) = subst (DeedIn script history) (sym e) tt
-deed-case script history next (ByAct act left e) = subst (DeedIn script history) (sym e) (deed-act script history act (record { performer_is = refl; left = left }))
+deed-case script history next (ByNeed act need left upshot e) = subst (DeedIn script history) (sym e) tt
+deed-case script history next (ByDeed act effect left upshot e) = subst (DeedIn script history) (sym e) (record { performer_is = refl; left = left })
 deed-case script history next (ByDue due now e) = subst (DeedIn script history) (sym e) tt
 deed-case script history next (ByStage on e) = subst (DeedIn script history) (sym e) (deed-stage script history (stage_of history))
 
 -- and so is one that needs an object
-deed-needed : (script : ScriptValue) (history : List Entry) (ty : List ℕ) (path : List (List ℕ)) (performer other : Who) (outcome expected : Outcome) (act deed : Act) → next_of script history ≡ Need ty path other deed → Did performer outcome act ≡ Did other expected deed → IsDeed script history performer act
-deed-needed script history ty path performer other outcome expected act deed is e =
-    let n = needed script history ty path other deed is in
+deed-needed :
+    (script : ScriptValue) (history : List Entry) (need : creations.Need) (performer other : Who) (outcome expected : Outcome) (act deed : Act)
+    → next_of script history ≡ Need need other deed → Did performer outcome act ≡ Did other expected deed → IsDeed script history performer act
+deed-needed script history need performer other outcome expected act deed is e =
+    let n = needed script history need other deed is in
     let who : performer ≡ other = cc in
     let what : act ≡ deed = cc in
     record { performer_is = who ∙ n.performer_is; left = rw what n.left }
@@ -251,38 +212,57 @@ deed-next script history performer outcome act (Exactly expected) is allows =
     let here : DeedIn script history (Exactly expected) = subst (DeedIn script history) is (deed-case script history _ (case-of script history)) in
     subst (λ (entry : Entry). DeedIn script history (Exactly entry)) (sym allows) here
 deed-next script history performer outcome act (Answer other call cause) is allows = let same : Did performer outcome act ≡ Heard other call cause allows.0 = allows.1 in cc
-deed-next script history performer outcome act (Need ty path other deed) is (inl made) = deed-needed script history ty path performer other outcome (Made ty) act deed is made
-deed-next script history performer outcome act (Need ty path other deed) is (inr declined) = deed-needed script history ty path performer other outcome _ act deed is declined
+deed-next script history performer outcome act (Need need other deed) is (inl made) = deed-needed script history need performer other outcome (Made need.ty) act deed is made
+deed-next script history performer outcome act (Need need other deed) is (inr declined) = deed-needed script history need performer other outcome _ act deed is declined
 deed-next script history performer outcome act Nothing is allows = absurd allows
 
--- the call that an act causes is its performer's, and no creation causes one
-calls-owner : (P : Who → Type 0) (outcome : Outcome) (act : Act) (performer : Who) (phase : Option Phase) (time place : ℕ) → IsCreation act ⊎ P performer → All (λ due. P due.owner) (calls_after outcome act performer phase time place)
-calls-owner P Done act performer phase time place who = All-nil _
-calls-owner P (Made ty) act performer phase time place who = All-nil _
-calls-owner P (Refused fatal) act performer phase time place who = All-nil _
-calls-owner P (Value value) (Create ty name) performer phase time place who = All-nil _
-calls-owner P (Value value) (Add name what) performer phase time place who = All-nil _
-calls-owner P (Value value) (Set glob field set) performer phase time place who = All-nil _
-calls-owner P (Value value) (OverrideType original new replace) performer phase time place who = All-nil _
-calls-owner P (Value value) (OverrideInst original new glob) performer phase time place who = All-nil _
-calls-owner P (Value value) (Get field) performer None time place who = All-nil _
-calls-owner P (Value value) (Get field) performer (Some phase) time place (inl creates) = absurd creates
-calls-owner P (Value value) (Get field) performer (Some phase) time place (inr holds) = All-cons (λ due. P due.owner) _ [] holds (All-nil (λ due. P due.owner))
+-- the call that an act causes is its performer's
+due-owner : (P : Who → Type 0) (notice : Option Call) (performer : Who) (phase : Option Phase) (time place : ℕ) → (notice ≡ None) ⊎ P performer → All (λ due. P due.owner) (due_from notice performer phase time place)
+due-owner P None performer phase time place who = All-nil _
+due-owner P (Some notice) performer None time place who = All-nil _
+due-owner P (Some notice) performer (Some phase) time place (inl none) = cc
+due-owner P (Some notice) performer (Some phase) time place (inr holds) = All-cons (λ due. P due.owner) _ [] holds (All-nil (λ due. P due.owner))
+
+-- the first act of those after some is among all, so that of one it is that one
+none-left : (count : ℕ) (only act : Act) (rest : List Act) → drop count [] ≡ act ∷ rest → act ≡ only
+none-left zero only act rest e = cc
+none-left (suc count) only act rest e = cc
+
+only-one : (count : ℕ) (only act : Act) (rest : List Act) → drop count (only ∷ []) ≡ act ∷ rest → act ≡ only
+only-one zero only act rest e = cc
+only-one (suc count) only act rest e = none-left count only act rest e
+
+only-left : (noted : Bool) (count : ℕ) (only act : Act) (rest : List Act) → unless_noted noted (drop count (only ∷ [])) ≡ act ∷ rest → act ≡ only
+only-left true count only act rest e = cc
+only-left false count only act rest e = only-one count only act rest e
+
+-- the opening of the run is a creation, which causes no call
+opening-tells : (script : ScriptValue) (outcome : Outcome) → told_by outcome (opening script) ≡ None
+opening-tells script (Value value) = refl
+opening-tells script outcome = refl
 
 -- with one more entry the owners stay components
 owners-more : (script : ScriptValue) (before : List Entry) (entry : Entry) → Known script before → All (λ due. Contains (components_of (entry ∷ before)) (node_of due.owner)) (caused_of before)
 owners-more script before entry known =
     All-weaker (λ due. Contains (components_of before) (node_of due.owner)) (λ due. Contains (components_of (entry ∷ before)) (node_of due.owner)) (λ due has. contains-more entry before (node_of due.owner) has) (caused_of before) known.owners
 
--- an act creates, or its performer is a component
-deed-owner : (script : ScriptValue) (before : List Entry) (entry : Entry) (performer : Who) (act : Act) → IsDeed script before performer act → Contains (components_of before) (node_of (speaker_of before)) ⊎ AreCreations (left_of script before) → IsCreation act ⊎ Contains (components_of (entry ∷ before)) (node_of performer)
-deed-owner script before entry performer act deed (inl has) = inr (contains-more entry before (node_of performer) (rw deed.performer_is has))
-deed-owner script before entry performer act deed (inr creations) = inl (creations-first (left_of script before) act deed.left creations)
+-- an act tells nobody, or its performer is a component
+deed-owner :
+    (script : ScriptValue) (before : List Entry) (entry : Entry) (performer : Who) (outcome : Outcome) (act : Act) → IsDeed script before performer act
+    → Contains (components_of before) (node_of (speaker_of before)) ⊎ (answer_of script before ≡ opening script ∷ [])
+    → (told_by outcome act ≡ None) ⊎ Contains (components_of (entry ∷ before)) (node_of performer)
+deed-owner script before entry performer outcome act deed (inl has) = inr (contains-more entry before (node_of performer) (rw deed.performer_is has))
+deed-owner script before entry performer outcome act deed (inr opens) =
+    let left = subst (λ (acts : List Act). unless_noted (is_noted before) (drop (done_of before) acts) ≡ act ∷ rest_of (left_of script before)) opens deed.left in
+    let same = only-left (is_noted before) (done_of before) (opening script) act _ left in
+    inl (rw same (opening-tells script outcome))
 
--- with one more act the speaker stays a component, or all that is left creates
-speaker-more : (script : ScriptValue) (before : List Entry) (entry : Entry) → Contains (components_of before) (node_of (speaker_of before)) ⊎ AreCreations (left_of script before) → Contains (components_of (entry ∷ before)) (node_of (speaker_of before)) ⊎ AreCreations (rest_of (left_of script before))
+-- with one more entry that is no answer the speaker stays a component, or nobody spoke
+speaker-more :
+    (script : ScriptValue) (before : List Entry) (entry : Entry) → Contains (components_of before) (node_of (speaker_of before)) ⊎ (answer_of script before ≡ opening script ∷ [])
+    → Contains (components_of (entry ∷ before)) (node_of (speaker_of before)) ⊎ (answer_of script before ≡ opening script ∷ [])
 speaker-more script before entry (inl has) = inl (contains-more entry before (node_of (speaker_of before)) has)
-speaker-more script before entry (inr creations) = inr (creations-rest (left_of script before) creations)
+speaker-more script before entry (inr opens) = inr opens
 
 -- an act keeps what is known
 known-did : (script : ScriptValue) (before : List Entry) (performer : Who) (outcome : Outcome) (act : Act) → Known script before → IsNext script before (Did performer outcome act) → Known script (Did performer outcome act ∷ before)
@@ -292,23 +272,20 @@ known-did script before performer outcome act known next =
     record {
       owners =
           All-append (λ due. Contains (components_of (entry ∷ before)) (node_of due.owner)) (calls_after outcome act performer (running (stage_of before)) (now_of before) (length before)) (caused_of before)
-          (calls-owner (λ who. Contains (components_of (entry ∷ before)) (node_of who)) outcome act performer (running (stage_of before)) (now_of before) (length before) (deed-owner script before entry performer act deed known.speaker))
+          (due-owner (λ who. Contains (components_of (entry ∷ before)) (node_of who)) (told_by outcome act) performer (running (stage_of before)) (now_of before) (length before) (deed-owner script before entry performer outcome act deed known.speaker))
           (owners-more script before entry known);
       speaker = speaker-more script before entry known.speaker;
     }
 
 -- so does each entry that is next
 known-more : (script : ScriptValue) (before : List Entry) (entry : Entry) → Known script before → IsNext script before entry → Known script (entry ∷ before)
-known-more script before (Begin phase) known next = record { owners = known.owners; speaker = known.speaker }
-known-more script before (End phase) known next = record { owners = known.owners; speaker = known.speaker }
 known-more script before (Heard performer call cause acts) known next = record { owners = known.owners; speaker = inl (heard-one script before performer call cause acts known next) }
 known-more script before (Did performer outcome act) known next = known-did script before performer outcome act known next
-known-more script before (Note fatal node) known next = record { owners = known.owners; speaker = inr tt }
-known-more script before (Over reason) known next = record { owners = known.owners; speaker = known.speaker }
+known-more script before entry known next = record { owners = known.owners; speaker = known.speaker }
 
 -- so that it is known of every log of which each entry was next
 known-of : (script : ScriptValue) (history : List Entry) → EachIsNext script history → Known script history
-known-of script [] each = record { owners = All-nil _; speaker = inr (tt, tt) }
+known-of script [] each = record { owners = All-nil _; speaker = inr refl }
 known-of script (entry ∷ before) each = known-more script before entry (known-of script before each.1) each.0
 
 -- who is asked is a component
@@ -323,15 +300,11 @@ apart performer node call cause acts lt =
 
 -- an entry that is next asks no node behind those of the tree
 unasked-in : (script : ScriptValue) (before : List Entry) (node : ℕ) (entry : Entry) → EachIsNext script before → IsNext script before entry → length (nodes_of before) ≤ node → exchanged_in node entry ≡ []
-unasked-in script before node (Begin phase) each next le = refl
-unasked-in script before node (End phase) each next le = refl
 unasked-in script before node (Heard performer call cause acts) each next le =
     let has = heard-one script before performer call cause acts (known-of script before each) next in
     let lt : node_of performer < length (nodes_of before) = All-contains (λ other. other < length (nodes_of before)) (components_of before) (node_of performer) (components-below script before each) has in
     apart performer node call cause acts (omega (arith, lt, le))
-unasked-in script before node (Did performer outcome act) each next le = refl
-unasked-in script before node (Note fatal place) each next le = refl
-unasked-in script before node (Over reason) each next le = refl
+unasked-in script before node entry each next le = refl
 
 -- behind the nodes of the tree nobody was asked
 pub unasked : (script : ScriptValue) (history : List Entry) (node : ℕ) → EachIsNext script history → length (nodes_of history) ≤ node → life_of node history ≡ []
@@ -349,10 +322,8 @@ none-after script before entry next ended = subst (λ (comes : Next). Allows com
 over-more : (script : ScriptValue) (before : List Entry) (entry : Entry) → IsNext script before entry → stage_of (entry ∷ before) ≡ Ended → is_over (entry ∷ before) ≡ true
 over-more script before (Begin phase) next ended = cc
 over-more script before (End phase) next ended = cc
-over-more script before (Heard performer call cause acts) next ended = absurd (none-after script before (Heard performer call cause acts) next ended)
-over-more script before (Did performer outcome act) next ended = absurd (none-after script before (Did performer outcome act) next ended)
-over-more script before (Note fatal node) next ended = absurd (none-after script before (Note fatal node) next ended)
 over-more script before (Over reason) next ended = refl
+over-more script before entry next ended = absurd (none-after script before entry next ended)
 
 -- a run that has ended is over
 pub ended-is-over : (script : ScriptValue) (history : List Entry) → EachIsNext script history → stage_of history ≡ Ended → is_over history ≡ true
@@ -362,9 +333,5 @@ ended-is-over script (entry ∷ before) each ended = over-more script before ent
 -- and one that is over has ended
 pub over-is-ended : (history : List Entry) → is_over history ≡ true → stage_of history ≡ Ended
 over-is-ended [] over = cc
-over-is-ended (Begin phase ∷ before) over = cc
-over-is-ended (End phase ∷ before) over = cc
-over-is-ended (Heard performer call cause acts ∷ before) over = cc
-over-is-ended (Did performer outcome act ∷ before) over = cc
-over-is-ended (Note fatal node ∷ before) over = cc
 over-is-ended (Over reason ∷ before) over = refl
+over-is-ended (entry ∷ before) over = cc

@@ -1,18 +1,14 @@
 -- Something comes next until the run is over.
-use Rattle.std.proofs.Common.{◌≡◌, ℕ, List, Option, Some, None, Result, Ok, Err, refl, ap, sym, subst}
+use Rattle.std.proofs.Common.{◌≡◌, ℕ, List, Option, Some, None, refl, ap, sym, subst}
 use Rattle.uvm_phase.specs.declared.phases.Phase.{Phase}
 use Rattle.uvm_phase.specs.Phases.{phase_after}
-use Rattle.uvm_object.specs.declared.acts.Who.{Who}
-use Rattle.uvm_object.specs.declared.acts.Act.{Act}
-use Rattle.uvm_object.specs.declared.acts.Act.TheVariants.{Create, Add, Set, Get, OverrideType, OverrideInst}
-use Rattle.uvm_object.specs.declared.fatals.Fatal.{Fatal}
 use Rattle.uvm_object.specs.declared.entries.Entry.{Entry}
 use Rattle.bench_script.specs.Scripts.{ScriptValue}
 use Rattle.bench_world.specs.declared.stages.Stage.{Stage}
 use Rattle.bench_world.specs.declared.stages.Stage.TheVariants.{Before, During, After, Ended}
-use Rattle.bench_world.specs.History.{stage_of, speaker_of, next_call, reason_of}
-use Rattle.bench_world.specs.Next.{Next, Nothing, by_call, by_order, by_stage, by_creation, by_act, by_reason, unless_ended, next_of}
-use Rattle.bench_world.proofs.Cases.{Case, AtEnd, ByReason, ByNote, ByAct, ByDue, ByStage, case-of}
+use Rattle.bench_world.specs.History.{stage_of, next_call, reason_of}
+use Rattle.bench_world.specs.Next.{Next, Nothing, by_call, by_order, by_stage, by_reason, unless_ended, next_of}
+use Rattle.bench_world.proofs.Cases.{Case, AtEnd, ByReason, ByNote, ByNeed, ByDeed, ByDue, ByStage, case-of}
 use Rattle.bench_core.specs.Plays.{IsSomething}
 
 -- after the end nothing comes
@@ -34,23 +30,12 @@ some-stage history (During phase) on = some-call phase (next_call phase history)
 some-stage history (After phase) on = some-order (phase_after phase)
 some-stage history Ended on = absurd (on refl)
 
-some-creation : (performer : Who) (act : Act) (path : List (List ℕ)) (made : Result (List ℕ) Fatal) → IsSomething (by_creation performer act path made)
-some-creation performer act path (Ok ty) = tt
-some-creation performer act path (Err fatal) = tt
-
-some-act : (script : ScriptValue) (history : List Entry) (performer : Who) (act : Act) → IsSomething (by_act script history performer act)
-some-act script history performer (Create ty name) = some-creation performer (Create ty name) _ _
-some-act script history performer (Add name what) = tt
-some-act script history performer (Set glob field value) = tt
-some-act script history performer (Get field) = tt
-some-act script history performer (OverrideType original new replace) = tt
-some-act script history performer (OverrideInst original new glob) = tt
-
 some-case : (script : ScriptValue) (history : List Entry) (next : Next) → (stage_of history ≡ Ended → ⊥) → Case script history next → IsSomething next
 some-case script history next on (AtEnd ended e) = absurd (on ended)
 some-case script history next on (ByReason reason e) = subst IsSomething (sym e) tt
 some-case script history next on (ByNote e) = subst IsSomething (sym e) tt
-some-case script history next on (ByAct act left e) = subst IsSomething (sym e) (some-act script history (speaker_of history) act)
+some-case script history next on (ByNeed act need left upshot e) = subst IsSomething (sym e) tt
+some-case script history next on (ByDeed act effect left upshot e) = subst IsSomething (sym e) tt
 some-case script history next on (ByDue due now e) = subst IsSomething (sym e) tt
 some-case script history next on (ByStage some e) = subst IsSomething (sym e) (some-stage history (stage_of history) on)
 

@@ -1,32 +1,29 @@
 -- What one more entry adds to a log: nodes, components, and what somebody was asked.
-use Rattle.std.proofs.Common.{◌≡◌, ℕ, suc, ◌≤◌, nat_le, Bool, true, false, if◌then◌else◌, List, [], ◌∷◌, ◌++◌, length, slice_get, Option, Some, None, Result, Ok, Err, refl, ap, sym, subst, arith}
+use Rattle.std.proofs.Common.{◌≡◌, ℕ, suc, ◌≤◌, List, [], ◌∷◌, ◌++◌, length, slice_get, Option, Some, None, refl, ap, ◌∙◌, sym, subst, arith}
 use Rattle.std.specs.Option.{option_map_or}
 use Rattle.std.proofs.lemmas.List.{append-nil, length-append}
-use Rattle.uvm_factory.specs.Faults.{Types, type_named, override_fault}
-use Rattle.uvm_factory.specs.declared.faults.FactoryFault.{FactoryFault}
 use Rattle.uvm_phase.specs.declared.phases.Phase.{Phase}
 use Rattle.uvm_phase.specs.Phases.{phase_after}
 use Rattle.uvm_tree.specs.declared.nodes.Node.{Node}
+use Rattle.uvm_tree.specs.declared.nodes.NodeKind.{NodeKind}
 use Rattle.uvm_tree.specs.declared.nodes.NodeKind.TheVariants.{Component}
 use Rattle.uvm_tree.specs.Nodes.{child, path_at}
 use Rattle.uvm_object.specs.Acts.{node_of}
 use Rattle.uvm_object.specs.Objects.{exchanged_in}
 use Rattle.uvm_object.specs.declared.acts.Who.{Who}
 use Rattle.uvm_object.specs.declared.acts.Act.{Act}
-use Rattle.uvm_object.specs.declared.acts.Act.TheVariants.{Create, Add, Set, Get, OverrideType, OverrideInst}
-use Rattle.uvm_object.specs.declared.fatals.Fatal.{Fatal}
-use Rattle.uvm_object.specs.declared.fatals.Fatal.TheVariants.{TooManySettings}
 use Rattle.uvm_object.specs.declared.entries.Outcome.{Outcome}
-use Rattle.uvm_object.specs.declared.entries.Outcome.TheVariants.{Done, Made, Value, Refused}
+use Rattle.uvm_object.specs.declared.entries.Outcome.TheVariants.{Done, Made}
 use Rattle.uvm_object.specs.declared.entries.Entry.{Entry}
-use Rattle.uvm_object.specs.declared.entries.Entry.TheVariants.{Begin, End, Heard, Did, Note, Over}
+use Rattle.uvm_object.specs.declared.entries.Entry.TheVariants.{Heard, Did}
 use Rattle.bench_script.specs.Scripts.{ScriptValue}
+use Rattle.bench_world.specs.declared.creations.Need as creations
 use Rattle.bench_world.specs.declared.stages.Stage.{Stage}
 use Rattle.bench_world.specs.declared.stages.Stage.TheVariants.{Before, During, After, Ended}
-use Rattle.bench_world.specs.History.{stage_of, nodes_of, nodes_after, components_of, components_after, speaker_of, next_call}
-use Rattle.bench_world.specs.Next.{Next, Exactly, Need, by_call, by_order, by_stage, by_creation, by_act, next_of}
-use Rattle.bench_world.specs.Refusals.{child_refusal, done_unless, addition_of, setting_of, override_refusal, override_between, overriding_of}
-use Rattle.bench_world.proofs.Cases.{Case, AtEnd, ByReason, ByNote, ByAct, ByDue, ByStage, case-of}
+use Rattle.bench_world.specs.History.{created_name, added_in, with_added, stage_of, nodes_of, nodes_after, components_of, components_after, next_call}
+use Rattle.bench_world.specs.Next.{Next, Exactly, Need, by_call, by_order, by_stage, next_of}
+use Rattle.bench_world.specs.Refusals.{Effect, Does, Finds, Refuses, outcome_of}
+use Rattle.bench_world.proofs.Cases.{Case, AtEnd, ByReason, ByNote, ByNeed, ByDeed, ByDue, ByStage, case-of}
 use Rattle.bench_world.proofs.Needed.{needed}
 
 -- no object was made
@@ -45,51 +42,11 @@ abbrev pub IsPlainNext : Next → Type 0
 IsPlainNext (Exactly entry) = IsPlain entry
 IsPlainNext next = Unit {0}
 
--- an act is done or refused
-plain-done : (refusal : Option Fatal) → NotMade (done_unless refusal)
-plain-done None = tt
-plain-done (Some fatal) = tt
-
--- an addition makes no object
-plain-addition : (built : Bool) (nodes : List Node) (parent : ℕ) (name : List ℕ) → NotMade (addition_of built nodes parent name)
-unfolding addition_of
-plain-addition true nodes parent name = tt
-plain-addition false nodes parent name = plain-done (child_refusal nodes parent name)
-
--- nor does a setting
-plain-setting : (count : ℕ) → NotMade (setting_of count)
-unfolding setting_of
-plain-setting count = elim (nat_le 65536 count) as (λ b. NotMade (if b then Refused TooManySettings else Done)) [ true ↦ tt | false ↦ tt ]
-
--- nor an override that is refused or not
-plain-refusal : (fault : Option FactoryFault) → NotMade (override_refusal fault)
-plain-refusal None = tt
-plain-refusal (Some fault) = tt
-
--- whatever types it names
-plain-between : (types : Types) (original new : Option ℕ) → NotMade (override_between types original new)
-plain-between types None new = tt
-plain-between types (Some original) None = tt
-plain-between types (Some original) (Some new) = plain-refusal (override_fault types original new)
-
--- so that an override makes none
-plain-overriding : (types : Types) (original new : List ℕ) → NotMade (overriding_of types original new)
-unfolding overriding_of
-plain-overriding types original new = plain-between types (type_named types original) (type_named types new)
-
--- a creation needs an object, or is refused
-plain-creation : (performer : Who) (act : Act) (path : List (List ℕ)) (made : Result (List ℕ) Fatal) → IsPlainNext (by_creation performer act path made)
-plain-creation performer act path (Ok ty) = tt
-plain-creation performer act path (Err fatal) = tt
-
--- what an act comes to by itself makes no object
-plain-act : (script : ScriptValue) (history : List Entry) (performer : Who) (act : Act) → IsPlainNext (by_act script history performer act)
-plain-act script history performer (Create ty name) = plain-creation performer (Create ty name) _ _
-plain-act script history performer (Add name what) = plain-addition _ (nodes_of history) (node_of performer) name
-plain-act script history performer (Set glob field value) = plain-setting _
-plain-act script history performer (Get field) = tt
-plain-act script history performer (OverrideType original new replace) = plain-overriding script.types original new
-plain-act script history performer (OverrideInst original new glob) = plain-overriding script.types original new
+-- an act that creates nothing makes no object
+plain-effect : (effect : Effect) → NotMade (outcome_of effect)
+plain-effect Does = tt
+plain-effect (Finds value) = tt
+plain-effect (Refuses fatal) = tt
 
 -- nor does what a running phase comes to
 plain-call : (phase : Phase) (turn : Option ℕ) → IsPlainNext (by_call phase turn)
@@ -113,7 +70,8 @@ plain-case : (script : ScriptValue) (history : List Entry) (next : Next) → Cas
 plain-case script history next (AtEnd ended e) = subst IsPlainNext (sym e) tt
 plain-case script history next (ByReason reason e) = subst IsPlainNext (sym e) tt
 plain-case script history next (ByNote e) = subst IsPlainNext (sym e) tt
-plain-case script history next (ByAct act left e) = subst IsPlainNext (sym e) (plain-act script history (speaker_of history) act)
+plain-case script history next (ByNeed act need left upshot e) = subst IsPlainNext (sym e) tt
+plain-case script history next (ByDeed act effect left upshot e) = subst IsPlainNext (sym e) (plain-effect effect)
 plain-case script history next (ByDue due now e) = subst IsPlainNext (sym e) tt
 plain-case script history next (ByStage on e) = subst IsPlainNext (sym e) (plain-stage history (stage_of history))
 
@@ -127,12 +85,8 @@ exact-plain script history entry e = subst IsPlainNext e (plain-next script hist
 
 -- a plain entry is no exchange of any node
 silent : (node : ℕ) (entry : Entry) → IsPlain entry → exchanged_in node entry ≡ []
-silent node (Begin phase) plain = refl
-silent node (End phase) plain = refl
 silent node (Heard performer call cause acts) plain = absurd plain
-silent node (Did performer outcome act) plain = refl
-silent node (Note fatal place) plain = refl
-silent node (Over reason) plain = refl
+silent node entry plain = refl
 
 -- an entry that alone is next is nobody's answer
 pub exact-is-silent : (script : ScriptValue) (history : List Entry) (entry : Entry) (node : ℕ) → next_of script history ≡ Exactly entry → exchanged_in node entry ≡ []
@@ -140,19 +94,13 @@ exact-is-silent script history entry node e = silent node entry (exact-plain scr
 
 -- an outcome that makes no object adds no component
 keeps-outcome : (node : ℕ) (components : List ℕ) (outcome : Outcome) → NotMade outcome → components_after node components outcome ≡ components
-keeps-outcome node components Done plain = refl
 keeps-outcome node components (Made ty) plain = absurd plain
-keeps-outcome node components (Value value) plain = refl
-keeps-outcome node components (Refused fatal) plain = refl
+keeps-outcome node components outcome plain = refl
 
 -- nor does a plain entry
 keeps-components : (history : List Entry) (entry : Entry) → IsPlain entry → components_of (entry ∷ history) ≡ components_of history
-keeps-components history (Begin phase) plain = refl
-keeps-components history (End phase) plain = refl
-keeps-components history (Heard performer call cause acts) plain = refl
 keeps-components history (Did performer outcome act) plain = keeps-outcome (length (nodes_of history)) (components_of history) outcome plain
-keeps-components history (Note fatal place) plain = refl
-keeps-components history (Over reason) plain = refl
+keeps-components history entry plain = refl
 
 -- and makes no component
 pub exact-keeps-components : (script : ScriptValue) (history : List Entry) (entry : Entry) → next_of script history ≡ Exactly entry → components_of (entry ∷ history) ≡ components_of history
@@ -170,39 +118,21 @@ no-more xs = ([], sym (append-nil xs))
 one-more : {A : Type 0} (xs : List A) (x : A) → HasMore xs (xs ++ x ∷ [])
 one-more xs x = (x ∷ [], refl)
 
--- an act that made an object takes no node away
-grow-made : (nodes : List Node) (performer : Who) (ty : List ℕ) (act : Act) → HasMore nodes (nodes_after nodes performer (Made ty) act)
-grow-made nodes performer ty (Create asked name) = one-more nodes _
-grow-made nodes performer ty (Add name what) = no-more nodes
-grow-made nodes performer ty (Set glob field value) = no-more nodes
-grow-made nodes performer ty (Get field) = no-more nodes
-grow-made nodes performer ty (OverrideType original new replace) = no-more nodes
-grow-made nodes performer ty (OverrideInst original new glob) = no-more nodes
+-- what an act adds by itself takes no node away
+grow-added : (nodes : List Node) (parent : ℕ) (added : Option (List ℕ × NodeKind)) → HasMore nodes (with_added nodes parent added)
+grow-added nodes parent None = no-more nodes
+grow-added nodes parent (Some (name, kind)) = one-more nodes _
 
--- nor does one that was performed without an object
-grow-done : (nodes : List Node) (performer : Who) (act : Act) → HasMore nodes (nodes_after nodes performer Done act)
-grow-done nodes performer (Create asked name) = no-more nodes
-grow-done nodes performer (Add name what) = one-more nodes _
-grow-done nodes performer (Set glob field value) = no-more nodes
-grow-done nodes performer (Get field) = no-more nodes
-grow-done nodes performer (OverrideType original new replace) = no-more nodes
-grow-done nodes performer (OverrideInst original new glob) = no-more nodes
-
--- nor any other
+-- nor does an object that is made, nor any other outcome
 grow-after : (nodes : List Node) (performer : Who) (outcome : Outcome) (act : Act) → HasMore nodes (nodes_after nodes performer outcome act)
-grow-after nodes performer Done act = grow-done nodes performer act
-grow-after nodes performer (Made ty) act = grow-made nodes performer ty act
-grow-after nodes performer (Value value) act = no-more nodes
-grow-after nodes performer (Refused fatal) act = no-more nodes
+grow-after nodes performer (Made ty) act = one-more nodes _
+grow-after nodes performer Done act = grow-added nodes (node_of performer) (added_in act)
+grow-after nodes performer outcome act = no-more nodes
 
 -- an entry takes no node away
 pub nodes-grow : (entry : Entry) (before : List Entry) → (more : List Node) × (nodes_of (entry ∷ before) ≡ nodes_of before ++ more)
-nodes-grow (Begin phase) before = no-more (nodes_of before)
-nodes-grow (End phase) before = no-more (nodes_of before)
-nodes-grow (Heard performer call cause acts) before = no-more (nodes_of before)
 nodes-grow (Did performer outcome act) before = grow-after (nodes_of before) performer outcome act
-nodes-grow (Note fatal place) before = no-more (nodes_of before)
-nodes-grow (Over reason) before = no-more (nodes_of before)
+nodes-grow entry before = no-more (nodes_of before)
 
 -- a list with more at its end is no shorter
 longer : {A : Type 0} (xs ys : List A) → HasMore xs ys → length xs ≤ length ys
@@ -214,19 +144,13 @@ nodes-more entry before = longer (nodes_of before) (nodes_of (entry ∷ before))
 
 -- what an act came to takes no component away
 outcome-grows : (node : ℕ) (components : List ℕ) (outcome : Outcome) → HasMore components (components_after node components outcome)
-outcome-grows node components Done = no-more components
 outcome-grows node components (Made ty) = one-more components node
-outcome-grows node components (Value value) = no-more components
-outcome-grows node components (Refused fatal) = no-more components
+outcome-grows node components outcome = no-more components
 
--- nor a component
+-- nor does an entry
 pub components-grow : (entry : Entry) (before : List Entry) → (more : List ℕ) × (components_of (entry ∷ before) ≡ components_of before ++ more)
-components-grow (Begin phase) before = no-more (components_of before)
-components-grow (End phase) before = no-more (components_of before)
-components-grow (Heard performer call cause acts) before = no-more (components_of before)
 components-grow (Did performer outcome act) before = outcome-grows (length (nodes_of before)) (components_of before) outcome
-components-grow (Note fatal place) before = no-more (components_of before)
-components-grow (Over reason) before = no-more (components_of before)
+components-grow entry before = no-more (components_of before)
 
 -- one component more, which is the node behind those that were there, at its path
 pub record HasGrown (history : List Entry) (path : List (List ℕ)) (entry : Entry) : Type 0 where
@@ -239,22 +163,12 @@ get-behind : (xs : List Node) (x : Node) → slice_get (xs ++ x ∷ []) (length 
 get-behind [] x = refl
 get-behind (y ∷ ys) x = get-behind ys x
 
--- the entry of a creation that made its object
-created-grows : (history : List Entry) (performer : Who) (ty asked name : List ℕ) → HasGrown history (path_at (nodes_of history) (node_of performer) ++ name ∷ []) (Did performer (Made ty) (Create asked name))
-created-grows history performer ty asked name =
-    let made = child (nodes_of history) (node_of performer) name Component in
+-- an object is made
+pub made-grows : (script : ScriptValue) (history : List Entry) (need : creations.Need) (performer : Who) (act : Act) → next_of script history ≡ Need need performer act → HasGrown history need.path (Did performer (Made need.ty) act)
+made-grows script history need performer act e =
+    let made = child (nodes_of history) (node_of performer) (created_name act) Component in
     record {
       components = refl;
       count = omega (arith, length-append (nodes_of history) (made ∷ []));
-      path_is = ap (λ (found : Option Node). option_map_or (λ node. node.path) found []) (get-behind (nodes_of history) made);
+      path_is = ap (λ (found : Option Node). option_map_or (λ node. node.path) found []) (get-behind (nodes_of history) made) ∙ sym (needed script history need performer act e).path_is;
     }
-
--- the entry of an act that is such a creation
-needed-grows : (history : List Entry) (path : List (List ℕ)) (performer : Who) (act : Act) (ty asked name : List ℕ) → act ≡ Create asked name → performer ≡ speaker_of history → path ≡ path_at (nodes_of history) (node_of (speaker_of history)) ++ name ∷ [] → HasGrown history path (Did performer (Made ty) act)
-needed-grows history path performer act ty asked name act_is performer_is path_is = rw (act_is, performer_is, path_is) (created-grows history (speaker_of history) ty asked name)
-
--- an object is made
-pub made-grows : (script : ScriptValue) (history : List Entry) (ty : List ℕ) (path : List (List ℕ)) (performer : Who) (act : Act) → next_of script history ≡ Need ty path performer act → HasGrown history path (Did performer (Made ty) act)
-made-grows script history ty path performer act e =
-    let n = needed script history ty path performer act e in
-    needed-grows history path performer act ty n.asked n.name n.act_is n.performer_is n.path_is

@@ -27,7 +27,7 @@ told-component script history (Asked performer call cause) told legal comes e =
 turn-component : (old new : Play) (result : turn.Turn) (comes : next.Next) → next_of old.script old.history ≡ comes → IsLegal old.script old.history → IsTurn comes result old new → AsksComponent result old.history
 turn-component old new result (next.Exactly entry) is legal t = subst (λ r. AsksComponent r old.history) (sym t.0) tt
 turn-component old new result (next.Answer performer call cause) is legal t = subst (λ r. AsksComponent r old.history) (sym t.0) (answers-component old.script old.history performer call cause legal.each is)
-turn-component old new result (next.Need ty path performer act) is legal t = subst (λ r. AsksComponent r old.history) (sym t.0) tt
+turn-component old new result (next.Need need performer act) is legal t = subst (λ r. AsksComponent r old.history) (sym t.0) tt
 turn-component old new result next.Nothing is legal t = subst (λ r. AsksComponent r old.history) (sym t.0) tt
 
 -- so that a call of the machine asks a component, if anybody
@@ -46,7 +46,7 @@ ended-at script history (After phase) is none = absurd (subst IsSomething none (
 turn-over : (old new : Play) (result : turn.Turn) (comes : next.Next) → next_of old.script old.history ≡ comes → IsLegal old.script old.history → IsTurn comes result old new → result ≡ turn.TheVariants.Over → is_over new.history ≡ true
 turn-over old new result (next.Exactly entry) is legal t over = let moved = t.0 in cc
 turn-over old new result (next.Answer performer call cause) is legal t over = let asks = t.0 in cc
-turn-over old new result (next.Need ty path performer act) is legal t over = let needs = t.0 in cc
+turn-over old new result (next.Need need performer act) is legal t over = let needs = t.0 in cc
 turn-over old new result next.Nothing is legal t over =
     rw t.1 (ended-is-over old.script old.history legal.each (ended-at old.script old.history (stage_of old.history) refl is))
 

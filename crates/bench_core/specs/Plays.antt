@@ -6,20 +6,18 @@ use Rattle.uvm_object.specs.declared.entries.Entry.{Entry}
 use Rattle.uvm_object.specs.declared.entries.Entry.TheVariants.{Heard, Over}
 use Rattle.uvm_object.specs.Lines.{entry_line}
 use Rattle.bench_script.specs.Scripts.{ScriptValue}
-use Rattle.uvm_factory.specs.declared.types.Kind.{Kind}
-use Rattle.bench_world.specs.History.{nodes_of, components_of, kind_made}
-use Rattle.bench_core.specs.declared.cores.Need.{Need}
+use Rattle.bench_world.specs.History.{nodes_of, components_of}
+use Rattle.bench_world.specs.declared.creations.Need.{Need}
 use Rattle.bench_core.specs.declared.cores.Health.{Health}
 use Rattle.bench_core.specs.declared.cores.Health.TheVariants.{Good, Full, Broken}
 use Rattle.bench_world.specs.Next as next
-use Rattle.bench_world.specs.Next.{next_of}
+use Rattle.bench_world.specs.Next.{next_of, need_in}
 use Rattle.bench_world.specs.Story.{Story}
 use Rattle.bench_core.specs.declared.cores.Standing.{Standing}
 use Rattle.bench_core.specs.declared.cores.Standing.TheVariants.{Nothing, Needed, Asked}
 use Rattle.bench_core.specs.declared.cores.Turn as turn
 use Rattle.bench_core.specs.declared.faults.CoreFault.{CoreFault}
 use Rattle.bench_core.specs.declared.faults.CoreFault.TheVariants.{Memory, LogFull, Failed, NoTest}
-use Rattle.bench_core.specs.Choices.{IsNeedFor}
 
 -- the script, the entries with the newest first, what was asked and not answered yet, and how the machine is
 pub record Play : Type 0 where
@@ -48,7 +46,7 @@ failed_from health play = record play { standing = Nothing; health = health }
 -- what was asked is what comes next
 abbrev pub Comes : Standing → next.Next → Type 0
 Comes Nothing comes = Unit {0}
-Comes (Needed need) comes = IsNeedFor need comes
+Comes (Needed need) comes = need_in comes ≡ Some need
 Comes (Asked performer call cause) comes = comes ≡ next.Answer performer call cause
 
 -- there is room for the entry of what was asked
@@ -64,17 +62,11 @@ pub record IsCore (story : Story) (standing : Standing) (health : Health) : Type
   pub room : HasRoom standing story
   pub none : is_good health ≡ false → standing ≡ Nothing
 
--- the object that is needed stands
-abbrev pub Stands : Kind → List ℕ → List (List ℕ) → Standing → Type 0
-Stands kind ty path Nothing = ⊥
-Stands kind ty path (Needed need) = (need.kind ≡ kind) × (need.ty ≡ ty) × (need.path ≡ path)
-Stands kind ty path (Asked performer call cause) = ⊥
-
 -- what a turn is, by what comes next
 abbrev pub IsTurn : next.Next → turn.Turn → Play → Play → Type 0
 IsTurn (next.Exactly entry) result old new = (result ≡ turn.TheVariants.Moved) × (new ≡ after entry old)
 IsTurn (next.Answer performer call cause) result old new = (result ≡ turn.TheVariants.Ask performer call) × (new ≡ record old { standing = Asked performer call cause })
-IsTurn (next.Need ty path performer act) result old new = (result ≡ turn.TheVariants.Need) × Stands (kind_made act) ty path new.standing × (new ≡ record old { standing = new.standing })
+IsTurn (next.Need need performer act) result old new = (result ≡ turn.TheVariants.Need) × (new ≡ record old { standing = Needed need })
 IsTurn next.Nothing result old new = (result ≡ turn.TheVariants.Over) × (new ≡ old)
 
 -- something comes next

@@ -17,23 +17,14 @@ ghost use Rattle.bench_core.specs.declared.cores.Standing.TheVariants.{Nothing, 
 use crate::choices::{Choice, choose};
 use crate::faults::CoreFault;
 use bench_script::Script;
-use bench_world::{Stage, World};
+use bench_world::{Need, Stage, World};
 use rand_core::Rng;
 use std::alloc::{AllocError, Global};
 use std::marker::Model;
-use uvm_factory::Kind;
 use uvm_glob::{Name, Path};
 use uvm_object::{Acts, Call, Entry, Log, Who, line_of};
 use uvm_phase::{Cause, Phase};
 use uvm_tree::NodeId;
-
-/// An object that is needed: its kind, the type that the factory makes, and where it will stand.
-#[derive(Debug, Drop)]
-pub struct Need {
-    pub kind: Kind,
-    pub ty: Name,
-    pub path: Path,
-}
 
 /// What a call of `next` came to.
 #[derive(Clone, Copy, Debug, PartialEq, Eq)]
@@ -161,10 +152,10 @@ impl Core {
         };
         let ty = need.ty;
         self.standing = Standing::Nothing;
-        let Ok(node) = self.world.made(ty) else {
+        let Ok(who) = self.world.made(ty) else {
             unreachable!()
         };
-        Who::Node(node)
+        who
     }
 
     /// The needed object is declined. Takes no memory.
@@ -188,12 +179,12 @@ impl Core {
         let Standing::Asked { who, call, cause } = &self.standing else {
             unreachable!()
         };
-        let (node, call, cause) = (who.node(), *call, *cause);
+        let (who, call, cause) = (who.copy(), *call, *cause);
         self.standing = Standing::Nothing;
         self.health = Health::Broken;
         let heard = match cause {
-            None => self.world.heard(Who::Node(node), call, acts),
-            Some(cause) => self.world.heard_due(Who::Node(node), call, cause, acts),
+            None => self.world.heard(who, call, acts),
+            Some(cause) => self.world.heard_due(who, call, cause, acts),
         };
         match heard {
             Ok(()) => {
@@ -325,25 +316,22 @@ impl Core {
         ensures err { OnErr result (self.new ≡ failed_from Health.Broken self.old) }
     {
         self.health = Health::Broken;
-        let choice = choose(&self.world)?;
-        let turn = match choice {
+        let turn = match choose(&self.world) {
             Choice::Nothing => Turn::Over,
             Choice::Begin(phase) => moved(self.world.begin(phase))?,
             Choice::End(phase) => moved(self.world.end(phase))?,
             Choice::Over(reason) => moved(self.world.over(reason))?,
             Choice::Note(fatal, node) => moved(self.world.note(fatal, node))?,
-            Choice::Did => moved(self.world.did())?,
-            Choice::Need(need) => {
-                self.world.reserve()?;
-                self.standing = Standing::Needed(need);
-                Turn::Need
-            }
-            Choice::Ask(node, call, cause) => {
-                self.standing = Standing::Asked {
-                    who: Who::Node(node),
-                    call,
-                    cause,
-                };
+            Choice::Act => match self.world.did()? {
+                None => Turn::Moved,
+                Some(need) => {
+                    self.world.reserve()?;
+                    self.standing = Standing::Needed(need);
+                    Turn::Need
+                }
+            },
+            Choice::Ask(who, call, cause) => {
+                self.standing = Standing::Asked { who, call, cause };
                 match told(&self.standing) {
                     Some(turn) => turn,
                     None => unreachable!(),

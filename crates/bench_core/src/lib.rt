@@ -7,5 +7,6 @@ mod faults;
 #[cfg(test)]
 mod tests;
 
-pub use cores::{Core, Health, Need, Standing, Turn};
+pub use bench_world::Need;
+pub use cores::{Core, Health, Standing, Turn};
 pub use faults::CoreFault;

@@ -19,8 +19,11 @@ use Rattle.uvm_object.specs.declared.entries.Entry.TheVariants.{Heard, Did}
 use Rattle.uvm_object.specs.declared.fatals.Fatal.TheVariants.{NoObject}
 use Rattle.bench_script.specs.Scripts.{ScriptValue}
 use Rattle.bench_world.specs.History.{nodes_of, components_of}
-use Rattle.bench_world.specs.Next.{Next, Exactly, Answer, Need, next_of, EachIsNext}
-use Rattle.bench_core.specs.Plays.{Play, Comes, IsSomething, after, is_over}
+use Rattle.bench_world.specs.declared.creations.Need.{Need}
+use Rattle.bench_world.specs.Next as next
+use Rattle.bench_world.specs.Next.{Next, Exactly, Answer, next_of, EachIsNext}
+use Rattle.bench_core.specs.declared.cores.Standing.TheVariants.{Needed}
+use Rattle.bench_core.specs.Plays.{Play, IsSomething, after, is_over}
 use Rattle.bench_core.proofs.Comings.{nothing-comes}
 use Rattle.bench_core.proofs.Grown.{exact-is-silent, exact-keeps-components, nodes-grow, made-grows}
 use Rattle.bench_core.proofs.Called.{components-below, unasked, over-is-ended}
@@ -31,8 +34,8 @@ use Rattle.bench_kernel.proofs.Ranks.{IsPlace, All-front, All-insert, IsFromLast
 use Rattle.bench_kernel.proofs.Lives.{LiveHonestly-heard, LiveHonestly-unanswered, LiveHonestly-silent, LiveHonestly-more, LiveHonestly-less, object_at-asked}
 
 -- where something comes the run is not over
-pub on-where-some : (script : ScriptValue) (history : List Entry) (next : Next) → next_of script history ≡ next → IsSomething next → is_over history ≡ false
-on-where-some script history next is some = go (is_over history) refl
+pub on-where-some : (script : ScriptValue) (history : List Entry) (comes : Next) → next_of script history ≡ comes → IsSomething comes → is_over history ≡ false
+on-where-some script history comes is some = go (is_over history) refl
   where
     go : (b : Bool) → is_over history ≡ b → is_over history ≡ false
     go false e = e
@@ -108,15 +111,16 @@ module _ {O : Type 0} (view : O → View) (name : O → List ℕ) (says : O → 
       })
 
   -- an object gave no answer
-  pub kept-unanswered : (cast : Cast O) (held : List (ℕ × O)) (core : Play) (node : ℕ) (call : Call) (answer : Result (List Act) AllocError) → cast.failed ≡ false
+  pub kept-unanswered : (cast : Cast O) (held : List (ℕ × O)) (core : Play) (performer : Who) (node : ℕ) (call : Call) (answer : Result (List Act) AllocError) → node ≡ node_of performer → cast.failed ≡ false
       → IsSameLog cast.core core → IsAsked view name says node call answer cast.held held → IsCast view says cast
-      → IsCast view says (record { core = core; held = held; failed = true; unknown = Some node })
-  kept-unanswered cast held core node call answer going same_log asked kept =
+      → IsCast view says (record { core = core; held = held; failed = true; unknown = Some performer })
+  kept-unanswered cast held core performer node call answer same_node going same_log asked_there kept =
       let same = same_log.history in
-      let keys : keys_of held ≡ keys_of cast.held = rw asked.is (keys-set_value (nat_eq node) cast.held asked.after) in
+      let asked : IsAsked view name says (node_of performer) call answer cast.held held = subst (λ n. IsAsked view name says n call answer cast.held held) same_node asked_there in
+      let keys : keys_of held ≡ keys_of cast.held = rw asked.is (keys-set_value (nat_eq (node_of performer)) cast.held asked.after) in
       record {
         each = rw (same, same_log.script) kept.each;
-        honest = rw same (LiveHonestly-unanswered view name says node call answer cast.held held cast.core.history asked (rw (kept.known going) at (kept.honest)));
+        honest = rw same (LiveHonestly-unanswered view name says performer call answer cast.held held cast.core.history asked (rw (kept.known going) at (kept.honest)));
         made = rw (same, keys) kept.made;
         whole = λ done. cc;
         in_order = rw (same, keys) kept.in_order;
@@ -126,15 +130,15 @@ module _ {O : Type 0} (view : O → View) (name : O → List ℕ) (says : O → 
       }
 
   -- the machine asks for an object
-  pub kept-core : (cast : Cast O) (core : Play) → IsSameLog cast.core core → core.health ≡ cast.core.health → Comes core.standing (next_of core.script core.history)
-      → IsCast view says cast → IsCast view says (record cast { core = core })
-  kept-core cast core same health comes kept = record {
-    each = rw (same.history, same.script) kept.each;
-    honest = rw same.history kept.honest;
-    made = rw same.history kept.made;
-    whole = rw same.history kept.whole;
-    in_order = rw same.history kept.in_order;
-    good = λ going. health ∙ kept.good going;
+  pub kept-needed : (cast : Cast O) (need : Need) → next.need_in (next_of cast.core.script cast.core.history) ≡ Some need → IsCast view says cast
+      → IsCast view says (record cast { core = record cast.core { standing = Needed need } })
+  kept-needed cast need comes kept = record {
+    each = kept.each;
+    honest = kept.honest;
+    made = kept.made;
+    whole = kept.whole;
+    in_order = kept.in_order;
+    good = kept.good;
     comes = λ going. comes;
     known = kept.known;
   }
@@ -153,25 +157,25 @@ module _ {O : Type 0} (view : O → View) (name : O → List ℕ) (says : O → 
   }
 
   -- a needed object was taken
-  pub kept-supplied : (cast : Cast O) (held : List (ℕ × O)) (place : ℕ) (object : O) (ty : List ℕ) (path : List (List ℕ)) (performer : Who) (act : Act)
-      → next_of cast.core.script cast.core.history ≡ Need ty path performer act → cast.failed ≡ false
-      → IsPlace (nodes_of cast.core.history) path cast.held place
+  pub kept-supplied : (cast : Cast O) (held : List (ℕ × O)) (place : ℕ) (object : O) (need : Need) (performer : Who) (act : Act)
+      → next_of cast.core.script cast.core.history ≡ next.Need need performer act → cast.failed ≡ false
+      → IsPlace (nodes_of cast.core.history) need.path cast.held place
       → held ≡ insert cast.held place (length (nodes_of cast.core.history), object)
       → ((other : ℕ) → object_at held other ≡ (if nat_eq (length (nodes_of cast.core.history)) other then Some object else object_at cast.held other))
-      → IsCast view says cast → IsCast view says (record cast { core = after (Did performer (Made ty) act) cast.core; held = held })
-  kept-supplied cast held place object ty path performer act need going p is found kept =
+      → IsCast view says cast → IsCast view says (record cast { core = after (Did performer (Made need.ty) act) cast.core; held = held })
+  kept-supplied cast held place object need performer act needs going p is found kept =
       let history = cast.core.history in
       let each = kept.each in
-      let entry : Entry = Did performer (Made ty) act in
+      let entry : Entry = Did performer (Made need.ty) act in
       let node : ℕ = length (nodes_of history) in
-      let grown = made-grows cast.core.script history ty path performer act need in
+      let grown = made-grows cast.core.script history need performer act needs in
       let more = nodes-grow entry history in
-      let on : is_over history ≡ false = on-where-some cast.core.script history (Need ty path performer act) need tt in
+      let on : is_over history ≡ false = on-where-some cast.core.script history (next.Need need performer act) needs tt in
       let below = held-below cast.core.script history (keys_of cast.held) each kept.made in
       let split : keys_of (take place cast.held) ++ keys_of (drop place cast.held) ≡ keys_of cast.held =
       sym (map-append (λ (s : ℕ × O). s.0) (take place cast.held) (drop place cast.held)) ∙ ap keys_of (take-append-drop place cast.held) in
       record {
-        each = (rw need (inl refl), each);
+        each = (rw needs (inl refl), each);
         honest = LiveHonestly-silent view name says entry history held cast.unknown (λ n. refl)
             (LiveHonestly-more view name says cast.held held history node object cast.unknown found (unasked cast.core.script history node each (omega arith)) kept.honest);
         made =
@@ -187,22 +191,22 @@ module _ {O : Type 0} (view : O → View) (name : O → List ℕ) (says : O → 
             (rw (found node) (let e : nat_eq node node ≡ true = grind (arith, nat_tests) in rw e refl)));
         in_order =
             rw (is, more.1)
-            (IsFromLast-held (nodes_of history ++ more.0) cast.held node object path place (rw (← more.1) grown.path_is)
+            (IsFromLast-held (nodes_of history ++ more.0) cast.held node object need.path place (rw (← more.1) grown.path_is)
             (IsFromLast-more (nodes_of history) more.0 (keys_of cast.held) below kept.in_order)
-            (place-more (nodes_of history) more.0 path cast.held place below p));
+            (place-more (nodes_of history) more.0 need.path cast.held place below p));
         good = kept.good;
         comes = λ h. tt;
         known = kept.known;
       }
 
   -- a needed object was declined
-  pub kept-declined : (cast : Cast O) (ty : List ℕ) (path : List (List ℕ)) (performer : Who) (act : Act) → next_of cast.core.script cast.core.history ≡ Need ty path performer act → cast.failed ≡ false
+  pub kept-declined : (cast : Cast O) (need : Need) (performer : Who) (act : Act) → next_of cast.core.script cast.core.history ≡ next.Need need performer act → cast.failed ≡ false
       → IsCast view says cast → IsCast view says (record cast { core = after (Did performer (Refused NoObject) act) cast.core })
-  kept-declined cast ty path performer act need going kept =
+  kept-declined cast need performer act needs going kept =
       let history = cast.core.history in
-      let on : is_over history ≡ false = on-where-some cast.core.script history (Need ty path performer act) need tt in
+      let on : is_over history ≡ false = on-where-some cast.core.script history (next.Need need performer act) needs tt in
       record {
-        each = (rw need (inr refl), kept.each);
+        each = (rw needs (inr refl), kept.each);
         honest = LiveHonestly-silent view name says (Did performer (Refused NoObject) act) history cast.held cast.unknown (λ node. refl) kept.honest;
         made = kept.made;
         whole = λ done. kept.whole (rw (going, on) refl);

@@ -71,25 +71,25 @@ module _ {O : Type 0} (view : O → View) (name : O → List ℕ) (says : O → 
           (honest node object (sym (rw e at is) ∙ at) known)
 
   -- who gave no answer is left out
-  pub LiveHonestly-unanswered : (asked_node : ℕ) (call : Call) (answer : Result (List Act) AllocError) (old new : List (ℕ × O)) (history : List Entry)
-      → IsAsked view name says asked_node call answer old new → LiveHonestly view says old None history → LiveHonestly view says new (Some asked_node) history
-  LiveHonestly-unanswered asked_node call answer old new history asked honest node object at known = go (nat_eq asked_node node) refl
+  pub LiveHonestly-unanswered : (performer : Who) (call : Call) (answer : Result (List Act) AllocError) (old new : List (ℕ × O)) (history : List Entry)
+      → IsAsked view name says (node_of performer) call answer old new → LiveHonestly view says old None history → LiveHonestly view says new (Some performer) history
+  LiveHonestly-unanswered performer call answer old new history asked honest node object at known = go (nat_eq (node_of performer) node) refl
     where
-      is : object_at new node ≡ (if nat_eq asked_node node then Some asked.after else object_at old node)
-      is = object_at-asked asked_node call answer old new asked node
+      is : object_at new node ≡ (if nat_eq (node_of performer) node then Some asked.after else object_at old node)
+      is = object_at-asked (node_of performer) call answer old new asked node
 
-      go : (b : Bool) → nat_eq asked_node node ≡ b → IsHonestNow (says object) (view object) (life_of node history)
-      go true e = absurd (known (ap Some (let same : asked_node ≡ node = grind (arith, nat_tests) in same)))
+      go : (b : Bool) → nat_eq (node_of performer) node ≡ b → IsHonestNow (says object) (view object) (life_of node history)
+      go true e = absurd (known (ap Some (let same : node_of performer ≡ node = grind (arith, nat_tests) in same)))
       go false e = honest node object (sym (rw e at is) ∙ at) (λ n. none-some node n)
 
   -- an entry that is nobody's answer leaves each life
-  pub LiveHonestly-silent : (entry : Entry) (history : List Entry) (held : List (ℕ × O)) (unknown : Option ℕ) → ((node : ℕ) → exchanged_in node entry ≡ [])
+  pub LiveHonestly-silent : (entry : Entry) (history : List Entry) (held : List (ℕ × O)) (unknown : Option Who) → ((node : ℕ) → exchanged_in node entry ≡ [])
       → LiveHonestly view says held unknown history → LiveHonestly view says held unknown (entry ∷ history)
   LiveHonestly-silent entry history held unknown silent honest node object at known =
       rw (silent node) (honest node object at known)
 
   -- one more object, at a node that was not asked
-  pub LiveHonestly-more : (held new : List (ℕ × O)) (history : List Entry) (node : ℕ) (object : O) (unknown : Option ℕ)
+  pub LiveHonestly-more : (held new : List (ℕ × O)) (history : List Entry) (node : ℕ) (object : O) (unknown : Option Who)
       → ((other : ℕ) → object_at new other ≡ (if nat_eq node other then Some object else object_at held other)) → life_of node history ≡ []
       → LiveHonestly view says held unknown history → LiveHonestly view says new unknown history
   LiveHonestly-more held new history node object unknown is unasked honest other found at known = go (nat_eq node other) refl
@@ -102,7 +102,7 @@ module _ {O : Type 0} (view : O → View) (name : O → List ℕ) (says : O → 
       go false e = honest other found (sym (rw e at (is other)) ∙ at) known
 
   -- fewer objects
-  pub LiveHonestly-less : (held new : List (ℕ × O)) (history : List Entry) (node : ℕ) (unknown : Option ℕ)
+  pub LiveHonestly-less : (held new : List (ℕ × O)) (history : List Entry) (node : ℕ) (unknown : Option Who)
       → ((other : ℕ) → object_at new other ≡ (if nat_eq node other then None else object_at held other))
       → LiveHonestly view says held unknown history → LiveHonestly view says new unknown history
   LiveHonestly-less held new history node unknown is honest other found at known = go (nat_eq node other) refl

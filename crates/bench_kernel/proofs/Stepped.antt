@@ -1,21 +1,19 @@
 -- What a turn of the machine makes of a step.
-use Rattle.std.proofs.Common.{◌≡◌, ◌∙◌, ℕ, true, false, ◌==◌, List, [], ◌∷◌, Option, Some, None, IsSome, IfSome, Result, Ok, Err, inl, inr, refl, sym, ap, subst, arith}
+use Rattle.std.proofs.Common.{◌≡◌, ◌∙◌, ℕ, true, false, ◌==◌, List, [], ◌∷◌, Option, Some, None, IfSome, Result, Ok, Err, inl, inr, refl, ap, subst, arith}
 use Rattle.std.proofs.lemmas.Bool.Decides.{nat_tests}
 use Rattle.std.specs.declared.alloc.AllocError.{AllocError}
 use Rattle.uvm_phase.specs.declared.agendas.Cause.{Cause}
 use Rattle.uvm_object.specs.Acts.{node_of}
 use Rattle.uvm_object.specs.Objects.{View, Says}
 use Rattle.uvm_object.specs.declared.acts.Who.{Who}
-use Rattle.uvm_object.specs.declared.acts.Who.TheVariants as who
 use Rattle.uvm_object.specs.declared.acts.Call.{Call}
 use Rattle.uvm_object.specs.declared.acts.Act.{Act}
 use Rattle.uvm_object.specs.declared.entries.Entry.{Entry}
-use Rattle.uvm_object.specs.declared.entries.Entry.TheVariants.{Begin, End, Heard, Did, Note, Over}
+use Rattle.uvm_object.specs.declared.entries.Entry.TheVariants.{Heard}
 use Rattle.bench_script.specs.Scripts.{ScriptValue}
 use Rattle.bench_world.specs.Next as next
 use Rattle.bench_world.specs.Next.{next_of}
-use Rattle.bench_world.specs.History.{kind_made}
-use Rattle.uvm_factory.specs.declared.types.Kind.{Kind}
+use Rattle.bench_world.specs.declared.creations.Need.{Need}
 use Rattle.bench_core.specs.declared.cores.Standing.{Standing}
 use Rattle.bench_core.specs.declared.cores.Standing.TheVariants.{Nothing, Needed, Asked}
 use Rattle.bench_core.specs.declared.cores.Turn as turn
@@ -23,7 +21,7 @@ use Rattle.bench_core.specs.declared.cores.Health.{Health}
 use Rattle.bench_core.specs.declared.cores.Health.TheVariants.{Good}
 use Rattle.bench_core.specs.declared.faults.CoreFault.{CoreFault}
 use Rattle.bench_core.specs.declared.faults.CoreFault.TheVariants.{Memory, LogFull, Failed, NoTest}
-use Rattle.bench_core.specs.Plays.{Play, Stands, IsTurn, IsNextTurn, IsRefusedTurn, Comes, after, answer_in, failed_from, need_of}
+use Rattle.bench_core.specs.Plays.{Play, IsTurn, IsNextTurn, IsRefusedTurn, Comes, after, answer_in, failed_from, need_of}
 use Rattle.bench_core.proofs.Grown.{exact-is-silent}
 use Rattle.bench_kernel.specs.Casts.{Cast}
 use Rattle.bench_kernel.specs.Steps.{IsAsked, IsMoved, IsRefusedStep, IsSameLog, WasGiven, unanswered_from}
@@ -37,7 +35,7 @@ pub record HasMoved (old new : Play) : Type 0 where
 moved-by : (comes : next.Next) (old new : Play) → next_of old.script old.history ≡ comes → IsTurn comes turn.TheVariants.Moved old new → HasMoved old new
 moved-by (next.Exactly entry) old new exact t = record { entry = entry; exact = exact; is = t.1 }
 moved-by (next.Answer performer call cause) old new exact t = absurd (let e = t.0 in cc)
-moved-by (next.Need ty path performer act) old new exact t = absurd (let e = t.0 in cc)
+moved-by (next.Need need performer act) old new exact t = absurd (let e = t.0 in cc)
 moved-by next.Nothing old new exact t = absurd (let e = t.0 in cc)
 
 moved-at : (standing : Standing) (old new : Play) → IsNextTurn standing (Ok turn.TheVariants.Moved) old new → HasMoved old new
@@ -50,77 +48,29 @@ moved-turn old new t = moved-at old.standing old new t
 
 -- the machine asks for the object that is needed next: nothing else changes
 pub record HasNeeded (old new : Play) : Type 0 where
-  pub same_log : IsSameLog old new
-  pub health : new.health ≡ old.health
-  pub comes : Comes new.standing (next_of new.script new.history)
-
--- what stands is needed next
-stands-comes : (standing : Standing) (ty : List ℕ) (path : List (List ℕ)) (performer : Who) (act : Act) → Stands (kind_made act) ty path standing → Comes standing (next.Need ty path performer act)
-stands-comes Nothing ty path performer act s = absurd s
-stands-comes (Needed need) ty path performer act s = (sym s.0, sym s.1, sym s.2)
-stands-comes (Asked other call cause) ty path performer act s = absurd s
+  pub need : Need
+  pub is : new ≡ record old { standing = Needed need }
+  pub comes : next.need_in (next_of old.script old.history) ≡ Some need
 
 need-by : (comes : next.Next) (old new : Play) → next_of old.script old.history ≡ comes → IsTurn comes turn.TheVariants.Need old new → HasNeeded old new
 need-by (next.Exactly entry) old new is t = absurd (let e = t.0 in cc)
 need-by (next.Answer performer call cause) old new is t = absurd (let e = t.0 in cc)
-need-by (next.Need ty path performer act) old new is t =
-    let script : new.script ≡ old.script = ap (λ (p : Play). p.script) t.2 in
-    let history : new.history ≡ old.history = ap (λ (p : Play). p.history) t.2 in
-    record {
-      same_log = record { script = script; history = history };
-      health = ap (λ (p : Play). p.health) t.2;
-      comes = rw (script, history, is) (stands-comes new.standing ty path performer act t.1);
-    }
+need-by (next.Need need performer act) old new is t = record { need = need; is = t.1; comes = rw is refl }
 need-by next.Nothing old new is t = absurd (let e = t.0 in cc)
 
-need-at : (standing : Standing) (old new : Play) → Comes old.standing (next_of old.script old.history) → IsNextTurn standing (Ok turn.TheVariants.Need) old new → HasNeeded old new
-need-at Nothing old new comes t = need-by (next_of old.script old.history) old new refl t.1
-need-at (Needed need) old new comes t = rw t.1 (record { same_log = record { script = refl; history = refl }; health = refl; comes = comes })
-need-at (Asked performer call cause) old new comes t = absurd (let e = t.0 in cc)
+need-at : (standing : Standing) (old new : Play) → old.standing ≡ standing → Comes standing (next_of old.script old.history) → IsNextTurn standing (Ok turn.TheVariants.Need) old new → HasNeeded old new
+need-at Nothing old new is comes t = need-by (next_of old.script old.history) old new refl t.1
+need-at (Needed need) old new is comes t = record { need = need; is = t.1 ∙ ap (λ s. record old { standing = s }) is; comes = comes }
+need-at (Asked performer call cause) old new is comes t = absurd (let e = t.0 in cc)
 
 pub need-turn : (old new : Play) → Comes old.standing (next_of old.script old.history) → IsNextTurn old.standing (Ok turn.TheVariants.Need) old new → HasNeeded old new
-need-turn old new comes t = need-at old.standing old new comes t
-
--- nothing but what stands changes
-quiet-by : (comes : next.Next) (old new : Play) → IsTurn comes turn.TheVariants.Need old new → new ≡ record old { standing = new.standing }
-quiet-by (next.Exactly entry) old new t = absurd (let e = t.0 in cc)
-quiet-by (next.Answer performer call cause) old new t = absurd (let e = t.0 in cc)
-quiet-by (next.Need ty path performer act) old new t = t.2
-quiet-by next.Nothing old new t = absurd (let e = t.0 in cc)
-
-quiet-at : (standing : Standing) (old new : Play) → IsNextTurn standing (Ok turn.TheVariants.Need) old new → new ≡ record old { standing = new.standing }
-quiet-at Nothing old new t = quiet-by (next_of old.script old.history) old new t.1
-quiet-at (Needed need) old new t = rw t.1 refl
-quiet-at (Asked performer call cause) old new t = absurd (let e = t.0 in cc)
-
-pub need-quiet : (old new : Play) → IsNextTurn old.standing (Ok turn.TheVariants.Need) old new → new ≡ record old { standing = new.standing }
-need-quiet old new t = quiet-at old.standing old new t
-
--- and what is needed stands
-stands-some : (kind : Kind) (ty : List ℕ) (path : List (List ℕ)) (standing : Standing) → Stands kind ty path standing → IsSome (need_of standing)
-stands-some kind ty path Nothing s = absurd s
-stands-some kind ty path (Needed need) s = refl
-stands-some kind ty path (Asked performer call cause) s = absurd s
-
-some-by : (comes : next.Next) (old new : Play) → IsTurn comes turn.TheVariants.Need old new → IsSome (need_of new.standing)
-some-by (next.Exactly entry) old new t = absurd (let e = t.0 in cc)
-some-by (next.Answer performer call cause) old new t = absurd (let e = t.0 in cc)
-some-by (next.Need ty path performer act) old new t = stands-some (kind_made act) ty path new.standing t.1
-some-by next.Nothing old new t = absurd (let e = t.0 in cc)
-
-some-at : (standing : Standing) (old new : Play) → old.standing ≡ standing → IsNextTurn standing (Ok turn.TheVariants.Need) old new → IsSome (need_of new.standing)
-some-at Nothing old new is t = some-by (next_of old.script old.history) old new t.1
-some-at (Needed need) old new is t = rw (t.1, is) refl
-some-at (Asked performer call cause) old new is t = absurd (let e = t.0 in cc)
-
-pub need-some : (old new : Play) → IsNextTurn old.standing (Ok turn.TheVariants.Need) old new → IsSome (need_of new.standing)
-need-some old new t = some-at old.standing old new refl t
+need-turn old new comes t = need-at old.standing old new refl comes t
 
 -- the run is over: nothing changes
 over-by : (comes : next.Next) (old new : Play) → IsTurn comes turn.TheVariants.Over old new → new ≡ old
 over-by (next.Exactly entry) old new t = absurd (let e = t.0 in cc)
 over-by (next.Answer performer call cause) old new t = absurd (let e = t.0 in cc)
-over-by (next.Need ty path performer act) old new t = absurd (let e = t.0 in cc)
+over-by (next.Need need performer act) old new t = absurd (let e = t.0 in cc)
 over-by next.Nothing old new t = t.1
 
 over-at : (standing : Standing) (old new : Play) → IsNextTurn standing (Ok turn.TheVariants.Over) old new → new ≡ old
@@ -150,7 +100,7 @@ ask-by (next.Answer other told cause) performer call old new comes none t =
       answers = comes ∙ ap (λ w. next.Answer w told cause) same_who ∙ ap (λ c. next.Answer performer c cause) same_call;
       nothing_needed = rw none refl;
     }
-ask-by (next.Need ty path other act) performer call old new comes none t = absurd (let e = t.0 in cc)
+ask-by (next.Need need other act) performer call old new comes none t = absurd (let e = t.0 in cc)
 ask-by next.Nothing performer call old new comes none t = absurd (let e = t.0 in cc)
 
 ask-at : (standing : Standing) (performer : Who) (call : Call) (old new : Play) → old.standing ≡ standing → Comes standing (next_of old.script old.history)
@@ -189,15 +139,11 @@ unheard-log performer call old asking new health asks failed =
 module _ {O : Type 0} (view : O → View) (name : O → List ℕ) (says : O → Says) where
   -- an entry of the machine is nobody's answer
   given-exact : (script : ScriptValue) (history : List Entry) (entry : Entry) (held : List (ℕ × O)) → next_of script history ≡ next.Exactly entry → WasGiven view name says entry held held
-  given-exact script history (Begin phase) held exact = refl
-  given-exact script history (End phase) held exact = refl
   given-exact script history (Heard performer call cause acts) held exact =
       absurd (let silent = exact-is-silent script history (Heard performer call cause acts) (node_of performer) exact in
       let same : (node_of performer == node_of performer) ≡ true = grind (arith, nat_tests) in
       let bad : (call, acts) ∷ [] ≡ [] = rw same at silent in cc)
-  given-exact script history (Did performer outcome act) held exact = refl
-  given-exact script history (Note fatal node) held exact = refl
-  given-exact script history (Over reason) held exact = refl
+  given-exact script history entry held exact = refl
 
   pub moved-step : (cast : Cast O) (new : Play) (moved : HasMoved cast.core new) → IsMoved view name says cast (record cast { core = new })
   moved-step cast new moved = record {
@@ -247,10 +193,10 @@ module _ {O : Type 0} (view : O → View) (name : O → List ℕ) (says : O → 
   -- an object was asked, and memory was refused
   pub unanswered-step : (cast : Cast O) (core : Play) (performer : Who) (node : ℕ) (call : Call) (cause : Option Cause) (answer : Result (List Act) AllocError) (held : List (ℕ × O))
       → next_of cast.core.script cast.core.history ≡ next.Answer performer call cause → need_of cast.core.standing ≡ None → cast.failed ≡ false → IsSameLog cast.core core → core ≡ unanswered_from performer call cause answer cast.core → node ≡ node_of performer
-      → IsAsked view name says node call answer cast.held held → IsRefusedStep view name says Memory cast (record { core = core; held = held; failed = true; unknown = Some node })
-  unanswered-step cast core (who.Node other) node call cause answer held answers none going same left same_node asked = (
+      → IsAsked view name says node call answer cast.held held → IsRefusedStep view name says Memory cast (record { core = core; held = held; failed = true; unknown = Some performer })
+  unanswered-step cast core performer node call cause answer held answers none going same left same_node asked = (
     record { going = going; some = rw answers tt; nothing_needed = rw (going, none) refl },
-    inr (record { node = node; call = call; cause = cause; next = rw same_node answers; answer = answer; asked = asked; same_log = same; left = rw same_node left; is = refl }),
+    inr (record { performer = performer; call = call; cause = cause; next = answers; answer = answer; asked = subst (λ n. IsAsked view name says n call answer cast.held held) same_node asked; same_log = same; left = left; is = refl }),
   )
 
 -- where the machine refuses, the log stays

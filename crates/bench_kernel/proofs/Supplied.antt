@@ -14,11 +14,10 @@ use Rattle.uvm_object.specs.declared.entries.Entry.{Entry}
 use Rattle.bench_world.specs.Next as next
 use Rattle.bench_world.specs.Next.{next_of, declined_in, made_in}
 use Rattle.bench_world.specs.History.{nodes_of}
-use Rattle.bench_core.specs.Choices.{IsNeedFor}
 use Rattle.bench_core.specs.Plays.{Comes, Play, after, need_of}
 use Rattle.bench_core.specs.declared.cores.Standing.{Standing}
 use Rattle.bench_core.specs.declared.cores.Standing.TheVariants.{Nothing, Needed, Asked}
-use Rattle.bench_core.specs.declared.cores.Need.{Need}
+use Rattle.bench_world.specs.declared.creations.Need.{Need}
 use Rattle.bench_kernel.specs.Casts.{Cast, IsCast, need_in, object_at, wanted_in}
 use Rattle.bench_kernel.specs.Orders.{stays}
 use Rattle.bench_kernel.specs.Steps.{IsSupplied}
@@ -34,9 +33,9 @@ pub going-where-needed : {O : Type 0} (cast : Cast O) → IsSome (need_in cast) 
 going-where-needed cast some = going-by cast.failed (need_of cast.core.standing) some
 
 -- what stands is what is needed next
-need-comes : (standing : Standing) (need : Need) (comes : next.Next) → need_of standing ≡ Some need → Comes standing comes → IsNeedFor need comes
+need-comes : (standing : Standing) (need : Need) (comes : next.Next) → need_of standing ≡ Some need → Comes standing comes → next.need_in comes ≡ Some need
 need-comes Nothing need comes e c = cc
-need-comes (Needed other) need comes e c = subst (λ n. IsNeedFor n comes) (same_Some other need e) c
+need-comes (Needed other) need comes e c = c ∙ e
 need-comes (Asked performer call cause) need comes e c = cc
 
 -- the one entry
@@ -80,7 +79,7 @@ module _ {O : Type 0} (view : O → View) (name : O → List ℕ) (says : O → 
       → IfSome (declined_in comes) (λ entry. new ≡ after entry cast.core) → IsCast view says cast → IsCast view says (record cast { core = new })
   declines-by (next.Exactly entry) cast new is going some e kept = cc
   declines-by (next.Answer performer call cause) cast new is going some e kept = cc
-  declines-by (next.Need ty path performer act) cast new is going some e kept = rw e (kept-declined view name says cast ty path performer act is going kept)
+  declines-by (next.Need need performer act) cast new is going some e kept = rw e (kept-declined view name says cast need performer act is going kept)
   declines-by next.Nothing cast new is going some e kept = cc
 
   -- it was declined
@@ -88,17 +87,17 @@ module _ {O : Type 0} (view : O → View) (name : O → List ℕ) (says : O → 
       → IfSome (declined_in (next_of cast.core.script cast.core.history)) (λ entry. new ≡ after entry cast.core) → IsCast view says cast → IsCast view says (record cast { core = new })
   kept-declines cast new going some e kept = declines-by (next_of cast.core.script cast.core.history) cast new refl going some e kept
 
-  supplies-by : (comes : next.Next) (cast : Cast O) (new : Play) (held : List (ℕ × O)) (place : ℕ) (object : O) (need : Need) → next_of cast.core.script cast.core.history ≡ comes → IsNeedFor need comes
+  supplies-by : (comes : next.Next) (cast : Cast O) (new : Play) (held : List (ℕ × O)) (place : ℕ) (object : O) (need : Need) → next_of cast.core.script cast.core.history ≡ comes → next.need_in comes ≡ Some need
       → IfSome (made_in comes) (λ entry. new ≡ after entry cast.core) → cast.failed ≡ false → IsPlace (nodes_of cast.core.history) need.path cast.held place
       → held ≡ insert cast.held place (length (nodes_of cast.core.history), object)
       → ((other : ℕ) → object_at held other ≡ (if nat_eq (length (nodes_of cast.core.history)) other then Some object else object_at cast.held other))
       → IsCast view says cast → IsCast view says (record cast { core = new; held = held })
-  supplies-by (next.Exactly entry) cast new held place object need is wants e going p inserted found kept = absurd wants
-  supplies-by (next.Answer performer call cause) cast new held place object need is wants e going p inserted found kept = absurd wants
-  supplies-by (next.Need ty path performer act) cast new held place object need is wants e going p inserted found kept =
-      let here : IsPlace (nodes_of cast.core.history) path cast.held place = subst (λ at. IsPlace (nodes_of cast.core.history) at cast.held place) (sym wants.2) p in
-      rw e (kept-supplied view name says cast held place object ty path performer act is going here inserted found kept)
-  supplies-by next.Nothing cast new held place object need is wants e going p inserted found kept = absurd wants
+  supplies-by (next.Exactly entry) cast new held place object need is wants e going p inserted found kept = cc
+  supplies-by (next.Answer performer call cause) cast new held place object need is wants e going p inserted found kept = cc
+  supplies-by (next.Need other performer act) cast new held place object need is wants e going p inserted found kept =
+      let here : IsPlace (nodes_of cast.core.history) other.path cast.held place = subst (λ (n : Need). IsPlace (nodes_of cast.core.history) n.path cast.held place) (sym (same_Some other need wants)) p in
+      rw e (kept-supplied view name says cast held place object other performer act is going here inserted found kept)
+  supplies-by next.Nothing cast new held place object need is wants e going p inserted found kept = cc
 
   -- it was taken
   pub kept-supplies : (cast : Cast O) (new : Play) (held : List (ℕ × O)) (place : ℕ) (object : O) (need : Need) → need_of cast.core.standing ≡ Some need

@@ -1,13 +1,15 @@
 -- What contracts see of a kernel.
-use Rattle.std.specs.Prelude.{◌≡◌, ◌≢◌, ℕ, Bool, true, false, ◌||◌, nat_eq, List, [], All, Contains, Option, Some, None, IsSome, if◌then◌else◌}
+use Rattle.std.specs.Prelude.{◌≡◌, ◌≢◌, ℕ, Bool, true, false, ◌||◌, nat_eq, List, [], All, Contains, Option, Some, None, IsSome, option_map, if◌then◌else◌}
 use Rattle.std.specs.Map.{keys_of, lookup}
 use Rattle.std.specs.Option.{option_map_or}
+use Rattle.uvm_object.specs.Acts.{node_of}
+use Rattle.uvm_object.specs.declared.acts.Who.{Who}
 use Rattle.uvm_object.specs.Objects.{View, Says, IsHonestNow, life_of}
 use Rattle.uvm_object.specs.declared.entries.Entry.{Entry}
 use Rattle.bench_world.specs.History.{nodes_of, components_of}
 use Rattle.bench_world.specs.Next.{EachIsNext, next_of}
 use Rattle.bench_core.specs.Plays.{Comes, Play, is_over, need_of}
-use Rattle.bench_core.specs.declared.cores.Need.{Need}
+use Rattle.bench_world.specs.declared.creations.Need.{Need}
 use Rattle.bench_core.specs.declared.cores.Health.TheVariants.{Good}
 use Rattle.bench_kernel.specs.Orders.{IsFromLast}
 
@@ -17,7 +19,7 @@ pub record Cast (O : Type 0) : Type 0 where
   pub core : Play
   pub held : List (ℕ × O)
   pub failed : Bool
-  pub unknown : Option ℕ
+  pub unknown : Option Who
 
 -- the object at a node
 abbrev pub object_at : {O : Type 0} → List (ℕ × O) → ℕ → Option O
@@ -41,8 +43,8 @@ abandoned cast = if is_over cast.core.history then cast else record cast { faile
 
 module _ {O : Type 0} (view : O → View) (says : O → Says) where
   -- each object that is held has lived the life that the log says, but for one that gave no answer
-  abbrev pub LiveHonestly : List (ℕ × O) → Option ℕ → List Entry → Type 0
-  LiveHonestly held unknown history = (node : ℕ) (object : O) → object_at held node ≡ Some object → unknown ≢ Some node
+  abbrev pub LiveHonestly : List (ℕ × O) → Option Who → List Entry → Type 0
+  LiveHonestly held unknown history = (node : ℕ) (object : O) → object_at held node ≡ Some object → option_map node_of unknown ≢ Some node
       → IsHonestNow (says object) (view object) (life_of node history)
 
   abbrev pub AreHonest : Cast O → Type 0

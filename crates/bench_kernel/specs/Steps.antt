@@ -5,7 +5,6 @@ use Rattle.std.specs.declared.alloc.AllocError.{AllocError}
 use Rattle.uvm_object.specs.Acts.{node_of}
 use Rattle.uvm_object.specs.Objects.{View, Says, SameSays}
 use Rattle.uvm_object.specs.declared.acts.Who.{Who}
-use Rattle.uvm_object.specs.declared.acts.Who.TheVariants as who
 use Rattle.uvm_object.specs.declared.acts.Call.{Call}
 use Rattle.uvm_object.specs.declared.acts.Act.{Act}
 use Rattle.uvm_object.specs.declared.entries.Entry.{Entry}
@@ -71,15 +70,15 @@ module _ {O : Type 0} (view : O → View) (name : O → List ℕ) (says : O → 
 
   -- or to the object whose turn it was, or to the log after it answered: the log stays, and its view is unknown
   pub record IsUnanswered (old new : Cast O) : Type 0 where
-    pub node : ℕ
+    pub performer : Who
     pub call : Call
     pub cause : Option Cause
-    pub next : next_of old.core.script old.core.history ≡ Answer (who.Node node) call cause
+    pub next : next_of old.core.script old.core.history ≡ Answer performer call cause
     pub answer : Result (List Act) AllocError
-    pub asked : IsAsked node call answer old.held new.held
+    pub asked : IsAsked (node_of performer) call answer old.held new.held
     pub same_log : IsSameLog old.core new.core
-    pub left : new.core ≡ unanswered_from (who.Node node) call cause answer old.core
-    pub is : new ≡ record { core = new.core; held = new.held; failed = true; unknown = Some node }
+    pub left : new.core ≡ unanswered_from performer call cause answer old.core
+    pub is : new ≡ record { core = new.core; held = new.held; failed = true; unknown = Some performer }
 
   -- something would come next, and no object is needed
   pub record GoesOn (cast : Cast O) : Type 0 where

@@ -64,7 +64,7 @@ pub struct Kernel<O: UvmObject> {
     core: Core,
     held: IndexMap<NodeId, O>,
     failed: bool,
-    unknown: Option<NodeId>,
+    unknown: Option<Who>,
 }
 
 impl<O: UvmObject> Model for Kernel<O> {
@@ -114,7 +114,7 @@ impl<O: UvmObject> Kernel<O> {
             Ok(Turn::Ask { who, call }) => {
                 let node = who.node();
                 self.failed = true;
-                self.unknown = Some(node);
+                self.unknown = Some(who);
                 let Ok(acts) = ask_at(&mut self.held, node, self.alloc, &call) else {
                     return Err(CoreFault::Memory);
                 };

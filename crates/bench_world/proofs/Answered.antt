@@ -1,11 +1,14 @@
 -- An act of the last answer.
-use Rattle.std.proofs.Common.{◌≡◌, ℕ, zero, suc, ◌+◌, ◌<◌, ◌≤◌, List, [], ◌∷◌, ◌++◌, length, drop, slice_get, Some, refl, ap, ◌∙◌, sym, add-one, arith}
+use Rattle.std.proofs.Common.{◌≡◌, ℕ, zero, suc, ◌+◌, ◌<◌, ◌≤◌, Bool, true, false, List, [], ◌∷◌, ◌++◌, length, drop, slice_get, Some, refl, ap, ◌∙◌, add-one, arith}
 use Rattle.std.proofs.lemmas.List.{length-append}
 use Rattle.uvm_object.specs.declared.acts.Who.{Who}
 use Rattle.uvm_object.specs.declared.acts.Act.{Act}
+use Rattle.uvm_object.specs.declared.entries.Entry.{Entry}
+use Rattle.bench_world.specs.declared.services.LastAnswer.{LastAnswer}
 use Rattle.bench_world.specs.declared.services.Component.{Component}
-use Rattle.bench_world.specs.History.{rest_of, head_of}
-use Rattle.bench_world.specs.Services.{AreTurns, IsAnswer}
+use Rattle.bench_world.specs.History.{unless_noted, rest_of, head_of}
+use Rattle.bench_world.specs.Services.{acts_at, AreTurns, IsAnswer}
+use Rattle.bench_world.proofs.Entered.{acts-later, answered-later}
 
 within-drop : (n : ℕ) (xs : List Act) (y : Act) (ys : List Act) → drop n xs ≡ y ∷ ys → n < length xs
 within-drop zero [] y ys h = cc
@@ -13,25 +16,60 @@ within-drop zero (x ∷ xs) y ys h = omega arith
 within-drop (suc n) [] y ys h = cc
 within-drop (suc n) (x ∷ xs) y ys h = omega (arith, within-drop n xs y ys h)
 
-drop-more : (n : ℕ) (xs : List Act) → rest_of (drop n xs) ≡ drop (suc n) xs
-drop-more zero [] = refl
-drop-more zero (x ∷ xs) = refl
-drop-more (suc n) [] = refl
-drop-more (suc n) (x ∷ xs) = drop-more n xs
-
 -- an act is left, so that not all are done
-pub answer-open : {left : List Act} {last : Who} {acts : List Act} {speaker : Who} {done : ℕ} (act : Act) → left ≡ act ∷ rest_of left → IsAnswer left last acts speaker done → done < length acts
-answer-open {left} {last} {acts} {speaker} {done} act e a = within-drop done acts act _ (sym a.left_is ∙ e)
+left-within : (noted : Bool) (n : ℕ) (xs : List Act) (act : Act) (rest : List Act) → unless_noted noted (drop n xs) ≡ act ∷ rest → n < length xs
+left-within true n xs act rest e = cc
+left-within false n xs act rest e = within-drop n xs act rest e
 
--- one more is done
-pub answer-next : {left : List Act} {last : Who} {acts : List Act} {speaker : Who} {done : ℕ} (act : Act) → left ≡ act ∷ rest_of left → IsAnswer left last acts speaker done → IsAnswer (rest_of left) last acts speaker (done + 1)
-answer-next {left} {last} {acts} {speaker} {done} act e a =
-    let lt = answer-open act e a in
+pub answer-open :
+    {opening : Act} {history : List Entry} {acts : List Act} {last : Who} {deeds : ℕ} {ended : Bool} {kept : LastAnswer} (act : Act)
+    → unless_noted ended (drop deeds acts) ≡ act ∷ rest_of (unless_noted ended (drop deeds acts)) → IsAnswer opening history acts last deeds ended kept → kept.done < kept.count
+answer-open {acts = acts} {deeds = deeds} {ended} act left a = rw (a.done, a.count) (left-within ended deeds acts act _ left)
+
+-- with one more entry the answer stays
+pub answer-later :
+    {opening : Act} {history : List Entry} {acts : List Act} {last : Who} {deeds : ℕ} {ended : Bool} {kept : LastAnswer} {entry : Entry}
+    → IsAnswer opening history acts last deeds ended kept → IsAnswer opening (entry ∷ history) acts last deeds ended kept
+answer-later {opening} {history} {kept = kept} {entry} a = record {
+  speaker = a.speaker;
+  place = acts-later opening entry history kept.place a.within ∙ a.place;
+  within = answered-later entry history kept.place a.within;
+  count = a.count;
+  done = a.done;
+  noted = a.noted;
+  few = a.few;
+}
+
+-- with one more act one more is done
+pub answer-next :
+    {opening : Act} {history : List Entry} {acts : List Act} {last : Who} {deeds : ℕ} {ended : Bool} {kept : LastAnswer} {entry : Entry} {act : Act}
+    → unless_noted ended (drop deeds acts) ≡ act ∷ rest_of (unless_noted ended (drop deeds acts)) → IsAnswer opening history acts last deeds ended kept
+    → IsAnswer opening (entry ∷ history) acts last (suc deeds) ended (record kept { done = kept.done + 1 })
+answer-next {opening} {history} {acts} {deeds = deeds} {ended} {kept} {entry} {act} left a =
+    let open_ : deeds < length acts = left-within ended deeds acts act _ left in
     record {
-      speaker_is = a.speaker_is;
-      left_is = rw add-one (ap rest_of a.left_is ∙ drop-more done acts);
-      done_within = omega (arith, lt);
+      speaker = a.speaker;
+      place = acts-later opening entry history kept.place a.within ∙ a.place;
+      within = answered-later entry history kept.place a.within;
+      count = a.count;
+      done = rw (a.done, add-one) refl;
+      noted = a.noted;
+      few = omega arith;
     }
+
+-- a note ends it
+pub answer-noted :
+    {opening : Act} {history : List Entry} {acts : List Act} {last : Who} {deeds : ℕ} {ended : Bool} {kept : LastAnswer} {entry : Entry}
+    → IsAnswer opening history acts last deeds ended kept → IsAnswer opening (entry ∷ history) acts last deeds true (record kept { noted = true })
+answer-noted {opening} {history} {kept = kept} {entry} a = record {
+  speaker = a.speaker;
+  place = acts-later opening entry history kept.place a.within ∙ a.place;
+  within = answered-later entry history kept.place a.within;
+  count = a.count;
+  done = a.done;
+  noted = refl;
+  few = a.few;
+}
 
 head-drop : (n : ℕ) (xs : List Act) → slice_get xs n ≡ head_of (drop n xs)
 head-drop zero [] = refl
@@ -40,8 +78,10 @@ head-drop (suc n) [] = refl
 head-drop (suc n) (x ∷ xs) = head-drop n xs
 
 -- the next act
-pub answer-head : {left : List Act} {last : Who} {acts : List Act} {speaker : Who} {done : ℕ} → IsAnswer left last acts speaker done → slice_get acts done ≡ head_of left
-answer-head {left} {last} {acts} {speaker} {done} a = head-drop done acts ∙ ap head_of (sym a.left_is)
+pub answer-head :
+    {opening : Act} {history : List Entry} {acts : List Act} {last : Who} {deeds : ℕ} {ended : Bool} {kept : LastAnswer}
+    → kept.noted ≡ false → IsAnswer opening history acts last deeds ended kept → slice_get (acts_at opening history kept.place) kept.done ≡ head_of (unless_noted ended (drop deeds acts))
+answer-head {acts = acts} {deeds = deeds} on a = rw (a.place, a.done, ← a.noted, on) (head-drop deeds acts)
 
 -- more nodes
 pub turns-more : {components called : List ℕ} {count : ℕ} {kept : List Component} (more : ℕ) → count ≤ more → AreTurns components called count kept → AreTurns components called more kept
@@ -53,14 +93,6 @@ turns-more more le turns = record {
 
 pub one-longer : {A : Type 0} (xs : List A) (x : A) → length xs ≤ length (xs ++ x ∷ [])
 one-longer xs x = omega (arith, length-append xs (x ∷ []))
-
-drop-all : (acts : List Act) → drop (length acts) acts ≡ []
-drop-all [] = refl
-drop-all (act ∷ acts) = drop-all acts
-
--- the rest of an answer is passed over
-pub answer-passed : {left : List Act} {last : Who} {acts : List Act} {speaker : Who} {done : ℕ} → IsAnswer left last acts speaker done → IsAnswer [] last acts speaker (length acts)
-answer-passed {left} {last} {acts} a = record { speaker_is = a.speaker_is; left_is = sym (drop-all acts); done_within = omega arith }
 
 pub length-snoc : {A : Type 0} (xs : List A) (x : A) → length (xs ++ x ∷ []) ≡ suc (length xs)
 length-snoc xs x = omega (arith, length-append xs (x ∷ []))

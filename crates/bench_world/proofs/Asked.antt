@@ -1,5 +1,5 @@
 -- Where a call is what comes next: a turn in a phase, or one that is due.
-use Rattle.std.proofs.Common.{◌≡◌, ◌==◌, ℕ, ◌<◌, Bool, true, false, if◌then◌else◌, not, List, Option, Some, None, IfSome, Result, Ok, Err, refl, ap, ◌∙◌, sym, subst}
+use Rattle.std.proofs.Common.{◌≡◌, ◌==◌, ℕ, ◌<◌, Bool, true, false, if◌then◌else◌, not, List, Option, Some, None, IfSome, refl, ap, ◌∙◌, sym, subst}
 use Rattle.std.specs.List.{All}
 use Rattle.std.proofs.lemmas.List.Elements.{All-filter}
 use Rattle.uvm_phase.specs.declared.phases.Phase.{Phase}
@@ -7,56 +7,42 @@ use Rattle.uvm_phase.specs.declared.agendas.Cause.{Cause}
 use Rattle.uvm_phase.specs.declared.agendas.Due.{Due}
 use Rattle.uvm_phase.specs.Phases.{phase_after, walk_of}
 use Rattle.uvm_tree.specs.Cursors.{is_before}
+use Rattle.uvm_object.specs.Acts.{node_of}
 use Rattle.uvm_object.specs.declared.acts.Who.{Who}
 use Rattle.uvm_object.specs.declared.acts.Who.TheVariants as who
 use Rattle.uvm_object.specs.declared.acts.Call.{Call}
-use Rattle.uvm_object.specs.declared.acts.Act.{Act}
-use Rattle.uvm_object.specs.declared.acts.Act.TheVariants.{Create, Add, Set, Get, OverrideType, OverrideInst}
-use Rattle.uvm_object.specs.declared.fatals.Fatal.{Fatal}
 use Rattle.uvm_object.specs.declared.entries.Entry.{Entry}
 use Rattle.bench_script.specs.Scripts.{ScriptValue}
 use Rattle.bench_world.specs.declared.stages.Stage.{Stage}
 use Rattle.bench_world.specs.declared.stages.Stage.TheVariants.{Before, During, After, Ended}
-use Rattle.bench_world.specs.History.{stage_of, now_of, speaker_of, next_call, order_of, nodes_of, called_of, had_call, components_of}
+use Rattle.bench_world.specs.History.{stage_of, now_of, next_call, order_of, nodes_of, called_of, had_call, components_of}
 use Rattle.bench_world.specs.Dues.{first_due, due_at, due_now}
-use Rattle.bench_world.specs.Next.{Next, Answer, by_call, by_order, by_stage, by_creation, by_act, next_of}
-use Rattle.bench_world.proofs.Cases.{Case, AtEnd, ByReason, ByNote, ByAct, ByDue, ByStage, case-of}
+use Rattle.bench_world.specs.Next.{Next, Answer, by_call, by_order, by_stage, next_of}
+use Rattle.bench_world.proofs.Cases.{Case, AtEnd, ByReason, ByNote, ByNeed, ByDeed, ByDue, ByStage, case-of}
 use Rattle.bench_world.proofs.Turns.{least-holds}
 
--- the node's turn has come in a phase
-pub record HasTurn (history : List Entry) (node : ℕ) : Type 0 where
+-- the performer's turn has come in a phase
+pub record HasTurn (history : List Entry) (performer : Who) : Type 0 where
   pub phase : Phase
-  pub turn : next_call phase history ≡ Some node
+  pub turn : next_call phase history ≡ Some (node_of performer)
 
-by-call : (history : List Entry) (node : ℕ) (asked : Call) (running : Phase) (turn : Option ℕ) → next_call running history ≡ turn → by_call running turn ≡ Answer (who.Node node) asked None → HasTurn history node
-by-call history node asked running None is e = cc
-by-call history node asked running (Some other) is e =
-    let same : other ≡ node = cc in
-    record { phase = running; turn = is ∙ ap (λ (n : ℕ). Some n) same }
+by-call : (history : List Entry) (performer : Who) (asked : Call) (running : Phase) (turn : Option ℕ) → next_call running history ≡ turn → by_call running turn ≡ Answer performer asked None → HasTurn history performer
+by-call history performer asked running None is e = cc
+by-call history performer asked running (Some other) is e =
+    let same : who.Node other ≡ performer = cc in
+    record { phase = running; turn = is ∙ ap (λ (who : Who). Some (node_of who)) same }
 
-by-order : (history : List Entry) (node : ℕ) (asked : Call) (next : Option Phase) → by_order next ≡ Answer (who.Node node) asked None → HasTurn history node
-by-order history node asked None e = cc
-by-order history node asked (Some after) e = cc
+by-order : (history : List Entry) (performer : Who) (asked : Call) (next : Option Phase) → by_order next ≡ Answer performer asked None → HasTurn history performer
+by-order history performer asked None e = cc
+by-order history performer asked (Some after) e = cc
 
-by-stage : (history : List Entry) (node : ℕ) (asked : Call) (stage : Stage) → by_stage history stage ≡ Answer (who.Node node) asked None → HasTurn history node
-by-stage history node asked Before e = cc
-by-stage history node asked (During running) e = by-call history node asked running (next_call running history) refl e
-by-stage history node asked (After ended) e = by-order history node asked (phase_after ended) e
-by-stage history node asked Ended e = cc
+by-stage : (history : List Entry) (performer : Who) (asked : Call) (stage : Stage) → by_stage history stage ≡ Answer performer asked None → HasTurn history performer
+by-stage history performer asked Before e = cc
+by-stage history performer asked (During running) e = by-call history performer asked running (next_call running history) refl e
+by-stage history performer asked (After ended) e = by-order history performer asked (phase_after ended) e
+by-stage history performer asked Ended e = cc
 
--- neither an act asks somebody, nor what comes of a phase for a cause
-by-creation : (who : Who) (asked : Call) (cause : Option Cause) (performer : Who) (act : Act) (path : List (List ℕ)) (made : Result (List ℕ) Fatal) → by_creation performer act path made ≡ Answer who asked cause → ⊥
-by-creation who asked cause performer act path (Ok ty) e = cc
-by-creation who asked cause performer act path (Err fatal) e = cc
-
-by-act : (script : ScriptValue) (history : List Entry) (who : Who) (asked : Call) (cause : Option Cause) (performer : Who) (act : Act) → by_act script history performer act ≡ Answer who asked cause → ⊥
-by-act script history who asked cause performer (Create ty name) e = by-creation who asked cause _ _ _ _ e
-by-act script history who asked cause performer (Add name what) e = cc
-by-act script history who asked cause performer (Set glob field value) e = cc
-by-act script history who asked cause performer (Get field) e = cc
-by-act script history who asked cause performer (OverrideType original new replace) e = cc
-by-act script history who asked cause performer (OverrideInst original new glob) e = cc
-
+-- what comes of a phase has no cause
 no-cause-call : (who : Who) (asked : Call) (cause : Cause) (running : Phase) (turn : Option ℕ) → by_call running turn ≡ Answer who asked (Some cause) → ⊥
 no-cause-call who asked cause running None e = cc
 no-cause-call who asked cause running (Some other) e = cc
@@ -71,23 +57,25 @@ no-cause-stage history who asked cause (During running) e = no-cause-call who as
 no-cause-stage history who asked cause (After ended) e = no-cause-order who asked cause (phase_after ended) e
 no-cause-stage history who asked cause Ended e = cc
 
-by-case : (script : ScriptValue) (history : List Entry) (node : ℕ) (asked : Call) (next : Next) → next ≡ Answer (who.Node node) asked None → Case script history next → HasTurn history node
-by-case script history node asked next asks (AtEnd ended e) = cc
-by-case script history node asked next asks (ByReason reason e) = cc
-by-case script history node asked next asks (ByNote e) = cc
-by-case script history node asked next asks (ByAct act left e) = absurd (by-act script history (who.Node node) asked None (speaker_of history) act (sym e ∙ asks))
-by-case script history node asked next asks (ByDue due now e) = cc
-by-case script history node asked next asks (ByStage on e) = by-stage history node asked (stage_of history) (sym e ∙ asks)
+by-case : (script : ScriptValue) (history : List Entry) (performer : Who) (asked : Call) (next : Next) → next ≡ Answer performer asked None → Case script history next → HasTurn history performer
+by-case script history performer asked next asks (AtEnd ended e) = cc
+by-case script history performer asked next asks (ByReason reason e) = cc
+by-case script history performer asked next asks (ByNote e) = cc
+by-case script history performer asked next asks (ByNeed act need left is e) = cc
+by-case script history performer asked next asks (ByDeed act effect left is e) = cc
+by-case script history performer asked next asks (ByDue due now e) = cc
+by-case script history performer asked next asks (ByStage on e) = by-stage history performer asked (stage_of history) (sym e ∙ asks)
 
--- a node is asked with no cause where its turn has come
-pub turn-of : (script : ScriptValue) (history : List Entry) (node : ℕ) (asked : Call) → next_of script history ≡ Answer (who.Node node) asked None → HasTurn history node
-turn-of script history node asked asks = by-case script history node asked _ asks (case-of script history)
+-- a performer is asked with no cause where its turn has come
+pub turn-of : (script : ScriptValue) (history : List Entry) (performer : Who) (asked : Call) → next_of script history ≡ Answer performer asked None → HasTurn history performer
+turn-of script history performer asked asks = by-case script history performer asked _ asks (case-of script history)
 
 due-case : (script : ScriptValue) (history : List Entry) (who : Who) (asked : Call) (cause : Cause) (next : Next) → next ≡ Answer who asked (Some cause) → Case script history next → (due : Due Who Call) × (due_now history ≡ Some due) × (due.cause ≡ cause)
 due-case script history who asked cause next asks (AtEnd ended e) = cc
 due-case script history who asked cause next asks (ByReason reason e) = cc
 due-case script history who asked cause next asks (ByNote e) = cc
-due-case script history who asked cause next asks (ByAct act left e) = absurd (by-act script history who asked (Some cause) (speaker_of history) act (sym e ∙ asks))
+due-case script history who asked cause next asks (ByNeed act need left is e) = cc
+due-case script history who asked cause next asks (ByDeed act effect left is e) = cc
 due-case script history who asked cause next asks (ByDue due now e) = (due, now, cc)
 due-case script history who asked cause next asks (ByStage on e) = absurd (no-cause-stage history who asked cause (stage_of history) (sym e ∙ asks))
 

@@ -6,13 +6,15 @@ use Rattle.uvm_object.specs.declared.acts.Call.{Call}
 use Rattle.uvm_object.specs.declared.acts.Act.{Act}
 use Rattle.uvm_object.specs.declared.entries.Reason.{Reason}
 use Rattle.uvm_object.specs.declared.entries.Entry.{Entry}
-use Rattle.uvm_object.specs.declared.entries.Entry.TheVariants.{Over}
+use Rattle.uvm_object.specs.declared.entries.Entry.TheVariants.{Did, Over}
 use Rattle.bench_script.specs.Scripts.{ScriptValue}
+use Rattle.bench_world.specs.declared.creations.Need as creations
 use Rattle.bench_world.specs.declared.stages.Stage.{Stage}
 use Rattle.bench_world.specs.declared.stages.Stage.TheVariants.{Before, During, After, Ended}
 use Rattle.bench_world.specs.History.{stage_of, left_of, rest_of, speaker_of, reason_of}
 use Rattle.bench_world.specs.Dues.{due_now}
-use Rattle.bench_world.specs.Next.{Next, Exactly, Answer, Nothing, by_due, by_stage, by_act, by_answer, by_reason, unless_ended, next_of, noted_at}
+use Rattle.bench_world.specs.Refusals.{Effect, outcome_of}
+use Rattle.bench_world.specs.Next.{Next, Exactly, Answer, Need, Nothing, Upshot, Needs, Gives, by_due, by_stage, by_upshot, by_act, upshot_of, by_answer, by_reason, unless_ended, next_of, noted_at}
 
 pub data Case (script : ScriptValue) (history : List Entry) (next : Next) : Type 0 where
   -- the run is over
@@ -21,18 +23,24 @@ pub data Case (script : ScriptValue) (history : List Entry) (next : Next) : Type
   ByReason : (reason : Reason) → next ≡ Exactly (Over reason) → Case script history next
   -- the last answer has too many acts
   ByNote : next ≡ Exactly (noted_at (speaker_of history)) → Case script history next
-  -- or one that was not performed yet
-  ByAct : (act : Act) → left_of script history ≡ act ∷ rest_of (left_of script history) → next ≡ by_act script history (speaker_of history) act → Case script history next
+  -- or one that was not performed yet: it needs an object
+  ByNeed : (act : Act) (need : creations.Need) → left_of script history ≡ act ∷ rest_of (left_of script history) → upshot_of script history (speaker_of history) act ≡ Needs need → next ≡ Need need (speaker_of history) act → Case script history next
+  -- or comes to something at once
+  ByDeed : (act : Act) (effect : Effect) → left_of script history ≡ act ∷ rest_of (left_of script history) → upshot_of script history (speaker_of history) act ≡ Gives effect → next ≡ Exactly (Did (speaker_of history) (outcome_of effect) act) → Case script history next
   -- or a call is due
   ByDue : (due : Due Who Call) → due_now history ≡ Some due → next ≡ Answer due.owner due.notice (Some due.cause) → Case script history next
   -- or none
   ByStage : (stage_of history ≡ Ended → ⊥) → next ≡ by_stage history (stage_of history) → Case script history next
 
+case-act : (script : ScriptValue) (history : List Entry) (next : Next) (act : Act) → left_of script history ≡ act ∷ rest_of (left_of script history) → (upshot : Upshot) → upshot_of script history (speaker_of history) act ≡ upshot → next ≡ by_upshot (speaker_of history) act upshot → Case script history next
+case-act script history next act left (Needs need) is e = ByNeed act need left is e
+case-act script history next act left (Gives effect) is e = ByDeed act effect left is e
+
 case-many :
     (script : ScriptValue) (history : List Entry) (next : Next) (act : Act) (acts : List Act) → left_of script history ≡ act ∷ acts
     → (many : Bool) → next ≡ (if many then Exactly (noted_at (speaker_of history)) else by_act script history (speaker_of history) act) → Case script history next
 case-many script history next act acts left true e = ByNote e
-case-many script history next act acts left false e = ByAct act (rw left refl) e
+case-many script history next act acts left false e = case-act script history next act (rw left refl) (upshot_of script history (speaker_of history) act) refl e
 
 case-due : (script : ScriptValue) (history : List Entry) (next : Next) → (stage_of history ≡ Ended → ⊥) → (due : Option (Due Who Call)) → due_now history ≡ due → next ≡ by_due history due → Case script history next
 case-due script history next on (Some due) is e = ByDue due is e

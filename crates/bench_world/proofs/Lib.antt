@@ -1,11 +1,11 @@
 pub mod Answered
 pub mod Asked
-pub mod Attempts
 pub mod Cases
 pub mod Configured
-pub mod Did
+pub mod Creating
 pub mod Entered
 pub mod Heard
+pub mod Later
 pub mod Marks
 pub mod Needed
 pub mod Overriding

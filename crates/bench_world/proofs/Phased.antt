@@ -1,47 +1,18 @@
 -- The phases go in their order.
-use Rattle.std.proofs.Common.{◌≡◌, ℕ, suc, ◌+◌, ◌<◌, List, [], ◌∷◌, Option, Some, None, Result, Ok, Err, All, refl, ◌∙◌, sym, subst, arith}
+use Rattle.std.proofs.Common.{◌≡◌, ℕ, ◌+◌, ◌<◌, List, ◌∷◌, Option, Some, None, refl, ◌∙◌, sym, arith}
 use Rattle.std.proofs.lemmas.List.Elements.{All-cons, All-weaker}
 use Rattle.uvm_phase.specs.declared.phases.Phase.{Phase}
 use Rattle.uvm_phase.specs.declared.phases.Phase.TheVariants.{Build, Connect, EndOfElaboration, StartOfSimulation, Run, Extract, Check, Report, Final}
 use Rattle.uvm_phase.specs.Phases.{number_of, phase_after}
-use Rattle.uvm_object.specs.declared.acts.Who.{Who}
-use Rattle.uvm_object.specs.declared.acts.Act.{Act}
-use Rattle.uvm_object.specs.declared.acts.Act.TheVariants.{Create, Add, Set, Get, OverrideType, OverrideInst}
-use Rattle.uvm_object.specs.declared.fatals.Fatal.{Fatal}
 use Rattle.uvm_object.specs.declared.entries.Entry.{Entry}
 use Rattle.uvm_object.specs.declared.entries.Entry.TheVariants.{Begin, End}
 use Rattle.bench_script.specs.Scripts.{ScriptValue}
 use Rattle.bench_world.specs.declared.stages.Stage.{Stage}
 use Rattle.bench_world.specs.declared.stages.Stage.TheVariants.{Before, During, After, Ended}
-use Rattle.bench_world.specs.History.{stage_of, speaker_of, next_call}
-use Rattle.bench_world.specs.Next.{Next, Exactly, by_call, by_order, by_stage, by_creation, by_act, next_of}
+use Rattle.bench_world.specs.History.{stage_of, next_call}
+use Rattle.bench_world.specs.Next.{Next, Exactly, by_call, by_order, by_stage, next_of}
 use Rattle.bench_world.specs.Services.{ArePhases}
-use Rattle.bench_world.proofs.Cases.{Case, AtEnd, ByReason, ByNote, ByAct, ByDue, ByStage, case-of}
-
--- a phase is no act's entry
-no-creation : (performer : Who) (act : Act) (path : List (List ℕ)) (made : Result (List ℕ) Fatal) (phase : Phase) → by_creation performer act path made ≡ Exactly (Begin phase) → ⊥
-no-creation performer act path (Ok ty) phase e = cc
-no-creation performer act path (Err fatal) phase e = cc
-
-no-begin : (script : ScriptValue) (history : List Entry) (performer : Who) (act : Act) (phase : Phase) → by_act script history performer act ≡ Exactly (Begin phase) → ⊥
-no-begin script history performer (Create ty name) phase e = no-creation _ _ _ _ phase e
-no-begin script history performer (Add name what) phase e = cc
-no-begin script history performer (Set glob field value) phase e = cc
-no-begin script history performer (Get field) phase e = cc
-no-begin script history performer (OverrideType original new replace) phase e = cc
-no-begin script history performer (OverrideInst original new glob) phase e = cc
-
-never-made : (performer : Who) (act : Act) (path : List (List ℕ)) (made : Result (List ℕ) Fatal) (phase : Phase) → by_creation performer act path made ≡ Exactly (End phase) → ⊥
-never-made performer act path (Ok ty) phase e = cc
-never-made performer act path (Err fatal) phase e = cc
-
-no-end : (script : ScriptValue) (history : List Entry) (performer : Who) (act : Act) (phase : Phase) → by_act script history performer act ≡ Exactly (End phase) → ⊥
-no-end script history performer (Create ty name) phase e = never-made _ _ _ _ phase e
-no-end script history performer (Add name what) phase e = cc
-no-end script history performer (Set glob field value) phase e = cc
-no-end script history performer (Get field) phase e = cc
-no-end script history performer (OverrideType original new replace) phase e = cc
-no-end script history performer (OverrideInst original new glob) phase e = cc
+use Rattle.bench_world.proofs.Cases.{Case, AtEnd, ByReason, ByNote, ByNeed, ByDeed, ByDue, ByStage, case-of}
 
 -- the phase after one has the next number
 number-after : (last phase : Phase) → phase_after last ≡ Some phase → number_of phase ≡ number_of last + 1
@@ -77,7 +48,8 @@ begin-case : (script : ScriptValue) (history : List Entry) (phase : Phase) (ende
 begin-case script history phase ended next is (AtEnd over e) phases = cc
 begin-case script history phase ended next is (ByReason reason e) phases = cc
 begin-case script history phase ended next is (ByNote e) phases = cc
-begin-case script history phase ended next is (ByAct act left e) phases = absurd (no-begin script history (speaker_of history) act phase (sym e ∙ is))
+begin-case script history phase ended next is (ByNeed act need left upshot e) phases = cc
+begin-case script history phase ended next is (ByDeed act effect left upshot e) phases = cc
 begin-case script history phase ended next is (ByDue due now e) phases = cc
 begin-case script history phase ended next is (ByStage on e) phases = begin-stage history phase ended (stage_of history) (sym e ∙ is) phases
 
@@ -110,7 +82,8 @@ end-case : (script : ScriptValue) (history : List Entry) (phase : Phase) (ended 
 end-case script history phase ended next is (AtEnd over e) phases = cc
 end-case script history phase ended next is (ByReason reason e) phases = cc
 end-case script history phase ended next is (ByNote e) phases = cc
-end-case script history phase ended next is (ByAct act left e) phases = absurd (no-end script history (speaker_of history) act phase (sym e ∙ is))
+end-case script history phase ended next is (ByNeed act need left upshot e) phases = cc
+end-case script history phase ended next is (ByDeed act effect left upshot e) phases = cc
 end-case script history phase ended next is (ByDue due now e) phases = cc
 end-case script history phase ended next is (ByStage on e) phases = end-stage history phase ended (stage_of history) (sym e ∙ is) phases
 

@@ -17,11 +17,20 @@ use Rattle.uvm_object.specs.declared.entries.Entry.{Entry}
 use Rattle.uvm_object.specs.declared.entries.Entry.TheVariants.{End, Heard, Did}
 use Rattle.bench_world.specs.History.{stage_of, now_of, running}
 
--- the calls that an act causes: a Get its answer, at once
+-- the call that an act causes: a Get has its answer. No other act causes one
+abbrev pub told_by : Outcome → Act → Option Call
+told_by (Value value) (Get field) = Some (call.Config field value)
+told_by outcome act = None
+
+-- it is due at once, while a phase runs
+abbrev pub due_from : Option Call → Who → Option Phase → ℕ → ℕ → List (Due Who Call)
+due_from (Some notice) performer (Some phase) time place =
+    record { time = time; cause = record { place = place; number = 0 }; phase = phase; owner = performer; notice = notice } ∷ []
+due_from (Some notice) performer None time place = []
+due_from None performer phase time place = []
+
 abbrev pub calls_after : Outcome → Act → Who → Option Phase → ℕ → ℕ → List (Due Who Call)
-calls_after (Value value) (Get field) performer (Some phase) time place =
-    record { time = time; cause = record { place = place; number = 0 }; phase = phase; owner = performer; notice = call.Config field value } ∷ []
-calls_after outcome act performer phase time place = []
+calls_after outcome act performer phase time place = due_from (told_by outcome act) performer phase time place
 
 -- all calls that were caused; the place of an entry is the number of those before it
 abbrev pub caused_of : List Entry → List (Due Who Call)

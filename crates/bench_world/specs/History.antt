@@ -1,13 +1,11 @@
 -- What a log says. A history is the list of its entries, the newest first.
-use Rattle.std.specs.Prelude.{ℕ, Bool, true, false, not, ◌==◌, List, [], ◌∷◌, ◌++◌, length, reverse, filter, slice_get, codes, Option, Some, None}
+use Rattle.std.specs.Prelude.{ℕ, Bool, true, false, not, ◌==◌, List, [], ◌∷◌, ◌++◌, length, reverse, drop, filter, slice_get, codes, Option, Some, None}
 use Rattle.std.specs.List.{flat_map, list_any}
 use Rattle.std.specs.Option.{option_map_or}
 use Rattle.uvm_glob.specs.Paths.{path_text, dotted}
 use Rattle.uvm_glob.specs.Orders.{down_cmp, up_cmp}
 use Rattle.uvm_factory.specs.declared.overrides.Override.{Override}
 use Rattle.uvm_factory.specs.declared.overrides.Override.TheVariants.{Instance, Whole}
-use Rattle.uvm_factory.specs.declared.types.Kind.{Kind}
-use Rattle.uvm_factory.specs.declared.types.Kind.TheVariants.{Component}
 use Rattle.uvm_factory.specs.Faults.{Types, type_named}
 use Rattle.uvm_phase.specs.declared.phases.Phase.{Phase}
 use Rattle.uvm_phase.specs.declared.phases.Phase.TheVariants.{Build}
@@ -60,14 +58,28 @@ since_begin [] = []
 since_begin (Begin phase ∷ before) = []
 since_begin (entry ∷ before) = entry ∷ since_begin before
 
+-- the name of the object that an act creates; no other act creates one
+abbrev pub created_name : Act → List ℕ
+created_name (Create ty name) = name
+created_name act = []
+
 -- what an addition adds to the tree
 abbrev pub kind_of : What → NodeKind
 kind_of (what.Fifo size) = kind.Fifo
 
--- the nodes of the tree: each accepted creation and addition makes one under its performer
+-- the node that an act adds by itself: its name and what stands there
+abbrev pub added_in : Act → Option (List ℕ × NodeKind)
+added_in (Add name what) = Some (name, kind_of what)
+added_in act = None
+
+abbrev pub with_added : List Node → ℕ → Option (List ℕ × NodeKind) → List Node
+with_added nodes parent None = nodes
+with_added nodes parent (Some (name, kind)) = nodes ++ child nodes parent name kind ∷ []
+
+-- the nodes of the tree: each object that is made and each accepted addition is one under its performer
 abbrev pub nodes_after : List Node → Who → Outcome → Act → List Node
-nodes_after nodes performer (Made ty) (Create asked name) = nodes ++ child nodes (node_of performer) name kind.Component ∷ []
-nodes_after nodes performer Done (Add name what) = nodes ++ child nodes (node_of performer) name (kind_of what) ∷ []
+nodes_after nodes performer (Made ty) act = nodes ++ child nodes (node_of performer) (created_name act) kind.Component ∷ []
+nodes_after nodes performer Done act = with_added nodes (node_of performer) (added_in act)
 nodes_after nodes performer outcome act = nodes
 
 abbrev pub nodes_of : List Entry → List Node
@@ -116,7 +128,42 @@ type_name types kind other = option_map_or (λ t. t.0) (slice_get types kind) ot
 abbrev pub opening : ScriptValue → Act
 opening script = Create (option_map_or (λ test. type_name script.types test []) script.test []) (codes "uvm_test_top")
 
--- the acts of the last answer that were not performed yet; a note ends an answer
+-- the acts of the last answer
+abbrev pub answer_of : ScriptValue → List Entry → List Act
+answer_of script [] = opening script ∷ []
+answer_of script (Heard performer call cause acts ∷ before) = acts
+answer_of script (entry ∷ before) = answer_of script before
+
+-- the entries since the last answer
+abbrev pub since_heard : List Entry → List Entry
+since_heard [] = []
+since_heard (Heard performer call cause acts ∷ before) = []
+since_heard (entry ∷ before) = entry ∷ since_heard before
+
+-- how many of its acts were done
+abbrev pub deeds_in : Entry → List Act
+deeds_in (Did performer outcome act) = act ∷ []
+deeds_in entry = []
+
+abbrev pub done_of : List Entry → ℕ
+done_of history = length (flat_map deeds_in (since_heard history))
+
+-- a note ends it
+abbrev pub is_note : Entry → Bool
+is_note (Note fatal node) = true
+is_note entry = false
+
+abbrev pub is_noted : List Entry → Bool
+is_noted history = list_any is_note (since_heard history)
+
+-- the acts of the last answer that are left: those after as many as were done, none after a note
+abbrev pub unless_noted : Bool → List Act → List Act
+unless_noted true acts = []
+unless_noted false acts = acts
+
+abbrev pub left_of : ScriptValue → List Entry → List Act
+left_of script history = unless_noted (is_noted history) (drop (done_of history) (answer_of script history))
+
 abbrev pub rest_of : List Act → List Act
 rest_of [] = []
 rest_of (act ∷ acts) = acts
@@ -124,13 +171,6 @@ rest_of (act ∷ acts) = acts
 abbrev pub head_of : List Act → Option Act
 head_of [] = None
 head_of (act ∷ acts) = Some act
-
-abbrev pub left_of : ScriptValue → List Entry → List Act
-left_of script [] = opening script ∷ []
-left_of script (Heard performer call cause acts ∷ before) = acts
-left_of script (Did performer outcome act ∷ before) = rest_of (left_of script before)
-left_of script (Note fatal node ∷ before) = []
-left_of script (entry ∷ before) = left_of script before
 
 -- who gave the last answer
 abbrev pub speaker_of : List Entry → Who
@@ -183,16 +223,3 @@ reason_from false false = None
 
 abbrev pub reason_of : List Entry → Option Reason
 reason_of history = reason_from (list_any refuses_test history) (list_any asks_exit history)
-
--- the kind of the object that an act makes
-abbrev pub kind_made : Act → Kind
-kind_made act = Component
-
--- the name of what an act creates
-abbrev pub IsCreation : Act → Type 0
-IsCreation (Create ty name) = Unit {0}
-IsCreation act = ⊥
-
-abbrev pub created_name : Act → List ℕ
-created_name (Create ty name) = name
-created_name act = []

@@ -2,6 +2,8 @@
 use Rattle.std.specs.Prelude.{◌≡◌, ℕ, ◌≤◌, List, [], ◌∷◌, ◌++◌, length, nat_lt, Option, Some, None, Result, Ok, Err, ◌⊎◌, if◌then◌else◌}
 use Rattle.uvm_glob.specs.Paths.{path_text}
 use Rattle.uvm_config.specs.Answers.{config_answer}
+use Rattle.uvm_factory.specs.declared.types.Kind.{Kind}
+use Rattle.uvm_factory.specs.declared.types.Kind.TheVariants.{Component}
 use Rattle.uvm_phase.specs.declared.phases.Phase.{Phase}
 use Rattle.uvm_phase.specs.declared.phases.Phase.TheVariants.{Build}
 use Rattle.uvm_phase.specs.declared.agendas.Cause.{Cause}
@@ -17,24 +19,25 @@ use Rattle.uvm_object.specs.declared.acts.Act.{Act}
 use Rattle.uvm_object.specs.declared.acts.Act.TheVariants.{Create, Add, Set, Get, OverrideType, OverrideInst}
 use Rattle.uvm_object.specs.declared.fatals.Fatal.{Fatal}
 use Rattle.uvm_object.specs.declared.fatals.Fatal.TheVariants.{TooManyActs, NoObject}
-use Rattle.uvm_object.specs.declared.entries.Outcome.TheVariants.{Made, Value, Refused}
+use Rattle.uvm_object.specs.declared.entries.Outcome.TheVariants.{Made, Refused}
 use Rattle.uvm_object.specs.declared.entries.Reason.{Reason}
 use Rattle.uvm_object.specs.declared.entries.Reason.TheVariants.{Finished}
 use Rattle.uvm_object.specs.declared.entries.Entry.{Entry}
 use Rattle.uvm_object.specs.declared.entries.Entry.TheVariants.{Begin, End, Heard, Did, Note, Over}
 use Rattle.bench_script.specs.Scripts.{ScriptValue}
+use Rattle.bench_world.specs.declared.creations.Need as creations
 use Rattle.bench_world.specs.declared.stages.Stage.{Stage}
 use Rattle.bench_world.specs.declared.stages.Stage.TheVariants.{Before, During, After, Ended}
 use Rattle.bench_world.specs.History.{stage_of, nodes_of, next_call, left_of, speaker_of, overrides_of, is_built, reason_of}
 use Rattle.bench_world.specs.Configuration.{settings_of}
 use Rattle.bench_world.specs.Dues.{due_now}
-use Rattle.bench_world.specs.Refusals.{creation_of, addition_of, setting_of, overriding_of}
+use Rattle.bench_world.specs.Refusals.{Effect, Finds, Refuses, outcome_of, creation_of, addition_of, setting_of, overriding_of}
 
--- this entry; the answer of somebody to a call; an object of a type for a path, made or declined; or nothing
+-- this entry; the answer of somebody to a call; an object for an act, made or declined; or nothing
 pub data Next : Type 0 where
   Exactly : (entry : Entry) → Next
   Answer : (performer : Who) → (call : Call) → (cause : Option Cause) → Next
-  Need : (ty : List ℕ) → (path : List (List ℕ)) → (performer : Who) → (act : Act) → Next
+  Need : (need : creations.Need) → (performer : Who) → (act : Act) → Next
   Nothing : Next
 
 -- the next call of a running phase, or its end
@@ -53,29 +56,38 @@ by_stage history (During phase) = by_call phase (next_call phase history)
 by_stage history (After phase) = by_order (phase_after phase)
 by_stage history Ended = Nothing
 
--- what an act of the last answer comes to
-abbrev pub by_creation : Who → Act → List (List ℕ) → Result (List ℕ) Fatal → Next
-by_creation performer act path (Ok ty) = Need ty path performer act
-by_creation performer act path (Err fatal) = Exactly (Did performer (Refused fatal) act)
+-- what an act comes to: an object is needed first, or something becomes of it at once
+pub data Upshot : Type 0 where
+  Needs : (need : creations.Need) → Upshot
+  Gives : (effect : Effect) → Upshot
 
--- the type that a creation by the speaker makes now, or why it is refused
-abbrev pub creation_now : ScriptValue → List Entry → List ℕ → List ℕ → Result (List ℕ) Fatal
-creation_now script history ty name = creation_of (is_built history) script.types (overrides_of script history) (nodes_of history) (node_of (speaker_of history)) ty name
+-- a creation needs an object of the type that is made, for its path, unless it is refused
+abbrev pub by_creation : Kind → List (List ℕ) → Result (List ℕ) Fatal → Upshot
+by_creation kind path (Ok ty) = Needs (record { kind = kind; ty = ty; path = path })
+by_creation kind path (Err fatal) = Gives (Refuses fatal)
+
+-- the type that a creation makes now, or why it is refused
+abbrev pub creation_now : ScriptValue → List Entry → Who → List ℕ → List ℕ → Result (List ℕ) Fatal
+creation_now script history performer ty name = creation_of (is_built history) script.types (overrides_of script history) (nodes_of history) (node_of performer) ty name
+
+abbrev pub creating : ScriptValue → List Entry → Who → List ℕ → List ℕ → Upshot
+creating script history performer ty name = by_creation Component (path_at (nodes_of history) (node_of performer) ++ name ∷ []) (creation_now script history performer ty name)
+
+-- what each act comes to
+abbrev pub upshot_of : ScriptValue → List Entry → Who → Act → Upshot
+upshot_of script history performer (Create ty name) = creating script history performer ty name
+upshot_of script history performer (Add name what) = Gives (addition_of (is_built history) (nodes_of history) (node_of performer) name)
+upshot_of script history performer (Set glob field value) = Gives (setting_of (length (settings_of script history)))
+upshot_of script history performer (Get field) = Gives (Finds (config_answer (settings_of script history) (path_text (path_at (nodes_of history) (node_of performer))) field))
+upshot_of script history performer (OverrideType original new replace) = Gives (overriding_of script.types original new)
+upshot_of script history performer (OverrideInst original new glob) = Gives (overriding_of script.types original new)
+
+abbrev pub by_upshot : Who → Act → Upshot → Next
+by_upshot performer act (Needs need) = Need need performer act
+by_upshot performer act (Gives effect) = Exactly (Did performer (outcome_of effect) act)
 
 abbrev pub by_act : ScriptValue → List Entry → Who → Act → Next
-by_act script history performer (Create ty name) =
-    by_creation performer (Create ty name) (path_at (nodes_of history) (node_of performer) ++ name ∷ [])
-    (creation_of (is_built history) script.types (overrides_of script history) (nodes_of history) (node_of performer) ty name)
-by_act script history performer (Add name what) =
-    Exactly (Did performer (addition_of (is_built history) (nodes_of history) (node_of performer) name) (Add name what))
-by_act script history performer (OverrideType original new replace) =
-    Exactly (Did performer (overriding_of script.types original new) (OverrideType original new replace))
-by_act script history performer (OverrideInst original new glob) =
-    Exactly (Did performer (overriding_of script.types original new) (OverrideInst original new glob))
-by_act script history performer (Set glob field value) =
-    Exactly (Did performer (setting_of (length (settings_of script history))) (Set glob field value))
-by_act script history performer (Get field) =
-    Exactly (Did performer (Value (config_answer (settings_of script history) (path_text (path_at (nodes_of history) (node_of performer))) field)) (Get field))
+by_act script history performer act = by_upshot performer act (upshot_of script history performer act)
 
 -- what is due goes before what the phase calls
 abbrev pub by_due : List Entry → Option (Due Who Call) → Next
@@ -105,46 +117,34 @@ unless_ended stage next = next
 unfoldable pub next_of : ScriptValue → List Entry → Next
 next_of script history = unless_ended (stage_of history) (by_reason script history (reason_of history))
 
--- three things are free: the acts of an answer, and whether a needed object is made or declined
+-- two things are free: the acts of an answer, and whether a needed object is made or declined
 abbrev pub Allows : Next → Entry → Type 0
 Allows (Exactly expected) entry = entry ≡ expected
 Allows (Answer performer call cause) entry = (acts : List Act) × (entry ≡ Heard performer call cause acts)
-Allows (Need ty path performer act) entry = (entry ≡ Did performer (Made ty) act) ⊎ (entry ≡ Did performer (Refused NoObject) act)
+Allows (Need need performer act) entry = (entry ≡ Did performer (Made need.ty) act) ⊎ (entry ≡ Did performer (Refused NoObject) act)
 Allows Nothing entry = ⊥
 
 abbrev pub IsNext : ScriptValue → List Entry → Entry → Type 0
 IsNext script history entry = Allows (next_of script history) entry
 
--- the entry that alone is next
-abbrev pub exact_in : Next → Option Entry
-exact_in (Exactly entry) = Some entry
-exact_in next = None
+-- whether an act is what comes next, which becomes something at once or needs an object
+abbrev pub IsAct : Next → Type 0
+IsAct (Exactly (Did performer outcome act)) = Unit {0}
+IsAct (Need need performer act) = Unit {0}
+IsAct next = ⊥
 
--- whether that is an act's which needs no object
-abbrev pub IsDid : Next → Type 0
-IsDid (Exactly (Did performer outcome act)) = Unit {0}
-IsDid next = ⊥
-
--- whether an object is needed, and of which type
-abbrev pub IsNeed : Next → Type 0
-IsNeed (Need ty path performer act) = Unit {0}
-IsNeed (Exactly entry) = ⊥
-IsNeed (Answer performer call cause) = ⊥
-IsNeed Nothing = ⊥
-
-abbrev pub IsNeedOf : List ℕ → Next → Type 0
-IsNeedOf made (Need ty path performer act) = made ≡ ty
-IsNeedOf made (Exactly entry) = ⊥
-IsNeedOf made (Answer performer call cause) = ⊥
-IsNeedOf made Nothing = ⊥
+-- the object that is needed
+abbrev pub need_in : Next → Option creations.Need
+need_in (Need need performer act) = Some need
+need_in next = None
 
 -- the entry where it is made, and where it is declined
 abbrev pub made_in : Next → Option Entry
-made_in (Need ty path performer act) = Some (Did performer (Made ty) act)
+made_in (Need need performer act) = Some (Did performer (Made need.ty) act)
 made_in next = None
 
 abbrev pub declined_in : Next → Option Entry
-declined_in (Need ty path performer act) = Some (Did performer (Refused NoObject) act)
+declined_in (Need need performer act) = Some (Did performer (Refused NoObject) act)
 declined_in next = None
 
 -- each entry was next after those before it

@@ -1,5 +1,5 @@
 -- Why acts are refused, by what a log says.
-use Rattle.std.specs.Prelude.{ℕ, Bool, List, [], ◌∷◌, ◌++◌, length, slice_get, Option, Some, None, Result, Ok, Err, option_and_then, nat_le, if◌then◌else◌}
+use Rattle.std.specs.Prelude.{ℕ, ℤ, Bool, List, [], ◌∷◌, ◌++◌, length, slice_get, Option, Some, None, Result, Ok, Err, option_and_then, nat_le, if◌then◌else◌}
 use Rattle.uvm_glob.specs.Paths.{path_text}
 use Rattle.uvm_factory.specs.declared.types.Kind.{Kind}
 use Rattle.uvm_factory.specs.declared.types.Kind.TheVariants.{Component, Sequence}
@@ -14,7 +14,7 @@ use Rattle.uvm_tree.specs.Nodes.{path_at, add_fault}
 use Rattle.uvm_object.specs.declared.fatals.Fatal.{Fatal}
 use Rattle.uvm_object.specs.declared.fatals.Fatal.TheVariants.{CreatedAfterBuild, InvalidType, ChildTaken, TreeLimit, OverrideLoop, TooManySettings}
 use Rattle.uvm_object.specs.declared.entries.Outcome.{Outcome}
-use Rattle.uvm_object.specs.declared.entries.Outcome.TheVariants.{Done, Refused}
+use Rattle.uvm_object.specs.declared.entries.Outcome.TheVariants.{Done, Value, Refused}
 use Rattle.bench_world.specs.History.{type_name}
 
 -- the number of a type, if it is a component's
@@ -55,28 +55,39 @@ creation_of built types overrides nodes parent ty name =
     if built then Err CreatedAfterBuild
     else made_of types overrides ty (path_at nodes parent ++ name ∷ []) (component_named types ty) (child_refusal nodes parent name)
 
+-- what becomes of an act at once. No object is made by that
+pub data Effect : Type 0 where
+  Does : Effect
+  Finds : (value : Option ℤ) → Effect
+  Refuses : (fatal : Fatal) → Effect
+
+abbrev pub outcome_of : Effect → Outcome
+outcome_of Does = Done
+outcome_of (Finds value) = Value value
+outcome_of (Refuses fatal) = Refused fatal
+
 -- an act is performed unless it is refused
-abbrev pub done_unless : Option Fatal → Outcome
-done_unless None = Done
-done_unless (Some fatal) = Refused fatal
+abbrev pub done_unless : Option Fatal → Effect
+done_unless None = Does
+done_unless (Some fatal) = Refuses fatal
 
 -- nothing is added after build; the name has to be free and within the limits of the tree
-unfoldable pub addition_of : Bool → List Node → ℕ → List ℕ → Outcome
-addition_of built nodes parent name = if built then Refused CreatedAfterBuild else done_unless (child_refusal nodes parent name)
+unfoldable pub addition_of : Bool → List Node → ℕ → List ℕ → Effect
+addition_of built nodes parent name = if built then Refuses CreatedAfterBuild else done_unless (child_refusal nodes parent name)
 
 -- so many settings are accepted
-unfoldable pub setting_of : ℕ → Outcome
-setting_of count = if nat_le 65536 count then Refused TooManySettings else Done
+unfoldable pub setting_of : ℕ → Effect
+setting_of count = if nat_le 65536 count then Refuses TooManySettings else Does
 
 -- an override goes between known types of one kind
-abbrev pub override_refusal : Option FactoryFault → Outcome
-override_refusal None = Done
-override_refusal (Some fault) = Refused InvalidType
+abbrev pub override_refusal : Option FactoryFault → Effect
+override_refusal None = Does
+override_refusal (Some fault) = Refuses InvalidType
 
-abbrev pub override_between : Types → Option ℕ → Option ℕ → Outcome
+abbrev pub override_between : Types → Option ℕ → Option ℕ → Effect
 override_between types (Some original) (Some new) = override_refusal (override_fault types original new)
-override_between types (Some original) None = Refused InvalidType
-override_between types None new = Refused InvalidType
+override_between types (Some original) None = Refuses InvalidType
+override_between types None new = Refuses InvalidType
 
-unfoldable pub overriding_of : Types → List ℕ → List ℕ → Outcome
+unfoldable pub overriding_of : Types → List ℕ → List ℕ → Effect
 overriding_of types original new = override_between types (type_named types original) (type_named types new)

@@ -1,5 +1,5 @@
 -- What a world keeps beside its log, and that it is what the log says.
-use Rattle.std.specs.Prelude.{◌≡◌, ℕ, ◌<◌, ◌≤◌, ◌+◌, Bool, true, false, ◌==◌, ◌||◌, List, [], ◌∷◌, length, map, drop, filter, reverse, slice_get, Option, Some, None, All, AllPairs, Result, Ok, Err, if◌then◌else◌}
+use Rattle.std.specs.Prelude.{◌≡◌, ℕ, ◌<◌, ◌≤◌, ◌+◌, Bool, true, false, ◌==◌, ◌||◌, List, [], ◌∷◌, length, map, filter, reverse, slice_get, Option, Some, None, All, AllPairs, Result, Ok, Err, if◌then◌else◌}
 use Rattle.std.specs.Option.{ForSome}
 use Rattle.std.specs.List.{list_any}
 use Rattle.uvm_glob.specs.Paths.{path_text}
@@ -14,23 +14,31 @@ use Rattle.uvm_phase.specs.declared.agendas.Cause.{Cause}
 use Rattle.uvm_phase.specs.declared.agendas.Due.{Due}
 use Rattle.uvm_phase.specs.Phases.{number_of}
 use Rattle.uvm_phase.specs.Dues.{same_cause, in_order}
+use Rattle.uvm_object.specs.Acts.{node_of}
 use Rattle.uvm_object.specs.declared.acts.Who.{Who}
 use Rattle.uvm_object.specs.declared.acts.Call.{Call}
 use Rattle.uvm_object.specs.declared.acts.Act.{Act}
+use Rattle.uvm_object.specs.declared.acts.Act.TheVariants.{Create}
 use Rattle.uvm_object.specs.declared.fatals.Fatal.{Fatal}
 use Rattle.uvm_object.specs.declared.fatals.Fatal.TheVariants.{OverrideLoop}
 use Rattle.uvm_object.specs.declared.entries.Entry.{Entry}
-use Rattle.uvm_object.specs.declared.entries.Entry.TheVariants.{Heard}
+use Rattle.uvm_object.specs.declared.entries.Entry.TheVariants.{Heard, Did}
+use Rattle.uvm_object.specs.declared.entries.Outcome.{Outcome}
 use Rattle.bench_script.specs.Scripts.{ScriptValue}
 use Rattle.bench_world.specs.declared.creations.Uncreated.{Uncreated}
 use Rattle.bench_world.specs.declared.creations.Uncreated.TheVariants.{Refused, Memory}
+use Rattle.bench_world.specs.declared.creations.Need as needs
+use Rattle.bench_world.specs.declared.attempts.Attempt.{Attempt}
+use Rattle.bench_world.specs.declared.attempts.Attempt.TheVariants.{Became, Needed}
+use Rattle.bench_world.specs.declared.services.LastAnswer.{LastAnswer}
 use Rattle.bench_world.specs.declared.services.Component.{Component}
 use Rattle.bench_world.specs.declared.services.Services.{Services}
 use Rattle.bench_world.specs.declared.stages.Stage.{Stage}
 use Rattle.bench_world.specs.declared.stages.Stage.TheVariants.{Before, During, After, Ended}
 use Rattle.bench_world.specs.Configuration.{settings_of}
 use Rattle.bench_world.specs.Dues.{caused_of, heard_of, ended_of, is_open}
-use Rattle.bench_world.specs.History.{stage_of, now_of, nodes_of, components_of, called_of, had_call, opening, left_of, speaker_of, overrides_of, ends_build, asks_exit, refuses_test}
+use Rattle.bench_world.specs.History.{stage_of, now_of, nodes_of, components_of, called_of, had_call, opening, answer_of, done_of, is_noted, left_of, rest_of, speaker_of, overrides_of, ends_build, asks_exit, refuses_test}
+use Rattle.bench_world.specs.Next.{Exactly, Need, by_act}
 
 -- the factory has the types, and gives what the overrides give
 pub record IsFactory (types : Types) (overrides : List Override) (kept : Kept) : Type 0 where
@@ -78,11 +86,15 @@ abbrev pub acts_at : Act → List Entry → Option ℕ → List Act
 acts_at opening history None = opening ∷ []
 acts_at opening history (Some place) = acts_in (slice_get (reverse history) place)
 
--- the acts that are left are those after the ones that are done
-pub record IsAnswer (left : List Act) (last : Who) (acts : List Act) (speaker : Who) (done : ℕ) : Type 0 where
-  pub speaker_is : speaker ≡ last
-  pub left_is : left ≡ drop done acts
-  pub done_within : done ≤ length acts
+-- who gave the last answer, where it stands, how many acts it has and how many were done, and whether it ended with a note
+pub record IsAnswer (opening : Act) (history : List Entry) (acts : List Act) (last : Who) (deeds : ℕ) (ended : Bool) (kept : LastAnswer) : Type 0 where
+  pub speaker : kept.speaker ≡ last
+  pub place : acts_at opening history kept.place ≡ acts
+  pub within : ForSome kept.place (λ place. place < length history)
+  pub count : kept.count ≡ length acts
+  pub done : kept.done ≡ deeds
+  pub noted : kept.noted ≡ ended
+  pub few : deeds ≤ length acts
 
 -- the settings give what the list of them gives
 pub record IsSettings (settings : List Setting) (kept : config.Kept) : Type 0 where
@@ -114,11 +126,49 @@ pub record ServicesMatch (script : ScriptValue) (history : List Entry) (services
   pub tree : services.tree.nodes ≡ nodes_of history
   pub factory : IsFactory script.types (overrides_of script history) services.factory
   pub turns : AreTurns (components_of history) (called_of history) (length (nodes_of history)) services.components.items
-  pub answer : IsAnswer (left_of script history) (speaker_of history) (acts_at (opening script) history services.answer) services.speaker services.done
-  pub answered : ForSome services.answer (λ place. place < length history)
+  pub answer : IsAnswer (opening script) history (answer_of script history) (speaker_of history) (done_of history) (is_noted history) services.answer
   pub built : services.built ≡ list_any ends_build history
   pub exit_asked : services.exit_asked ≡ list_any asks_exit history
   pub settings : IsSettings (settings_of script history) services.settings
   pub agenda : IsAgenda (caused_of history) (heard_of history) (ended_of history) (length history) services.agenda.dues
   pub phases : ArePhases (stage_of history) (ended_of history)
   pub test_refused : services.test_refused ≡ list_any refuses_test history
+
+-- an act of the last answer is to be performed: what is kept is what the log says, and its entry will stand at a place
+pub record IsScene (script : ScriptValue) (history : List Entry) (act : Act) (place : ℕ) (services : Services) : Type 0 where
+  pub known : ServicesMatch script history services
+  pub left : left_of script history ≡ act ∷ rest_of (left_of script history)
+  pub place_is : length history ≡ place
+
+-- a refusal asks for exit, and may be the test's
+abbrev pub with_refusal : Services → Services
+with_refusal services = record services { exit_asked = true; test_refused = node_of services.answer.speaker == 0 || services.test_refused }
+
+-- one more act of the answer is done
+abbrev pub one_done : Services → Services
+one_done services = record services { answer = record services.answer { done = services.answer.done + 1 } }
+
+-- what is kept goes on with the entry of an act: it is then what the log says
+pub record TakesIn (act : Act) (outcome : Outcome) (place : ℕ) (old new : Services) : Type 0 where
+  pub same_answer : new.answer ≡ old.answer
+  pub with_entry : (script : ScriptValue) (history : List Entry) → IsScene script history act place old → ServicesMatch script (Did old.answer.speaker outcome act ∷ history) (one_done new)
+
+-- an act is performed or refused: this is what it comes to, and what is kept goes on with it
+pub record IsPerformed (act : Act) (outcome : Outcome) (place : ℕ) (old new : Services) : Type 0 where
+  pub comes : (script : ScriptValue) (history : List Entry) → IsScene script history act place old → by_act script history old.answer.speaker act ≡ Exactly (Did old.answer.speaker outcome act)
+  pub kept : TakesIn act outcome place old new
+
+-- an act needs an object, and nothing has changed
+pub record IsInNeed (act : Act) (need : needs.Need) (place : ℕ) (old new : Services) : Type 0 where
+  pub comes : (script : ScriptValue) (history : List Entry) → IsScene script history act place old → by_act script history old.answer.speaker act ≡ Need need old.answer.speaker act
+  pub same : new ≡ old
+
+-- an act creates an object
+abbrev pub IsCreation : Act → Type 0
+IsCreation (Create ty name) = Unit {0}
+IsCreation act = ⊥
+
+-- what an attempt to perform an act comes to
+abbrev pub IsAttempt : Act → Attempt → ℕ → Services → Services → Type 0
+IsAttempt act (Became outcome) place old new = IsPerformed act outcome place old new
+IsAttempt act (Needed need) place old new = IsInNeed act need place old new

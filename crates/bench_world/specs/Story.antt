@@ -1,5 +1,5 @@
 -- What contracts see of a world.
-use Rattle.std.specs.Prelude.{◌≡◌, ◌<◌, Bool, true, false, List, ◌∷◌, Option, Some, IsSome, vec_len, vec_capacity}
+use Rattle.std.specs.Prelude.{◌≡◌, ◌<◌, Bool, true, false, List, ◌∷◌, length, Option, Some, None, IsSome, vec_len, vec_capacity}
 use Rattle.std.specs.Option.{ForSome}
 use Rattle.uvm_tree.specs.Nodes.{node_at}
 use Rattle.uvm_object.specs.Acts.{node_of}
@@ -8,8 +8,9 @@ use Rattle.uvm_object.specs.declared.entries.Entry.{Entry}
 use Rattle.uvm_object.specs.Logs.{LogValue}
 use Rattle.bench_script.specs.Scripts.{ScriptValue}
 use Rattle.bench_world.specs.declared.services.Services.{Services}
-use Rattle.bench_world.specs.History.{left_of, rest_of}
-use Rattle.bench_world.specs.Next.{IsLegal, IsNext}
+use Rattle.bench_world.specs.History.{left_of, rest_of, speaker_of}
+use Rattle.bench_world.specs.Next.{Next, Exactly, Need, next_of, need_in, by_act, IsAct, IsLegal}
+use Rattle.bench_world.specs.declared.creations.Need as needs
 use Rattle.bench_world.specs.Services.{ServicesMatch}
 
 -- the script, the entries with the newest first, whether the services are what they say, and whether there is room for
@@ -24,12 +25,6 @@ pub record Story : Type 0 where
 abbrev pub after : Entry → Story → Story
 after entry story = record story { history = entry ∷ story.history; ready = false }
 
--- one more entry, which was next
-pub record Grows (old new : Story) : Type 0 where
-  pub entry : Entry
-  pub is : new ≡ after entry old
-  pub next : IsNext old.script old.history entry
-
 -- memory was refused
 abbrev pub broken : Story → Story
 broken story = record story { sound = false; ready = false }
@@ -38,7 +33,7 @@ broken story = record story { sound = false; ready = false }
 pub record IsReady (act : Act) (left : List Act) (log : LogValue) (services : Services) : Type 0 where
   pub act_is : left ≡ act ∷ rest_of left
   pub log_spare : 0 < log.spare
-  pub tree_spare : IsSome (node_at services.tree.nodes (node_of services.speaker)) → services.tree.spare ≡ Some (node_of services.speaker)
+  pub tree_spare : IsSome (node_at services.tree.nodes (node_of services.answer.speaker)) → services.tree.spare ≡ Some (node_of services.answer.speaker)
   pub components : vec_len services.components < vec_capacity services.components
 
 -- the log is legal, and while the world is sound its services are what the log says
@@ -47,3 +42,34 @@ pub record IsSound (sound : Bool) (script : ScriptValue) (log : LogValue) (servi
   pub legal : IsLegal script log.entries
   pub services_match : sound ≡ true → ServicesMatch script log.entries services
   pub ready : sound ≡ true → ForSome room (λ act. IsReady act (left_of script log.entries) log services)
+
+-- this may be the next entry
+pub record MayEnter (story : Story) (comes : Next) : Type 0 where
+  pub sound : story.sound ≡ true
+  pub room : length story.history < 1000000
+  pub next : next_of story.script story.history ≡ comes
+
+-- an act of the last answer comes next
+pub record MayAct (story : Story) : Type 0 where
+  pub sound : story.sound ≡ true
+  pub room : length story.history < 1000000
+  pub next : IsAct (next_of story.script story.history)
+
+-- it is this one
+pub record MayPerform (story : Story) (act : Act) : Type 0 where
+  pub sound : story.sound ≡ true
+  pub room : length story.history < 1000000
+  pub left : left_of story.script story.history ≡ act ∷ rest_of (left_of story.script story.history)
+  pub next : next_of story.script story.history ≡ by_act story.script story.history (speaker_of story.history) act
+
+-- an object is needed next
+pub record MayCreate (story : Story) : Type 0 where
+  pub sound : story.sound ≡ true
+  pub room : length story.history < 1000000
+  pub next : IsSome (need_in (next_of story.script story.history))
+
+-- what comes of the next act: its entry, or the object that it needs, and nothing has changed then
+abbrev pub IsActed : Next → Option needs.Need → Story → Story → Type 0
+IsActed (Exactly entry) None old new = new ≡ after entry old
+IsActed (Need need performer act) (Some told) old new = (told ≡ need) × (new ≡ record old { ready = false })
+IsActed next told old new = ⊥

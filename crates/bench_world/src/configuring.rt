@@ -1,143 +1,68 @@
 //! The settings of a script, and the acts that set a field and ask for one (IEEE 1800.2-2020, Annex C).
 
-ghost use Rattle.std.specs.Prelude.{◌≡◌, ◌∷◌, ◌++◌, ◌≤◌, ◌<◌, false, true, List, Some, OnOk, OnErr, IfOk, length, map, reverse, if◌then◌else◌};
-ghost use Rattle.std.specs.Bool.{OnFalse};
-ghost use Rattle.uvm_glob.specs.Paths.{path_text};
+ghost use Rattle.std.specs.Prelude.{◌≡◌, ℕ, ◌∷◌, ◌++◌, ◌≤◌, ◌<◌, List, OnOk, IfOk, length, map, reverse};
 ghost use Rattle.uvm_config.specs.Answers as config;
 ghost use Rattle.uvm_config.specs.Choice.{precedence_of};
 ghost use Rattle.uvm_config.specs.Observed.{accepted, value_at};
 ghost use Rattle.uvm_phase.specs.declared.agendas.Due.{Due};
 ghost use Rattle.uvm_phase.specs.Dues.{in_order};
 ghost use Rattle.uvm_tree.specs.Nodes.{path_at};
-ghost use Rattle.uvm_object.specs.Acts.{node_of};
 ghost use Rattle.uvm_object.specs.declared.acts.Act.TheVariants.{Set, Get};
 ghost use Rattle.uvm_object.specs.declared.acts.Call.{Call};
 ghost use Rattle.uvm_object.specs.declared.acts.Who.{Who};
-ghost use Rattle.uvm_object.specs.declared.acts.Who.TheVariants as who;
-ghost use Rattle.uvm_object.specs.declared.entries.Entry.TheVariants.{Did};
-ghost use Rattle.uvm_object.specs.declared.entries.Outcome.TheVariants.{Done, Value, Refused};
-ghost use Rattle.uvm_object.specs.declared.fatals.Fatal.TheVariants.{TooManySettings};
-ghost use Rattle.bench_world.specs.History.{left_of, rest_of, speaker_of, nodes_of, running};
-ghost use Rattle.bench_world.specs.Configuration.{given_setting, is_building, settings_of};
+ghost use Rattle.uvm_object.specs.declared.entries.Outcome.TheVariants.{Value};
+ghost use Rattle.bench_world.specs.History.{running};
+ghost use Rattle.bench_world.specs.Configuration.{given_setting, is_building};
 ghost use Rattle.bench_world.specs.Dues.{calls_after};
-ghost use Rattle.bench_world.specs.Next.{next_of, by_act, IsNext};
-ghost use Rattle.bench_world.specs.Refusals.{setting_of};
-ghost use Rattle.bench_world.specs.Services.{IsSettings};
-ghost use Rattle.bench_world.specs.Story.{Grows, after, broken};
+ghost use Rattle.bench_world.specs.Services.{IsAttempt, IsSettings};
 
-use crate::deeds::{count_acts, one_more};
-use crate::entries::push;
-use crate::performing::{done, scope_under};
+use crate::attempts::{Attempt, refused};
+use crate::performing::scope_under;
 use crate::services::Services;
 use crate::stages::Stage;
-use crate::worlds::World;
 use bench_script::Setting;
 use std::alloc::{AllocError, Global};
 use uvm_config::Settings;
 use uvm_glob::{Glob, Name, Path};
-use uvm_object::{Call, Deed, Entry, Fatal, Outcome, Who};
-use uvm_phase::{Agenda, Cause, Phase};
+use uvm_object::{Call, Fatal, LoggedOutcome, Who};
+use uvm_phase::{Cause, Phase};
 use uvm_tree::{NodeId, Tree};
 
-impl World {
-    // A field is to be set under the performer's path.
-    pub(crate) fn did_set_or_not(
-        &mut self,
-        deed: Deed,
-        glob: Glob,
-        field: Name,
-        value: i64,
-    ) -> Result<(), AllocError>
-        requires sound { self.old.sound ≡ true }
-        requires room { length self.old.history < 1000000 }
-        requires act { deed ≡ Set glob field value }
-        requires left { left_of self.old.script self.old.history ≡ deed ∷ rest_of (left_of self.old.script self.old.history) }
-        requires next { next_of self.old.script self.old.history ≡ by_act self.old.script self.old.history (speaker_of self.old.history) deed }
-        ensures ok { OnOk result (Grows self.old self.new) }
-        ensures err { OnErr result (self.new ≡ broken self.old) }
-    {
-        if self.is_set_full() {
-            self.refuse(deed, Fatal::TooManySettings)
-        } else {
-            self.did_set(deed, glob, field, value)
-        }
+// A field is set under the performer's path, unless there are too many settings.
+#[tactic(auto, unfolding(crate::specs::Refusals::setting_of))]
+pub(crate) fn set_field(
+    services: &mut Services,
+    alloc: Global,
+    glob: &Glob,
+    field: Name,
+    value: i64,
+) -> Result<Attempt, AllocError>
+    ensures { IfOk result (λ attempt. (place : ℕ) → IsAttempt (Set glob.now field value) attempt place services.old services.new) }
+{
+    if services.settings.is_full() {
+        return Ok(Attempt::Became(refused(services, Fatal::TooManySettings)));
     }
-
-    // Whether as many settings were accepted as there can be.
-    #[tactic(auto, unfolding(crate::specs::Refusals::setting_of))]
-    fn is_set_full(&self) -> bool
-        requires { self.now.sound ≡ true }
-        ensures outcome { setting_of (length (settings_of self.now.script self.now.history)) ≡ (if result then Refused TooManySettings else Done) }
-        ensures few { OnFalse result (length (settings_of self.now.script self.now.history) < 65536) }
-    {
-        self.services.settings.is_full()
-    }
-
-    // It is set.
-    fn did_set(&mut self, deed: Deed, glob: Glob, field: Name, value: i64) -> Result<(), AllocError>
-        requires sound { self.old.sound ≡ true }
-        requires room { length self.old.history < 1000000 }
-        requires act { deed ≡ Set glob field value }
-        requires left { left_of self.old.script self.old.history ≡ deed ∷ rest_of (left_of self.old.script self.old.history) }
-        requires few { length (settings_of self.old.script self.old.history) < 65536 }
-        requires next { IsNext self.old.script self.old.history (Did (speaker_of self.old.history) Done deed) }
-        ensures ok { OnOk result (self.new ≡ after (Did (speaker_of self.old.history) Done deed) self.old) }
-        ensures err { OnErr result (self.new ≡ broken self.old) }
-    {
-        self.sound = false;
-        self.room = None;
-        let node = self.services.speaker.node();
-        let count = count_acts(&self.log, self.services.answer);
-        let scope = scope_under(self.alloc, &self.services.tree, node, &glob)?;
-        let depth = depth_of(&self.services.tree, node);
-        let building = is_building(self.services.stage);
-        set(
-            &mut self.services.settings,
-            depth,
-            building,
-            scope,
-            field,
-            value,
-        )?;
-        push(&mut self.log, done(node, deed))?;
-        self.services.done = one_more(self.services.done, count);
-        self.sound = true;
-        Ok(())
-    }
-
-    // The value of a field is found, and told at once.
-    pub(crate) fn did_get(&mut self, deed: Deed, field: Name) -> Result<(), AllocError>
-        requires sound { self.old.sound ≡ true }
-        requires room { length self.old.history < 1000000 }
-        requires act { deed ≡ Get field }
-        requires left { left_of self.old.script self.old.history ≡ deed ∷ rest_of (left_of self.old.script self.old.history) }
-        requires next { next_of self.old.script self.old.history ≡ by_act self.old.script self.old.history (speaker_of self.old.history) deed }
-        ensures ok { OnOk result (Grows self.old self.new) }
-        ensures err { OnErr result (self.new ≡ broken self.old) }
-    {
-        self.sound = false;
-        self.room = None;
-        let node = self.services.speaker.node();
-        let count = count_acts(&self.log, self.services.answer);
-        let place = self.log.len();
-        let value = value_at(self.alloc, &self.services, node, &field);
-        tell(&mut self.services, node, field, value, place)?;
-        push(&mut self.log, found(node, value, deed))?;
-        self.services.done = one_more(self.services.done, count);
-        self.sound = true;
-        Ok(())
-    }
+    let node = services.answer.speaker.node();
+    let scope = scope_under(alloc, &services.tree, node, glob)?;
+    let depth = depth_of(&services.tree, node);
+    let building = is_building(services.stage);
+    set(&mut services.settings, depth, building, scope, field, value)?;
+    Ok(Attempt::Became(LoggedOutcome::done()))
 }
 
-// The entry of a value that was found.
-fn found(node: NodeId, value: Option<i64>, deed: Deed) -> Entry
-    ensures { result ≡ Did (who.Node node) (Value value) deed }
+// The value of a field is found, and told at once: the entry's place is the cause.
+pub(crate) fn get_field(
+    services: &mut Services,
+    alloc: Global,
+    place: usize,
+    field: Name,
+) -> Result<Attempt, AllocError>
+    ensures { IfOk result (λ attempt. IsAttempt (Get field) attempt place services.old services.new) }
 {
-    Entry::Did {
-        who: Who::Node(node),
-        outcome: Outcome::Value(value),
-        act: deed,
-    }
+    let node = services.answer.speaker.node();
+    let value = value_at(alloc, services, node, &field);
+    tell(services, field, value, place)?;
+    Ok(Attempt::Became(LoggedOutcome::value(value)))
 }
 
 // The settings of a script.
@@ -216,13 +141,12 @@ fn value_at(alloc: Global, services: &Services, node: NodeId, field: &Name) -> O
 // A value that was found is due at once, while a phase runs.
 fn tell(
     services: &mut Services,
-    node: NodeId,
     field: Name,
     value: Option<i64>,
     place: usize,
 ) -> Result<(), AllocError>
     ensures dues { OnOk result ((caused : List (Due Who Call)) → services.old.agenda.dues ≡ in_order caused →
-        services.new.agenda.dues ≡ in_order (calls_after (Value value) (Get field) (who.Node node) (running services.old.stage) services.old.time place ++ caused)) }
+        services.new.agenda.dues ≡ in_order (calls_after (Value value) (Get field) services.old.answer.speaker (running services.old.stage) services.old.time place ++ caused)) }
     ensures rest { services.new ≡ record services.old { agenda = services.new.agenda } }
 {
     let Stage::During(phase) = services.stage else {
@@ -235,5 +159,5 @@ fn tell(
     let call = Call::Config { field, value };
     services
         .agenda
-        .due(services.time, cause, phase, Who::Node(node), call)
+        .due(services.time, cause, phase, services.answer.speaker, call)
 }

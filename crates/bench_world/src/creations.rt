@@ -7,7 +7,9 @@ ghost use Rattle.uvm_factory.specs.Observed.{types_of};
 ghost use Rattle.uvm_factory.specs.Overrides.{made_type};
 ghost use Rattle.uvm_glob.specs.Paths.{path_text};
 ghost use Rattle.uvm_tree.specs.Nodes.{path_at};
-ghost use Rattle.uvm_object.specs.declared.acts.What.TheVariants as what;
+ghost use Rattle.uvm_object.specs.Acts.{node_of};
+ghost use Rattle.uvm_factory.specs.declared.types.Kind.TheVariants.{Component};
+ghost use Rattle.bench_world.specs.Next.{Needs, by_creation};
 ghost use Rattle.bench_world.specs.Refusals.{component_named, child_refusal, name_made, creation_of};
 ghost use Rattle.bench_world.specs.Services.{IsFactory, IsRefusedBy};
 
@@ -17,9 +19,10 @@ use uvm_glob::{Name, Path};
 use uvm_object::Fatal;
 use uvm_tree::{NodeId, Tree, TreeFault};
 
-/// What is created: the type that the factory makes, and the path of the new component.
+/// An object that is needed: its kind, the type that the factory makes, and where it will stand.
 #[derive(Debug, Drop)]
-pub struct Creation {
+pub struct Need {
+    pub kind: Kind,
     pub ty: Name,
     pub path: Path,
 }
@@ -33,17 +36,18 @@ pub enum Uncreated {
     Memory,
 }
 
-// What the creation of a component comes to.
-#[tactic(auto, using(crate::proofs::Attempts::attempts), unfolding(crate::specs::Refusals::creation_of))]
+// What the creation of a component by the speaker comes to.
+#[tactic(auto, using(crate::proofs::Creating::creating), unfolding(crate::specs::Refusals::creation_of))]
 pub(crate) fn what_is_created(
     services: &Services,
-    parent: NodeId,
     ty: &Name,
     name: &Name,
-) -> Result<Creation, Uncreated>
-    ensures ok { IfOk result (λ made. made.path ≡ path_at services.now.tree.nodes parent ++ name.now ∷ []) }
-    ensures ty { IfOk result (λ made. (types : Types) (overrides : List Override) → IsFactory types overrides services.now.factory → creation_of services.now.built types overrides services.now.tree.nodes parent ty.now name.now ≡ Ok made.ty) }
-    ensures err { IfErr result (λ fault. (types : Types) (overrides : List Override) → IsFactory types overrides services.now.factory → IsRefusedBy (creation_of services.now.built types overrides services.now.tree.nodes parent ty.now name.now) fault) }
+) -> Result<Need, Uncreated>
+    ensures ok { IfOk result (λ need. (types : Types) (overrides : List Override) → IsFactory types overrides services.now.factory →
+        by_creation Component (path_at services.now.tree.nodes (node_of services.now.answer.speaker) ++ name.now ∷ [])
+        (creation_of services.now.built types overrides services.now.tree.nodes (node_of services.now.answer.speaker) ty.now name.now) ≡ Needs need) }
+    ensures err { IfErr result (λ fault. (types : Types) (overrides : List Override) → IsFactory types overrides services.now.factory →
+        IsRefusedBy (creation_of services.now.built types overrides services.now.tree.nodes (node_of services.now.answer.speaker) ty.now name.now) fault) }
 {
     if services.built {
         return Err(Uncreated::Refused(Fatal::CreatedAfterBuild));
@@ -51,6 +55,7 @@ pub(crate) fn what_is_created(
     let Some(kind) = component_named(&services.factory, ty) else {
         return Err(Uncreated::Refused(Fatal::InvalidType));
     };
+    let parent = services.answer.speaker.node();
     if let Some(fatal) = child_refusal(&services.tree, parent, name) {
         return Err(Uncreated::Refused(fatal));
     }
@@ -58,7 +63,11 @@ pub(crate) fn what_is_created(
         return Err(Uncreated::Memory);
     };
     match made_name(&services.factory, kind, ty, &path) {
-        Some(ty) => Ok(Creation { ty, path }),
+        Some(ty) => Ok(Need {
+            kind: Kind::Component,
+            ty,
+            path,
+        }),
         None => Err(Uncreated::Refused(Fatal::OverrideLoop)),
     }
 }

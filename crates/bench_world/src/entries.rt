@@ -7,10 +7,9 @@ ghost use Rattle.uvm_tree.specs.Cursors.{is_before, least, sooner};
 ghost use Rattle.std.specs.Option.{ForSome};
 ghost use Rattle.bench_world.specs.Services.{waiting_in};
 ghost use Rattle.bench_world.specs.Next.{next_of, Exactly, Answer};
-ghost use Rattle.bench_world.specs.Story.{after, broken};
+ghost use Rattle.bench_world.specs.Story.{MayEnter, after, broken};
 
-use crate::deeds::count_acts;
-use crate::services::{Component, clear_calls, mark_call};
+use crate::services::{Component, LastAnswer, clear_calls, mark_call};
 use crate::stages::Stage;
 use crate::worlds::World;
 use std::alloc::AllocError;
@@ -21,9 +20,7 @@ use uvm_tree::{NodeId, Tree};
 impl World {
     /// A phase begins.
     pub fn begin(&mut self, phase: Phase) -> Result<(), AllocError>
-        requires sound { self.old.sound ≡ true }
-        requires room { length self.old.history < 1000000 }
-        requires next { next_of self.old.script self.old.history ≡ Exactly (Begin phase) }
+        requires { MayEnter self.old (Exactly (Begin phase)) }
         ensures ok { OnOk result (self.new ≡ after (Begin phase) self.old) }
         ensures err { OnErr result (self.new ≡ broken self.old) }
     {
@@ -38,9 +35,7 @@ impl World {
 
     /// A phase ends.
     pub fn end(&mut self, phase: Phase) -> Result<(), AllocError>
-        requires sound { self.old.sound ≡ true }
-        requires room { length self.old.history < 1000000 }
-        requires next { next_of self.old.script self.old.history ≡ Exactly (End phase) }
+        requires { MayEnter self.old (Exactly (End phase)) }
         ensures ok { OnOk result (self.new ≡ after (End phase) self.old) }
         ensures err { OnErr result (self.new ≡ broken self.old) }
     {
@@ -56,27 +51,24 @@ impl World {
 
     /// Somebody was called in the running phase and answered.
     pub fn heard(&mut self, who: Who, call: Call, acts: Acts) -> Result<(), AllocError>
-        requires sound { self.old.sound ≡ true }
-        requires room { length self.old.history < 1000000 }
-        requires next { next_of self.old.script self.old.history ≡ Answer who call None }
+        requires { MayEnter self.old (Answer who call None) }
         ensures ok { OnOk result (self.new ≡ after (Heard who call None acts) self.old) }
         ensures err { OnErr result (self.new ≡ broken self.old) }
     {
         self.sound = false;
         self.room = None;
-        let place = self.log.len();
+        let (place, count) = (self.log.len(), acts.len());
         let node = who.node();
-        let entry = Entry::Heard {
-            who: Who::Node(node),
-            call,
-            cause: None,
-            acts,
-        };
+        let entry = Entry::heard(self.alloc, who.copy(), call, None, acts)?;
         push(&mut self.log, entry)?;
         mark_call(&mut self.services.components, node);
-        self.services.speaker = Who::Node(node);
-        self.services.answer = Some(place);
-        self.services.done = 0;
+        self.services.answer = LastAnswer {
+            speaker: who,
+            place: Some(place),
+            count,
+            done: 0,
+            noted: false,
+        };
         self.sound = true;
         Ok(())
     }
@@ -89,44 +81,37 @@ impl World {
         cause: Cause,
         acts: Acts,
     ) -> Result<(), AllocError>
-        requires sound { self.old.sound ≡ true }
-        requires room { length self.old.history < 1000000 }
-        requires next { next_of self.old.script self.old.history ≡ Answer who call (Some cause) }
+        requires { MayEnter self.old (Answer who call (Some cause)) }
         ensures ok { OnOk result (self.new ≡ after (Heard who call (Some cause) acts) self.old) }
         ensures err { OnErr result (self.new ≡ broken self.old) }
     {
         self.sound = false;
         self.room = None;
-        let place = self.log.len();
-        let node = who.node();
-        let entry = Entry::Heard {
-            who: Who::Node(node),
-            call,
-            cause: Some(cause),
-            acts,
-        };
+        let (place, count) = (self.log.len(), acts.len());
+        let entry = Entry::heard(self.alloc, who.copy(), call, Some(cause), acts)?;
         push(&mut self.log, entry)?;
         let _ = self.services.agenda.take_first();
-        self.services.speaker = Who::Node(node);
-        self.services.answer = Some(place);
-        self.services.done = 0;
+        self.services.answer = LastAnswer {
+            speaker: who,
+            place: Some(place),
+            count,
+            done: 0,
+            noted: false,
+        };
         self.sound = true;
         Ok(())
     }
 
     /// The kernel reports at a node; what is left of the last answer is passed over.
     pub fn note(&mut self, fatal: Fatal, node: NodeId) -> Result<(), AllocError>
-        requires sound { self.old.sound ≡ true }
-        requires room { length self.old.history < 1000000 }
-        requires next { next_of self.old.script self.old.history ≡ Exactly (Note fatal node) }
+        requires { MayEnter self.old (Exactly (Note fatal node)) }
         ensures ok { OnOk result (self.new ≡ after (Note fatal node) self.old) }
         ensures err { OnErr result (self.new ≡ broken self.old) }
     {
         self.sound = false;
         self.room = None;
-        let count = count_acts(&self.log, self.services.answer);
         push(&mut self.log, Entry::Note { fatal, node })?;
-        self.services.done = count;
+        self.services.answer.noted = true;
         self.services.exit_asked = true;
         self.sound = true;
         Ok(())
@@ -134,9 +119,7 @@ impl World {
 
     /// Nothing comes after.
     pub fn over(&mut self, reason: Reason) -> Result<(), AllocError>
-        requires sound { self.old.sound ≡ true }
-        requires room { length self.old.history < 1000000 }
-        requires next { next_of self.old.script self.old.history ≡ Exactly (Over reason) }
+        requires { MayEnter self.old (Exactly (Over reason)) }
         ensures ok { OnOk result (self.new ≡ after (Over reason) self.old) }
         ensures err { OnErr result (self.new ≡ broken self.old) }
     {

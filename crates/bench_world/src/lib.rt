@@ -1,6 +1,7 @@
 //! The world of a run: the script, the log, and the services, each of which is what the log says.
 #![tactic(auto)]
 
+mod attempts;
 mod configuring;
 mod creations;
 mod deeds;
@@ -13,6 +14,6 @@ mod stages;
 mod tests;
 mod worlds;
 
-pub use creations::{Creation, Uncreated};
+pub use creations::{Need, Uncreated};
 pub use stages::Stage;
 pub use worlds::World;

@@ -1,31 +1,72 @@
-//! The acts that need an object: it is made, or declined.
+//! Creations: an object is needed, and is made or declined.
 
-ghost use Rattle.std.specs.Prelude.{◌≡◌, ◌∷◌, ◌<◌, length, true, false, OnOk, OnErr, IfOk, IfSome, IsOk, None, Some, is_some, ◌&&◌, ◌++◌, [], vec_len, vec_capacity};
-ghost use Rattle.uvm_tree.specs.declared.nodes.NodeKind.TheVariants as kinds;
-ghost use Rattle.uvm_tree.specs.Nodes.{child};
-ghost use Rattle.bench_world.specs.History.{IsCreation, created_name};
-ghost use Rattle.bench_world.specs.Refusals.{child_refusal};
+ghost use Rattle.std.specs.Prelude.{◌≡◌, ℕ, List, true, false, OnOk, OnErr, IfOk, IfSome, IsOk, IsSome, None, Some, is_some, ◌&&◌, length, ◌<◌, vec_len, vec_capacity};
+ghost use Rattle.uvm_object.specs.Acts.{node_of};
 ghost use Rattle.uvm_object.specs.declared.acts.Act.TheVariants.{Create};
-ghost use Rattle.bench_world.specs.History.{left_of, head_of, nodes_of};
-ghost use Rattle.bench_world.specs.Next.{next_of, made_in, declined_in, IsNeed, IsNeedOf};
-ghost use Rattle.bench_world.specs.Story.{after, broken};
+ghost use Rattle.uvm_object.specs.declared.acts.Who.TheVariants as who;
+ghost use Rattle.uvm_object.specs.declared.entries.Outcome.TheVariants.{Made};
+ghost use Rattle.bench_world.specs.History.{created_name, left_of, head_of, nodes_of};
+ghost use Rattle.bench_world.specs.Next.{next_of, need_in, made_in, declined_in};
+ghost use Rattle.bench_world.specs.Refusals.{child_refusal};
+ghost use Rattle.bench_world.specs.Services.{TakesIn, IsAttempt, IsCreation};
+ghost use Rattle.bench_world.specs.Story.{MayCreate, after, broken};
 
-use crate::deeds::{count_acts, one_more, refuse};
-use crate::entries::push;
+use crate::attempts::{Attempt, enter, refused};
+use crate::creations::{Uncreated, what_is_created};
 use crate::performing::add_child;
 use crate::services::{Component, Services};
 use crate::worlds::World;
-use std::alloc::AllocError;
+use std::alloc::{AllocError, Global};
+use std::marker::Model;
 use uvm_glob::Name;
-use uvm_object::{Act, Deed, Entry, Fatal, Log, Outcome, Who};
+use uvm_object::{Act, Deed, Fatal, LoggedOutcome, Who};
 use uvm_tree::{NodeId, NodeKind};
+
+/// What the entry of the next act holds: the act, and room for the name of a type that is made. Contracts see the act.
+#[derive(Drop)]
+pub(crate) struct Room {
+    deed: Deed,
+    name: Box<Name>,
+}
+
+impl Model for Room {
+    ghost use Rattle.uvm_object.specs.declared.acts.Act.{Act};
+
+    ghost Value = { Act };
+
+    ghost view = { λ r. r.deed };
+}
+
+impl Room {
+    fn new(alloc: Global, deed: Deed) -> Result<Room, AllocError>
+        ensures { IfOk result (λ room. room ≡ deed) }
+    {
+        let name = Box::new(alloc, placeholder())?;
+        Ok(Room { deed, name })
+    }
+
+    fn into_parts(self) -> (Deed, Box<Name>)
+        ensures { result.0 ≡ self }
+    {
+        (self.deed, self.name)
+    }
+}
+
+// A name that is written over.
+#[tactic(auto, unfolding(uvm_glob::specs::Names::name_fault))]
+fn placeholder() -> Name {
+    let Ok(name) = Name::new(b"-") else {
+        unreachable!()
+    };
+    name
+}
 
 impl World {
     /// Makes room for what comes of the next act, if one is left: where it needs an object, `made` or `declined` then takes no
     /// memory. Where none is left, or memory was refused to an entry, nothing is done.
     pub fn reserve(&mut self) -> Result<(), AllocError>
         ensures ok { OnOk result (self.new ≡ record self.old { ready = self.old.sound && is_some (head_of (left_of self.old.script self.old.history)) }) }
-        ensures needed { OnOk result (self.old.sound ≡ true → IsNeed (next_of self.old.script self.old.history) → self.new.ready ≡ true) }
+        ensures needed { OnOk result (self.old.sound ≡ true → IsSome (need_in (next_of self.old.script self.old.history)) → self.new.ready ≡ true) }
         ensures err { OnErr result (self.new ≡ record self.old { ready = false }) }
     {
         self.room = None;
@@ -35,20 +76,19 @@ impl World {
         let Some(deed) = self.next_deed()? else {
             return Ok(());
         };
-        let node = self.services.speaker.node();
+        let node = self.services.answer.speaker.node();
         self.services.tree.reserve(node)?;
         self.services.components.reserve(1)?;
         self.log.reserve()?;
-        self.room = Some(deed);
+        self.room = Some(Room::new(self.alloc, deed)?);
         Ok(())
     }
 
-    /// The needed object is made: its node.
-    pub fn made(&mut self, ty: Name) -> Result<NodeId, AllocError>
-        requires sound { self.old.sound ≡ true }
-        requires room { length self.old.history < 1000000 }
-        requires next { IsNeedOf ty (next_of self.old.script self.old.history) }
-        ensures node { IfOk result (λ node. node ≡ length (nodes_of self.old.history)) }
+    /// The needed object, which is of this type, is made: who it is now.
+    pub fn made(&mut self, ty: Name) -> Result<Who, AllocError>
+        requires may { MayCreate self.old }
+        requires ty { IfSome (need_in (next_of self.old.script self.old.history)) (λ need. need.ty ≡ ty) }
+        ensures who { IfOk result (λ made. made ≡ who.Node (length (nodes_of self.old.history))) }
         ensures ok { OnOk result (IfSome (made_in (next_of self.old.script self.old.history)) (λ entry. self.new ≡ after entry self.old)) }
         ensures err { OnErr result (self.new ≡ broken self.old) }
         ensures ready { self.old.ready ≡ true → IsOk result }
@@ -56,14 +96,12 @@ impl World {
         if self.room.is_none() && self.reserve().is_err() {
             return Err(self.fail());
         }
-        Ok(self.make(ty))
+        Ok(Who::Node(self.make(ty)))
     }
 
     /// The needed object is declined.
     pub fn declined(&mut self) -> Result<(), AllocError>
-        requires sound { self.old.sound ≡ true }
-        requires room { length self.old.history < 1000000 }
-        requires next { IsNeed (next_of self.old.script self.old.history) }
+        requires { MayCreate self.old }
         ensures ok { OnOk result (IfSome (declined_in (next_of self.old.script self.old.history)) (λ entry. self.new ≡ after entry self.old)) }
         ensures err { OnErr result (self.new ≡ broken self.old) }
         ensures ready { self.old.ready ≡ true → IsOk result }
@@ -77,72 +115,67 @@ impl World {
 
     // An object is made in the room for it.
     fn make(&mut self, ty: Name) -> NodeId
-        requires sound { self.old.sound ≡ true }
-        requires room { length self.old.history < 1000000 }
+        requires may { MayCreate self.old }
+        requires ty { IfSome (need_in (next_of self.old.script self.old.history)) (λ need. need.ty ≡ ty) }
         requires ready { self.old.ready ≡ true }
-        requires next { IsNeedOf ty (next_of self.old.script self.old.history) }
         ensures node { result ≡ length (nodes_of self.old.history) }
         ensures ok { IfSome (made_in (next_of self.old.script self.old.history)) (λ entry. self.new ≡ after entry self.old) }
     {
         self.sound = false;
-        let Some(deed) = self.room.take() else {
+        let Some(room) = self.room.take() else {
             unreachable!()
         };
-        let name = created_name(&deed);
-        let node = self.services.speaker.node();
-        let count = count_acts(&self.log, self.services.answer);
-        let made = grow(&mut self.services, node, name);
-        let entry = Entry::Did {
-            who: Who::Node(node),
-            outcome: Outcome::Made(ty),
-            act: deed,
+        let (deed, name) = room.into_parts();
+        let node = grow(&mut self.services, deed.act());
+        let made = LoggedOutcome::made(name, ty);
+        let Ok(()) = enter(&mut self.log, &mut self.services, made, deed) else {
+            unreachable!()
         };
-        push_within(&mut self.log, entry);
-        self.services.done = one_more(self.services.done, count);
         self.sound = true;
-        made
+        node
     }
 
     // An object is declined in the room for its entry.
     fn decline(&mut self)
-        requires sound { self.old.sound ≡ true }
-        requires room { length self.old.history < 1000000 }
+        requires may { MayCreate self.old }
         requires ready { self.old.ready ≡ true }
-        requires next { IsNeed (next_of self.old.script self.old.history) }
-        ensures ok { IfSome (declined_in (next_of self.old.script self.old.history)) (λ entry. self.new ≡ after entry self.old) }
+        ensures { IfSome (declined_in (next_of self.old.script self.old.history)) (λ entry. self.new ≡ after entry self.old) }
     {
         self.sound = false;
-        let Some(deed) = self.room.take() else {
+        let Some(room) = self.room.take() else {
             unreachable!()
         };
-        let Ok(()) = refuse(&mut self.log, &mut self.services, deed, Fatal::NoObject) else {
+        let (deed, _) = room.into_parts();
+        let declined = refused(&mut self.services, Fatal::NoObject);
+        let Ok(()) = enter(&mut self.log, &mut self.services, declined, deed) else {
             unreachable!()
         };
         self.sound = true;
     }
 }
 
-// The name of what an act creates.
-fn created_name(deed: &Deed) -> Name
-    requires { IsCreation deed.now }
-    ensures { result ≡ created_name deed.now }
+// A component is to be created below the performer's node: an object is needed, or it is refused.
+pub(crate) fn create(services: &mut Services, ty: &Name, name: &Name) -> Result<Attempt, AllocError>
+    ensures { IfOk result (λ attempt. (place : ℕ) → IsAttempt (Create ty.now name.now) attempt place services.old services.new) }
 {
-    match deed.act() {
-        Act::Create { name, .. } => *name,
-        _ => unreachable!(),
+    match what_is_created(services, ty, name) {
+        Ok(need) => Ok(Attempt::Needed(need)),
+        Err(Uncreated::Refused(fatal)) => Ok(Attempt::Became(refused(services, fatal))),
+        Err(Uncreated::Memory) => Err(AllocError),
     }
 }
 
-// A component is added, in the room for it.
-fn grow(services: &mut Services, parent: NodeId, name: Name) -> NodeId
-    requires free { child_refusal services.old.tree.nodes parent name ≡ None }
-    requires tree { services.old.tree.spare ≡ Some parent }
+// The component that an act creates is added, in the room for it.
+fn grow(services: &mut Services, act: &Act) -> NodeId
+    requires creates { IsCreation act.now }
+    requires free { child_refusal services.old.tree.nodes (node_of services.old.answer.speaker) (created_name act.now) ≡ None }
+    requires tree { services.old.tree.spare ≡ Some (node_of services.old.answer.speaker) }
     requires components { vec_len services.old.components < vec_capacity services.old.components }
-    ensures id { result ≡ length services.old.tree.nodes }
-    ensures nodes { services.new.tree.nodes ≡ services.old.tree.nodes ++ child services.old.tree.nodes parent name kinds.Component ∷ [] }
-    ensures components { services.new.components.items ≡ services.old.components.items ++ record { node = length services.old.tree.nodes; called = false } ∷ [] }
-    ensures rest { services.new ≡ record services.old { tree = services.new.tree; components = services.new.components } }
+    ensures node { result ≡ length services.old.tree.nodes }
+    ensures kept { (ty : List ℕ) (place : ℕ) → TakesIn act.now (Made ty) place services.old services.new }
 {
+    let parent = services.answer.speaker.node();
+    let name = created_name(act);
     let Ok(node) = add_child(&mut services.tree, parent, name, NodeKind::Component) else {
         unreachable!()
     };
@@ -156,14 +189,13 @@ fn grow(services: &mut Services, parent: NodeId, name: Name) -> NodeId
     node
 }
 
-// Adds an entry to a log that has room for it.
-fn push_within(log: &mut Log, entry: Entry)
-    requires few { length log.old.entries < log.old.limit }
-    requires spare { 0 < log.old.spare }
-    ensures entries { log.new.entries ≡ entry ∷ log.old.entries }
-    ensures limit { log.new.limit ≡ log.old.limit }
+// The name of what an act creates.
+fn created_name(act: &Act) -> Name
+    requires { IsCreation act.now }
+    ensures { result ≡ created_name act.now }
 {
-    let Ok(()) = push(log, entry) else {
-        unreachable!()
-    };
+    match act {
+        Act::Create { name, .. } => *name,
+        _ => unreachable!(),
+    }
 }

@@ -1,123 +1,85 @@
-//! Acts that need no object, where they are performed.
+//! Acts on the tree and on the factory.
 
-ghost use Rattle.std.specs.Prelude.{◌≡◌, ◌∷◌, ◌++◌, ◌<◌, [], List, length, true, None, Some, OnOk, OnErr, IfOk, IsOk};
+ghost use Rattle.std.specs.Prelude.{◌≡◌, ℕ, ◌∷◌, ◌++◌, [], List, length, None, Some, OnOk, IfOk, IfNone, IsOk, if◌then◌else◌};
 ghost use Rattle.uvm_glob.specs.Paths.{path_text, dotted};
 ghost use Rattle.uvm_factory.specs.declared.overrides.Override.{Override};
 ghost use Rattle.uvm_factory.specs.declared.overrides.Override.TheVariants.{Instance, Whole};
 ghost use Rattle.uvm_factory.specs.Faults.{Types, type_named};
 ghost use Rattle.uvm_factory.specs.Observed.{types_of};
-ghost use Rattle.uvm_tree.specs.declared.nodes.NodeKind.TheVariants.{Fifo};
 ghost use Rattle.uvm_tree.specs.Nodes.{child, path_at};
 ghost use Rattle.uvm_object.specs.Acts.{node_of};
 ghost use Rattle.uvm_object.specs.declared.acts.Act.TheVariants.{Add, OverrideType, OverrideInst};
-ghost use Rattle.uvm_object.specs.declared.acts.Who.TheVariants as who;
-ghost use Rattle.uvm_object.specs.declared.entries.Entry.TheVariants.{Did};
-ghost use Rattle.uvm_object.specs.declared.entries.Outcome.TheVariants.{Done};
-ghost use Rattle.bench_world.specs.History.{kind_of, left_of, rest_of, speaker_of, nodes_of, with_override};
-ghost use Rattle.bench_world.specs.Next.{IsNext};
-ghost use Rattle.bench_world.specs.Refusals.{child_refusal, overriding_of};
-ghost use Rattle.bench_world.specs.Services.{IsFactory};
-ghost use Rattle.bench_world.specs.Story.{after, broken};
+ghost use Rattle.uvm_object.specs.declared.fatals.Fatal.TheVariants.{InvalidType};
+ghost use Rattle.bench_world.specs.History.{kind_of, with_override};
+ghost use Rattle.bench_world.specs.Refusals.{Does, Refuses, addition_of, child_refusal, done_unless, overriding_of};
+ghost use Rattle.bench_world.specs.Services.{IsAttempt, IsFactory};
 
-use crate::deeds::{count_acts, one_more};
-use crate::entries::push;
-use crate::worlds::World;
+use crate::attempts::{Attempt, refused};
+use crate::creations::child_refusal;
+use crate::services::Services;
 use std::alloc::{AllocError, Global};
 use uvm_factory::Factory;
 use uvm_glob::{Glob, Name};
-use uvm_object::{Deed, Entry, Outcome, What, Who};
+use uvm_object::{Fatal, LoggedOutcome, What};
 use uvm_tree::{NodeId, NodeKind, Tree};
 
-impl World {
-    // What stands below the performer is added.
-    pub(crate) fn did_add(&mut self, deed: Deed, name: Name, what: What) -> Result<(), AllocError>
-        requires sound { self.old.sound ≡ true }
-        requires room { length self.old.history < 1000000 }
-        requires act { deed ≡ Add name what }
-        requires left { left_of self.old.script self.old.history ≡ deed ∷ rest_of (left_of self.old.script self.old.history) }
-        requires free { child_refusal (nodes_of self.old.history) (node_of (speaker_of self.old.history)) name ≡ None }
-        requires next { IsNext self.old.script self.old.history (Did (speaker_of self.old.history) Done deed) }
-        ensures ok { OnOk result (self.new ≡ after (Did (speaker_of self.old.history) Done deed) self.old) }
-        ensures err { OnErr result (self.new ≡ broken self.old) }
-    {
-        self.sound = false;
-        self.room = None;
-        let node = self.services.speaker.node();
-        let count = count_acts(&self.log, self.services.answer);
-        add_child(&mut self.services.tree, node, name, kind_of(what))?;
-        push(&mut self.log, done(node, deed))?;
-        self.services.done = one_more(self.services.done, count);
-        self.sound = true;
-        Ok(())
+// A node is added below the performer's, unless that is refused.
+pub(crate) fn add(services: &mut Services, name: Name, what: What) -> Result<Attempt, AllocError>
+    ensures { IfOk result (λ attempt. (place : ℕ) → IsAttempt (Add name what) attempt place services.old services.new) }
+{
+    if let Some(fatal) = addition_refusal(services, &name) {
+        return Ok(Attempt::Became(refused(services, fatal)));
     }
-
-    // A type is overridden everywhere.
-    pub(crate) fn did_override_type(
-        &mut self,
-        deed: Deed,
-        original: Name,
-        new: Name,
-        replace: bool,
-    ) -> Result<(), AllocError>
-        requires sound { self.old.sound ≡ true }
-        requires room { length self.old.history < 1000000 }
-        requires act { deed ≡ OverrideType original new replace }
-        requires left { left_of self.old.script self.old.history ≡ deed ∷ rest_of (left_of self.old.script self.old.history) }
-        requires free { overriding_of self.old.script.types original new ≡ Done }
-        requires next { IsNext self.old.script self.old.history (Did (speaker_of self.old.history) Done deed) }
-        ensures ok { OnOk result (self.new ≡ after (Did (speaker_of self.old.history) Done deed) self.old) }
-        ensures err { OnErr result (self.new ≡ broken self.old) }
-    {
-        self.sound = false;
-        self.room = None;
-        let node = self.services.speaker.node();
-        let count = count_acts(&self.log, self.services.answer);
-        override_type(&mut self.services.factory, &original, &new, replace)?;
-        push(&mut self.log, done(node, deed))?;
-        self.services.done = one_more(self.services.done, count);
-        self.sound = true;
-        Ok(())
-    }
-
-    // A type is overridden at the paths that a glob matches under the performer's.
-    pub(crate) fn did_override_inst(
-        &mut self,
-        deed: Deed,
-        original: Name,
-        new: Name,
-        glob: Glob,
-    ) -> Result<(), AllocError>
-        requires sound { self.old.sound ≡ true }
-        requires room { length self.old.history < 1000000 }
-        requires act { deed ≡ OverrideInst original new glob }
-        requires left { left_of self.old.script self.old.history ≡ deed ∷ rest_of (left_of self.old.script self.old.history) }
-        requires free { overriding_of self.old.script.types original new ≡ Done }
-        requires next { IsNext self.old.script self.old.history (Did (speaker_of self.old.history) Done deed) }
-        ensures ok { OnOk result (self.new ≡ after (Did (speaker_of self.old.history) Done deed) self.old) }
-        ensures err { OnErr result (self.new ≡ broken self.old) }
-    {
-        self.sound = false;
-        self.room = None;
-        let node = self.services.speaker.node();
-        let count = count_acts(&self.log, self.services.answer);
-        let scope = scope_under(self.alloc, &self.services.tree, node, &glob)?;
-        override_inst(&mut self.services.factory, &original, &new, scope)?;
-        push(&mut self.log, done(node, deed))?;
-        self.services.done = one_more(self.services.done, count);
-        self.sound = true;
-        Ok(())
-    }
+    let node = services.answer.speaker.node();
+    add_child(&mut services.tree, node, name, kind_of(what))?;
+    Ok(Attempt::Became(LoggedOutcome::done()))
 }
 
-// The entry of an act that was performed.
-pub(crate) fn done(node: NodeId, deed: Deed) -> Entry
-    ensures { result ≡ Did (who.Node node) Done deed }
+// A type is overridden everywhere, unless that is refused.
+pub(crate) fn override_type(
+    services: &mut Services,
+    original: &Name,
+    new: &Name,
+    replace: bool,
+) -> Result<Attempt, AllocError>
+    ensures { IfOk result (λ attempt. (place : ℕ) → IsAttempt (OverrideType original.now new.now replace) attempt place services.old services.new) }
 {
-    Entry::Did {
-        who: Who::Node(node),
-        outcome: Outcome::Done,
-        act: deed,
+    if !can_override(&services.factory, original, new) {
+        return Ok(Attempt::Became(refused(services, Fatal::InvalidType)));
     }
+    override_everywhere(&mut services.factory, original, new, replace)?;
+    Ok(Attempt::Became(LoggedOutcome::done()))
+}
+
+// A type is overridden at the paths that a glob matches under the performer's, unless that is refused.
+pub(crate) fn override_inst(
+    services: &mut Services,
+    alloc: Global,
+    original: &Name,
+    new: &Name,
+    glob: &Glob,
+) -> Result<Attempt, AllocError>
+    ensures { IfOk result (λ attempt. (place : ℕ) → IsAttempt (OverrideInst original.now new.now glob.now) attempt place services.old services.new) }
+{
+    if !can_override(&services.factory, original, new) {
+        return Ok(Attempt::Became(refused(services, Fatal::InvalidType)));
+    }
+    let node = services.answer.speaker.node();
+    let scope = scope_under(alloc, &services.tree, node, glob)?;
+    override_within(&mut services.factory, original, new, scope)?;
+    Ok(Attempt::Became(LoggedOutcome::done()))
+}
+
+// Why nothing is added under a name, if so.
+#[tactic(auto, unfolding(crate::specs::Refusals::addition_of))]
+fn addition_refusal(services: &Services, name: &Name) -> Option<Fatal>
+    ensures outcome { addition_of services.now.built services.now.tree.nodes (node_of services.now.answer.speaker) name.now ≡ done_unless result }
+    ensures free { IfNone result (child_refusal services.now.tree.nodes (node_of services.now.answer.speaker) name.now ≡ None) }
+{
+    if services.built {
+        return Some(Fatal::CreatedAfterBuild);
+    }
+    child_refusal(&services.tree, services.answer.speaker.node(), name)
 }
 
 // What an addition adds to the tree.
@@ -131,13 +93,13 @@ fn kind_of(what: What) -> NodeKind
 
 // Overrides a type, where that is not refused.
 #[tactic(auto, unfolding(crate::specs::Refusals::overriding_of))]
-fn override_type(
+fn override_everywhere(
     factory: &mut Factory,
     original: &Name,
     new: &Name,
     replace: bool,
 ) -> Result<(), AllocError>
-    requires { overriding_of (types_of factory.old) original.now new.now ≡ Done }
+    requires { overriding_of (types_of factory.old) original.now new.now ≡ Does }
     ensures { OnOk result ((types : Types) (overrides : List Override) → IsFactory types overrides factory.old →
         IsFactory types (with_override (type_named types original.now) (type_named types new.now) (λ o n. Whole o n replace) overrides) factory.new) }
 {
@@ -152,13 +114,13 @@ fn override_type(
 
 // Overrides a type at the paths that a glob matches, where that is not refused.
 #[tactic(auto, unfolding(crate::specs::Refusals::overriding_of))]
-fn override_inst(
+fn override_within(
     factory: &mut Factory,
     original: &Name,
     new: &Name,
     scope: Glob,
 ) -> Result<(), AllocError>
-    requires { overriding_of (types_of factory.old) original.now new.now ≡ Done }
+    requires { overriding_of (types_of factory.old) original.now new.now ≡ Does }
     ensures { OnOk result ((types : Types) (overrides : List Override) → IsFactory types overrides factory.old →
         IsFactory types (with_override (type_named types original.now) (type_named types new.now) (λ o n. Instance o n scope) overrides) factory.new) }
 {
@@ -168,6 +130,20 @@ fn override_inst(
     match factory.override_inst(original, new, scope) {
         Ok(()) => Ok(()),
         Err(_) => Err(AllocError),
+    }
+}
+
+// Whether a type may be overridden by another.
+#[tactic(auto, unfolding(crate::specs::Refusals::overriding_of))]
+fn can_override(factory: &Factory, original: &Name, new: &Name) -> bool
+    ensures { overriding_of (types_of factory.now) original.now new.now ≡ (if result then Does else Refuses InvalidType) }
+{
+    let (Some(original), Some(new)) = (factory.find(original), factory.find(new)) else {
+        return false;
+    };
+    match (factory.kind_of(original), factory.kind_of(new)) {
+        (Some(original), Some(new)) => original == new,
+        _ => false,
     }
 }
 

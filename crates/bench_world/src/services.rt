@@ -1,9 +1,13 @@
 //! What a world keeps beside its log.
 
-ghost use Rattle.std.specs.Prelude.{◌≡◌, map};
-ghost use Rattle.bench_world.specs.Services.{cleared, with_call};
+ghost use Rattle.std.specs.Prelude.{◌≡◌, [], map};
+ghost use Rattle.bench_script.specs.Scripts.{ScriptValue};
+ghost use Rattle.bench_world.specs.Configuration.{settings_of};
+ghost use Rattle.bench_world.specs.History.{overrides_of};
+ghost use Rattle.bench_world.specs.Services.{IsFactory, IsSettings, ServicesMatch, cleared, with_call};
 
 use crate::stages::Stage;
+use std::alloc::Global;
 use uvm_config::Settings;
 use uvm_factory::Factory;
 use uvm_object::{Call, Who};
@@ -26,6 +30,21 @@ impl Component {
     }
 }
 
+/// How far the last answer is done.
+#[derive(Debug, Drop)]
+pub(crate) struct LastAnswer {
+    // Who gave it.
+    pub(crate) speaker: Who,
+    // The place of its entry; none for the script's.
+    pub(crate) place: Option<usize>,
+    // How many acts it has.
+    pub(crate) count: usize,
+    // How many of them are done.
+    pub(crate) done: usize,
+    // Whether a note has ended it.
+    pub(crate) noted: bool,
+}
+
 /// What is kept beside the log.
 #[derive(Drop)]
 pub(crate) struct Services {
@@ -39,15 +58,37 @@ pub(crate) struct Services {
     pub(crate) agenda: Agenda<Who, Call>,
     // In the order in which they were made.
     pub(crate) components: Vec<Component>,
-    // Who gave the last answer.
-    pub(crate) speaker: Who,
-    // The place of its entry; none for the script's.
-    pub(crate) answer: Option<usize>,
-    // How many of its acts are done.
-    pub(crate) done: usize,
+    pub(crate) answer: LastAnswer,
     pub(crate) built: bool,
     pub(crate) exit_asked: bool,
     pub(crate) test_refused: bool,
+}
+
+impl Services {
+    // What is kept before the first entry.
+    pub(crate) fn new(alloc: Global, factory: Factory, settings: Settings) -> Services
+        ensures { (script : ScriptValue) → IsFactory script.types (overrides_of script []) factory → IsSettings (settings_of script []) settings → ServicesMatch script [] result }
+    {
+        Services {
+            stage: Stage::Before,
+            time: 0,
+            tree: Tree::new(alloc),
+            factory,
+            settings,
+            agenda: Agenda::new(alloc),
+            components: Vec::new(alloc),
+            answer: LastAnswer {
+                speaker: Who::Node(NodeId::TOP),
+                place: None,
+                count: 1,
+                done: 0,
+                noted: false,
+            },
+            built: false,
+            exit_asked: false,
+            test_refused: false,
+        }
+    }
 }
 
 // A phase begins: nobody had a call.

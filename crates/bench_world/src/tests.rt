@@ -30,7 +30,7 @@ fn a_new_world_is_to_create_the_test(rt: HostRuntime) -> Result<(), Fail> {
     assert_eq!(rt; world.stage(), Stage::Before);
     assert_eq!(rt; world.reason(), None);
     assert_eq!(rt; world.speaker().node(), NodeId::TOP);
-    assert!(rt; !world.has_too_many_acts());
+    assert_eq!(rt; world.acts_left(), 1);
     assert_eq!(rt; world.next_call(Phase::Build), None);
     assert_eq!(rt; created(world.next_act()), Some(expected));
     Ok(())

@@ -12,6 +12,7 @@ ghost use Rattle.bench_world.specs.Next.{IsLegal};
 ghost use Rattle.bench_world.specs.Story.{Story};
 
 use crate::configuring::given_settings;
+use crate::making::Room;
 use crate::services::Services;
 use crate::stages::Stage;
 use bench_script::Script;
@@ -31,9 +32,9 @@ pub struct World {
     pub(crate) log: Log,
     pub(crate) services: Services,
     // The creation of the test.
-    pub(crate) creation: Act,
-    // What the next act's entry holds, with room for the entry and the node.
-    pub(crate) room: Option<Deed>,
+    pub(crate) creation: Deed,
+    // Room for what comes of the next act.
+    pub(crate) room: Option<Room>,
     pub(crate) sound: bool,
 }
 
@@ -64,26 +65,12 @@ impl World {
     {
         let factory = script.factory(alloc)?;
         let settings = given_settings(alloc, script.settings())?;
-        let creation = opening(&script, &factory);
+        let creation = Deed::new(alloc, opening(&script, &factory))?;
         Ok(World {
             alloc,
             script,
             log: Log::new(alloc, World::MAX_ENTRIES),
-            services: Services {
-                stage: Stage::Before,
-                time: 0,
-                tree: Tree::new(alloc),
-                factory,
-                settings,
-                agenda: Agenda::new(alloc),
-                components: Vec::new(alloc),
-                speaker: Who::Node(NodeId::TOP),
-                answer: None,
-                done: 0,
-                built: false,
-                exit_asked: false,
-                test_refused: false,
-            },
+            services: Services::new(alloc, factory, settings),
             creation,
             room: None,
             sound: true,

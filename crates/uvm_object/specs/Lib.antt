@@ -3,3 +3,4 @@ pub mod Fatals
 pub mod Lines
 pub mod Logs
 pub mod Objects
+pub mod Outcomes

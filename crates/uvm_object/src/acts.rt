@@ -5,6 +5,7 @@ ghost use Rattle.uvm_object.specs.Acts.{node_of};
 
 use std::alloc::{AllocError, Global};
 use std::marker::Model;
+use std::rc::Rc;
 use uvm_glob::{Glob, Name};
 use uvm_phase::Phase;
 use uvm_tree::NodeId;
@@ -18,12 +19,19 @@ pub enum Who {
 
 impl Who {
     /// The node at which it stands.
-    pub fn node(self) -> NodeId
-        ensures { result ≡ node_of self }
+    pub fn node(&self) -> NodeId
+        ensures { result ≡ node_of self.now }
     {
         match self {
-            Who::Node(node) => node,
+            Who::Node(node) => *node,
         }
+    }
+
+    /// The same, for a place that keeps it.
+    pub fn copy(&self) -> Who
+        ensures { result ≡ self.now }
+    {
+        *self
     }
 }
 
@@ -122,19 +130,71 @@ impl Act {
     }
 }
 
+/// An act of an answer. The entry that says what became of it shares it, so that performing an act copies none. Contracts see
+/// the act.
+#[derive(Debug, Drop)]
+pub struct Deed {
+    act: Rc<Act>,
+}
+
+impl Model for Deed {
+    ghost use Rattle.uvm_object.specs.declared.acts.Act.{Act};
+
+    ghost Value = { Act };
+
+    ghost view = { λ d. d.act.value };
+}
+
+impl Deed {
+    /// An act, to be shared.
+    pub fn new(alloc: Global, act: Act) -> Result<Deed, AllocError>
+        ensures { IfOk result (λ deed. deed ≡ act) }
+    {
+        Ok(Deed {
+            act: Rc::new(alloc, act)?,
+        })
+    }
+
+    /// The same act. It takes no memory; the error is that as many share it as can be counted.
+    pub fn share(&self) -> Result<Deed, AllocError>
+        ensures { IfOk result (λ deed. deed ≡ self.now) }
+    {
+        Ok(Deed {
+            act: self.act.clone()?,
+        })
+    }
+
+    /// The act.
+    pub fn act(&self) -> &Act
+        ensures { result.now ≡ self.now }
+    {
+        &self.act
+    }
+}
+
+// Most answers have one act, for which no list is made.
+#[derive(Debug, Drop)]
+enum Deeds {
+    None,
+    One(Deed),
+    Many(Box<Vec<Deed>>),
+}
+
 /// The acts of one answer, in order. Contracts see the list of them.
 #[derive(Debug, Drop)]
 pub struct Acts {
-    rows: Vec<Act>,
+    alloc: Global,
+    deeds: Deeds,
 }
 
 impl Model for Acts {
     ghost use Rattle.std.specs.Prelude.{List};
+    ghost use Rattle.uvm_object.specs.Acts.{acts_of};
     ghost use Rattle.uvm_object.specs.declared.acts.Act.{Act};
 
     ghost Value = { List Act };
 
-    ghost view = { λ a. a.rows.items };
+    ghost view = { λ a. acts_of a.deeds };
 }
 
 impl Acts {
@@ -143,7 +203,8 @@ impl Acts {
         ensures { result ≡ [] }
     {
         Acts {
-            rows: Vec::new(alloc),
+            alloc,
+            deeds: Deeds::None,
         }
     }
 
@@ -152,7 +213,15 @@ impl Acts {
         ensures ok { OnOk result (self.new ≡ self.old ++ act ∷ []) }
         ensures err { OnErr result (self.new ≡ self.old) }
     {
-        self.rows.push(act)?;
+        let deed = Deed::new(self.alloc, act)?;
+        match &mut self.deeds {
+            Deeds::None => self.deeds = Deeds::One(deed),
+            Deeds::One(first) => {
+                let both = two(self.alloc, first.share()?, deed)?;
+                self.deeds = Deeds::Many(both);
+            }
+            Deeds::Many(all) => all.push(deed)?,
+        }
         Ok(())
     }
 
@@ -160,20 +229,47 @@ impl Acts {
     pub fn len(&self) -> usize
         ensures { result ≡ length self.now }
     {
-        self.rows.len()
+        match &self.deeds {
+            Deeds::None => 0,
+            Deeds::One(_) => 1,
+            Deeds::Many(all) => all.len(),
+        }
     }
 
     /// Whether there is none.
     pub fn is_empty(&self) -> bool
         ensures { result ≡ (length self.now == 0) }
     {
-        self.rows.is_empty()
+        self.len() == 0
     }
 
     /// The act at a place, from 0.
     pub fn get(&self, place: usize) -> Option<&Act>
         ensures { option_copied result ≡ slice_get self.now place }
     {
-        self.rows.get(place)
+        match self.deed(place) {
+            Some(deed) => Some(deed.act()),
+            None => None,
+        }
     }
+
+    /// The act at a place, from 0, to be shared.
+    pub fn deed(&self, place: usize) -> Option<&Deed>
+        ensures { option_copied result ≡ slice_get self.now place }
+    {
+        match &self.deeds {
+            Deeds::One(deed) if place == 0 => Some(deed),
+            Deeds::Many(all) => all.get(place),
+            _ => None,
+        }
+    }
+}
+
+fn two(alloc: Global, first: Deed, second: Deed) -> Result<Box<Vec<Deed>>, AllocError>
+    ensures { IfOk result (λ deeds. deeds.value.items ≡ first ∷ second ∷ []) }
+{
+    let mut deeds = Vec::new(alloc);
+    deeds.push(first)?;
+    deeds.push(second)?;
+    Ok(Box::new(alloc, deeds)?)
 }

@@ -1,11 +1,14 @@
 //! The entries of the log.
 
 ghost use Rattle.std.specs.Prelude.{◌≡◌, IfOk};
+ghost use Rattle.uvm_object.specs.declared.entries.Outcome.TheVariants.{Done, Made, Value, Refused};
+ghost use Rattle.uvm_object.specs.declared.entries.Entry.TheVariants.{Heard};
 
-use crate::acts::{Act, Acts, Call, Who};
+use crate::acts::{Acts, Call, Deed, Who};
 use crate::fatals::Fatal;
 use std::alloc::{AllocError, Global};
 use std::marker::Model;
+use std::rc::Rc;
 use uvm_glob::Name;
 use uvm_phase::{Cause, Phase};
 use uvm_tree::NodeId;
@@ -34,35 +37,161 @@ pub enum Reason {
     NoTest,
 }
 
-/// An act that stands in an entry. It is kept apart, so that entries stay small. Contracts see the act.
+// What an entry of a call holds beside who was called.
 #[derive(Debug, Drop)]
-pub struct Deed {
-    act: Box<Act>,
+struct Exchange {
+    call: Call,
+    cause: Option<Cause>,
+    acts: Acts,
 }
 
-impl Model for Deed {
-    ghost use Rattle.uvm_object.specs.declared.acts.Act.{Act};
-
-    ghost Value = { Act };
-
-    ghost view = { λ d. d.act.value };
+/// The call of an entry. Contracts see the call.
+#[derive(Debug, Drop)]
+pub struct LoggedCall {
+    exchange: Rc<Exchange>,
 }
 
-impl Deed {
-    /// An act for an entry.
-    pub fn new(alloc: Global, act: Act) -> Result<Deed, AllocError>
-        ensures { IfOk result (λ deed. deed ≡ act) }
-    {
-        Ok(Deed {
-            act: Box::new(alloc, act)?,
-        })
-    }
+impl Model for LoggedCall {
+    ghost use Rattle.uvm_object.specs.declared.acts.Call.{Call};
 
-    /// The act.
-    pub fn act(&self) -> &Act
+    ghost Value = { Call };
+
+    ghost view = { λ l. l.exchange.value.call };
+}
+
+impl LoggedCall {
+    /// The call.
+    pub fn get(&self) -> &Call
         ensures { result.now ≡ self.now }
     {
-        &self.act
+        &self.exchange.call
+    }
+}
+
+/// The cause of the call of an entry. Contracts see the cause.
+#[derive(Debug, Drop)]
+pub struct LoggedCause {
+    exchange: Rc<Exchange>,
+}
+
+impl Model for LoggedCause {
+    ghost use Rattle.std.specs.Prelude.{Option};
+    ghost use Rattle.uvm_phase.specs.declared.agendas.Cause.{Cause};
+
+    ghost Value = { Option Cause };
+
+    ghost view = { λ l. l.exchange.value.cause };
+}
+
+impl LoggedCause {
+    /// The cause, which a phase's call has not.
+    pub fn get(&self) -> Option<Cause>
+        ensures { result ≡ self.now }
+    {
+        self.exchange.cause
+    }
+}
+
+/// The acts of the answer of an entry. Contracts see the list of them.
+#[derive(Debug, Drop)]
+pub struct LoggedActs {
+    exchange: Rc<Exchange>,
+}
+
+impl Model for LoggedActs {
+    ghost use Rattle.std.specs.Prelude.{List};
+    ghost use Rattle.uvm_object.specs.declared.acts.Act.{Act};
+
+    ghost Value = { List Act };
+
+    ghost view = { λ l. l.exchange.value.acts };
+}
+
+impl LoggedActs {
+    /// The acts.
+    pub fn get(&self) -> &Acts
+        ensures { result.now ≡ self.now }
+    {
+        &self.exchange.acts
+    }
+}
+
+// An outcome of two words: a name stands behind a pointer, and a value that was not found is a variant of its own.
+#[derive(Debug, Drop)]
+enum CompactOutcome {
+    Done,
+    Made(Box<Name>),
+    NoValue,
+    Value(i64),
+    Refused(Fatal),
+}
+
+/// The outcome of an entry. Contracts see the outcome.
+#[derive(Debug, Drop)]
+pub struct LoggedOutcome {
+    compact: CompactOutcome,
+}
+
+impl Model for LoggedOutcome {
+    ghost use Rattle.uvm_object.specs.declared.entries.Outcome.{Outcome};
+    ghost use Rattle.uvm_object.specs.Outcomes.{outcome_of};
+
+    ghost Value = { Outcome };
+
+    ghost view = { λ l. outcome_of l.compact };
+}
+
+impl LoggedOutcome {
+    /// It was performed.
+    pub fn done() -> LoggedOutcome
+        ensures { result ≡ Done }
+    {
+        LoggedOutcome {
+            compact: CompactOutcome::Done,
+        }
+    }
+
+    /// An object of a type was created; the room is for the type's name.
+    pub fn made(mut room: Box<Name>, ty: Name) -> LoggedOutcome
+        ensures { result ≡ Made ty }
+    {
+        *room = ty;
+        LoggedOutcome {
+            compact: CompactOutcome::Made(room),
+        }
+    }
+
+    /// This value was found, or none.
+    pub fn value(value: Option<i64>) -> LoggedOutcome
+        ensures { result ≡ Value value }
+    {
+        let compact = match value {
+            Some(value) => CompactOutcome::Value(value),
+            None => CompactOutcome::NoValue,
+        };
+        LoggedOutcome { compact }
+    }
+
+    /// It was refused.
+    pub fn refused(fatal: Fatal) -> LoggedOutcome
+        ensures { result ≡ Refused fatal }
+    {
+        LoggedOutcome {
+            compact: CompactOutcome::Refused(fatal),
+        }
+    }
+
+    /// The outcome.
+    pub fn get(&self) -> Outcome
+        ensures { result ≡ self.now }
+    {
+        match &self.compact {
+            CompactOutcome::Done => Outcome::Done,
+            CompactOutcome::Made(ty) => Outcome::Made(**ty),
+            CompactOutcome::NoValue => Outcome::Value(None),
+            CompactOutcome::Value(value) => Outcome::Value(Some(*value)),
+            CompactOutcome::Refused(fatal) => Outcome::Refused(*fatal),
+        }
     }
 }
 
@@ -76,14 +205,14 @@ pub enum Entry {
     /// An object was called and answered. A call that was due names its cause; a phase's call has none.
     Heard {
         who: Who,
-        call: Call,
-        cause: Option<Cause>,
-        acts: Acts,
+        call: LoggedCall,
+        cause: LoggedCause,
+        acts: LoggedActs,
     },
     /// An act of the last answer was performed or refused.
     Did {
         who: Who,
-        outcome: Outcome,
+        outcome: LoggedOutcome,
         act: Deed,
     },
     /// The kernel reports at a node.
@@ -93,4 +222,29 @@ pub enum Entry {
     },
     /// Nothing comes after.
     Over(Reason),
+}
+
+impl Entry {
+    /// The entry of a call that was answered. It takes memory for the call and its answer.
+    pub fn heard(
+        alloc: Global,
+        who: Who,
+        call: Call,
+        cause: Option<Cause>,
+        acts: Acts,
+    ) -> Result<Entry, AllocError>
+        ensures { IfOk result (λ entry. entry ≡ Heard who call cause acts) }
+    {
+        let exchange = Rc::new(alloc, Exchange { call, cause, acts })?;
+        Ok(Entry::Heard {
+            who,
+            call: LoggedCall {
+                exchange: exchange.clone()?,
+            },
+            cause: LoggedCause {
+                exchange: exchange.clone()?,
+            },
+            acts: LoggedActs { exchange },
+        })
+    }
 }

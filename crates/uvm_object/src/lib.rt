@@ -10,8 +10,8 @@ mod objects;
 #[cfg(test)]
 mod tests;
 
-pub use acts::{Act, Acts, Call, What, Who};
-pub use entries::{Deed, Entry, Outcome, Reason};
+pub use acts::{Act, Acts, Call, Deed, What, Who};
+pub use entries::{Entry, LoggedActs, LoggedCall, LoggedCause, LoggedOutcome, Outcome, Reason};
 pub use fatals::Fatal;
 pub use lines::line_of;
 pub use logs::{Log, LogFault};

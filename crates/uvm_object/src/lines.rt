@@ -36,19 +36,19 @@ fn push_entry(entry: &Entry, tree: &Tree, line: &mut Vec<u8>) -> Result<(), Allo
             ..
         } => {
             line.extend_from_slice(b"heard ")?;
-            push_who(*who, tree, line)?;
+            push_who(who, tree, line)?;
             line.push(b' ')?;
-            push_call(call, line)?;
+            push_call(call.get(), line)?;
             line.extend_from_slice(b": ")?;
-            push_number(acts.len(), line)
+            push_number(acts.get().len(), line)
         }
         Entry::Did { who, outcome, act } => {
             line.extend_from_slice(b"did ")?;
-            push_who(*who, tree, line)?;
+            push_who(who, tree, line)?;
             line.push(b' ')?;
             push_act(act.act(), line)?;
             line.extend_from_slice(b": ")?;
-            push_outcome(outcome, line)
+            push_outcome(&outcome.get(), line)
         }
         Entry::Note { fatal, node } => {
             line.extend_from_slice(b"note ")?;
@@ -67,11 +67,11 @@ fn push_two(front: &[u8], back: &str, line: &mut Vec<u8>) -> Result<(), AllocErr
     line.extend_from_slice(back.as_bytes())
 }
 
-fn push_who(who: Who, tree: &Tree, line: &mut Vec<u8>) -> Result<(), AllocError>
-    ensures { OnOk result (line.new.items ≡ line.old.items ++ who_text tree.now.nodes who) }
+fn push_who(who: &Who, tree: &Tree, line: &mut Vec<u8>) -> Result<(), AllocError>
+    ensures { OnOk result (line.new.items ≡ line.old.items ++ who_text tree.now.nodes who.now) }
 {
     match who {
-        Who::Node(node) => push_path(node, tree, line),
+        Who::Node(node) => push_path(*node, tree, line),
     }
 }
 

@@ -1,7 +1,8 @@
 //! Examples of the lines, and that each call succeeds where there is memory.
 
 use crate::{
-    Act, Acts, Call, Deed, Entry, Fatal, Log, LogFault, Outcome, Reason, What, Who, line_of,
+    Act, Acts, Call, Deed, Entry, Fatal, Log, LogFault, LoggedOutcome, Outcome, Reason, What, Who,
+    line_of,
 };
 use std::alloc::Global;
 use std::mem::size_of;
@@ -52,7 +53,7 @@ fn add_fifo() -> Result<Act, Fail> {
     })
 }
 
-fn did(alloc: Global, node: NodeId, outcome: Outcome, act: Act) -> Result<Entry, Fail> {
+fn did(alloc: Global, node: NodeId, outcome: LoggedOutcome, act: Act) -> Result<Entry, Fail> {
     Ok(Entry::Did {
         who: Who::Node(node),
         outcome,
@@ -169,12 +170,14 @@ fn end_lines_are_right(alloc: Global, tree: &Tree, test: NodeId) -> Result<bool,
 }
 
 fn answer_line_is_right(alloc: Global, tree: &Tree, test: NodeId) -> Result<bool, Fail> {
-    let heard = Entry::Heard {
-        who: Who::Node(test),
-        call: Call::Phase(Phase::Build),
-        cause: None,
-        acts: three_acts(alloc)?,
-    };
+    let acts = three_acts(alloc)?;
+    let heard = Entry::heard(
+        alloc,
+        Who::Node(test),
+        Call::Phase(Phase::Build),
+        None,
+        acts,
+    )?;
     line_is(alloc, tree, heard, "heard uvm_test_top build: 3\n")
 }
 
@@ -187,7 +190,8 @@ fn three_acts(alloc: Global) -> Result<Acts, Fail> {
 }
 
 fn creation_lines_are_right(alloc: Global, tree: &Tree, test: NodeId) -> Result<bool, Fail> {
-    let made = Outcome::Made(Name::new(b"t")?);
+    let room = Box::new(alloc, Name::new(b"f")?)?;
+    let made = LoggedOutcome::made(room, Name::new(b"t")?);
     let created = did(alloc, NodeId::TOP, made, create()?)?;
     let created_line = line_is(
         alloc,
@@ -195,7 +199,7 @@ fn creation_lines_are_right(alloc: Global, tree: &Tree, test: NodeId) -> Result<
         created,
         "did uvm_top create t uvm_test_top: made t\n",
     )?;
-    let added = did(alloc, test, Outcome::Done, add_fifo()?)?;
+    let added = did(alloc, test, LoggedOutcome::done(), add_fifo()?)?;
     Ok(created_line && line_is(alloc, tree, added, "did uvm_test_top add f fifo 1: done\n")?)
 }
 
@@ -205,7 +209,7 @@ fn override_lines_are_right(
     test: NodeId,
     below: NodeId,
 ) -> Result<bool, Fail> {
-    let refused = Outcome::Refused(Fatal::InvalidType);
+    let refused = LoggedOutcome::refused(Fatal::InvalidType);
     let whole = did(alloc, test, refused, override_type(true)?)?;
     let whole_line = line_is(
         alloc,
@@ -213,7 +217,7 @@ fn override_lines_are_right(
         whole,
         "did uvm_test_top override x y replace: refused INVTYP\n",
     )?;
-    let instance = did(alloc, below, Outcome::Done, override_inst(alloc)?)?;
+    let instance = did(alloc, below, LoggedOutcome::done(), override_inst(alloc)?)?;
     Ok(
         whole_line
             && line_is(
@@ -239,28 +243,26 @@ fn setting_lines_are_right(alloc: Global, tree: &Tree, test: NodeId) -> Result<b
         field: Name::new(b"f")?,
         value: -9,
     };
-    let set = did(alloc, test, Outcome::Done, set.copy()?)?;
+    let set = did(alloc, test, LoggedOutcome::done(), set.copy()?)?;
     let set_line = line_is(alloc, tree, set, "did uvm_test_top set () f -9: done\n")?;
     let get = Act::Get {
         field: Name::new(b"f")?,
     };
-    let get = did(alloc, test, Outcome::Value(Some(7)), get.copy()?)?;
+    let get = did(alloc, test, LoggedOutcome::value(Some(7)), get.copy()?)?;
     Ok(set_line && line_is(alloc, tree, get, "did uvm_test_top get f: value 7\n")?)
 }
 
 fn due_line_is_right(alloc: Global, tree: &Tree, test: NodeId) -> Result<bool, Fail> {
-    let heard = Entry::Heard {
-        who: Who::Node(test),
-        call: Call::Config {
-            field: Name::new(b"f")?,
-            value: None,
-        },
-        cause: Some(Cause {
-            place: 4,
-            number: 0,
-        }),
-        acts: Acts::new(alloc),
+    let call = Call::Config {
+        field: Name::new(b"f")?,
+        value: None,
     };
+    let cause = Cause {
+        place: 4,
+        number: 0,
+    };
+    let acts = Acts::new(alloc);
+    let heard = Entry::heard(alloc, Who::Node(test), call, Some(cause), acts)?;
     line_is(alloc, tree, heard, "heard uvm_test_top config f none: 0\n")
 }
 
@@ -300,7 +302,63 @@ fn log_faults_are_printed(rt: HostRuntime) -> Result<(), Fail> {
 }
 
 #[test]
+fn an_act_is_shared(rt: HostRuntime) -> Result<(), Fail> {
+    let deed = Deed::new(rt.alloc(), override_type(true)?)?;
+    let shared = deed.share()?;
+    assert_eq!(rt; is_replaced(Some(deed.act())), Some(true));
+    assert_eq!(rt; is_replaced(Some(shared.act())), Some(true));
+    Ok(())
+}
+
+#[test]
+fn an_entry_tells_what_it_holds(rt: HostRuntime) -> Result<(), Fail> {
+    let call = Call::Phase(Phase::Run);
+    let cause = Cause {
+        place: 9,
+        number: 2,
+    };
+    let acts = three_acts(rt.alloc())?;
+    let who = Who::Node(NodeId::TOP);
+    let heard = Entry::heard(rt.alloc(), who, call, Some(cause), acts)?;
+    assert!(rt; holds(&heard, &call, cause, 3));
+    Ok(())
+}
+
+fn holds(entry: &Entry, call: &Call, cause: Cause, count: usize) -> bool {
+    match entry {
+        Entry::Heard {
+            call: asked,
+            cause: why,
+            acts,
+            ..
+        } => *asked.get() == *call && why.get() == Some(cause) && acts.get().len() == count,
+        _ => false,
+    }
+}
+
+fn word(outcome: &LoggedOutcome) -> &'static str {
+    match outcome.get() {
+        Outcome::Done => "done",
+        Outcome::Made(_) => "made",
+        Outcome::Value(None) => "no value",
+        Outcome::Value(Some(_)) => "value",
+        Outcome::Refused(_) => "refused",
+    }
+}
+
+#[test]
+fn outcomes_are_told(rt: HostRuntime) -> Result<(), Fail> {
+    let room = Box::new(rt.alloc(), Name::new(b"f")?)?;
+    assert_eq!(rt; word(&LoggedOutcome::done()), "done");
+    assert_eq!(rt; word(&LoggedOutcome::made(room, Name::new(b"t")?)), "made");
+    assert_eq!(rt; word(&LoggedOutcome::value(None)), "no value");
+    assert_eq!(rt; word(&LoggedOutcome::value(Some(-1))), "value");
+    assert_eq!(rt; word(&LoggedOutcome::refused(Fatal::NoObject)), "refused");
+    Ok(())
+}
+
+#[test]
 fn entries_are_small(rt: HostRuntime) {
     let size = size_of::<Entry>();
-    assert!(rt; size <= 192, "{size} bytes");
+    assert!(rt; size <= 32, "{size} bytes");
 }

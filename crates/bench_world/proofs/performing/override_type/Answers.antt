@@ -1,9 +1,26 @@
-use Rattle.uvm_factory.specs.declared.overrides.Override.TheVariants.{Whole}
-use Rattle.bench_world.proofs.Overriding.{factory-more}
+use Rattle.std.proofs.Common.{◌≡◌, refl, rules}
+use Rattle.uvm_object.specs.declared.acts.Act.TheVariants.{OverrideType}
+use Rattle.uvm_object.specs.declared.fatals.Fatal.TheVariants.{InvalidType}
+use Rattle.bench_world.specs.Refusals.{Does, Refuses, overriding_of}
+use Rattle.bench_world.proofs.Later.{acted, refused-performed}
 use Rattle.bench_world.proofs.performing.override_type.Goals as goal
 
-pub returns-in-Ok : goal.returns-in-Ok
-returns-in-Ok c = λ types overrides f.
-    let original = rw f.types_are at c.in-Some-Some.ensures in
-    let other = rw f.types_are at c.in-Some-Some.ensures' in
-    rw (← original, ← other) (factory-more (Whole c.in-Some-Some.original c.in-Some-Some.new c.args.replace) c.in-Ok.ensures.types c.in-Ok.ensures.steps f)
+pub returns-then-not-can_override : goal.returns-then-not-can_override
+returns-then-not-can_override c = λ place. refused-performed (OverrideType c.args.original.now c.args.new.now c.args.replace) InvalidType c.refused.ensures.outcome c.refused.ensures.services (λ script history m.
+    let refuses : overriding_of script.types c.args.original.now c.args.new.now ≡ Refuses InvalidType = rw (← m.factory.types_are) (rw c.if-not-can_override.true at c.can_override.ensures) in
+    rw refuses refl)
+
+pub returns : goal.returns
+returns c = λ place. rw c.done.ensures (record {
+  comes = λ script history s.
+      let does : overriding_of script.types c.args.original.now c.args.new.now ≡ Does = rw (← s.known.factory.types_are) (rw c.if-not-can_override.false at c.can_override.ensures) in
+      rw does refl;
+  kept = record {
+    same_answer = refl;
+    with_entry = λ script history s.
+        let m = s.known in
+        let left = s.left in
+        let factory = c.in_ok-override_everywhere.ensures _ _ m.factory in
+        search (rules, acted);
+  };
+})

@@ -1,6 +1,7 @@
+use Rattle.std.proofs.Common.{refl}
 use Rattle.bench_core.specs.declared.cores.Health.TheVariants.{Broken}
-use Rattle.bench_kernel.proofs.Kept.{asked-held, kept-core, kept-failed, kept-heard, kept-moved, kept-unanswered}
-use Rattle.bench_kernel.proofs.Stepped.{answered-step, ask-turn, asked-log, heard-is, moved-step, moved-turn, need-some, need-turn, refused-log, unanswered-step, unheard-log}
+use Rattle.bench_kernel.proofs.Kept.{asked-held, kept-failed, kept-heard, kept-moved, kept-needed, kept-unanswered}
+use Rattle.bench_kernel.proofs.Stepped.{answered-step, ask-turn, asked-log, heard-is, moved-step, moved-turn, need-turn, refused-log, unanswered-step, unheard-log}
 use Rattle.bench_kernel.proofs.kernels.Kernel.step.Goals as goal
 
 pub invariant_of-self : goal.invariant_of-self
@@ -8,7 +9,7 @@ invariant_of-self g c =
     let m = g.O.UvmObject in
     let kept = c.self.invariant in
     let needed = need-turn c.self.inside.core c.next.new.self (kept.comes c.if-self.false) (rw c.in-Ok-Need.field-0-is at (c.in-Ok-Need.ensures.turn)) in
-    kept-core m.view m.name m.says (record { core = c.self.inside.core; held = c.self.inside.held.entries; failed = c.self.inside.failed; unknown = c.self.inside.unknown }) c.next.new.self needed.same_log needed.health needed.comes kept
+    rw needed.is (kept-needed m.view m.name m.says (record { core = c.self.inside.core; held = c.self.inside.held.entries; failed = c.self.inside.failed; unknown = c.self.inside.unknown }) needed.need needed.comes kept)
 
 pub ask_at-requires : goal.ask_at-requires
 ask_at-requires g c =
@@ -22,7 +23,7 @@ invariant_of-self-in_default g c =
     let m = g.O.UvmObject in
     let kept = c.self.invariant in
     let asks = ask-turn c.in-Ok-Ask.who c.in-Ok-Ask.call c.self.inside.core c.next.new.self (kept.comes c.if-self.false) (rw c.in-Ok-Ask.field-0-is at (c.in-Ok-Ask.ensures.turn)) in
-    kept-unanswered m.view m.name m.says (record { core = c.self.inside.core; held = c.self.inside.held.entries; failed = c.self.inside.failed; unknown = c.self.inside.unknown }) c.ask_at.new.held.entries c.next.new.self c.node-node.result c.in-Ok-Ask.call c.ask_at.result c.if-self.false
+    kept-unanswered m.view m.name m.says (record { core = c.self.inside.core; held = c.self.inside.held.entries; failed = c.self.inside.failed; unknown = c.self.inside.unknown }) c.ask_at.new.held.entries c.next.new.self c.in-Ok-Ask.who c.node-node.result c.in-Ok-Ask.call c.ask_at.result c.node-node.ensures c.if-self.false
     (asked-log c.in-Ok-Ask.who c.in-Ok-Ask.call c.self.inside.core c.next.new.self asks) c.ask_at.ensures kept
 
 pub returns-in_default-clause-step : goal.returns-in_default-clause-step
@@ -39,7 +40,7 @@ invariant_of-self-in_err-heard-in-Ok-Ask g c =
     let m = g.O.UvmObject in
     let kept = c.self.invariant in
     let asks = ask-turn c.in-Ok-Ask.who c.in-Ok-Ask.call c.self.inside.core c.next.new.self (kept.comes c.if-self.false) (rw c.in-Ok-Ask.field-0-is at (c.in-Ok-Ask.ensures.turn)) in
-    kept-unanswered m.view m.name m.says (record { core = c.self.inside.core; held = c.self.inside.held.entries; failed = c.self.inside.failed; unknown = c.self.inside.unknown }) c.ask_at.new.held.entries c.heard.new.self c.node-node.result c.in-Ok-Ask.call c.ask_at.result c.if-self.false
+    kept-unanswered m.view m.name m.says (record { core = c.self.inside.core; held = c.self.inside.held.entries; failed = c.self.inside.failed; unknown = c.self.inside.unknown }) c.ask_at.new.held.entries c.heard.new.self c.in-Ok-Ask.who c.node-node.result c.in-Ok-Ask.call c.ask_at.result c.node-node.ensures c.if-self.false
     (unheard-log c.in-Ok-Ask.who c.in-Ok-Ask.call c.self.inside.core c.next.new.self c.heard.new.self Broken asks c.in_err-heard-in-Ok-Ask.ensures.err.1) c.ask_at.ensures kept
 
 pub invariant_of-self-in-Ok-Ask : goal.invariant_of-self-in-Ok-Ask
@@ -82,4 +83,5 @@ invariant_of-self-in-Err g c =
 
 pub returns-in-Ok-Need-clause-needed : goal.returns-in-Ok-Need-clause-needed
 returns-in-Ok-Need-clause-needed g c =
-    λ needs. rw c.if-self.false (need-some c.self.inside.core c.next.new.self (rw c.in-Ok-Need.field-0-is at (c.in-Ok-Need.ensures.turn)))
+    let needed = need-turn c.self.inside.core c.next.new.self (c.self.invariant.comes c.if-self.false) (rw c.in-Ok-Need.field-0-is at (c.in-Ok-Need.ensures.turn)) in
+    λ needs. rw (c.if-self.false, needed.is) refl

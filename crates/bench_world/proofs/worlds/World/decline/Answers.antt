@@ -1,54 +1,39 @@
-use Rattle.std.proofs.Common.{◌∷◌, refl, ◌∙◌, ap, sym}
-use Rattle.uvm_object.specs.Acts.{node_of}
-use Rattle.uvm_object.specs.declared.acts.Who.{Who}
+use Rattle.std.proofs.Common.{inr, refl, ◌∙◌, sym}
 use Rattle.uvm_object.specs.declared.entries.Entry.TheVariants.{Did}
 use Rattle.uvm_object.specs.declared.entries.Outcome.TheVariants.{Refused}
 use Rattle.uvm_object.specs.declared.fatals.Fatal.TheVariants.{NoObject}
 use Rattle.bench_world.specs.History.{speaker_of}
-use Rattle.bench_world.proofs.Entered.{legal-more, sound-again}
-use Rattle.bench_world.proofs.Did.{did-match}
-use Rattle.bench_world.proofs.Heard.{at-node}
-use Rattle.bench_world.proofs.Told.{agenda-later}
-use Rattle.bench_world.proofs.Needed.{declined-next}
+use Rattle.bench_world.specs.Next.{IsNext}
+use Rattle.bench_world.proofs.Answered.{answer-open}
+use Rattle.bench_world.proofs.Later.{acted-on, refused-taken-in}
+use Rattle.bench_world.proofs.Needed.{wanted}
 use Rattle.bench_world.proofs.worlds.World.decline.Goals as goal
+
+pub enter-requires-clause-open : goal.enter-requires-clause-open
+enter-requires-clause-open c =
+    let r = rw (← c.self.view_is) at c.requires in
+    let m = c.self.invariant.1.services_match r.may.sound in
+    let ready = c.self.invariant.1.ready r.may.sound c.in-Some.room (sym c.take.ensures.value ∙ c.in-Some.is) in
+    rw c.refused-declined.ensures.services (answer-open c.in-Some.room ready.act_is m.answer)
 
 pub invariant_of-self : goal.invariant_of-self
 invariant_of-self c =
-    let p = c.self.invariant in
-    let sound = rw (← c.self.view_is) at c.requires.sound in
-    let room = rw (← c.self.view_is) at c.requires.room in
-    let need = rw (← c.self.view_is) at c.requires.next in
-    let m = p.1.services_match sound in
+    let r = rw (← c.self.view_is) at c.requires in
     let before = c.self.inside.log.entries in
-    let performer = speaker_of before in
-    let deed = c.in-Some.deed in
-    let ready = p.1.ready sound deed (sym c.take.ensures.value ∙ c.in-Some.is) in
-    let next = declined-next c.self.inside.script before deed need ready.act_is in
-    let who_is = sym m.answer.speaker_is ∙ at-node c.self.inside.services.speaker _ refl in
-    let at = ap node_of m.answer.speaker_is in
-    let refused = c.in-Ok.ensures in
-    rw c.take.ensures.after (
-      p.0,
-      sound-again _ (refused.ok ∙ ap (λ (w : Who). Did w (Refused NoObject) deed ∷ before) (sym who_is)) (refused.limit ∙ p.1.limit) (legal-more (Did performer (Refused NoObject) deed) next.0 room p.1.legal)
-          (rw refused.services (did-match _ before c.self.inside.services _ performer (Refused NoObject) deed ready.act_is m
-          (record { stage = refl; time = refl; speaker = refl; answer = refl; done = refl; built = refl; exit_asked = refl; test_refused = rw at refl })
-          m.tree
-          m.factory
-          m.turns
-          m.settings
-          (agenda-later m.agenda))),
-    )
+    let act = c.in-Some.room in
+    let ready = c.self.invariant.1.ready r.may.sound act (sym c.take.ensures.value ∙ c.in-Some.is) in
+    let w = wanted c.self.inside.script before act r.may.next ready.act_is in
+    let next : IsNext c.self.inside.script before (Did (speaker_of before) (Refused NoObject) act) = rw w.next (inr refl) in
+    let entries = rw (c.refused-declined.ensures.outcome, c.into_parts-deed.ensures) at c.in-Ok.ensures.ok in
+    rw c.take.ensures.after (acted-on (Refused NoObject) act c.self.invariant r.may.sound r.may.room ready.act_is next (refused-taken-in act NoObject c.refused-declined.ensures.services) entries c.in-Ok.ensures.limit c.in-Ok.ensures.services)
 
 pub returns : goal.returns
 returns c =
-    let p = c.self.invariant in
-    let sound = rw (← c.self.view_is) at c.requires.sound in
-    let need = rw (← c.self.view_is) at c.requires.next in
-    let m = p.1.services_match sound in
+    let r = rw (← c.self.view_is) at c.requires in
+    let m = c.self.invariant.1.services_match r.may.sound in
     let before = c.self.inside.log.entries in
-    let deed = c.in-Some.deed in
-    let ready = p.1.ready sound deed (sym c.take.ensures.value ∙ c.in-Some.is) in
-    let next = declined-next c.self.inside.script before deed need ready.act_is in
-    let who_is = sym m.answer.speaker_is ∙ at-node c.self.inside.services.speaker _ refl in
-    let entries = c.in-Ok.ensures.ok ∙ ap (λ (w : Who). Did w (Refused NoObject) deed ∷ before) (sym who_is) in
-    record { ok = rw (← c.self.view_is, next.1, entries, c.take.ensures.after, sound) refl }
+    let act = c.in-Some.room in
+    let ready = c.self.invariant.1.ready r.may.sound act (sym c.take.ensures.value ∙ c.in-Some.is) in
+    let w = wanted c.self.inside.script before act r.may.next ready.act_is in
+    let entries = rw (c.refused-declined.ensures.outcome, c.into_parts-deed.ensures, c.refused-declined.ensures.services, m.answer.speaker) at c.in-Ok.ensures.ok in
+    rw (← c.self.view_is, w.next, entries, c.take.ensures.after, r.may.sound) refl

@@ -1,100 +1,64 @@
-use Rattle.std.proofs.Common.{ℕ, Some, ◌∷◌, ◌+◌, refl, ◌∙◌, ap, sym}
-use Rattle.uvm_object.specs.Acts.{node_of}
-use Rattle.uvm_object.specs.declared.acts.Who.{Who}
+use Rattle.std.proofs.Common.{length, inl, refl, ◌∙◌, ap, sym}
 use Rattle.uvm_object.specs.declared.entries.Entry.TheVariants.{Did}
 use Rattle.uvm_object.specs.declared.entries.Outcome.TheVariants.{Made}
-use Rattle.uvm_tree.specs.declared.nodes.NodeKind.TheVariants.{Component}
-use Rattle.uvm_tree.specs.Nodes.{child}
-use Rattle.bench_world.specs.declared.services.Services.{Services}
-use Rattle.bench_world.specs.History.{speaker_of, nodes_of, created_name}
-use Rattle.bench_world.specs.Next.{next_of}
-use Rattle.bench_world.proofs.Entered.{legal-more, sound-again}
-use Rattle.bench_world.proofs.Answered.{length-snoc}
-use Rattle.bench_world.proofs.Did.{did-match, nodes-made}
-use Rattle.bench_world.proofs.Heard.{at-node}
-use Rattle.bench_world.proofs.Told.{agenda-later}
-use Rattle.bench_world.proofs.Needed.{made-next, speaker-known, need-of}
-use Rattle.bench_world.proofs.Turns.{turns-made}
+use Rattle.bench_world.specs.History.{speaker_of}
+use Rattle.bench_world.specs.Next.{IsNext}
+use Rattle.bench_world.proofs.Answered.{answer-open}
+use Rattle.bench_world.proofs.Later.{acted-on}
+use Rattle.bench_world.proofs.Needed.{wanted}
 use Rattle.bench_world.proofs.worlds.World.make.Goals as goal
 
-pub created_name-name-requires : goal.created_name-name-requires
-created_name-name-requires c =
-    let p = c.self.invariant in
-    let sound = rw (← c.self.view_is) at c.requires.sound in
-    let need = rw (← c.self.view_is) at c.requires.next in
-    let deed = c.in-Some.deed in
-    let ready = p.1.ready sound deed (sym c.take.ensures.value ∙ c.in-Some.is) in
-    (made-next c.self.inside.script c.self.inside.log.entries deed c.args.ty need ready.act_is).creation
+pub grow-node-requires-clause-creates : goal.grow-node-requires-clause-creates
+grow-node-requires-clause-creates c =
+    let r = rw (← c.self.view_is) at c.requires in
+    let ready = c.self.invariant.1.ready r.may.sound c.in-Some.room (sym c.take.ensures.value ∙ c.in-Some.is) in
+    let w = wanted c.self.inside.script c.self.inside.log.entries c.in-Some.room r.may.next ready.act_is in
+    rw (c.act.ensures, c.into_parts-deed.ensures) w.creates
 
-pub grow-made-requires-clause-free : goal.grow-made-requires-clause-free
-grow-made-requires-clause-free c =
-    let p = c.self.invariant in
-    let sound = rw (← c.self.view_is) at c.requires.sound in
-    let need = rw (← c.self.view_is) at c.requires.next in
-    let m = p.1.services_match sound in
-    let deed = c.in-Some.deed in
-    let ready = p.1.ready sound deed (sym c.take.ensures.value ∙ c.in-Some.is) in
-    let made = made-next c.self.inside.script c.self.inside.log.entries deed c.args.ty need ready.act_is in
-    let at = c.node-node.ensures ∙ ap node_of m.answer.speaker_is in
-    rw (m.tree, at, c.created_name-name.ensures) made.free
+pub grow-node-requires-clause-free : goal.grow-node-requires-clause-free
+grow-node-requires-clause-free c =
+    let r = rw (← c.self.view_is) at c.requires in
+    let m = c.self.invariant.1.services_match r.may.sound in
+    let ready = c.self.invariant.1.ready r.may.sound c.in-Some.room (sym c.take.ensures.value ∙ c.in-Some.is) in
+    let w = wanted c.self.inside.script c.self.inside.log.entries c.in-Some.room r.may.next ready.act_is in
+    rw (c.act.ensures, c.into_parts-deed.ensures, m.tree, m.answer.speaker) w.free
 
-pub grow-made-requires-clause-tree : goal.grow-made-requires-clause-tree
-grow-made-requires-clause-tree c =
-    let p = c.self.invariant in
-    let sound = rw (← c.self.view_is) at c.requires.sound in
-    let need = rw (← c.self.view_is) at c.requires.next in
-    let m = p.1.services_match sound in
-    let ready = p.1.ready sound c.in-Some.deed (sym c.take.ensures.value ∙ c.in-Some.is) in
-    let known = speaker-known c.self.inside.script c.self.inside.log.entries (need-of c.args.ty (next_of c.self.inside.script c.self.inside.log.entries) need) in
-    ready.tree_spare (rw (m.tree, m.answer.speaker_is) known) ∙ ap (λ (node : ℕ). Some node) (sym c.node-node.ensures)
+pub grow-node-requires-clause-tree : goal.grow-node-requires-clause-tree
+grow-node-requires-clause-tree c =
+    let r = rw (← c.self.view_is) at c.requires in
+    let m = c.self.invariant.1.services_match r.may.sound in
+    let ready = c.self.invariant.1.ready r.may.sound c.in-Some.room (sym c.take.ensures.value ∙ c.in-Some.is) in
+    let w = wanted c.self.inside.script c.self.inside.log.entries c.in-Some.room r.may.next ready.act_is in
+    ready.tree_spare (rw (m.tree, m.answer.speaker) w.speaker)
+
+pub enter-requires-clause-open : goal.enter-requires-clause-open
+enter-requires-clause-open c =
+    let r = rw (← c.self.view_is) at c.requires in
+    let m = c.self.invariant.1.services_match r.may.sound in
+    let ready = c.self.invariant.1.ready r.may.sound c.in-Some.room (sym c.take.ensures.value ∙ c.in-Some.is) in
+    rw (c.grow-node.ensures.kept c.args.ty 0).same_answer (answer-open c.in-Some.room ready.act_is m.answer)
 
 pub invariant_of-self : goal.invariant_of-self
 invariant_of-self c =
-    let p = c.self.invariant in
-    let sound = rw (← c.self.view_is) at c.requires.sound in
-    let room = rw (← c.self.view_is) at c.requires.room in
-    let need = rw (← c.self.view_is) at c.requires.next in
-    let m = p.1.services_match sound in
+    let r = rw (← c.self.view_is) at c.requires in
     let before = c.self.inside.log.entries in
-    let performer = speaker_of before in
-    let deed = c.in-Some.deed in
-    let ready = p.1.ready sound deed (sym c.take.ensures.value ∙ c.in-Some.is) in
-    let made = made-next c.self.inside.script before deed c.args.ty need ready.act_is in
-    let who_is = sym m.answer.speaker_is ∙ at-node c.self.inside.services.speaker c.node-node.result c.node-node.ensures in
-    let at = c.node-node.ensures ∙ ap node_of m.answer.speaker_is in
-    let grown = c.grow-made.ensures in
-    let nodes = nodes-made (nodes_of before) performer c.args.ty deed made.creation in
-    rw c.take.ensures.after (
-      p.0,
-      sound-again _ (c.push_within.ensures.entries ∙ ap (λ (w : Who). Did w (Made c.args.ty) deed ∷ before) (sym who_is)) (c.push_within.ensures.limit ∙ p.1.limit) (legal-more (Did performer (Made c.args.ty) deed) made.next room p.1.legal)
-          (did-match _ before c.self.inside.services _ performer (Made c.args.ty) deed ready.act_is m
-          (record {
-            stage = ap (λ (s : Services). s.stage) grown.rest;
-            time = ap (λ (s : Services). s.time) grown.rest;
-            speaker = ap (λ (s : Services). s.speaker) grown.rest;
-            answer = ap (λ (s : Services). s.answer) grown.rest;
-            done = c.one_more-self-inside.ensures ∙ ap (λ (s : Services). s.done + 1) grown.rest;
-            built = ap (λ (s : Services). s.built) grown.rest;
-            exit_asked = ap (λ (s : Services). s.exit_asked) grown.rest;
-            test_refused = ap (λ (s : Services). s.test_refused) grown.rest;
-          })
-          (rw (nodes, grown.nodes, c.created_name-name.ensures, at, m.tree) refl)
-          (rw (ap (λ (s : Services). s.factory) grown.rest) m.factory)
-          (rw (nodes, grown.components, length-snoc (nodes_of before) (child (nodes_of before) (node_of performer) (created_name deed) Component), m.tree) (turns-made m.turns))
-          (rw (ap (λ (s : Services). s.settings) grown.rest) m.settings)
-          (rw (ap (λ (s : Services). s.agenda) grown.rest) (agenda-later m.agenda))),
-    )
+    let act = c.in-Some.room in
+    let ready = c.self.invariant.1.ready r.may.sound act (sym c.take.ensures.value ∙ c.in-Some.is) in
+    let w = wanted c.self.inside.script before act r.may.next ready.act_is in
+    let ty = rw w.next at r.ty in
+    let next : IsNext c.self.inside.script before (Did (speaker_of before) (Made c.args.ty) act) = rw w.next (inl (ap (λ t. Did (speaker_of before) (Made t) act) (sym ty))) in
+    let kept = rw (c.act.ensures, c.into_parts-deed.ensures) at (c.grow-node.ensures.kept c.args.ty (length before)) in
+    let entries = rw (c.made-made.ensures, c.into_parts-deed.ensures) at c.in-Ok.ensures.ok in
+    rw c.take.ensures.after (acted-on (Made c.args.ty) act c.self.invariant r.may.sound r.may.room ready.act_is next kept entries c.in-Ok.ensures.limit c.in-Ok.ensures.services)
 
 pub returns-clause-ok : goal.returns-clause-ok
 returns-clause-ok c =
-    let p = c.self.invariant in
-    let sound = rw (← c.self.view_is) at c.requires.sound in
-    let need = rw (← c.self.view_is) at c.requires.next in
-    let m = p.1.services_match sound in
+    let r = rw (← c.self.view_is) at c.requires in
+    let m = c.self.invariant.1.services_match r.may.sound in
     let before = c.self.inside.log.entries in
-    let deed = c.in-Some.deed in
-    let ready = p.1.ready sound deed (sym c.take.ensures.value ∙ c.in-Some.is) in
-    let made = made-next c.self.inside.script before deed c.args.ty need ready.act_is in
-    let who_is = sym m.answer.speaker_is ∙ at-node c.self.inside.services.speaker c.node-node.result c.node-node.ensures in
-    let entries = c.push_within.ensures.entries ∙ ap (λ (w : Who). Did w (Made c.args.ty) deed ∷ before) (sym who_is) in
-    rw (← c.self.view_is, made.entry, entries, c.take.ensures.after, sound) refl
+    let act = c.in-Some.room in
+    let ready = c.self.invariant.1.ready r.may.sound act (sym c.take.ensures.value ∙ c.in-Some.is) in
+    let w = wanted c.self.inside.script before act r.may.next ready.act_is in
+    let ty = rw w.next at r.ty in
+    let entries = rw (c.made-made.ensures, c.into_parts-deed.ensures, (c.grow-node.ensures.kept c.args.ty 0).same_answer, m.answer.speaker, ← ty) at c.in-Ok.ensures.ok in
+    rw (← c.self.view_is, w.next, entries, c.take.ensures.after, r.may.sound) refl

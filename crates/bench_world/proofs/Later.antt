@@ -1,0 +1,71 @@
+-- What stays with one more entry.
+use Rattle.std.proofs.Common.{ℕ, List, ◌≡◌, refl, rules, ap, ◌<◌, ◌∷◌, length, Option, Bool, true, None, ◌∙◌}
+use Rattle.uvm_object.specs.declared.acts.Act.{Act}
+use Rattle.uvm_object.specs.declared.entries.Entry.{Entry}
+use Rattle.uvm_object.specs.declared.entries.Entry.TheVariants.{Did}
+use Rattle.uvm_object.specs.declared.entries.Outcome.{Outcome}
+use Rattle.uvm_object.specs.declared.entries.Outcome.TheVariants.{Refused}
+use Rattle.uvm_object.specs.declared.fatals.Fatal.{Fatal}
+use Rattle.uvm_object.specs.declared.acts.Who.{Who}
+use Rattle.uvm_object.specs.Logs.{LogValue}
+use Rattle.bench_script.specs.Scripts.{ScriptValue}
+use Rattle.bench_world.specs.declared.services.Services.{Services}
+use Rattle.bench_world.specs.History.{left_of, rest_of, speaker_of}
+use Rattle.bench_world.specs.Next.{Exactly, by_act, next_of, IsNext}
+use Rattle.bench_world.specs.Services.{ServicesMatch, TakesIn, IsPerformed, one_done, with_refusal}
+use Rattle.bench_world.specs.Story.{IsSound}
+use Rattle.bench_world.proofs.Answered.{answer-later, answer-next, answer-noted}
+use Rattle.bench_world.proofs.Entered.{legal-more, sound-again}
+use Rattle.bench_world.proofs.Told.{agenda-later}
+
+-- what every entry leaves, but for what it changes
+pub ruleset later = (answer-later, answer-noted, agenda-later)
+
+-- what an act leaves, but for what it changes
+pub ruleset acted = (answer-next, agenda-later)
+
+-- a world goes on with an entry that is next
+pub entered :
+    {P : Type 0} {sound : Bool} {script : ScriptValue} {log more : LogValue} {old services : Services} {room : Option Act} (entry : Entry)
+    → P × IsSound sound script log old room → sound ≡ true → length log.entries < 1000000 → IsNext script log.entries entry
+    → more.entries ≡ entry ∷ log.entries → more.limit ≡ log.limit
+    → (ServicesMatch script log.entries old → ServicesMatch script (entry ∷ log.entries) services)
+    → P × IsSound true script more services None
+entered {log} entry p sound room next is limit match =
+    (p.0, sound-again (entry ∷ log.entries) is (limit ∙ p.1.limit) (legal-more entry next room p.1.legal) (match (p.1.services_match sound)))
+
+-- and with the entry of an act
+pub acted-on :
+    {P : Type 0} {sound : Bool} {script : ScriptValue} {log more : LogValue} {old new services : Services} {room : Option Act} (outcome : Outcome) (act : Act)
+    → P × IsSound sound script log old room → sound ≡ true → length log.entries < 1000000
+    → left_of script log.entries ≡ act ∷ rest_of (left_of script log.entries) → IsNext script log.entries (Did (speaker_of log.entries) outcome act)
+    → TakesIn act outcome (length log.entries) old new
+    → more.entries ≡ Did new.answer.speaker outcome act ∷ log.entries → more.limit ≡ log.limit → services ≡ one_done new
+    → P × IsSound true script more services None
+acted-on {script = script} {log} {old = old} {new} outcome act p sound room left next kept is limit done =
+    let m = p.1.services_match sound in
+    let match = kept.with_entry script log.entries (record { known = m; left = left; place_is = refl }) in
+    entered (Did old.answer.speaker outcome act) p sound room (rw m.answer.speaker next) (is ∙ ap (λ (s : Who). Did s outcome act ∷ log.entries) (ap (λ a. a.speaker) kept.same_answer)) limit (λ m. rw done match)
+
+-- what an act comes to by itself is next
+pub performed :
+    {P : Type 0} {sound : Bool} {script : ScriptValue} {log more : LogValue} {old new services : Services} {room : Option Act} (outcome : Outcome) (act : Act)
+    → P × IsSound sound script log old room → sound ≡ true → length log.entries < 1000000
+    → left_of script log.entries ≡ act ∷ rest_of (left_of script log.entries) → next_of script log.entries ≡ by_act script log.entries (speaker_of log.entries) act
+    → IsPerformed act outcome (length log.entries) old new
+    → more.entries ≡ Did new.answer.speaker outcome act ∷ log.entries → more.limit ≡ log.limit → services ≡ one_done new
+    → P × IsSound true script more services None
+performed {script = script} {log} {old = old} outcome act p sound room left next did is limit done =
+    let m = p.1.services_match sound in
+    let comes = next ∙ (rw m.answer.speaker at (did.comes script log.entries (record { known = m; left = left; place_is = refl }))) in
+    acted-on outcome act p sound room left (rw comes refl) did.kept is limit done
+
+-- any act may be refused
+pub refused-taken-in : {old new : Services} {place : ℕ} (act : Act) (fatal : Fatal) → new ≡ with_refusal old → TakesIn act (Refused fatal) place old new
+refused-taken-in act fatal kept = rw kept (record { same_answer = refl; with_entry = λ script history s. let m = s.known in let left = s.left in search (rules, acted) })
+
+pub refused-performed :
+    {old new : Services} {place : ℕ} {outcome : Outcome} (act : Act) (fatal : Fatal) → outcome ≡ Refused fatal → new ≡ with_refusal old
+    → ((script : ScriptValue) (history : List Entry) → ServicesMatch script history old → by_act script history old.answer.speaker act ≡ Exactly (Did old.answer.speaker (Refused fatal) act))
+    → IsPerformed act outcome place old new
+refused-performed act fatal is kept comes = rw is (record { comes = λ script history s. comes script history s.known; kept = refused-taken-in act fatal kept })

@@ -1,0 +1,32 @@
+use Rattle.std.proofs.Common.{◌≡◌, refl, ◌∙◌, filter, rules}
+use Rattle.uvm_glob.specs.Paths.{path_text}
+use Rattle.uvm_config.specs.Answers.{config_answer}
+use Rattle.uvm_tree.specs.Nodes.{path_at}
+use Rattle.uvm_object.specs.Acts.{node_of}
+use Rattle.bench_world.specs.Configuration.{settings_of}
+use Rattle.bench_world.specs.Dues.{caused_of, heard_of, ended_of, is_open}
+use Rattle.bench_world.specs.History.{stage_of, now_of, nodes_of}
+use Rattle.bench_world.proofs.Configured.{value-found}
+use Rattle.bench_world.proofs.Later.{acted}
+use Rattle.bench_world.proofs.Told.{agenda-told}
+use Rattle.bench_world.proofs.configuring.get_field.Goals as goal
+
+pub returns : goal.returns
+returns c =
+    let told = c.in_ok-tell.ensures in
+    let value = c.value_at-value.result in
+    rw (c.value.ensures, told.rest) (record {
+      comes = λ script history s.
+          let m = s.known in
+          let found : value ≡ config_answer (settings_of script history) (path_text (path_at (nodes_of history) (node_of c.args.services.now.answer.speaker))) c.args.field = rw (← m.tree) (c.value_at-value.ensures ∙ rw c.node-node.ensures (value-found _ c.args.field m.settings)) in
+          rw found refl;
+      kept = record {
+        same_answer = refl;
+        with_entry = λ script history s.
+            let m = s.known in
+            let left = s.left in
+            let dues = rw (m.stage, m.time, ← s.place_is) at (told.dues (filter (is_open (heard_of history) (ended_of history)) (caused_of history)) m.agenda.are) in
+            let agenda = agenda-told value c.args.field c.args.services.now.answer.speaker (now_of history) (stage_of history) (caused_of history) (heard_of history) (ended_of history) _ _ _ m.phases m.agenda dues in
+            search (rules, acted);
+      };
+    })

@@ -1,0 +1,23 @@
+use Rattle.std.proofs.Common.{[], ◌∷◌, ◌++◌, length, refl, rules}
+use Rattle.uvm_tree.specs.declared.nodes.NodeKind.TheVariants.{Component}
+use Rattle.uvm_tree.specs.Nodes.{child}
+use Rattle.uvm_object.specs.Acts.{node_of}
+use Rattle.bench_world.specs.History.{nodes_of, components_of, called_of, created_name}
+use Rattle.bench_world.specs.Services.{AreTurns}
+use Rattle.bench_world.proofs.Answered.{length-snoc}
+use Rattle.bench_world.proofs.Later.{acted}
+use Rattle.bench_world.proofs.Turns.{turns-made}
+use Rattle.bench_world.proofs.making.grow.Goals as goal
+
+pub returns-clause-kept : goal.returns-clause-kept
+returns-clause-kept c = λ ty place. record {
+  same_answer = refl;
+  with_entry = λ script history s.
+      let m = s.known in
+      let left = s.left in
+      let made = child (nodes_of history) (node_of c.args.services.now.answer.speaker) (created_name c.args.act.now) Component in
+      let tree = rw (c.node-parent.ensures, c.created_name-name.ensures, m.tree) at c.in-Ok.ensures.nodes in
+      let turns : AreTurns (components_of history ++ length (nodes_of history) ∷ []) (called_of history) (length (nodes_of history ++ made ∷ [])) c.push.new.self.items =
+      rw (c.in-Ok-push.ensures.items, c.in-Ok.ensures.id, m.tree, length-snoc (nodes_of history) made) (turns-made m.turns) in
+      search (rules, acted);
+}

@@ -1,0 +1,11 @@
+use Rattle.std.proofs.Common.{◌∙◌}
+use Rattle.bench_world.specs.History.{opening}
+use Rattle.bench_world.proofs.Answered.{answer-head}
+use Rattle.bench_world.proofs.worlds.World.next_left.Goals as goal
+
+-- the act after those that are done
+pub returns-in-Some : goal.returns-in-Some
+returns-in-Some c =
+    let sound = rw (← c.self.view_is) at c.requires in
+    let m = c.self.invariant.1.services_match sound in
+    rw (← c.self.view_is) (c.deed_at.ensures (opening c.self.inside.script) ∙ (rw c.in-Some.is at (answer-head c.if-answer.false m.answer)))

@@ -1,4 +1,1 @@
-pub mod Called
-pub mod Comings
-pub mod Grown
 pub mod Turns

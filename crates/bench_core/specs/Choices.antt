@@ -1,16 +1,23 @@
 -- What a choice says of what comes next.
 use Rattle.std.specs.Prelude.{◌≡◌}
+use Rattle.uvm_object.specs.declared.entries.Entry.{Entry}
 use Rattle.uvm_object.specs.declared.entries.Entry.TheVariants as entry
-use Rattle.bench_world.specs.Next as next
-use Rattle.bench_world.specs.Next.{IsAct}
+use Rattle.bench_history.specs.Cases as next
+use Rattle.bench_history.specs.Next.{IsAct}
+use Rattle.bench_core.specs.declared.choices.Mark.{Mark}
+use Rattle.bench_core.specs.declared.choices.Mark.TheVariants.{Begin, End, Note, Over}
 use Rattle.bench_core.specs.declared.choices.Choice.{Choice}
-use Rattle.bench_core.specs.declared.choices.Choice.TheVariants.{Nothing, Begin, End, Over, Note, Act, Ask}
+use Rattle.bench_core.specs.declared.choices.Choice.TheVariants.{Nothing, Enter, Act, Ask}
+
+-- the entry of a mark
+abbrev pub entry_of : Mark → Entry
+entry_of (Begin phase) = entry.Begin phase
+entry_of (End phase) = entry.End phase
+entry_of (Note fatal node) = entry.Note fatal node
+entry_of (Over reason) = entry.Over reason
 
 abbrev pub IsChoice : next.Next → Choice → Type 0
 IsChoice comes Nothing = comes ≡ next.Nothing
-IsChoice comes (Begin phase) = comes ≡ next.Exactly (entry.Begin phase)
-IsChoice comes (End phase) = comes ≡ next.Exactly (entry.End phase)
-IsChoice comes (Over reason) = comes ≡ next.Exactly (entry.Over reason)
-IsChoice comes (Note fatal node) = comes ≡ next.Exactly (entry.Note fatal node)
+IsChoice comes (Enter mark) = comes ≡ next.Exactly (entry_of mark)
 IsChoice comes Act = IsAct comes
 IsChoice comes (Ask performer call cause) = comes ≡ next.Answer performer call cause

@@ -1,3 +1,3 @@
 pub mod Choices
 pub mod Faults
-pub mod Plays
+pub mod Cores

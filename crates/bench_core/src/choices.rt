@@ -1,29 +1,43 @@
 //! The choice of the next entry.
 
 ghost use Rattle.std.specs.Prelude.{◌≡◌, true};
-ghost use Rattle.bench_world.specs.Next.{next_of, by_stage};
+ghost use Rattle.bench_history.specs.Next.{next_of};
 ghost use Rattle.bench_core.specs.Choices.{IsChoice};
 
-use bench_world::{Stage, World};
+use bench_history::Stage;
+use bench_world::World;
 use uvm_object::{Call, Fatal, Reason, Who};
 use uvm_phase::{Cause, Phase, Schedule};
 use uvm_tree::NodeId;
 
+/// An entry that the machine makes by itself.
+#[derive(Clone, Copy)]
+pub(crate) enum Mark {
+    /// A phase begins.
+    Begin(Phase),
+    /// A phase ends.
+    End(Phase),
+    /// The kernel reports at a node.
+    Note(Fatal, NodeId),
+    /// The run is over.
+    Over(Reason),
+}
+
 /// What comes next.
 #[derive(Drop)]
 pub(crate) enum Choice {
+    /// Nothing.
     Nothing,
-    Begin(Phase),
-    End(Phase),
-    Over(Reason),
-    Note(Fatal, NodeId),
+    /// This entry.
+    Enter(Mark),
     /// An act of the last answer, which has its entry at once or needs an object.
     Act,
+    /// The answer of somebody to a call, which is due for a cause, or is a phase's.
     Ask(Who, Call, Option<Cause>),
 }
 
 // What comes next after the log of a world.
-#[tactic(auto, unfolding(bench_world::specs::Next::next_of))]
+#[tactic(auto, unfolding(bench_history::specs::Next::next_of))]
 pub(crate) fn choose(world: &World) -> Choice
     requires { world.now.sound ≡ true }
     ensures { IsChoice (next_of world.now.script world.now.history) result }
@@ -33,34 +47,27 @@ pub(crate) fn choose(world: &World) -> Choice
         return Choice::Nothing;
     }
     if let Some(reason) = world.reason() {
-        return Choice::Over(reason);
+        return Choice::Enter(Mark::Over(reason));
     }
     match world.acts_left() {
-        0 => match world.due_now() {
-            Some(due) => Choice::Ask(due.owner.copy(), due.notice, Some(due.cause)),
-            None => choose_stage(world, stage),
-        },
+        0 => {}
         count if count > World::MAX_ACTS => {
-            Choice::Note(Fatal::TooManyActs, world.speaker().node())
+            return Choice::Enter(Mark::Note(Fatal::TooManyActs, world.speaker().node()));
         }
-        _ => Choice::Act,
+        _ => return Choice::Act,
     }
-}
-
-// What comes where no act is left.
-fn choose_stage(world: &World, stage: Stage) -> Choice
-    requires { world.now.sound ≡ true }
-    ensures { IsChoice (by_stage world.now.history stage) result }
-{
+    if let Some(due) = world.due_now() {
+        return Choice::Ask(due.owner.copy(), due.notice, Some(due.cause));
+    }
     match stage {
-        Stage::Before => Choice::Begin(Phase::Build),
+        Stage::Before => Choice::Enter(Mark::Begin(Phase::Build)),
         Stage::During(phase) => match world.next_call(phase) {
             Some(node) => Choice::Ask(Who::Node(node), Call::Phase(phase), None),
-            None => Choice::End(phase),
+            None => Choice::Enter(Mark::End(phase)),
         },
         Stage::After(phase) => match Schedule::next(phase) {
-            Some(phase) => Choice::Begin(phase),
-            None => Choice::Over(Reason::Finished),
+            Some(phase) => Choice::Enter(Mark::Begin(phase)),
+            None => Choice::Enter(Mark::Over(Reason::Finished)),
         },
         Stage::Ended => Choice::Nothing,
     }

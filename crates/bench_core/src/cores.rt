@@ -1,23 +1,27 @@
 //! The machine.
 
-ghost use Rattle.std.specs.Prelude.{◌≡◌, ◌<◌, [], true, false, OnOk, OnErr, IfOk, IfErr, IfSome, IsSome, Some, IsOk, IsErr, None, ◌&&◌, length, ◌++◌, if◌then◌else◌, option_map};
+ghost use Rattle.std.specs.Prelude.{◌≡◌, ◌<◌, [], true, false, OnOk, OnErr, IfOk, IfErr, IfSome, IsSome, Some, None, ◌&&◌, length, ◌++◌, if◌then◌else◌, option_map};
 ghost use Rattle.std.specs.Bool.{OnTrue, OnFalse};
 ghost use Rattle.std.specs.Option.{option_copied};
 ghost use Rattle.uvm_tree.specs.Nodes.{node_at, number_of};
 ghost use Rattle.uvm_object.specs.declared.acts.Who.TheVariants as who;
-ghost use Rattle.bench_world.specs.History.{nodes_of, now_of, running, stage_of};
+ghost use Rattle.bench_history.specs.History.{is_over, log_limit, nodes_of, now_of, running, stage_of};
 ghost use Rattle.uvm_glob.specs.Paths.{path_text};
 ghost use Rattle.uvm_config.specs.Answers.{config_answer};
-ghost use Rattle.bench_world.specs.Configuration.{settings_of};
-ghost use Rattle.bench_world.specs.Next.{next_of, made_in, declined_in, IsLegal};
-ghost use Rattle.bench_world.specs.Next as comes;
-ghost use Rattle.bench_core.specs.Plays.{IsNextTurn, IsTurn, IsSomething, IsUnmade, after, failed_from, is_sound, turn_of, need_of, answer_in, IsAsk, AsksComponent, is_over, last_text};
+ghost use Rattle.bench_history.specs.Configuration.{settings_of};
+ghost use Rattle.bench_history.specs.Next.{next_of, made_in, declined_in, IsLegal};
+ghost use Rattle.bench_history.specs.Cases as comes;
+ghost use Rattle.bench_history.specs.Laws.{IsSomething};
+ghost use Rattle.bench_core.specs.Cores.{IsNextTurn, IsTurn, IsUnmade, core_after, failed_from, is_sound, turn_of, need_of, answer_in, IsAsk, AsksComponent, last_text};
+ghost use Rattle.bench_world.specs.Worlds.{MayEnter, broken, world_after};
+ghost use Rattle.bench_core.specs.Choices.{entry_of};
 ghost use Rattle.bench_core.specs.declared.cores.Standing.TheVariants.{Nothing, Needed, Asked};
 
-use crate::choices::{Choice, choose};
+use crate::choices::{Choice, Mark, choose};
 use crate::faults::CoreFault;
+use bench_history::{Need, laws};
 use bench_script::Script;
-use bench_world::{Need, Stage, World};
+use bench_world::World;
 use rand_core::Rng;
 use std::alloc::{AllocError, Global};
 use std::marker::Model;
@@ -75,9 +79,9 @@ pub struct Core {
 }
 
 impl Model for Core {
-    ghost use Rattle.bench_core.specs.Plays.{Play, IsCore};
+    ghost use Rattle.bench_core.specs.Cores.{CoreValue, IsCore};
 
-    ghost Value = { Play };
+    ghost Value = { CoreValue };
 
     ghost view = { λ c. record { script = c.world.script; history = c.world.history; standing = c.standing; health = c.health } };
 
@@ -112,8 +116,10 @@ impl Core {
         ensures over { IfOk result (λ turn. turn ≡ Turn.Over → is_over self.new.history ≡ true) }
         ensures words { _words.new ≡ _words.old }
     {
-        // It is legal: whoever is called next is a component, and a run that has ended is over.
+        // The log is legal, so whoever is asked is a component, and a run goes on to its end.
         let _log = self.log();
+        laws::asked_are_components();
+        laws::something_before_over();
         if let Some(turn) = told(&self.standing) {
             return Ok(turn);
         }
@@ -144,15 +150,15 @@ impl Core {
     pub fn made(&mut self) -> Who
         requires { turn_of self.old.standing ≡ Some Turn.Need }
         ensures who { result ≡ who.Node (length (nodes_of self.old.history)) }
-        ensures entry { IfSome (made_in (next_of self.old.script self.old.history)) (λ entry. self.new ≡ after entry self.old) }
+        ensures entry { IfSome (made_in (next_of self.old.script self.old.history)) (λ entry. self.new ≡ core_after entry self.old) }
         ensures one { IsSome (made_in (next_of self.old.script self.old.history)) }
     {
         let Standing::Needed(need) = &self.standing else {
             unreachable!()
         };
-        let ty = need.ty;
+        let type_name = need.type_name;
         self.standing = Standing::Nothing;
-        let Ok(who) = self.world.made(ty) else {
+        let Ok(who) = self.world.made(type_name) else {
             unreachable!()
         };
         who
@@ -161,7 +167,7 @@ impl Core {
     /// The needed object is declined. Takes no memory.
     pub fn declined(&mut self)
         requires { turn_of self.old.standing ≡ Some Turn.Need }
-        ensures entry { IfSome (declined_in (next_of self.old.script self.old.history)) (λ entry. self.new ≡ after entry self.old) }
+        ensures entry { IfSome (declined_in (next_of self.old.script self.old.history)) (λ entry. self.new ≡ core_after entry self.old) }
         ensures one { IsSome (declined_in (next_of self.old.script self.old.history)) }
     {
         self.standing = Standing::Nothing;
@@ -173,7 +179,7 @@ impl Core {
     /// The answer that was asked for. `Memory` where memory is refused, and the machine has failed then.
     pub fn heard(&mut self, acts: Acts) -> Result<(), CoreFault>
         requires { IsAsk (turn_of self.old.standing) }
-        ensures ok { OnOk result (IfSome (answer_in self.old.standing acts) (λ entry. self.new ≡ after entry self.old)) }
+        ensures ok { OnOk result (IfSome (answer_in self.old.standing acts) (λ entry. self.new ≡ core_after entry self.old)) }
         ensures err { IfErr result (λ fault. (fault ≡ CoreFault.Memory) × (self.new ≡ failed_from Health.Broken self.old)) }
     {
         let Standing::Asked { who, call, cause } = &self.standing else {
@@ -212,10 +218,7 @@ impl Core {
         if !self.is_sound() {
             return None;
         }
-        match self.world.stage() {
-            Stage::During(phase) => Some(phase),
-            _ => None,
-        }
+        self.world.phase()
     }
 
     /// The log. It is legal at every moment.
@@ -311,17 +314,17 @@ impl Core {
     fn advance(&mut self) -> Result<Turn, AllocError>
         requires standing { self.old.standing ≡ Nothing }
         requires health { self.old.health ≡ Health.Good }
-        requires room { length self.old.history < 1000000 }
+        requires room { length self.old.history < log_limit self.old.script }
         ensures ok { IfOk result (λ turn. IsTurn (next_of self.old.script self.old.history) turn self.old self.new) }
         ensures err { OnErr result (self.new ≡ failed_from Health.Broken self.old) }
     {
         self.health = Health::Broken;
         let turn = match choose(&self.world) {
             Choice::Nothing => Turn::Over,
-            Choice::Begin(phase) => moved(self.world.begin(phase))?,
-            Choice::End(phase) => moved(self.world.end(phase))?,
-            Choice::Over(reason) => moved(self.world.over(reason))?,
-            Choice::Note(fatal, node) => moved(self.world.note(fatal, node))?,
+            Choice::Enter(mark) => {
+                enter(&mut self.world, mark)?;
+                Turn::Moved
+            }
             Choice::Act => match self.world.did()? {
                 None => Turn::Moved,
                 Some(need) => {
@@ -358,23 +361,26 @@ fn told(standing: &Standing) -> Option<Turn>
 }
 
 // Whether the run is over.
-#[tactic(auto, using(crate::proofs::Comings::comings))]
 fn is_over(world: &World) -> bool
     requires { world.now.sound ≡ true }
     ensures over { OnTrue result (next_of world.now.script world.now.history ≡ comes.Nothing) }
     ensures on { OnFalse result (IsSomething (next_of world.now.script world.now.history)) }
 {
-    match world.stage() {
-        Stage::Ended => true,
-        Stage::Before | Stage::During(_) | Stage::After(_) => false,
-    }
+    laws::nothing_after_over();
+    laws::something_before_over();
+    matches!(world.log().last(), Some(Entry::Over(_)))
 }
 
-// An entry was made.
-fn moved(made: Result<(), AllocError>) -> Result<Turn, AllocError>
-    ensures ok { IfOk result (λ turn. (turn ≡ Turn.Moved) × IsOk made) }
-    ensures err { OnErr result (IsErr made) }
+// Makes an entry of the machine's own.
+fn enter(world: &mut World, mark: Mark) -> Result<(), AllocError>
+    requires { MayEnter world.old (comes.Exactly (entry_of mark)) }
+    ensures ok { OnOk result (world.new ≡ world_after (entry_of mark) world.old) }
+    ensures err { OnErr result (world.new ≡ broken world.old) }
 {
-    made?;
-    Ok(Turn::Moved)
+    match mark {
+        Mark::Begin(phase) => world.begin(phase),
+        Mark::End(phase) => world.end(phase),
+        Mark::Note(fatal, node) => world.note(fatal, node),
+        Mark::Over(reason) => world.over(reason),
+    }
 }

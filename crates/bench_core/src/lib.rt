@@ -7,6 +7,6 @@ mod faults;
 #[cfg(test)]
 mod tests;
 
-pub use bench_world::Need;
+pub use bench_history::Need;
 pub use cores::{Core, Health, Standing, Turn};
 pub use faults::CoreFault;

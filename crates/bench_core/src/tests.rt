@@ -254,7 +254,7 @@ fn acts_of(alloc: Global, bench: Bench, is_test: bool, call: Call) -> Result<Act
 
 fn create(name: &[u8]) -> Result<Act, Fail> {
     Ok(Act::Create {
-        ty: Name::new(b"c")?,
+        type_name: Name::new(b"c")?,
         name: Name::new(name)?,
     })
 }

@@ -18,42 +18,43 @@ use Rattle.uvm_object.specs.declared.entries.Entry.{Entry}
 use Rattle.uvm_object.specs.declared.entries.Entry.TheVariants.{Heard, Did}
 use Rattle.uvm_object.specs.declared.fatals.Fatal.TheVariants.{NoObject}
 use Rattle.bench_script.specs.Scripts.{ScriptValue}
-use Rattle.bench_world.specs.History.{nodes_of, components_of}
-use Rattle.bench_world.specs.declared.creations.Need.{Need}
-use Rattle.bench_world.specs.Next as next
-use Rattle.bench_world.specs.Next.{Next, Exactly, Answer, next_of, EachIsNext}
+use Rattle.bench_history.specs.History.{nodes_of, components_of, is_over}
+use Rattle.bench_history.specs.declared.needs.Need.{Need}
+use Rattle.bench_history.specs.Cases as next
+use Rattle.bench_history.specs.Next as coming
+use Rattle.bench_history.specs.Cases.{Next, Exactly, Answer}
+use Rattle.bench_history.specs.Next.{next_of, EachIsNext}
 use Rattle.bench_core.specs.declared.cores.Standing.TheVariants.{Needed}
-use Rattle.bench_core.specs.Plays.{Play, IsSomething, after, is_over}
-use Rattle.bench_core.proofs.Comings.{nothing-comes}
-use Rattle.bench_core.proofs.Grown.{exact-is-silent, exact-keeps-components, nodes-grow, made-grows}
-use Rattle.bench_core.proofs.Called.{components-below, unasked, over-is-ended}
-use Rattle.bench_kernel.specs.Casts.{Cast, IsCast, object_at, is_done}
+use Rattle.bench_history.specs.Laws.{NothingAfterOver, ComponentsAreNodes, NodesStay, IsSomething}
+use Rattle.bench_core.specs.Cores.{CoreValue, core_after}
+use Rattle.bench_kernel.specs.Laws.{LogLaws}
+use Rattle.bench_kernel.specs.Kernels.{KernelValue, IsKernel, object_at, is_done}
 use Rattle.bench_kernel.specs.Orders.{IsFirstDown, IsFromLast}
 use Rattle.bench_kernel.specs.Steps.{IsAsked, IsSameLog}
 use Rattle.bench_kernel.proofs.Ranks.{IsPlace, All-front, All-insert, IsFromLast-held, IsFromLast-last, IsFromLast-more, place-more}
 use Rattle.bench_kernel.proofs.Lives.{LiveHonestly-heard, LiveHonestly-unanswered, LiveHonestly-silent, LiveHonestly-more, LiveHonestly-less, object_at-asked}
 
 -- where something comes the run is not over
-pub on-where-some : (script : ScriptValue) (history : List Entry) (comes : Next) → next_of script history ≡ comes → IsSomething comes → is_over history ≡ false
-on-where-some script history comes is some = go (is_over history) refl
+pub on-where-some : NothingAfterOver → (script : ScriptValue) (history : List Entry) (comes : Next) → next_of script history ≡ comes → IsSomething comes → is_over history ≡ false
+on-where-some over script history comes is some = go (is_over history) refl
   where
     go : (b : Bool) → is_over history ≡ b → is_over history ≡ false
     go false e = e
-    go true e = absurd (subst IsSomething (sym is ∙ nothing-comes script history (over-is-ended history e)) some)
+    go true e = absurd (subst IsSomething (sym is ∙ over script history e) some)
 
 -- who is held is a node of the tree
-pub held-below : (script : ScriptValue) (history : List Entry) (keys : List ℕ) → EachIsNext script history → All (Contains (components_of history)) keys
+pub held-below : ComponentsAreNodes → (script : ScriptValue) (history : List Entry) (keys : List ℕ) → EachIsNext script history → All (Contains (components_of history)) keys
     → All (λ node. node < length (nodes_of history)) keys
-held-below script history keys each made =
+held-below components script history keys each made =
     All-weaker (Contains (components_of history)) (λ node. node < length (nodes_of history))
-    (λ node there. All-contains (λ node. node < length (nodes_of history)) (components_of history) node (components-below script history each) there) keys made
+    (λ node there. All-contains (λ node. node < length (nodes_of history)) (components_of history) node (components script history each) there) keys made
 
 -- the order stays after an entry
-order-after : (script : ScriptValue) (history : List Entry) (entry : Entry) (keys : List ℕ) → EachIsNext script history → All (Contains (components_of history)) keys
+order-after : NodesStay → ComponentsAreNodes → (script : ScriptValue) (history : List Entry) (entry : Entry) (keys : List ℕ) → EachIsNext script history → All (Contains (components_of history)) keys
     → IsFromLast (nodes_of history) keys → IsFromLast (nodes_of (entry ∷ history)) keys
-order-after script history entry keys each made ordered =
-    let grown = nodes-grow entry history in
-    rw grown.1 (IsFromLast-more (nodes_of history) grown.0 keys (held-below script history keys each made) ordered)
+order-after nodes components script history entry keys each made ordered =
+    let grown = nodes entry history in
+    rw grown.1 (IsFromLast-more (nodes_of history) grown.0 keys (held-below components script history keys each made) ordered)
 
 -- an object that is there stays there
 still-some : {O : Type 0} (b : Bool) (object : O) (found : Option O) → IsSome found → IsSome (if b then Some object else found)
@@ -61,66 +62,17 @@ still-some true object found some = refl
 still-some false object found some = some
 
 module _ {O : Type 0} (view : O → View) (name : O → List ℕ) (says : O → Says) where
-  -- the machine made an entry
-  pub kept-moved : (cast : Cast O) (entry : Entry) → next_of cast.core.script cast.core.history ≡ Exactly entry
-      → cast.failed ≡ false → IsCast view says cast → IsCast view says (record cast { core = after entry cast.core })
-  kept-moved cast entry exact going kept =
-      let history = cast.core.history in
-      let each = kept.each in
-      let on : is_over history ≡ false = on-where-some cast.core.script history (Exactly entry) exact tt in
-      let same = exact-keeps-components cast.core.script history entry exact in
-      record {
-        each = (rw exact refl, each);
-        honest = LiveHonestly-silent view name says entry history cast.held cast.unknown (λ node. exact-is-silent cast.core.script history entry node exact) kept.honest;
-        made = rw same kept.made;
-        whole = λ done. rw same (kept.whole (rw (going, on) refl));
-        in_order = order-after cast.core.script history entry (keys_of cast.held) each kept.made kept.in_order;
-        good = kept.good;
-        comes = λ h. tt;
-        known = kept.known;
-      }
-
-  -- who is asked is held
-  pub asked-held : (cast : Cast O) (performer : Who) (call : Call) (cause : Option Cause) → next_of cast.core.script cast.core.history ≡ Answer performer call cause → cast.failed ≡ false
-      → Contains (components_of cast.core.history) (node_of performer) → IsCast view says cast → IsSome (object_at cast.held (node_of performer))
-  asked-held cast performer call cause answers going there kept =
-      let on : is_over cast.core.history ≡ false = on-where-some cast.core.script cast.core.history (Answer performer call cause) answers tt in
-      All-contains (λ node. IsSome (object_at cast.held node)) (components_of cast.core.history) (node_of performer) (kept.whole (rw (going, on) refl)) there
-
-  -- an object answered
-  pub kept-heard : (cast : Cast O) (core : Play) (held : List (ℕ × O)) (performer : Who) (node : ℕ) (call : Call) (cause : Option Cause) (acts : List Act)
-      → next_of cast.core.script cast.core.history ≡ Answer performer call cause → cast.failed ≡ false → core ≡ after (Heard performer call cause acts) cast.core → node ≡ node_of performer
-      → IsAsked view name says node call (Ok acts) cast.held held → IsCast view says cast
-      → IsCast view says (record { core = core; held = held; failed = false; unknown = None })
-  kept-heard cast core held performer node call cause acts answers going is same_node asked_there kept =
-      let on : is_over cast.core.history ≡ false = on-where-some cast.core.script cast.core.history (Answer performer call cause) answers tt in
-      let asked : IsAsked view name says (node_of performer) call (Ok acts) cast.held held = subst (λ n. IsAsked view name says n call (Ok acts) cast.held held) same_node asked_there in
-      let keys : keys_of held ≡ keys_of cast.held = rw asked.is (keys-set_value (nat_eq (node_of performer)) cast.held asked.after) in
-      rw is (record {
-        each = (rw answers (acts, refl), kept.each);
-        honest = LiveHonestly-heard view name says performer call cause acts cast.held held cast.core.history asked (rw (kept.known going) at (kept.honest));
-        made = rw keys kept.made;
-        whole = λ done.
-            All-weaker (λ n. IsSome (object_at cast.held n)) (λ n. IsSome (object_at held n))
-            (λ n some. rw (object_at-asked view name says (node_of performer) call (Ok acts) cast.held held asked n) (still-some (nat_eq (node_of performer) n) asked.after (object_at cast.held n) some))
-            (components_of cast.core.history) (kept.whole (rw (going, on) refl));
-        in_order = rw keys kept.in_order;
-        good = λ h. kept.good going;
-        comes = λ h. tt;
-        known = λ h. refl;
-      })
-
   -- an object gave no answer
-  pub kept-unanswered : (cast : Cast O) (held : List (ℕ × O)) (core : Play) (performer : Who) (node : ℕ) (call : Call) (answer : Result (List Act) AllocError) → node ≡ node_of performer → cast.failed ≡ false
-      → IsSameLog cast.core core → IsAsked view name says node call answer cast.held held → IsCast view says cast
-      → IsCast view says (record { core = core; held = held; failed = true; unknown = Some performer })
-  kept-unanswered cast held core performer node call answer same_node going same_log asked_there kept =
+  pub kept-unanswered : (kernel : KernelValue O) (held : List (ℕ × O)) (core : CoreValue) (performer : Who) (node : ℕ) (call : Call) (answer : Result (List Act) AllocError) → node ≡ node_of performer → kernel.failed ≡ false
+      → IsSameLog kernel.core core → IsAsked view name says node call answer kernel.held held → IsKernel view says kernel
+      → IsKernel view says (record { core = core; held = held; failed = true; unknown = Some performer })
+  kept-unanswered kernel held core performer node call answer same_node going same_log asked_there kept =
       let same = same_log.history in
-      let asked : IsAsked view name says (node_of performer) call answer cast.held held = subst (λ n. IsAsked view name says n call answer cast.held held) same_node asked_there in
-      let keys : keys_of held ≡ keys_of cast.held = rw asked.is (keys-set_value (nat_eq (node_of performer)) cast.held asked.after) in
+      let asked : IsAsked view name says (node_of performer) call answer kernel.held held = subst (λ n. IsAsked view name says n call answer kernel.held held) same_node asked_there in
+      let keys : keys_of held ≡ keys_of kernel.held = rw asked.is (keys-set_value (nat_eq (node_of performer)) kernel.held asked.after) in
       record {
         each = rw (same, same_log.script) kept.each;
-        honest = rw same (LiveHonestly-unanswered view name says performer call answer cast.held held cast.core.history asked (rw (kept.known going) at (kept.honest)));
+        honest = rw same (LiveHonestly-unanswered view name says performer call answer kernel.held held kernel.core.history asked (rw (kept.known going) at (kept.honest)));
         made = rw (same, keys) kept.made;
         whole = λ done. cc;
         in_order = rw (same, keys) kept.in_order;
@@ -130,9 +82,9 @@ module _ {O : Type 0} (view : O → View) (name : O → List ℕ) (says : O → 
       }
 
   -- the machine asks for an object
-  pub kept-needed : (cast : Cast O) (need : Need) → next.need_in (next_of cast.core.script cast.core.history) ≡ Some need → IsCast view says cast
-      → IsCast view says (record cast { core = record cast.core { standing = Needed need } })
-  kept-needed cast need comes kept = record {
+  pub kept-needed : (kernel : KernelValue O) (need : Need) → coming.need_in (next_of kernel.core.script kernel.core.history) ≡ Some need → IsKernel view says kernel
+      → IsKernel view says (record kernel { core = record kernel.core { standing = Needed need } })
+  kept-needed kernel need comes kept = record {
     each = kept.each;
     honest = kept.honest;
     made = kept.made;
@@ -144,8 +96,8 @@ module _ {O : Type 0} (view : O → View) (name : O → List ℕ) (says : O → 
   }
 
   -- the machine has failed
-  pub kept-failed : (cast : Cast O) (core : Play) → IsSameLog cast.core core → IsCast view says cast → IsCast view says (record cast { core = core; failed = true })
-  kept-failed cast core same kept = record {
+  pub kept-failed : (kernel : KernelValue O) (core : CoreValue) → IsSameLog kernel.core core → IsKernel view says kernel → IsKernel view says (record kernel { core = core; failed = true })
+  kept-failed kernel core same kept = record {
     each = rw (same.history, same.script) kept.each;
     honest = rw same.history kept.honest;
     made = rw same.history kept.made;
@@ -156,58 +108,132 @@ module _ {O : Type 0} (view : O → View) (name : O → List ℕ) (says : O → 
     known = λ going. cc;
   }
 
-  -- a needed object was taken
-  pub kept-supplied : (cast : Cast O) (held : List (ℕ × O)) (place : ℕ) (object : O) (need : Need) (performer : Who) (act : Act)
-      → next_of cast.core.script cast.core.history ≡ next.Need need performer act → cast.failed ≡ false
-      → IsPlace (nodes_of cast.core.history) need.path cast.held place
-      → held ≡ insert cast.held place (length (nodes_of cast.core.history), object)
-      → ((other : ℕ) → object_at held other ≡ (if nat_eq (length (nodes_of cast.core.history)) other then Some object else object_at cast.held other))
-      → IsCast view says cast → IsCast view says (record cast { core = after (Did performer (Made need.ty) act) cast.core; held = held })
-  kept-supplied cast held place object need performer act needs going p is found kept =
-      let history = cast.core.history in
+  -- an object was given back
+  pub kept-given : (kernel : KernelValue O) (held : List (ℕ × O)) (node : ℕ) (object : O) → is_done kernel ≡ true → kernel.held ≡ held ++ (node, object) ∷ []
+      → ((other : ℕ) → object_at held other ≡ (if nat_eq node other then None else object_at kernel.held other))
+      → IsKernel view says kernel → IsKernel view says (record kernel { held = held })
+  kept-given kernel held node object done is found kept =
+      let keys : keys_of kernel.held ≡ keys_of held ++ node ∷ [] = ap keys_of is ∙ map-append (λ (s : ℕ × O). s.0) held ((node, object) ∷ []) in
+      record {
+        each = kept.each;
+        honest = LiveHonestly-less view name says kernel.held held kernel.core.history node kernel.unknown found kept.honest;
+        made = All-front (Contains (components_of kernel.core.history)) (keys_of held) (node ∷ []) (rw keys at (kept.made));
+        whole = λ going. let bad : true ≡ false = sym done ∙ going in cc;
+        in_order = (IsFromLast-last (nodes_of kernel.core.history) (keys_of held) node (rw keys at (kept.in_order))).0;
+        good = kept.good;
+        comes = kept.comes;
+        known = kept.known;
+      }
+
+  -- and it was the first of those held
+  pub given-first : (kernel : KernelValue O) (held : List (ℕ × O)) (node : ℕ) (object : O) → kernel.held ≡ held ++ (node, object) ∷ [] → IsKernel view says kernel
+      → IsFirstDown (nodes_of kernel.core.history) node (keys_of held)
+  given-first kernel held node object is kept =
+      let keys : keys_of kernel.held ≡ keys_of held ++ node ∷ [] = ap keys_of is ∙ map-append (λ (s : ℕ × O). s.0) held ((node, object) ∷ []) in
+      (IsFromLast-last (nodes_of kernel.core.history) (keys_of held) node (rw keys at (kept.in_order))).1
+
+module _ (laws : LogLaws) {O : Type 0} (view : O → View) (name : O → List ℕ) (says : O → Says) where
+  -- the machine made an entry
+  pub kept-moved : (kernel : KernelValue O) (entry : Entry) → next_of kernel.core.script kernel.core.history ≡ Exactly entry
+      → kernel.failed ≡ false → IsKernel view says kernel → IsKernel view says (record kernel { core = core_after entry kernel.core })
+  kept-moved kernel entry exact going kept =
+      let history = kernel.core.history in
       let each = kept.each in
-      let entry : Entry = Did performer (Made need.ty) act in
+      let on : is_over history ≡ false = on-where-some laws.over kernel.core.script history (Exactly entry) exact tt in
+      let same = (laws.silent kernel.core.script history entry exact).keeps in
+      record {
+        each = (rw exact refl, each);
+        honest = LiveHonestly-silent view name says entry history kernel.held kernel.unknown (laws.silent kernel.core.script history entry exact).silent kept.honest;
+        made = rw same kept.made;
+        whole = λ done. rw same (kept.whole (rw (going, on) refl));
+        in_order = order-after laws.nodes laws.components kernel.core.script history entry (keys_of kernel.held) each kept.made kept.in_order;
+        good = kept.good;
+        comes = λ h. tt;
+        known = kept.known;
+      }
+
+  -- who is asked is held
+  pub asked-held : (kernel : KernelValue O) (performer : Who) (call : Call) (cause : Option Cause) → next_of kernel.core.script kernel.core.history ≡ Answer performer call cause → kernel.failed ≡ false
+      → Contains (components_of kernel.core.history) (node_of performer) → IsKernel view says kernel → IsSome (object_at kernel.held (node_of performer))
+  asked-held kernel performer call cause answers going there kept =
+      let on : is_over kernel.core.history ≡ false = on-where-some laws.over kernel.core.script kernel.core.history (Answer performer call cause) answers tt in
+      All-contains (λ node. IsSome (object_at kernel.held node)) (components_of kernel.core.history) (node_of performer) (kept.whole (rw (going, on) refl)) there
+
+  -- an object answered
+  pub kept-heard : (kernel : KernelValue O) (core : CoreValue) (held : List (ℕ × O)) (performer : Who) (node : ℕ) (call : Call) (cause : Option Cause) (acts : List Act)
+      → next_of kernel.core.script kernel.core.history ≡ Answer performer call cause → kernel.failed ≡ false → core ≡ core_after (Heard performer call cause acts) kernel.core → node ≡ node_of performer
+      → IsAsked view name says node call (Ok acts) kernel.held held → IsKernel view says kernel
+      → IsKernel view says (record { core = core; held = held; failed = false; unknown = None })
+  kept-heard kernel core held performer node call cause acts answers going is same_node asked_there kept =
+      let on : is_over kernel.core.history ≡ false = on-where-some laws.over kernel.core.script kernel.core.history (Answer performer call cause) answers tt in
+      let asked : IsAsked view name says (node_of performer) call (Ok acts) kernel.held held = subst (λ n. IsAsked view name says n call (Ok acts) kernel.held held) same_node asked_there in
+      let keys : keys_of held ≡ keys_of kernel.held = rw asked.is (keys-set_value (nat_eq (node_of performer)) kernel.held asked.after) in
+      rw is (record {
+        each = (rw answers (acts, refl), kept.each);
+        honest = LiveHonestly-heard view name says performer call cause acts kernel.held held kernel.core.history asked (rw (kept.known going) at (kept.honest));
+        made = rw keys kept.made;
+        whole = λ done.
+            All-weaker (λ n. IsSome (object_at kernel.held n)) (λ n. IsSome (object_at held n))
+            (λ n some. rw (object_at-asked view name says (node_of performer) call (Ok acts) kernel.held held asked n) (still-some (nat_eq (node_of performer) n) asked.after (object_at kernel.held n) some))
+            (components_of kernel.core.history) (kept.whole (rw (going, on) refl));
+        in_order = rw keys kept.in_order;
+        good = λ h. kept.good going;
+        comes = λ h. tt;
+        known = λ h. refl;
+      })
+
+  -- a needed object was taken
+  pub kept-supplied : (kernel : KernelValue O) (held : List (ℕ × O)) (place : ℕ) (object : O) (need : Need) (performer : Who) (act : Act)
+      → next_of kernel.core.script kernel.core.history ≡ next.Need need performer act → kernel.failed ≡ false
+      → IsPlace (nodes_of kernel.core.history) need.path kernel.held place
+      → held ≡ insert kernel.held place (length (nodes_of kernel.core.history), object)
+      → ((other : ℕ) → object_at held other ≡ (if nat_eq (length (nodes_of kernel.core.history)) other then Some object else object_at kernel.held other))
+      → IsKernel view says kernel → IsKernel view says (record kernel { core = core_after (Did performer (Made need.type_name) act) kernel.core; held = held })
+  kept-supplied kernel held place object need performer act needs going p is found kept =
+      let history = kernel.core.history in
+      let each = kept.each in
+      let entry : Entry = Did performer (Made need.type_name) act in
       let node : ℕ = length (nodes_of history) in
-      let grown = made-grows cast.core.script history need performer act needs in
-      let more = nodes-grow entry history in
-      let on : is_over history ≡ false = on-where-some cast.core.script history (next.Need need performer act) needs tt in
-      let below = held-below cast.core.script history (keys_of cast.held) each kept.made in
-      let split : keys_of (take place cast.held) ++ keys_of (drop place cast.held) ≡ keys_of cast.held =
-      sym (map-append (λ (s : ℕ × O). s.0) (take place cast.held) (drop place cast.held)) ∙ ap keys_of (take-append-drop place cast.held) in
+      let grown = laws.made kernel.core.script history need performer act needs in
+      let more = laws.nodes entry history in
+      let on : is_over history ≡ false = on-where-some laws.over kernel.core.script history (next.Need need performer act) needs tt in
+      let below = held-below laws.components kernel.core.script history (keys_of kernel.held) each kept.made in
+      let split : keys_of (take place kernel.held) ++ keys_of (drop place kernel.held) ≡ keys_of kernel.held =
+      sym (map-append (λ (s : ℕ × O). s.0) (take place kernel.held) (drop place kernel.held)) ∙ ap keys_of (take-append-drop place kernel.held) in
       record {
         each = (rw needs (inl refl), each);
-        honest = LiveHonestly-silent view name says entry history held cast.unknown (λ n. refl)
-            (LiveHonestly-more view name says cast.held held history node object cast.unknown found (unasked cast.core.script history node each (omega arith)) kept.honest);
+        honest = LiveHonestly-silent view name says entry history held kernel.unknown (λ n. refl)
+            (LiveHonestly-more view name says kernel.held held history node object kernel.unknown found (laws.unasked kernel.core.script history node each (omega arith)) kept.honest);
         made =
-            rw (is, map-append (λ (s : ℕ × O). s.0) (take place cast.held) ((node, object) ∷ drop place cast.held), grown.components)
-            (All-insert (Contains (components_of history ++ node ∷ [])) (keys_of (take place cast.held)) (keys_of (drop place cast.held)) node
-            (rw split (All-weaker (Contains (components_of history)) (Contains (components_of history ++ node ∷ [])) (λ other there. Contains-append_left (components_of history) (node ∷ []) other there) (keys_of cast.held) kept.made))
+            rw (is, map-append (λ (s : ℕ × O). s.0) (take place kernel.held) ((node, object) ∷ drop place kernel.held), grown.components)
+            (All-insert (Contains (components_of history ++ node ∷ [])) (keys_of (take place kernel.held)) (keys_of (drop place kernel.held)) node
+            (rw split (All-weaker (Contains (components_of history)) (Contains (components_of history ++ node ∷ [])) (λ other there. Contains-append_left (components_of history) (node ∷ []) other there) (keys_of kernel.held) kept.made))
             (Contains-push (components_of history) node));
         whole = λ done.
             rw grown.components
             (All-push (λ other. IsSome (object_at held other)) (components_of history) node
-            (All-weaker (λ other. IsSome (object_at cast.held other)) (λ other. IsSome (object_at held other))
-            (λ other some. rw (found other) (still-some (nat_eq node other) object (object_at cast.held other) some)) (components_of history) (kept.whole (rw (going, on) refl)))
+            (All-weaker (λ other. IsSome (object_at kernel.held other)) (λ other. IsSome (object_at held other))
+            (λ other some. rw (found other) (still-some (nat_eq node other) object (object_at kernel.held other) some)) (components_of history) (kept.whole (rw (going, on) refl)))
             (rw (found node) (let e : nat_eq node node ≡ true = grind (arith, nat_tests) in rw e refl)));
         in_order =
             rw (is, more.1)
-            (IsFromLast-held (nodes_of history ++ more.0) cast.held node object need.path place (rw (← more.1) grown.path_is)
-            (IsFromLast-more (nodes_of history) more.0 (keys_of cast.held) below kept.in_order)
-            (place-more (nodes_of history) more.0 need.path cast.held place below p));
+            (IsFromLast-held (nodes_of history ++ more.0) kernel.held node object need.path place (rw (← more.1) grown.path_is)
+            (IsFromLast-more (nodes_of history) more.0 (keys_of kernel.held) below kept.in_order)
+            (place-more (nodes_of history) more.0 need.path kernel.held place below p));
         good = kept.good;
         comes = λ h. tt;
         known = kept.known;
       }
 
   -- a needed object was declined
-  pub kept-declined : (cast : Cast O) (need : Need) (performer : Who) (act : Act) → next_of cast.core.script cast.core.history ≡ next.Need need performer act → cast.failed ≡ false
-      → IsCast view says cast → IsCast view says (record cast { core = after (Did performer (Refused NoObject) act) cast.core })
-  kept-declined cast need performer act needs going kept =
-      let history = cast.core.history in
-      let on : is_over history ≡ false = on-where-some cast.core.script history (next.Need need performer act) needs tt in
+  pub kept-declined : (kernel : KernelValue O) (need : Need) (performer : Who) (act : Act) → next_of kernel.core.script kernel.core.history ≡ next.Need need performer act → kernel.failed ≡ false
+      → IsKernel view says kernel → IsKernel view says (record kernel { core = core_after (Did performer (Refused NoObject) act) kernel.core })
+  kept-declined kernel need performer act needs going kept =
+      let history = kernel.core.history in
+      let on : is_over history ≡ false = on-where-some laws.over kernel.core.script history (next.Need need performer act) needs tt in
       record {
         each = (rw needs (inr refl), kept.each);
-        honest = LiveHonestly-silent view name says (Did performer (Refused NoObject) act) history cast.held cast.unknown (λ node. refl) kept.honest;
+        honest = LiveHonestly-silent view name says (Did performer (Refused NoObject) act) history kernel.held kernel.unknown (λ node. refl) kept.honest;
         made = kept.made;
         whole = λ done. kept.whole (rw (going, on) refl);
         in_order = kept.in_order;
@@ -215,27 +241,3 @@ module _ {O : Type 0} (view : O → View) (name : O → List ℕ) (says : O → 
         comes = λ h. tt;
         known = kept.known;
       }
-
-  -- an object was given back
-  pub kept-given : (cast : Cast O) (held : List (ℕ × O)) (node : ℕ) (object : O) → is_done cast ≡ true → cast.held ≡ held ++ (node, object) ∷ []
-      → ((other : ℕ) → object_at held other ≡ (if nat_eq node other then None else object_at cast.held other))
-      → IsCast view says cast → IsCast view says (record cast { held = held })
-  kept-given cast held node object done is found kept =
-      let keys : keys_of cast.held ≡ keys_of held ++ node ∷ [] = ap keys_of is ∙ map-append (λ (s : ℕ × O). s.0) held ((node, object) ∷ []) in
-      record {
-        each = kept.each;
-        honest = LiveHonestly-less view name says cast.held held cast.core.history node cast.unknown found kept.honest;
-        made = All-front (Contains (components_of cast.core.history)) (keys_of held) (node ∷ []) (rw keys at (kept.made));
-        whole = λ going. let bad : true ≡ false = sym done ∙ going in cc;
-        in_order = (IsFromLast-last (nodes_of cast.core.history) (keys_of held) node (rw keys at (kept.in_order))).0;
-        good = kept.good;
-        comes = kept.comes;
-        known = kept.known;
-      }
-
-  -- and it was the first of those held
-  pub given-first : (cast : Cast O) (held : List (ℕ × O)) (node : ℕ) (object : O) → cast.held ≡ held ++ (node, object) ∷ [] → IsCast view says cast
-      → IsFirstDown (nodes_of cast.core.history) node (keys_of held)
-  given-first cast held node object is kept =
-      let keys : keys_of cast.held ≡ keys_of held ++ node ∷ [] = ap keys_of is ∙ map-append (λ (s : ℕ × O). s.0) held ((node, object) ∷ []) in
-      (IsFromLast-last (nodes_of cast.core.history) (keys_of held) node (rw keys at (kept.in_order))).1

@@ -13,7 +13,7 @@ use Rattle.uvm_object.specs.declared.acts.Act.{Act}
 use Rattle.uvm_object.specs.declared.entries.Entry.{Entry}
 use Rattle.uvm_object.specs.declared.entries.Entry.TheVariants.{Heard}
 use Rattle.uvm_object.specs.Objects.{View, Says, SameSays, Exchange, IsHonest, IsHonestNow, exchanged_in, life_of}
-use Rattle.bench_kernel.specs.Casts.{LiveHonestly, object_at}
+use Rattle.bench_kernel.specs.Kernels.{LiveHonestly, object_at}
 use Rattle.bench_kernel.specs.Steps.{IsAsked}
 
 -- views that are honest by a relation are so by the same one

@@ -11,9 +11,11 @@ use Rattle.uvm_object.specs.declared.acts.Act.{Act}
 use Rattle.uvm_object.specs.declared.entries.Entry.{Entry}
 use Rattle.uvm_object.specs.declared.entries.Entry.TheVariants.{Heard}
 use Rattle.bench_script.specs.Scripts.{ScriptValue}
-use Rattle.bench_world.specs.Next as next
-use Rattle.bench_world.specs.Next.{next_of}
-use Rattle.bench_world.specs.declared.creations.Need.{Need}
+use Rattle.bench_history.specs.Cases as next
+use Rattle.bench_history.specs.Next as coming
+use Rattle.bench_history.specs.Next.{next_of}
+use Rattle.bench_history.specs.declared.needs.Need.{Need}
+use Rattle.bench_history.specs.Laws.{MachineEntriesAreSilent}
 use Rattle.bench_core.specs.declared.cores.Standing.{Standing}
 use Rattle.bench_core.specs.declared.cores.Standing.TheVariants.{Nothing, Needed, Asked}
 use Rattle.bench_core.specs.declared.cores.Turn as turn
@@ -21,74 +23,73 @@ use Rattle.bench_core.specs.declared.cores.Health.{Health}
 use Rattle.bench_core.specs.declared.cores.Health.TheVariants.{Good}
 use Rattle.bench_core.specs.declared.faults.CoreFault.{CoreFault}
 use Rattle.bench_core.specs.declared.faults.CoreFault.TheVariants.{Memory, LogFull, Failed, NoTest}
-use Rattle.bench_core.specs.Plays.{Play, IsTurn, IsNextTurn, IsRefusedTurn, Comes, after, answer_in, failed_from, need_of}
-use Rattle.bench_core.proofs.Grown.{exact-is-silent}
-use Rattle.bench_kernel.specs.Casts.{Cast}
+use Rattle.bench_core.specs.Cores.{CoreValue, IsTurn, IsNextTurn, IsRefusedTurn, Comes, core_after, answer_in, failed_from, need_of}
+use Rattle.bench_kernel.specs.Kernels.{KernelValue}
 use Rattle.bench_kernel.specs.Steps.{IsAsked, IsMoved, IsRefusedStep, IsSameLog, WasGiven, unanswered_from}
 
 -- the machine made an entry: what alone could come
-pub record HasMoved (old new : Play) : Type 0 where
+pub record HasMoved (old new : CoreValue) : Type 0 where
   pub entry : Entry
   pub exact : next_of old.script old.history ≡ next.Exactly entry
-  pub is : new ≡ after entry old
+  pub is : new ≡ core_after entry old
 
-moved-by : (comes : next.Next) (old new : Play) → next_of old.script old.history ≡ comes → IsTurn comes turn.TheVariants.Moved old new → HasMoved old new
+moved-by : (comes : next.Next) (old new : CoreValue) → next_of old.script old.history ≡ comes → IsTurn comes turn.TheVariants.Moved old new → HasMoved old new
 moved-by (next.Exactly entry) old new exact t = record { entry = entry; exact = exact; is = t.1 }
 moved-by (next.Answer performer call cause) old new exact t = absurd (let e = t.0 in cc)
 moved-by (next.Need need performer act) old new exact t = absurd (let e = t.0 in cc)
 moved-by next.Nothing old new exact t = absurd (let e = t.0 in cc)
 
-moved-at : (standing : Standing) (old new : Play) → IsNextTurn standing (Ok turn.TheVariants.Moved) old new → HasMoved old new
+moved-at : (standing : Standing) (old new : CoreValue) → IsNextTurn standing (Ok turn.TheVariants.Moved) old new → HasMoved old new
 moved-at Nothing old new t = moved-by (next_of old.script old.history) old new refl t.1
 moved-at (Needed need) old new t = absurd (let e = t.0 in cc)
 moved-at (Asked performer call cause) old new t = absurd (let e = t.0 in cc)
 
-pub moved-turn : (old new : Play) → IsNextTurn old.standing (Ok turn.TheVariants.Moved) old new → HasMoved old new
+pub moved-turn : (old new : CoreValue) → IsNextTurn old.standing (Ok turn.TheVariants.Moved) old new → HasMoved old new
 moved-turn old new t = moved-at old.standing old new t
 
 -- the machine asks for the object that is needed next: nothing else changes
-pub record HasNeeded (old new : Play) : Type 0 where
+pub record HasNeeded (old new : CoreValue) : Type 0 where
   pub need : Need
   pub is : new ≡ record old { standing = Needed need }
-  pub comes : next.need_in (next_of old.script old.history) ≡ Some need
+  pub comes : coming.need_in (next_of old.script old.history) ≡ Some need
 
-need-by : (comes : next.Next) (old new : Play) → next_of old.script old.history ≡ comes → IsTurn comes turn.TheVariants.Need old new → HasNeeded old new
+need-by : (comes : next.Next) (old new : CoreValue) → next_of old.script old.history ≡ comes → IsTurn comes turn.TheVariants.Need old new → HasNeeded old new
 need-by (next.Exactly entry) old new is t = absurd (let e = t.0 in cc)
 need-by (next.Answer performer call cause) old new is t = absurd (let e = t.0 in cc)
 need-by (next.Need need performer act) old new is t = record { need = need; is = t.1; comes = rw is refl }
 need-by next.Nothing old new is t = absurd (let e = t.0 in cc)
 
-need-at : (standing : Standing) (old new : Play) → old.standing ≡ standing → Comes standing (next_of old.script old.history) → IsNextTurn standing (Ok turn.TheVariants.Need) old new → HasNeeded old new
+need-at : (standing : Standing) (old new : CoreValue) → old.standing ≡ standing → Comes standing (next_of old.script old.history) → IsNextTurn standing (Ok turn.TheVariants.Need) old new → HasNeeded old new
 need-at Nothing old new is comes t = need-by (next_of old.script old.history) old new refl t.1
 need-at (Needed need) old new is comes t = record { need = need; is = t.1 ∙ ap (λ s. record old { standing = s }) is; comes = comes }
 need-at (Asked performer call cause) old new is comes t = absurd (let e = t.0 in cc)
 
-pub need-turn : (old new : Play) → Comes old.standing (next_of old.script old.history) → IsNextTurn old.standing (Ok turn.TheVariants.Need) old new → HasNeeded old new
+pub need-turn : (old new : CoreValue) → Comes old.standing (next_of old.script old.history) → IsNextTurn old.standing (Ok turn.TheVariants.Need) old new → HasNeeded old new
 need-turn old new comes t = need-at old.standing old new refl comes t
 
 -- the run is over: nothing changes
-over-by : (comes : next.Next) (old new : Play) → IsTurn comes turn.TheVariants.Over old new → new ≡ old
+over-by : (comes : next.Next) (old new : CoreValue) → IsTurn comes turn.TheVariants.Over old new → new ≡ old
 over-by (next.Exactly entry) old new t = absurd (let e = t.0 in cc)
 over-by (next.Answer performer call cause) old new t = absurd (let e = t.0 in cc)
 over-by (next.Need need performer act) old new t = absurd (let e = t.0 in cc)
 over-by next.Nothing old new t = t.1
 
-over-at : (standing : Standing) (old new : Play) → IsNextTurn standing (Ok turn.TheVariants.Over) old new → new ≡ old
+over-at : (standing : Standing) (old new : CoreValue) → IsNextTurn standing (Ok turn.TheVariants.Over) old new → new ≡ old
 over-at Nothing old new t = over-by (next_of old.script old.history) old new t.1
 over-at (Needed need) old new t = absurd (let e = t.0 in cc)
 over-at (Asked performer call cause) old new t = absurd (let e = t.0 in cc)
 
-pub over-turn : (old new : Play) → IsNextTurn old.standing (Ok turn.TheVariants.Over) old new → new ≡ old
+pub over-turn : (old new : CoreValue) → IsNextTurn old.standing (Ok turn.TheVariants.Over) old new → new ≡ old
 over-turn old new t = over-at old.standing old new t
 
 -- somebody is asked, whose answer comes next, and no object was needed
-pub record HasAsked (performer : Who) (call : Call) (old new : Play) : Type 0 where
+pub record HasAsked (performer : Who) (call : Call) (old new : CoreValue) : Type 0 where
   pub cause : Option Cause
   pub is : new ≡ record old { standing = Asked performer call cause }
   pub answers : next_of old.script old.history ≡ next.Answer performer call cause
   pub nothing_needed : need_of old.standing ≡ None
 
-ask-by : (comes : next.Next) (performer : Who) (call : Call) (old new : Play) → next_of old.script old.history ≡ comes → old.standing ≡ Nothing
+ask-by : (comes : next.Next) (performer : Who) (call : Call) (old new : CoreValue) → next_of old.script old.history ≡ comes → old.standing ≡ Nothing
     → IsTurn comes (turn.TheVariants.Ask performer call) old new → HasAsked performer call old new
 ask-by (next.Exactly entry) performer call old new comes none t = absurd (let e = t.0 in cc)
 ask-by (next.Answer other told cause) performer call old new comes none t =
@@ -103,7 +104,7 @@ ask-by (next.Answer other told cause) performer call old new comes none t =
 ask-by (next.Need need other act) performer call old new comes none t = absurd (let e = t.0 in cc)
 ask-by next.Nothing performer call old new comes none t = absurd (let e = t.0 in cc)
 
-ask-at : (standing : Standing) (performer : Who) (call : Call) (old new : Play) → old.standing ≡ standing → Comes standing (next_of old.script old.history)
+ask-at : (standing : Standing) (performer : Who) (call : Call) (old new : CoreValue) → old.standing ≡ standing → Comes standing (next_of old.script old.history)
     → IsNextTurn standing (Ok (turn.TheVariants.Ask performer call)) old new → HasAsked performer call old new
 ask-at Nothing performer call old new is comes t = ask-by (next_of old.script old.history) performer call old new refl is t.1
 ask-at (Needed need) performer call old new is comes t = absurd (let e = t.0 in cc)
@@ -119,97 +120,97 @@ ask-at (Asked other told cause) performer call old new is comes t =
       nothing_needed = rw is refl;
     }
 
-pub ask-turn : (performer : Who) (call : Call) (old new : Play) → Comes old.standing (next_of old.script old.history)
+pub ask-turn : (performer : Who) (call : Call) (old new : CoreValue) → Comes old.standing (next_of old.script old.history)
     → IsNextTurn old.standing (Ok (turn.TheVariants.Ask performer call)) old new → HasAsked performer call old new
 ask-turn performer call old new comes t = ask-at old.standing performer call old new refl comes t
 
 -- its answer goes into the log, or the log stays
-pub heard-is : (performer : Who) (call : Call) (acts : List Act) (old asking new : Play) (asks : HasAsked performer call old asking)
-    → IfSome (answer_in asking.standing acts) (λ entry. new ≡ after entry asking) → new ≡ after (Heard performer call asks.cause acts) old
+pub heard-is : (performer : Who) (call : Call) (acts : List Act) (old asking new : CoreValue) (asks : HasAsked performer call old asking)
+    → IfSome (answer_in asking.standing acts) (λ entry. new ≡ core_after entry asking) → new ≡ core_after (Heard performer call asks.cause acts) old
 heard-is performer call acts old asking new asks heard =
-    subst (λ (p : Play). IfSome (answer_in p.standing acts) (λ entry. new ≡ after entry p)) asks.is heard
+    subst (λ (p : CoreValue). IfSome (answer_in p.standing acts) (λ entry. new ≡ core_after entry p)) asks.is heard
 
-pub asked-log : (performer : Who) (call : Call) (old asking : Play) → HasAsked performer call old asking → IsSameLog old asking
+pub asked-log : (performer : Who) (call : Call) (old asking : CoreValue) → HasAsked performer call old asking → IsSameLog old asking
 asked-log performer call old asking asks = rw asks.is (record { script = refl; history = refl })
 
-pub unheard-log : (performer : Who) (call : Call) (old asking new : Play) (health : Health) → HasAsked performer call old asking → new ≡ failed_from health asking → IsSameLog old new
+pub unheard-log : (performer : Who) (call : Call) (old asking new : CoreValue) (health : Health) → HasAsked performer call old asking → new ≡ failed_from health asking → IsSameLog old new
 unheard-log performer call old asking new health asks failed =
     rw (failed, asks.is) (record { script = refl; history = refl })
 
 module _ {O : Type 0} (view : O → View) (name : O → List ℕ) (says : O → Says) where
   -- an entry of the machine is nobody's answer
-  given-exact : (script : ScriptValue) (history : List Entry) (entry : Entry) (held : List (ℕ × O)) → next_of script history ≡ next.Exactly entry → WasGiven view name says entry held held
-  given-exact script history (Heard performer call cause acts) held exact =
-      absurd (let silent = exact-is-silent script history (Heard performer call cause acts) (node_of performer) exact in
+  given-exact : MachineEntriesAreSilent → (script : ScriptValue) (history : List Entry) (entry : Entry) (held : List (ℕ × O)) → next_of script history ≡ next.Exactly entry → WasGiven view name says entry held held
+  given-exact silent script history (Heard performer call cause acts) held exact =
+      absurd (let nothing = (silent script history (Heard performer call cause acts) exact).silent (node_of performer) in
       let same : (node_of performer == node_of performer) ≡ true = grind (arith, nat_tests) in
-      let bad : (call, acts) ∷ [] ≡ [] = rw same at silent in cc)
-  given-exact script history entry held exact = refl
+      let bad : (call, acts) ∷ [] ≡ [] = rw same at nothing in cc)
+  given-exact silent script history entry held exact = refl
 
-  pub moved-step : (cast : Cast O) (new : Play) (moved : HasMoved cast.core new) → IsMoved view name says cast (record cast { core = new })
-  moved-step cast new moved = record {
+  pub moved-step : MachineEntriesAreSilent → (kernel : KernelValue O) (new : CoreValue) (moved : HasMoved kernel.core new) → IsMoved view name says kernel (record kernel { core = new })
+  moved-step silent kernel new moved = record {
     entry = moved.entry;
     next = rw moved.exact refl;
-    given = given-exact cast.core.script cast.core.history moved.entry cast.held moved.exact;
+    given = given-exact silent kernel.core.script kernel.core.history moved.entry kernel.held moved.exact;
     is = rw moved.is refl;
   }
 
   -- an object was asked, and its answer went into the log
-  pub answered-step : (cast : Cast O) (core : Play) (held : List (ℕ × O)) (performer : Who) (node : ℕ) (call : Call) (cause : Option Cause) (acts : List Act)
-      → next_of cast.core.script cast.core.history ≡ next.Answer performer call cause → cast.failed ≡ false → cast.unknown ≡ None → core ≡ after (Heard performer call cause acts) cast.core
-      → node ≡ node_of performer → IsAsked view name says node call (Ok acts) cast.held held
-      → IsMoved view name says cast (record { core = core; held = held; failed = false; unknown = None })
-  answered-step cast core held performer node call cause acts answers going known is same_node asked = record {
+  pub answered-step : (kernel : KernelValue O) (core : CoreValue) (held : List (ℕ × O)) (performer : Who) (node : ℕ) (call : Call) (cause : Option Cause) (acts : List Act)
+      → next_of kernel.core.script kernel.core.history ≡ next.Answer performer call cause → kernel.failed ≡ false → kernel.unknown ≡ None → core ≡ core_after (Heard performer call cause acts) kernel.core
+      → node ≡ node_of performer → IsAsked view name says node call (Ok acts) kernel.held held
+      → IsMoved view name says kernel (record { core = core; held = held; failed = false; unknown = None })
+  answered-step kernel core held performer node call cause acts answers going known is same_node asked = record {
     entry = Heard performer call cause acts;
     next = rw answers (acts, refl);
-    given = subst (λ n. IsAsked view name says n call (Ok acts) cast.held held) same_node asked;
+    given = subst (λ n. IsAsked view name says n call (Ok acts) kernel.held held) same_node asked;
     is = rw (is, going, known) refl;
   }
 
   -- the machine refuses
-  refused-by : (fault : CoreFault) (cast : Cast O) (new : Play) → cast.failed ≡ false → cast.core.health ≡ Good → cast.core.standing ≡ Nothing → IsRefusedTurn fault cast.core new
-      → IsRefusedStep view name says fault cast (record cast { core = new; failed = true })
-  refused-by Memory cast new going good none t = (
+  refused-by : (fault : CoreFault) (kernel : KernelValue O) (new : CoreValue) → kernel.failed ≡ false → kernel.core.health ≡ Good → kernel.core.standing ≡ Nothing → IsRefusedTurn fault kernel.core new
+      → IsRefusedStep view name says fault kernel (record kernel { core = new; failed = true })
+  refused-by Memory kernel new going good none t = (
     record { going = going; some = t.2; nothing_needed = rw (going, none) refl },
-    inl (record { room = t.1; is = ap (λ c. record cast { core = c; failed = true }) t.3 }),
+    inl (record { room = t.1; is = ap (λ c. record kernel { core = c; failed = true }) t.3 }),
   )
-  refused-by LogFull cast new going good none t = (
+  refused-by LogFull kernel new going good none t = (
     record { going = going; some = t.2; nothing_needed = rw (going, none) refl },
     t.1,
-    ap (λ c. record cast { core = c; failed = true }) t.3,
+    ap (λ c. record kernel { core = c; failed = true }) t.3,
   )
-  refused-by Failed cast new going good none t = absurd (let bad : true ≡ false = rw good at t.0 in cc)
-  refused-by NoTest cast new going good none t = t
+  refused-by Failed kernel new going good none t = absurd (let bad : true ≡ false = rw good at t.0 in cc)
+  refused-by NoTest kernel new going good none t = t
 
-  refused-at : (standing : Standing) (fault : CoreFault) (cast : Cast O) (new : Play) → cast.core.standing ≡ standing → cast.failed ≡ false → cast.core.health ≡ Good → IsNextTurn standing (Err fault) cast.core new
-      → IsRefusedStep view name says fault cast (record cast { core = new; failed = true })
-  refused-at Nothing fault cast new is going good t = refused-by fault cast new going good is t
-  refused-at (Needed need) fault cast new is going good t = absurd (let e = t.0 in cc)
-  refused-at (Asked performer call cause) fault cast new is going good t = absurd (let e = t.0 in cc)
+  refused-at : (standing : Standing) (fault : CoreFault) (kernel : KernelValue O) (new : CoreValue) → kernel.core.standing ≡ standing → kernel.failed ≡ false → kernel.core.health ≡ Good → IsNextTurn standing (Err fault) kernel.core new
+      → IsRefusedStep view name says fault kernel (record kernel { core = new; failed = true })
+  refused-at Nothing fault kernel new is going good t = refused-by fault kernel new going good is t
+  refused-at (Needed need) fault kernel new is going good t = absurd (let e = t.0 in cc)
+  refused-at (Asked performer call cause) fault kernel new is going good t = absurd (let e = t.0 in cc)
 
-  pub refused-step : (fault : CoreFault) (cast : Cast O) (new : Play) → cast.failed ≡ false → cast.core.health ≡ Good → IsNextTurn cast.core.standing (Err fault) cast.core new
-      → IsRefusedStep view name says fault cast (record cast { core = new; failed = true })
-  refused-step fault cast new going good t = refused-at cast.core.standing fault cast new refl going good t
+  pub refused-step : (fault : CoreFault) (kernel : KernelValue O) (new : CoreValue) → kernel.failed ≡ false → kernel.core.health ≡ Good → IsNextTurn kernel.core.standing (Err fault) kernel.core new
+      → IsRefusedStep view name says fault kernel (record kernel { core = new; failed = true })
+  refused-step fault kernel new going good t = refused-at kernel.core.standing fault kernel new refl going good t
 
   -- an object was asked, and memory was refused
-  pub unanswered-step : (cast : Cast O) (core : Play) (performer : Who) (node : ℕ) (call : Call) (cause : Option Cause) (answer : Result (List Act) AllocError) (held : List (ℕ × O))
-      → next_of cast.core.script cast.core.history ≡ next.Answer performer call cause → need_of cast.core.standing ≡ None → cast.failed ≡ false → IsSameLog cast.core core → core ≡ unanswered_from performer call cause answer cast.core → node ≡ node_of performer
-      → IsAsked view name says node call answer cast.held held → IsRefusedStep view name says Memory cast (record { core = core; held = held; failed = true; unknown = Some performer })
-  unanswered-step cast core performer node call cause answer held answers none going same left same_node asked = (
+  pub unanswered-step : (kernel : KernelValue O) (core : CoreValue) (performer : Who) (node : ℕ) (call : Call) (cause : Option Cause) (answer : Result (List Act) AllocError) (held : List (ℕ × O))
+      → next_of kernel.core.script kernel.core.history ≡ next.Answer performer call cause → need_of kernel.core.standing ≡ None → kernel.failed ≡ false → IsSameLog kernel.core core → core ≡ unanswered_from performer call cause answer kernel.core → node ≡ node_of performer
+      → IsAsked view name says node call answer kernel.held held → IsRefusedStep view name says Memory kernel (record { core = core; held = held; failed = true; unknown = Some performer })
+  unanswered-step kernel core performer node call cause answer held answers none going same left same_node asked = (
     record { going = going; some = rw answers tt; nothing_needed = rw (going, none) refl },
-    inr (record { performer = performer; call = call; cause = cause; next = answers; answer = answer; asked = subst (λ n. IsAsked view name says n call answer cast.held held) same_node asked; same_log = same; left = left; is = refl }),
+    inr (record { performer = performer; call = call; cause = cause; next = answers; answer = answer; asked = subst (λ n. IsAsked view name says n call answer kernel.held held) same_node asked; same_log = same; left = left; is = refl }),
   )
 
 -- where the machine refuses, the log stays
-refused-log-by : (fault : CoreFault) (old new : Play) → IsRefusedTurn fault old new → IsSameLog old new
+refused-log-by : (fault : CoreFault) (old new : CoreValue) → IsRefusedTurn fault old new → IsSameLog old new
 refused-log-by Memory old new t = rw t.3 (record { script = refl; history = refl })
 refused-log-by LogFull old new t = rw t.3 (record { script = refl; history = refl })
 refused-log-by Failed old new t = rw t.1 (record { script = refl; history = refl })
 refused-log-by NoTest old new t = absurd t
 
-refused-log-at : (standing : Standing) (fault : CoreFault) (old new : Play) → IsNextTurn standing (Err fault) old new → IsSameLog old new
+refused-log-at : (standing : Standing) (fault : CoreFault) (old new : CoreValue) → IsNextTurn standing (Err fault) old new → IsSameLog old new
 refused-log-at Nothing fault old new t = refused-log-by fault old new t
 refused-log-at (Needed need) fault old new t = rw t.1 (record { script = refl; history = refl })
 refused-log-at (Asked performer call cause) fault old new t = rw t.1 (record { script = refl; history = refl })
 
-pub refused-log : (fault : CoreFault) (old new : Play) → IsNextTurn old.standing (Err fault) old new → IsSameLog old new
+pub refused-log : (fault : CoreFault) (old new : CoreValue) → IsNextTurn old.standing (Err fault) old new → IsSameLog old new
 refused-log fault old new t = refused-log-at old.standing fault old new t

@@ -1,3 +1,4 @@
-pub mod Casts
+pub mod Laws
+pub mod Kernels
 pub mod Orders
 pub mod Steps

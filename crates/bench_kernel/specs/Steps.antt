@@ -10,19 +10,21 @@ use Rattle.uvm_object.specs.declared.acts.Act.{Act}
 use Rattle.uvm_object.specs.declared.entries.Entry.{Entry}
 use Rattle.uvm_object.specs.declared.entries.Entry.TheVariants.{Heard}
 use Rattle.uvm_phase.specs.declared.agendas.Cause.{Cause}
-use Rattle.bench_world.specs.History.{nodes_of}
-use Rattle.bench_world.specs.Next.{next_of, IsNext, Answer, made_in}
+use Rattle.bench_history.specs.History.{log_limit, nodes_of, is_over}
+use Rattle.bench_history.specs.Laws.{IsSomething}
+use Rattle.bench_history.specs.Cases.{Answer}
+use Rattle.bench_history.specs.Next.{next_of, IsNext, made_in}
 use Rattle.bench_core.specs.declared.cores.Standing.TheVariants.{Asked}
 use Rattle.bench_core.specs.declared.cores.Turn as turn
 use Rattle.bench_core.specs.declared.cores.Health.TheVariants.{Full, Broken}
 use Rattle.bench_core.specs.declared.faults.CoreFault.{CoreFault}
 use Rattle.bench_core.specs.declared.faults.CoreFault.TheVariants.{Memory, LogFull, Failed, NoTest}
-use Rattle.bench_core.specs.Plays.{Play, after, failed_from, IsNextTurn, IsSomething, is_over}
+use Rattle.bench_core.specs.Cores.{CoreValue, core_after, failed_from, IsNextTurn}
 use Rattle.bench_kernel.specs.declared.kernels.Step.{Step}
 use Rattle.bench_kernel.specs.declared.kernels.Step.TheVariants.{Need, Moved, Over}
 use Rattle.bench_kernel.specs.declared.kernels.Misfit.{Misfit}
 use Rattle.bench_kernel.specs.declared.kernels.Misfit.TheVariants as misfit
-use Rattle.bench_kernel.specs.Casts.{Cast, object_at, need_in, wanted_in}
+use Rattle.bench_kernel.specs.Kernels.{KernelValue, object_at, open_need, wanted_in}
 
 -- the objects with another at a node that has one
 abbrev pub with_object : {O : Type 0} → List (ℕ × O) → ℕ → O → List (ℕ × O)
@@ -30,12 +32,12 @@ with_object held node object = set_value (nat_eq node) held object
 
 -- what is left of the machine where memory is refused: it waits on for an object that gave no answer, and has failed where
 -- one answered
-abbrev pub unanswered_from : Who → Call → Option Cause → Result (List Act) AllocError → Play → Play
-unanswered_from performer call cause (Ok acts) play = failed_from Broken play
-unanswered_from performer call cause (Err fault) play = record play { standing = Asked performer call cause }
+abbrev pub unanswered_from : Who → Call → Option Cause → Result (List Act) AllocError → CoreValue → CoreValue
+unanswered_from performer call cause (Ok acts) core = failed_from Broken core
+unanswered_from performer call cause (Err fault) core = record core { standing = Asked performer call cause }
 
 -- the script and the entries are the same
-pub record IsSameLog (old new : Play) : Type 0 where
+pub record IsSameLog (old new : CoreValue) : Type 0 where
   pub script : new.script ≡ old.script
   pub history : new.history ≡ old.history
 
@@ -57,19 +59,19 @@ module _ {O : Type 0} (view : O → View) (name : O → List ℕ) (says : O → 
   WasGiven entry old new = new ≡ old
 
   -- one entry was made, which was next
-  pub record IsMoved (old new : Cast O) : Type 0 where
+  pub record IsMoved (old new : KernelValue O) : Type 0 where
     pub entry : Entry
     pub next : IsNext old.core.script old.core.history entry
     pub given : WasGiven entry old.held new.held
-    pub is : new ≡ record old { core = after entry old.core; held = new.held }
+    pub is : new ≡ record old { core = core_after entry old.core; held = new.held }
 
   -- memory was refused before anybody was asked
-  pub record IsUnasked (old new : Cast O) : Type 0 where
-    pub room : length old.core.history < 1000000
+  pub record IsUnasked (old new : KernelValue O) : Type 0 where
+    pub room : length old.core.history < log_limit old.core.script
     pub is : new ≡ record old { core = failed_from Broken old.core; failed = true }
 
   -- or to the object whose turn it was, or to the log after it answered: the log stays, and its view is unknown
-  pub record IsUnanswered (old new : Cast O) : Type 0 where
+  pub record IsUnanswered (old new : KernelValue O) : Type 0 where
     pub performer : Who
     pub call : Call
     pub cause : Option Cause
@@ -81,34 +83,34 @@ module _ {O : Type 0} (view : O → View) (name : O → List ℕ) (says : O → 
     pub is : new ≡ record { core = new.core; held = new.held; failed = true; unknown = Some performer }
 
   -- something would come next, and no object is needed
-  pub record GoesOn (cast : Cast O) : Type 0 where
-    pub going : cast.failed ≡ false
-    pub some : IsSomething (next_of cast.core.script cast.core.history)
-    pub nothing_needed : need_in cast ≡ None
+  pub record GoesOn (kernel : KernelValue O) : Type 0 where
+    pub going : kernel.failed ≡ false
+    pub some : IsSomething (next_of kernel.core.script kernel.core.history)
+    pub nothing_needed : open_need kernel ≡ None
 
   -- why a step is refused
-  abbrev pub IsRefusedStep : CoreFault → Cast O → Cast O → Type 0
+  abbrev pub IsRefusedStep : CoreFault → KernelValue O → KernelValue O → Type 0
   IsRefusedStep Memory old new = GoesOn old × (IsUnasked old new ⊎ IsUnanswered old new)
-  IsRefusedStep LogFull old new = GoesOn old × (1000000 ≤ length old.core.history) × (new ≡ record old { core = failed_from Full old.core; failed = true })
+  IsRefusedStep LogFull old new = GoesOn old × (log_limit old.core.script ≤ length old.core.history) × (new ≡ record old { core = failed_from Full old.core; failed = true })
   IsRefusedStep Failed old new = (old.failed ≡ true) × (new ≡ old)
   IsRefusedStep NoTest old new = ⊥
 
   -- what a step gives
-  abbrev pub IsStep : Result Step CoreFault → Cast O → Cast O → Type 0
+  abbrev pub IsStep : Result Step CoreFault → KernelValue O → KernelValue O → Type 0
   IsStep (Ok Need) old new = (old.failed ≡ false) × IsNextTurn old.core.standing (Ok turn.TheVariants.Need) old.core new.core × (new ≡ record old { core = new.core })
   IsStep (Ok Moved) old new = (old.failed ≡ false) × IsMoved old new
   IsStep (Ok Over) old new = (old.failed ≡ false) × (is_over old.core.history ≡ true) × (new ≡ old)
   IsStep (Err fault) old new = IsRefusedStep fault old new
 
   -- the needed object was taken, of the type that was wanted, and stands at its new node
-  pub record IsSupplied (object : O) (old new : Cast O) : Type 0 where
+  pub record IsSupplied (object : O) (old new : KernelValue O) : Type 0 where
     pub entry : Entry
     pub next : made_in (next_of old.core.script old.core.history) ≡ Some entry
     pub fits : name object ≡ wanted_in old
     pub front : List (ℕ × O)
     pub back : List (ℕ × O)
     pub was : old.held ≡ front ++ back
-    pub is : new ≡ record old { core = after entry old.core; held = front ++ (length (nodes_of old.core.history), object) ∷ back }
+    pub is : new ≡ record old { core = core_after entry old.core; held = front ++ (length (nodes_of old.core.history), object) ∷ back }
 
 -- why an object is not taken: its type is another than the wanted one, or it is the wanted one and memory is refused
 abbrev pub IsMisfit : Misfit → List ℕ → List ℕ → Type 0

@@ -1,7 +1,7 @@
 //! The question to one object.
 
 ghost use Rattle.std.specs.Prelude.{IsSome};
-ghost use Rattle.bench_kernel.specs.Casts.{object_at};
+ghost use Rattle.bench_kernel.specs.Kernels.{object_at};
 ghost use Rattle.bench_kernel.specs.Steps.{IsAsked};
 
 use indexmap::IndexMap;

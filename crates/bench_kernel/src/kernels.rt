@@ -3,13 +3,13 @@
 ghost use Rattle.std.specs.Prelude.{◌≡◌, ◌++◌, ◌∷◌, [], true, false, OnOk, OnErr, IfOk, IfErr, IfSome, IfNone, OnSome, IsSome, None, length, option_copied};
 ghost use Rattle.std.specs.Map.{keys_of};
 ghost use Rattle.uvm_object.specs.Acts.{node_of};
-ghost use Rattle.bench_world.specs.History.{nodes_of};
-ghost use Rattle.bench_world.specs.Next.{next_of, declined_in, IsLegal};
-ghost use Rattle.bench_core.specs.Plays.{IsUnmade, after};
+ghost use Rattle.bench_history.specs.History.{nodes_of};
+ghost use Rattle.bench_history.specs.Next.{next_of, declined_in, IsLegal};
+ghost use Rattle.bench_core.specs.Cores.{IsUnmade, core_after};
 ghost use Rattle.bench_core.specs.declared.cores.Standing.TheVariants.{Nothing};
 ghost use Rattle.bench_core.specs.declared.cores.Health.TheVariants.{Good};
 ghost use Rattle.bench_kernel.specs.Orders.{IsFirstDown};
-ghost use Rattle.bench_kernel.specs.Casts.{AreHonest, abandoned, is_done, need_in, wanted_in};
+ghost use Rattle.bench_kernel.specs.Kernels.{AreHonest, abandoned, is_done, open_need, wanted_in};
 ghost use Rattle.bench_kernel.specs.Steps.{IsMisfit, IsStep, IsSupplied};
 ghost use Rattle.bench_kernel.specs.Orders.{stays};
 ghost use Rattle.std.specs.List.{position_or_len};
@@ -18,6 +18,7 @@ ghost use Rattle.uvm_glob.specs.Orders.{down_cmp};
 ghost use Rattle.uvm_tree.specs.Nodes.{path_at};
 
 use crate::asking::ask_at;
+use crate::laws;
 use bench_core::{Core, CoreFault, Need, Turn};
 use bench_script::Script;
 use indexmap::IndexMap;
@@ -68,13 +69,13 @@ pub struct Kernel<O: UvmObject> {
 }
 
 impl<O: UvmObject> Model for Kernel<O> {
-    ghost use Rattle.bench_kernel.specs.Casts.{Cast, IsCast};
+    ghost use Rattle.bench_kernel.specs.Kernels.{KernelValue, IsKernel};
 
-    ghost Value = { Cast O };
+    ghost Value = { KernelValue O };
 
     ghost view = { λ k. record { core = k.core; held = k.held.entries; failed = k.failed; unknown = k.unknown } };
 
-    ghost invariant = { λ k. IsCast O.view O.says (record { core = k.core; held = k.held.entries; failed = k.failed; unknown = k.unknown }) };
+    ghost invariant = { λ k. IsKernel O.view O.says (record { core = k.core; held = k.held.entries; failed = k.failed; unknown = k.unknown }) };
 }
 
 impl<O: UvmObject> Kernel<O> {
@@ -103,9 +104,10 @@ impl<O: UvmObject> Kernel<O> {
     /// where memory is refused, also to the object that is asked, and `Failed` from then on.
     pub fn step<R: Rng>(&mut self, words: &mut R) -> Result<Step, CoreFault>
         ensures step { IsStep O.view O.name O.says result self.old self.new }
-        ensures needed { IfOk result (λ step. step ≡ Step.Need → IsSome (need_in self.new)) }
+        ensures needed { IfOk result (λ step. step ≡ Step.Need → IsSome (open_need self.new)) }
         ensures words { words.new ≡ words.old }
     {
+        laws::hold();
         if self.failed {
             return Err(CoreFault::Failed);
         }
@@ -134,7 +136,7 @@ impl<O: UvmObject> Kernel<O> {
 
     /// The object that is needed, if one is. None once the kernel has failed.
     pub fn need(&self) -> Option<&Need>
-        ensures { option_copied result ≡ need_in self.now }
+        ensures { option_copied result ≡ open_need self.now }
     {
         if self.failed {
             return None;
@@ -146,16 +148,17 @@ impl<O: UvmObject> Kernel<O> {
     /// came, and is still needed: `WrongType` where its type is another than the one that is needed, else `Memory` where
     /// memory is refused.
     pub fn supply(&mut self, object: O) -> Result<(), Unfit<O>>
-        requires { IsSome (need_in self.old) }
+        requires { IsSome (open_need self.old) }
         ensures ok { OnOk result (IsSupplied O.view O.name O.says object self.old self.new) }
         ensures why { IfErr result (λ unfit. IsMisfit unfit.why (O.name object) (wanted_in self.old)) }
         ensures back { IfErr result (λ unfit. unfit.object ≡ object) }
         ensures err { OnErr result (self.new ≡ self.old) }
     {
+        laws::hold();
         let Some(need) = self.core.need() else {
             unreachable!()
         };
-        if *object.type_name() != need.ty {
+        if *object.type_name() != need.type_name {
             return Err(Unfit {
                 object,
                 why: Misfit::WrongType,
@@ -177,10 +180,11 @@ impl<O: UvmObject> Kernel<O> {
 
     /// Declines to supply the object that is needed: its creation is refused. Takes no memory.
     pub fn decline(&mut self)
-        requires { IsSome (need_in self.old) }
-        ensures entry { IfSome (declined_in (next_of self.old.core.script self.old.core.history)) (λ entry. self.new ≡ record self.old { core = after entry self.old.core }) }
+        requires { IsSome (open_need self.old) }
+        ensures entry { IfSome (declined_in (next_of self.old.core.script self.old.core.history)) (λ entry. self.new ≡ record self.old { core = core_after entry self.old.core }) }
         ensures one { IsSome (declined_in (next_of self.old.core.script self.old.core.history)) }
     {
+        laws::hold();
         self.core.declined();
     }
 

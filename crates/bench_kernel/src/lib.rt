@@ -3,6 +3,7 @@
 
 mod asking;
 mod kernels;
+mod laws;
 #[cfg(test)]
 mod tests;
 

@@ -2,7 +2,7 @@
 
 ghost use Rattle.std.specs.Prelude.{◌≡◌, true};
 ghost use Rattle.std.specs.Bool.{OnTrue};
-ghost use Rattle.bench_kernel.specs.Casts.{is_done};
+ghost use Rattle.bench_kernel.specs.Kernels.{is_done};
 
 use crate::{Kernel, Misfit, Step, Unfit};
 use bench_core::{Core, CoreFault};
@@ -23,7 +23,7 @@ const BUS_SCRIPT: &[u8] =
 /// Answers each call with no acts.
 #[derive(Drop)]
 struct Idle {
-    ty: Name,
+    type_name: Name,
 }
 
 impl UvmObject for Idle {
@@ -31,12 +31,12 @@ impl UvmObject for Idle {
 
     ghost view = { λ _. [] };
 
-    ghost name = { λ idle. idle.ty };
+    ghost name = { λ idle. idle.type_name };
 
     ghost says = { λ _ before _ acts after. (acts ≡ []) × (after ≡ before) };
 
     fn type_name(&self) -> &Name {
-        &self.ty
+        &self.type_name
     }
 
     fn hear(&mut self, alloc: Global, _call: &Call) -> Result<Acts, AllocError> {
@@ -47,7 +47,7 @@ impl UvmObject for Idle {
 /// Creates its children, of one type, when it builds.
 #[derive(Drop)]
 struct Parent {
-    ty: Name,
+    type_name: Name,
     children: Children,
 }
 
@@ -63,12 +63,12 @@ impl UvmObject for Parent {
 
     ghost view = { λ _. [] };
 
-    ghost name = { λ parent. parent.ty };
+    ghost name = { λ parent. parent.type_name };
 
     ghost says = { λ _ before _ _ after. after ≡ before };
 
     fn type_name(&self) -> &Name {
-        &self.ty
+        &self.type_name
     }
 
     fn hear(&mut self, alloc: Global, call: &Call) -> Result<Acts, AllocError> {
@@ -96,7 +96,7 @@ impl Children {
 /// Gives no answer.
 #[derive(Drop)]
 struct Mute {
-    ty: Name,
+    type_name: Name,
 }
 
 impl UvmObject for Mute {
@@ -104,12 +104,12 @@ impl UvmObject for Mute {
 
     ghost view = { λ _. [] };
 
-    ghost name = { λ mute. mute.ty };
+    ghost name = { λ mute. mute.type_name };
 
     ghost says = { λ _ _ _ _ _. ⊥ };
 
     fn type_name(&self) -> &Name {
-        &self.ty
+        &self.type_name
     }
 
     fn hear(&mut self, _alloc: Global, _call: &Call) -> Result<Acts, AllocError> {
@@ -130,7 +130,7 @@ impl UvmObject for AnyObject {
 
     ghost view = { λ _. [] };
 
-    ghost name = { λ object. elim object [ any.Idle idle ↦ idle.ty | any.Parent parent ↦ parent.ty ] };
+    ghost name = { λ object. elim object [ any.Idle idle ↦ idle.type_name | any.Parent parent ↦ parent.type_name ] };
 
     ghost says = { λ _ before _ _ after. after ≡ before };
 
@@ -154,8 +154,8 @@ fn idle_test_runs_to_the_end(rt: HostRuntime) -> Result<(), Fail> {
     let alloc = rt.alloc();
     let passed = idle_runs(
         alloc,
-        |ty: Name| -> Result<Box<dyn UvmObject>, AllocError> {
-            match Box::new(alloc, Idle { ty }) {
+        |type_name: Name| -> Result<Box<dyn UvmObject>, AllocError> {
+            match Box::new(alloc, Idle { type_name }) {
                 Ok(object) => Ok(object),
                 Err(_) => Err(AllocError),
             }
@@ -167,9 +167,12 @@ fn idle_test_runs_to_the_end(rt: HostRuntime) -> Result<(), Fail> {
 
 #[test]
 fn idle_test_of_an_enum_runs_to_the_end(rt: HostRuntime) -> Result<(), Fail> {
-    let passed = idle_runs(rt.alloc(), |ty: Name| -> Result<AnyObject, AllocError> {
-        Ok(AnyObject::Idle(Idle { ty }))
-    })?;
+    let passed = idle_runs(
+        rt.alloc(),
+        |type_name: Name| -> Result<AnyObject, AllocError> {
+            Ok(AnyObject::Idle(Idle { type_name }))
+        },
+    )?;
     assert!(rt; passed);
     Ok(())
 }
@@ -179,15 +182,21 @@ fn box_of_another_type_comes_back_and_the_child_is_declined(rt: HostRuntime) -> 
     let alloc = rt.alloc();
     let passed = env_is_declined(
         alloc,
-        |ty: Name| -> Result<Box<dyn UvmObject>, AllocError> {
-            if is_bus_test(&ty) {
+        |type_name: Name| -> Result<Box<dyn UvmObject>, AllocError> {
+            if is_bus_test(&type_name) {
                 let children = Children::Env;
-                match Box::new(alloc, Parent { ty, children }) {
+                match Box::new(
+                    alloc,
+                    Parent {
+                        type_name,
+                        children,
+                    },
+                ) {
                     Ok(object) => Ok(object),
                     Err(_) => Err(AllocError),
                 }
             } else {
-                match Box::new(alloc, Idle { ty }) {
+                match Box::new(alloc, Idle { type_name }) {
                     Ok(object) => Ok(object),
                     Err(_) => Err(AllocError),
                 }
@@ -203,15 +212,21 @@ fn abandoned_run_gives_back_each_object_down(rt: HostRuntime) -> Result<(), Fail
     let alloc = rt.alloc();
     let passed = run_is_abandoned(
         alloc,
-        |ty: Name| -> Result<Box<dyn UvmObject>, AllocError> {
-            if is_bus_test(&ty) {
+        |type_name: Name| -> Result<Box<dyn UvmObject>, AllocError> {
+            if is_bus_test(&type_name) {
                 let children = Children::BAndAAndC;
-                match Box::new(alloc, Parent { ty, children }) {
+                match Box::new(
+                    alloc,
+                    Parent {
+                        type_name,
+                        children,
+                    },
+                ) {
                     Ok(object) => Ok(object),
                     Err(_) => Err(AllocError),
                 }
             } else {
-                match Box::new(alloc, Idle { ty }) {
+                match Box::new(alloc, Idle { type_name }) {
                     Ok(object) => Ok(object),
                     Err(_) => Err(AllocError),
                 }
@@ -227,8 +242,8 @@ fn object_that_gives_no_answer_fails_the_kernel(rt: HostRuntime) -> Result<(), F
     let alloc = rt.alloc();
     let passed = mute_fails(
         alloc,
-        |ty: Name| -> Result<Box<dyn UvmObject>, AllocError> {
-            match Box::new(alloc, Mute { ty }) {
+        |type_name: Name| -> Result<Box<dyn UvmObject>, AllocError> {
+            match Box::new(alloc, Mute { type_name }) {
                 Ok(object) => Ok(object),
                 Err(_) => Err(AllocError),
             }
@@ -438,7 +453,7 @@ fn meet<O: UvmObject, F: Fn(Name) -> Result<O, AllocError> + Drop>(
     requires { F.IsAlwaysCallable make.now }
 {
     if let Some(need) = kernel.need() {
-        let object = make(need.ty)?;
+        let object = make(need.type_name)?;
         if let Err(unfit) = kernel.supply(object) {
             return Err(unfit.why)?;
         }
@@ -479,7 +494,7 @@ fn turns_away<O: UvmObject>(kernel: &mut Kernel<O>, idle: O) -> bool {
 fn declines<O: UvmObject>(kernel: &mut Kernel<O>, path: &Path) -> bool {
     match kernel.need() {
         Some(need) => {
-            if need.ty.as_bytes() != b"bus_env".as_slice() || need.path != *path {
+            if need.type_name.as_bytes() != b"bus_env".as_slice() || need.path != *path {
                 return false;
             }
             kernel.decline();
@@ -563,13 +578,13 @@ fn write_path(core: &Core, node: NodeId, paths: &mut Vec<u8>) -> Result<(), Fail
     Ok(())
 }
 
-fn is_bus_test(ty: &Name) -> bool {
-    ty.as_bytes() == b"bus_test".as_slice()
+fn is_bus_test(type_name: &Name) -> bool {
+    type_name.as_bytes() == b"bus_test".as_slice()
 }
 
 fn create(name: &[u8]) -> Result<Act, AllocError> {
     match (Name::new(b"bus_env"), Name::new(name)) {
-        (Ok(ty), Ok(name)) => Ok(Act::Create { ty, name }),
+        (Ok(type_name), Ok(name)) => Ok(Act::Create { type_name, name }),
         _ => Err(AllocError),
     }
 }

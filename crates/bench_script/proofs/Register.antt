@@ -1,9 +1,11 @@
 -- One more type that may be registered.
-use Rattle.std.proofs.Common.{◌≡◌, ℕ, ◌<◌, List, [], ◌∷◌, ◌++◌, length, Some, None, map, sym, subst, nat_eq}
+use Rattle.std.proofs.Common.{◌≡◌, ℕ, ◌<◌, ◌≤◌, Bool, true, false, nat_le, List, [], ◌∷◌, ◌++◌, length, Some, None, map, sym, subst, nat_eq, is_some, length-append, arith, if◌then◌else◌}
 use Rattle.std.specs.Cmp.Lexicographic.{pointwise}
 use Rattle.std.proofs.lemmas.List.{append_assoc, append-nil, length-map}
+use Rattle.std.proofs.lemmas.Bool.{leb-false}
 use Rattle.std.proofs.lemmas.List.Quantifiers.{position-Some}
 use Rattle.uvm_factory.specs.declared.types.Kind.{Kind}
+use Rattle.uvm_factory.specs.declared.faults.FactoryFault.TheVariants.{Known, Full}
 use Rattle.uvm_factory.specs.Faults.{Types, register_fault, type_named}
 use Rattle.bench_script.specs.Sound.{CanRegister}
 
@@ -20,3 +22,22 @@ pub known-place : (types : Types) (name : List ℕ) (place : ℕ) → type_named
 known-place types name place found =
     let bound = (position-Some (pointwise nat_eq name) (map (λ t. t.0) types) place [] found).0 in
     subst (λ n. place < n) (length-map types (λ t. t.0)) bound
+
+-- a type that may be registered finds room
+new-room : (known : Bool) (n : ℕ) → (if known then Some Known else if nat_le 1024 n then Some Full else None) ≡ None → n < 1024
+new-room true n new = absurd (grind (arith, new))
+new-room false n new = leb-false 1024 n (grind (arith, new))
+
+-- no more types can be registered than a factory takes
+few-after : (before types : Types) → CanRegister before types → length before ≤ 1024 → length (before ++ types) ≤ 1024
+few-after before [] can few = rw (append-nil before) few
+few-after before (t ∷ types) can few =
+    let left : length before < 1024 = new-room (is_some (type_named before t.0)) (length before) can.0 in
+    rw (← append_assoc before (t ∷ []) types) (few-after (before ++ t ∷ []) types can.1 (rw (length-append before (t ∷ [])) (omega (arith, left))))
+
+-- so the place of a type is below that number
+pub place-few : (types : Types) (name : List ℕ) (place : ℕ) → CanRegister [] types → type_named types name ≡ Some place → place < 1024
+place-few types name place can found =
+    let few : length types ≤ 1024 = few-after [] types can (omega arith) in
+    let known : place < length types = known-place types name place found in
+    omega arith

@@ -8,4 +8,4 @@ use Rattle.bench_script.specs.Scripts.{ScriptValue}
 -- the factory has the script's types, and gives what its overrides give
 pub record IsFactoryOf (script : ScriptValue) (kept : Kept) : Type 0 where
   pub types : types_of kept ≡ script.types
-  pub steps : (kind : ℕ) (path : List (List ℕ)) → step_at kept kind path ≡ type_step (reverse script.overrides) kind (path_text path)
+  pub steps : (type_id : ℕ) (path : List (List ℕ)) → step_at kept type_id path ≡ type_step (reverse script.overrides) type_id (path_text path)

@@ -1,4 +1,6 @@
+pub mod Documents
 pub mod Factories
+pub mod FaultTexts
 pub mod Keys
 pub mod Reading
 pub mod Scripts

@@ -1,23 +1,11 @@
--- The script that a TOML tree stands for, or its first fault.
-use Rattle.std.specs.Prelude.{ℕ, ℤ, pos, negsuc, ◌==◌, List, [], ◌∷◌, Option, Some, None, Result, Ok, Err, ok_or, option_map, option_and_then, slice_get, codes, nat_lt, not, length, if◌then◌else◌}
-use Rattle.std.specs.Str.{is_utf8}
-use Rattle.toml.specs.Parse.{parse_document}
-use Rattle.toml.specs.Data.{Data, Members}
-use Rattle.uvm_factory.specs.declared.types.Kind.{Kind}
-use Rattle.uvm_factory.specs.declared.types.Kind.TheVariants.{Component, Sequence}
+-- What contracts see of a script.
+use Rattle.std.specs.Prelude.{ℕ, List, Option}
 use Rattle.uvm_factory.specs.declared.overrides.Override.{Override}
-use Rattle.uvm_factory.specs.Faults.{Types, type_named}
-use Rattle.bench_script.specs.declared.heads.Head.{Head}
+use Rattle.uvm_factory.specs.Faults.{Types}
 use Rattle.bench_script.specs.declared.scripts.Probe.{Probe}
 use Rattle.bench_script.specs.declared.scripts.Setting.{Setting}
-use Rattle.bench_script.specs.declared.faults.ScriptFault.{ScriptFault}
-use Rattle.bench_script.specs.declared.faults.ScriptFault.TheVariants.{NotText, NotToml, WrongKind, UnknownType, Version, TooLong}
-use Rattle.bench_script.specs.Reading.{and_then}
-use Rattle.bench_script.specs.Values.{integer_in, number_in, name_in}
-use Rattle.bench_script.specs.Keys.{only_keys, required, optional, some_of}
-use Rattle.bench_script.specs.Tables.{types_in, overrides_in, settings_in, probes_in}
 
--- what a script says
+-- the test, a type's place, where there is one; the limits of a run; the types in order, what replaces them, what is set, and the questions to the factory
 pub record ScriptValue : Type 0 where
   pub test : Option ℕ
   pub time_limit : ℕ
@@ -26,69 +14,3 @@ pub record ScriptValue : Type 0 where
   pub overrides : List Override
   pub settings : List Setting
   pub probes : List Probe
-
--- the version is 1
-abbrev pub version_one : ℤ → Result (Unit {0}) ScriptFault
-version_one (pos n) = if n == 1 then Ok tt else Err Version
-version_one (negsuc n) = Err Version
-
-abbrev pub version_in : Data → Result (Unit {0}) ScriptFault
-version_in value = and_then (integer_in value) version_one
-
-abbrev pub root_keys : List (List ℕ)
-root_keys = codes "version" ∷ codes "test" ∷ codes "time_limit" ∷ codes "quit_limit" ∷ codes "type" ∷ codes "override" ∷ codes "set" ∷ codes "probe" ∷ []
-
--- the kind of the type of a name
-abbrev pub kind_named : Types → List ℕ → Option Kind
-kind_named types name = option_and_then (λ place. option_map (λ t. t.1) (slice_get types place)) (type_named types name)
-
--- the test is a component
-abbrev pub component_at : ℕ → Option (List ℕ × Kind) → Result (Option ℕ) ScriptFault
-component_at place None = Err UnknownType
-component_at place (Some (name, Component)) = Ok (Some place)
-component_at place (Some (name, Sequence)) = Err WrongKind
-
--- the type that the test names
-abbrev pub test_among : Types → Option (List ℕ) → Result (Option ℕ) ScriptFault
-test_among types None = Ok None
-test_among types (Some name) = and_then (ok_or (type_named types name) UnknownType) (λ place. component_at place (slice_get types place))
-
--- what stands before the arrays: the test's name and the two limits
-abbrev pub head_in : Members → Result Head ScriptFault
-head_in root =
-    and_then (required (codes "version") version_in root) (λ _.
-    and_then (only_keys root_keys root) (λ _.
-    and_then (optional (codes "test") None (some_of name_in) root) (λ test.
-    and_then (optional (codes "time_limit") 1000000000000000000 (number_in 1000000000000000000) root) (λ time_limit.
-    and_then (optional (codes "quit_limit") 0 (number_in 65535) root) (λ quit_limit.
-    Ok (record { test = test; time_limit = time_limit; quit_limit = quit_limit }))))))
-
-unfoldable pub script_of : Members → Result ScriptValue ScriptFault
-script_of root =
-    and_then (head_in root) (λ head.
-    and_then (types_in root) (λ types.
-    and_then (overrides_in types root) (λ overrides.
-    and_then (settings_in root) (λ settings.
-    and_then (probes_in types root) (λ probes.
-    and_then (test_among types head.test) (λ test.
-    Ok (record {
-      test = test;
-      time_limit = head.time_limit;
-      quit_limit = head.quit_limit;
-      types = types;
-      overrides = overrides;
-      settings = settings;
-      probes = probes;
-    })))))))
-
--- the script of a document that `toml` took, or refused
-abbrev pub script_in : Option Members → Result ScriptValue ScriptFault
-script_in None = Err NotToml
-script_in (Some root) = script_of root
-
--- the script that the bytes of a file stand for
-abbrev pub script_of_bytes : List ℕ → Result ScriptValue ScriptFault
-script_of_bytes bytes =
-    if nat_lt 1048576 (length bytes) then Err TooLong
-    else if not (is_utf8 bytes) then Err NotText
-    else script_in (parse_document bytes)

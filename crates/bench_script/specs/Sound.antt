@@ -18,7 +18,7 @@ CanOverride types o = override_fault types (original_of o) (new_of o) ≡ None
 
 -- a probe asks for a type
 abbrev pub CanProbe : Types → Probe → Type 0
-CanProbe types probe = probe.kind < length types
+CanProbe types probe = probe.type_id < length types
 
 -- the test is a component
 abbrev pub IsComponentAt : Types → Option ℕ → Type 0

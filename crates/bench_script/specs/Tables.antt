@@ -82,9 +82,9 @@ setting_row element =
 abbrev pub probe_row : Types → Data → Result Probe ScriptFault
 probe_row types element =
     and_then (table_in (codes "type" ∷ codes "path" ∷ []) element) (λ table.
-    and_then (required (codes "type") (type_in types) table) (λ kind.
+    and_then (required (codes "type") (type_in types) table) (λ type_id.
     and_then (required (codes "path") path_in table) (λ path.
-    Ok (record { kind = kind; path = path }))))
+    Ok (record { type_id = type_id; path = path }))))
 
 -- the arrays themselves
 abbrev pub types_in : Members → Result Types ScriptFault

@@ -1,20 +1,19 @@
 //! Copies of a script, and a script with another test.
 
 ghost use Rattle.std.specs.Prelude.{◌≡◌, IfOk, IfErr};
-ghost use Rattle.uvm_factory.specs.declared.types.Kind.TheVariants.{Component};
 ghost use Rattle.uvm_factory.specs.Faults.{type_named};
 ghost use Rattle.bench_script.specs.Reading.{IsFaultOf};
-ghost use Rattle.bench_script.specs.Scripts.{kind_named, test_among};
+ghost use Rattle.bench_script.specs.Documents.{test_among};
+ghost use Rattle.bench_script.specs.Sound.{IsComponentAt};
 
-use crate::factories::register_all;
 use crate::faults::ScriptFault;
 use crate::scripts::{Probe, Script, Setting};
 use std::alloc::{AllocError, Global};
-use uvm_factory::{Factory, Kind, Override};
+use uvm_factory::{Kind, Override, TypeId};
 use uvm_glob::Name;
 
 impl Script {
-    /// An equal script, or the error where memory is refused.
+    /// An equal script. The error is want of memory.
     pub fn copy(&self) -> Result<Script, AllocError>
         ensures { IfOk result (λ script. script ≡ self.now) }
     {
@@ -38,32 +37,24 @@ impl Script {
             × (script ≡ record self.now { test = script.test })) }
         ensures err { IfErr result (IsFaultOf (test_among self.now.types (Some name.now))) }
     {
-        match kind_named(self.types(), name) {
-            Some(Kind::Component) => Ok(self.with_component(name)?),
-            Some(Kind::Sequence) => Err(ScriptFault::WrongKind),
-            None => Err(ScriptFault::UnknownType),
+        let Some(place) = place_named(self.types(), name) else {
+            return Err(ScriptFault::UnknownType);
+        };
+        match self.types()[place].1 {
+            Kind::Component => Ok(self.with_component(TypeId::new(place as u16))?),
+            Kind::Sequence => Err(ScriptFault::WrongKind),
         }
     }
 
-    // The script with the component of this name as its test. A factory of the types gives the number of that type.
-    fn with_component(&self, name: &Name) -> Result<Script, AllocError>
-        requires { kind_named self.now.types name.now ≡ Some Component }
-        ensures { IfOk result (λ script. script ≡ record self.now { test = type_named self.now.types name.now }) }
+    // The script with another test.
+    fn with_component(&self, test: TypeId) -> Result<Script, AllocError>
+        requires { IsComponentAt self.now.types (Some test) }
+        ensures { IfOk result (λ script. script ≡ record self.now { test = Some test }) }
     {
-        let mut factory = Factory::new(*self.types.allocator());
-        register_all(&mut factory, self.types())?;
         let mut script = self.copy()?;
-        script.test = factory.find(name);
+        script.test = Some(test);
         Ok(script)
     }
-}
-
-// The kind of the type of a name, if there is one.
-fn kind_named(types: &[(Name, Kind)], name: &Name) -> Option<Kind>
-    ensures { result ≡ kind_named types.now name.now }
-{
-    let (_, kind) = types.get(place_named(types, name)?)?;
-    Some(*kind)
 }
 
 // The place of the type of a name, if there is one.

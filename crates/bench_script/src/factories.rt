@@ -10,14 +10,16 @@ ghost use Rattle.bench_script.specs.Factories.{IsFactoryOf};
 
 use crate::scripts::Script;
 use std::alloc::{AllocError, Global};
-use uvm_factory::{Factory, FactoryFault, Kind, Override};
+use uvm_factory::{Factory, FactoryFault, Kind, Override, laws};
 use uvm_glob::Name;
 
 impl Script {
-    /// The factory with the types and the overrides of the script.
+    /// The factory with the types and the overrides of the script. The error is want of memory.
     pub fn factory(&self, alloc: Global) -> Result<Factory, AllocError>
         ensures { IfOk result (IsFactoryOf self.now) }
     {
+        laws::none_given_no_step();
+        laws::steps_are_given_in_order();
         let mut factory = Factory::new(alloc);
         register_all(&mut factory, self.types())?;
         let overrides = self.overrides();
@@ -29,11 +31,11 @@ impl Script {
 }
 
 // Registers types that can be registered one after another.
-pub(crate) fn register_all(factory: &mut Factory, types: &[(Name, Kind)]) -> Result<(), AllocError>
+fn register_all(factory: &mut Factory, types: &[(Name, Kind)]) -> Result<(), AllocError>
     requires none { types_of factory.old ≡ [] }
     requires sound { CanRegister [] types.now }
     ensures types { OnOk result (types_of factory.new ≡ types.now) }
-    ensures steps { OnOk result ((kind : ℕ) (path : List (List ℕ)) → step_at factory.new kind path ≡ step_at factory.old kind path) }
+    ensures steps { OnOk result ((type_id : ℕ) (path : List (List ℕ)) → step_at factory.new type_id path ≡ step_at factory.old type_id path) }
 {
     for (name, kind) in types {
         match factory.register(*name, *kind) {
@@ -48,8 +50,8 @@ pub(crate) fn register_all(factory: &mut Factory, types: &[(Name, Kind)]) -> Res
 fn apply(factory: &mut Factory, given: &Override) -> Result<(), AllocError>
     requires { CanOverride (types_of factory.old) given.now }
     ensures types { OnOk result (types_of factory.new ≡ types_of factory.old) }
-    ensures steps { OnOk result ((kind : ℕ) (path : List (List ℕ)) →
-        step_at factory.new kind path ≡ after_override given.now kind (path_text path) (step_at factory.old kind path)) }
+    ensures steps { OnOk result ((type_id : ℕ) (path : List (List ℕ)) →
+        step_at factory.new type_id path ≡ after_override given.now type_id (path_text path) (step_at factory.old type_id path)) }
 {
     let applied = match given {
         Override::Instance {

@@ -1,45 +1,60 @@
 //! Why a script is refused.
 
 use std::alloc::{AllocError, AllocFailed};
-use thiserror::Error;
+use std::error::Error;
+use std::fmt;
 
 /// Why a script is refused. `Display` gives the number and the name, as in `script fault 2 NotToml`.
-#[derive(Clone, Copy, Debug, PartialEq, Eq, Error)]
+#[derive(Clone, Copy, Debug, PartialEq, Eq)]
 pub enum ScriptFault {
     /// The bytes are not UTF-8.
-    #[error("script fault 1 NotText")]
     NotText,
     /// The text is not TOML.
-    #[error("script fault 2 NotToml")]
     NotToml,
-    /// A key is not listed.
-    #[error("script fault 3 UnknownKey")]
+    /// A table has a key that it may not have.
     UnknownKey,
-    /// A key that has to be there is not.
-    #[error("script fault 4 Missing")]
+    /// A key that a table needs is not there.
     Missing,
-    /// A value is of another kind.
-    #[error("script fault 5 WrongKind")]
+    /// A value is not of the kind that its key takes, an override goes between types of two kinds, or the test is a sequence.
     WrongKind,
-    /// A number, a count or a word is not one of those allowed.
-    #[error("script fault 6 OutOfRange")]
+    /// A number, a count of tables or a word is not one of those allowed.
     OutOfRange,
     /// A text is no name, glob or path, or a type's name is given twice.
-    #[error("script fault 7 BadName")]
     BadName,
-    /// No type has the name.
-    #[error("script fault 8 UnknownType")]
+    /// No type of the script has a name that is asked for.
     UnknownType,
     /// The version is not 1.
-    #[error("script fault 9 Version")]
     Version,
     /// The script has more than 1,048,576 bytes.
-    #[error("script fault 10 TooLong")]
     TooLong,
-    /// Memory was refused.
-    #[error("script fault 11 Memory")]
+    /// Memory was refused; of the script it says nothing.
     Memory,
 }
+
+impl fmt::Display for ScriptFault {
+    ghost use Rattle.std.specs.Prelude.{Some};
+    ghost use Rattle.bench_script.specs.FaultTexts.{fault_text};
+
+    ghost output = { λ fault. Some (fault_text fault) };
+
+    fn fmt<W: fmt::Write>(&self, f: &mut fmt::Formatter<W>) -> fmt::Result {
+        f.write_str(match self {
+            ScriptFault::NotText => "script fault 1 NotText",
+            ScriptFault::NotToml => "script fault 2 NotToml",
+            ScriptFault::UnknownKey => "script fault 3 UnknownKey",
+            ScriptFault::Missing => "script fault 4 Missing",
+            ScriptFault::WrongKind => "script fault 5 WrongKind",
+            ScriptFault::OutOfRange => "script fault 6 OutOfRange",
+            ScriptFault::BadName => "script fault 7 BadName",
+            ScriptFault::UnknownType => "script fault 8 UnknownType",
+            ScriptFault::Version => "script fault 9 Version",
+            ScriptFault::TooLong => "script fault 10 TooLong",
+            ScriptFault::Memory => "script fault 11 Memory",
+        })
+    }
+}
+
+impl Error for ScriptFault {}
 
 impl From<AllocError> for ScriptFault {
     ghost use Rattle.std.specs.Prelude.{◌≡◌};

@@ -2,7 +2,7 @@
 
 ghost use Rattle.std.specs.Prelude.{◌≡◌, ◌≤◌, IfOk};
 ghost use Rattle.toml.specs.View.{view, table_view};
-ghost use Rattle.bench_script.specs.Scripts.{version_in, head_in};
+ghost use Rattle.bench_script.specs.Documents.{version_in, head_in};
 
 use crate::faults::ScriptFault;
 use crate::keys::{member, only_keys, required};

@@ -5,7 +5,7 @@ ghost use Rattle.toml.specs.View.{table_view};
 ghost use Rattle.toml.specs.Parse.{parse_document};
 ghost use Rattle.bench_script.specs.Reading.{IsReading};
 ghost use Rattle.bench_script.specs.Sound.{IsComponentAt};
-ghost use Rattle.bench_script.specs.Scripts.{script_of, script_in, script_of_bytes, test_among};
+ghost use Rattle.bench_script.specs.Documents.{script_of, script_in, script_of_bytes, test_among};
 
 use crate::faults::ScriptFault;
 use crate::heads::read_head;
@@ -45,7 +45,7 @@ fn read_text(alloc: Global, text: &str) -> Result<Script, ScriptFault>
     }
 }
 
-#[tactic(auto, unfolding(crate::specs::Scripts::script_of))]
+#[tactic(auto, unfolding(crate::specs::Documents::script_of))]
 fn read_tree(alloc: Global, root: &Table) -> Result<Script, ScriptFault>
     ensures { IsReading (script_of (table_view root.now)) result }
 {

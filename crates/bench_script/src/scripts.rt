@@ -11,7 +11,9 @@ use uvm_glob::{Glob, Name, Path};
 /// A question to the factory: which type is made for a type at a path.
 #[derive(Debug, Drop)]
 pub struct Probe {
-    pub kind: TypeId,
+    /// The type that is asked for, one of the script's.
+    pub type_id: TypeId,
+    /// The path at which an object of it would stand.
     pub path: Path,
 }
 
@@ -21,7 +23,7 @@ impl Probe {
         ensures { IfOk result (λ probe. probe ≡ self.now) }
     {
         Ok(Probe {
-            kind: self.kind,
+            type_id: self.type_id,
             path: self.path.copy()?,
         })
     }
@@ -30,8 +32,11 @@ impl Probe {
 /// A setting of the configuration: the value of a field at the paths that the glob matches (IEEE 1800.2-2020, Annex C).
 #[derive(Debug, Drop)]
 pub struct Setting {
+    /// The paths at which it holds.
     pub scope: Glob,
+    /// The field that is set.
     pub field: Name,
+    /// The value that the field has there.
     pub value: i64,
 }
 
@@ -97,7 +102,7 @@ impl Script {
         self.test
     }
 
-    /// The time in ticks past which a run is given up, at most 10^18.
+    /// The limit that the script sets to time, in ticks, at most 10^18.
     pub fn time_limit(&self) -> u64
         ensures limit { result ≡ self.now.time_limit }
         ensures most { result ≤ 1000000000000000000 }
@@ -105,7 +110,7 @@ impl Script {
         self.time_limit
     }
 
-    /// How many counted reports end a run, at most 65,535; 0 for no limit.
+    /// The limit that the script sets to counted reports, at most 65,535; 0 for none.
     pub fn quit_limit(&self) -> u16
         ensures { result ≡ self.now.quit_limit }
     {

@@ -108,7 +108,7 @@ fn new_name(types: &TypeTable, value: &Value) -> Result<Name, ScriptFault>
 // The type that a value names.
 fn type_named(types: &TypeTable, value: &Value) -> Result<TypeId, ScriptFault>
     ensures place { result ≡ type_in types.now (view value.now) }
-    ensures known { IfOk result (λ kind. kind < length types.now) }
+    ensures known { IfOk result (λ type_id. type_id < length types.now) }
 {
     let name = name(value)?;
     types.find(&name).ok_or(ScriptFault::UnknownType)
@@ -165,7 +165,7 @@ fn probe_row(alloc: Global, types: &TypeTable, element: &Value) -> Result<Probe,
     ensures sound { IfOk result (CanProbe types.now) }
 {
     let table = table(element, &["type", "path"])?;
-    let kind = type_named(types, required(table, "type")?)?;
+    let type_id = type_named(types, required(table, "type")?)?;
     let path = path(alloc, required(table, "path")?)?;
-    Ok(Probe { kind, path })
+    Ok(Probe { type_id, path })
 }

@@ -180,11 +180,11 @@ fn reads_the_probes(rt: HostRuntime) -> Result<(), Fail> {
     let script = read(alloc, SCRIPT.as_bytes())?;
     let probes = script.probes();
     assert_eq!(rt; probes.len(), 2);
-    for (probe, kind, path) in [
+    for (probe, type_id, path) in [
         (&probes[0], base, b"top.left".as_slice()),
         (&probes[1], items, b"top".as_slice()),
     ] {
-        assert_eq!(rt; probe.kind, kind);
+        assert_eq!(rt; probe.type_id, type_id);
         let mut text = Vec::new(alloc);
         probe.path.write(&mut text)?;
         assert_eq!(rt; text.as_slice(), path);

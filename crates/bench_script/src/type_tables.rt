@@ -62,15 +62,15 @@ impl TypeTable {
 
     pub(crate) fn find(&self, name: &Name) -> Option<TypeId>
         ensures place { result ≡ type_named self.now name.now }
-        ensures known { IfSome result (λ kind. kind < length self.now) }
+        ensures known { IfSome result (λ type_id. type_id < length self.now) }
     {
         self.factory.find(name)
     }
 
-    pub(crate) fn kind_of(&self, kind: TypeId) -> Option<Kind>
-        ensures { result ≡ option_map (λ t. t.1) (slice_get self.now kind) }
+    pub(crate) fn kind_of(&self, type_id: TypeId) -> Option<Kind>
+        ensures { result ≡ option_map (λ t. t.1) (slice_get self.now type_id) }
     {
-        self.factory.kind_of(kind)
+        self.factory.kind_of(type_id)
     }
 
     // Whether the one may override the other.

@@ -1,13 +1,13 @@
 -- An act of the last answer.
-use Rattle.std.proofs.Common.{◌≡◌, ℕ, zero, suc, ◌+◌, ◌<◌, ◌≤◌, Bool, true, false, List, [], ◌∷◌, ◌++◌, length, drop, slice_get, Some, refl, ap, ◌∙◌, add-one, arith}
-use Rattle.std.proofs.lemmas.List.{length-append}
+use Rattle.std.proofs.Common.{◌≡◌, ℕ, zero, suc, ◌+◌, ◌-◌, ◌<◌, ◌≤◌, Bool, true, false, List, [], ◌∷◌, ◌++◌, length, drop, slice_get, Some, refl, ap, sym, ◌∙◌, add-one, arith}
+use Rattle.std.proofs.lemmas.List.{length-append, length-drop}
 use Rattle.uvm_object.specs.declared.acts.Who.{Who}
 use Rattle.uvm_object.specs.declared.acts.Act.{Act}
 use Rattle.uvm_object.specs.declared.entries.Entry.{Entry}
 use Rattle.bench_world.specs.declared.services.LastAnswer.{LastAnswer}
 use Rattle.bench_world.specs.declared.services.Component.{Component}
-use Rattle.bench_world.specs.History.{unless_noted, rest_of, head_of}
-use Rattle.bench_world.specs.Services.{acts_at, AreTurns, IsAnswer}
+use Rattle.bench_history.specs.History.{rest_of, head_of}
+use Rattle.bench_world.specs.Services.{acts_at, unless_noted, AreTurns, IsAnswer}
 use Rattle.bench_world.proofs.Entered.{acts-later, answered-later}
 
 within-drop : (n : ℕ) (xs : List Act) (y : Act) (ys : List Act) → drop n xs ≡ y ∷ ys → n < length xs
@@ -22,54 +22,62 @@ left-within true n xs act rest e = cc
 left-within false n xs act rest e = within-drop n xs act rest e
 
 pub answer-open :
-    {opening : Act} {history : List Entry} {acts : List Act} {last : Who} {deeds : ℕ} {ended : Bool} {kept : LastAnswer} (act : Act)
-    → unless_noted ended (drop deeds acts) ≡ act ∷ rest_of (unless_noted ended (drop deeds acts)) → IsAnswer opening history acts last deeds ended kept → kept.done < kept.count
-answer-open {acts = acts} {deeds = deeds} {ended} act left a = rw (a.done, a.count) (left-within ended deeds acts act _ left)
+    {opening : Act} {history : List Entry} {left : List Act} {last : Who} {kept : LastAnswer} (act : Act)
+    → left ≡ act ∷ rest_of left → IsAnswer opening history left last kept → kept.done < kept.count
+answer-open {opening} {history} {left} {kept = kept} act first a = rw a.count (left-within kept.noted kept.done (acts_at opening history kept.place) act (rest_of left) (a.rest ∙ first))
 
 -- with one more entry the answer stays
 pub answer-later :
-    {opening : Act} {history : List Entry} {acts : List Act} {last : Who} {deeds : ℕ} {ended : Bool} {kept : LastAnswer} {entry : Entry}
-    → IsAnswer opening history acts last deeds ended kept → IsAnswer opening (entry ∷ history) acts last deeds ended kept
-answer-later {opening} {history} {kept = kept} {entry} a = record {
-  speaker = a.speaker;
-  place = acts-later opening entry history kept.place a.within ∙ a.place;
-  within = answered-later entry history kept.place a.within;
-  count = a.count;
-  done = a.done;
-  noted = a.noted;
-  few = a.few;
-}
+    {opening : Act} {history : List Entry} {left : List Act} {last : Who} {kept : LastAnswer} {entry : Entry}
+    → IsAnswer opening history left last kept → IsAnswer opening (entry ∷ history) left last kept
+answer-later {opening} {history} {kept = kept} {entry} a =
+    let same = acts-later opening entry history kept.place a.within in
+    record {
+      speaker = a.speaker;
+      rest = rw same a.rest;
+      within = answered-later entry history kept.place a.within;
+      count = rw same a.count;
+      few = a.few;
+    }
+
+rest-drop : (n : ℕ) (xs : List Act) → drop (suc n) xs ≡ rest_of (drop n xs)
+rest-drop zero [] = refl
+rest-drop zero (x ∷ xs) = refl
+rest-drop (suc n) [] = refl
+rest-drop (suc n) (x ∷ xs) = rest-drop n xs
+
+rest-unless : (noted : Bool) (n : ℕ) (xs : List Act) → unless_noted noted (drop (suc n) xs) ≡ rest_of (unless_noted noted (drop n xs))
+rest-unless true n xs = refl
+rest-unless false n xs = rest-drop n xs
 
 -- with one more act one more is done
 pub answer-next :
-    {opening : Act} {history : List Entry} {acts : List Act} {last : Who} {deeds : ℕ} {ended : Bool} {kept : LastAnswer} {entry : Entry} {act : Act}
-    → unless_noted ended (drop deeds acts) ≡ act ∷ rest_of (unless_noted ended (drop deeds acts)) → IsAnswer opening history acts last deeds ended kept
-    → IsAnswer opening (entry ∷ history) acts last (suc deeds) ended (record kept { done = kept.done + 1 })
-answer-next {opening} {history} {acts} {deeds = deeds} {ended} {kept} {entry} {act} left a =
-    let open_ : deeds < length acts = left-within ended deeds acts act _ left in
+    {opening : Act} {history : List Entry} {left : List Act} {last : Who} {kept : LastAnswer} {entry : Entry} {act : Act}
+    → left ≡ act ∷ rest_of left → IsAnswer opening history left last kept → IsAnswer opening (entry ∷ history) (rest_of left) last (record kept { done = kept.done + 1 })
+answer-next {opening} {history} {left} {kept = kept} {entry} {act} first a =
+    let same = acts-later opening entry history kept.place a.within in
+    let open_ : kept.done < kept.count = answer-open act first a in
     record {
       speaker = a.speaker;
-      place = acts-later opening entry history kept.place a.within ∙ a.place;
+      rest = rw (add-one, same) (rest-unless kept.noted kept.done (acts_at opening history kept.place) ∙ ap rest_of a.rest);
       within = answered-later entry history kept.place a.within;
-      count = a.count;
-      done = rw (a.done, add-one) refl;
-      noted = a.noted;
-      few = omega arith;
+      count = rw same a.count;
+      few = omega (arith, open_);
     }
 
 -- a note ends it
 pub answer-noted :
-    {opening : Act} {history : List Entry} {acts : List Act} {last : Who} {deeds : ℕ} {ended : Bool} {kept : LastAnswer} {entry : Entry}
-    → IsAnswer opening history acts last deeds ended kept → IsAnswer opening (entry ∷ history) acts last deeds true (record kept { noted = true })
-answer-noted {opening} {history} {kept = kept} {entry} a = record {
-  speaker = a.speaker;
-  place = acts-later opening entry history kept.place a.within ∙ a.place;
-  within = answered-later entry history kept.place a.within;
-  count = a.count;
-  done = a.done;
-  noted = refl;
-  few = a.few;
-}
+    {opening : Act} {history : List Entry} {left : List Act} {last : Who} {kept : LastAnswer} {entry : Entry}
+    → IsAnswer opening history left last kept → IsAnswer opening (entry ∷ history) [] last (record kept { noted = true })
+answer-noted {opening} {history} {kept = kept} {entry} a =
+    let same = acts-later opening entry history kept.place a.within in
+    record {
+      speaker = a.speaker;
+      rest = refl;
+      within = answered-later entry history kept.place a.within;
+      count = rw same a.count;
+      few = a.few;
+    }
 
 head-drop : (n : ℕ) (xs : List Act) → slice_get xs n ≡ head_of (drop n xs)
 head-drop zero [] = refl
@@ -79,9 +87,17 @@ head-drop (suc n) (x ∷ xs) = head-drop n xs
 
 -- the next act
 pub answer-head :
-    {opening : Act} {history : List Entry} {acts : List Act} {last : Who} {deeds : ℕ} {ended : Bool} {kept : LastAnswer}
-    → kept.noted ≡ false → IsAnswer opening history acts last deeds ended kept → slice_get (acts_at opening history kept.place) kept.done ≡ head_of (unless_noted ended (drop deeds acts))
-answer-head {acts = acts} {deeds = deeds} on a = rw (a.place, a.done, ← a.noted, on) (head-drop deeds acts)
+    {opening : Act} {history : List Entry} {left : List Act} {last : Who} {kept : LastAnswer}
+    → kept.noted ≡ false → IsAnswer opening history left last kept → slice_get (acts_at opening history kept.place) kept.done ≡ head_of left
+answer-head {opening} {history} {kept = kept} on a =
+    let here = rw on at a.rest in
+    head-drop kept.done (acts_at opening history kept.place) ∙ ap head_of here
+
+-- how many are left
+pub answer-count : {opening : Act} {history : List Entry} {left : List Act} {last : Who} {kept : LastAnswer} → kept.noted ≡ false → IsAnswer opening history left last kept → kept.count - kept.done ≡ length left
+answer-count {opening} {history} {kept = kept} on a =
+    let here = rw on at a.rest in
+    rw a.count (sym (length-drop kept.done (acts_at opening history kept.place)) ∙ ap length here)
 
 -- more nodes
 pub turns-more : {components called : List ℕ} {count : ℕ} {kept : List Component} (more : ℕ) → count ≤ more → AreTurns components called count kept → AreTurns components called more kept

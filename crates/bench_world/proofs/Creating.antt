@@ -1,7 +1,11 @@
 -- What a creation comes to that passes its checks.
-use Rattle.std.proofs.Common.{ℕ, List, Option, Some, None}
+use Rattle.std.proofs.Common.{◌≡◌, ℕ, List, Option, Some, None, Result, Err, refl, ap, sym}
 use Rattle.uvm_factory.specs.Faults.{Types}
-use Rattle.bench_world.specs.Refusals.{name_made}
+use Rattle.uvm_factory.specs.declared.types.Kind.{Kind}
+use Rattle.uvm_object.specs.declared.fatals.Fatal.{Fatal}
+use Rattle.bench_history.specs.declared.needs.Need.{Need}
+use Rattle.bench_history.specs.Refusals.{name_made}
+use Rattle.bench_history.specs.Upshots.{Upshot, Needs, by_creation, refusal_in}
 use Rattle.bench_world.specs.Services.{MayBeCreated}
 
 -- where its overrides are followed, nothing but a loop is left
@@ -10,3 +14,11 @@ may_be_made types asked None = tt
 may_be_made types asked (Some made) = tt
 
 pub ruleset creating = (may_be_made)
+
+-- where an object is needed a creation is not refused
+pub needed-unrefused : {need : Need} (upshot : Upshot) → upshot ≡ Needs need → None ≡ refusal_in upshot
+needed-unrefused upshot e = ap refusal_in (sym e)
+
+-- and where one is not made for a cause, this is its refusal
+pub refused-why : {fatal : Fatal} (kind : Kind) (path : List (List ℕ)) (made : Result (List ℕ) Fatal) → made ≡ Err fatal → Some fatal ≡ refusal_in (by_creation kind path made)
+refused-why kind path made e = rw e refl

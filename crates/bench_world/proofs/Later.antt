@@ -10,10 +10,12 @@ use Rattle.uvm_object.specs.declared.acts.Who.{Who}
 use Rattle.uvm_object.specs.Logs.{LogValue}
 use Rattle.bench_script.specs.Scripts.{ScriptValue}
 use Rattle.bench_world.specs.declared.services.Services.{Services}
-use Rattle.bench_world.specs.History.{left_of, rest_of, speaker_of}
-use Rattle.bench_world.specs.Next.{Exactly, by_act, next_of, IsNext}
+use Rattle.bench_history.specs.History.{log_limit, left_of, rest_of, speaker_of}
+use Rattle.bench_history.specs.Cases.{Exactly, by_act}
+use Rattle.bench_history.specs.Next.{next_of, IsNext}
+use Rattle.bench_history.specs.Laws.{PhasesGoInOrder}
 use Rattle.bench_world.specs.Services.{ServicesMatch, TakesIn, IsPerformed, one_done, with_refusal}
-use Rattle.bench_world.specs.Story.{IsSound}
+use Rattle.bench_world.specs.Worlds.{IsWorld}
 use Rattle.bench_world.proofs.Answered.{answer-later, answer-next, answer-noted}
 use Rattle.bench_world.proofs.Entered.{legal-more, sound-again}
 use Rattle.bench_world.proofs.Told.{agenda-later}
@@ -27,38 +29,38 @@ pub ruleset acted = (answer-next, agenda-later)
 -- a world goes on with an entry that is next
 pub entered :
     {P : Type 0} {sound : Bool} {script : ScriptValue} {log more : LogValue} {old services : Services} {room : Option Act} (entry : Entry)
-    → P × IsSound sound script log old room → sound ≡ true → length log.entries < 1000000 → IsNext script log.entries entry
+    → P × IsWorld sound script log old room → sound ≡ true → length log.entries < log_limit script → IsNext script log.entries entry
     → more.entries ≡ entry ∷ log.entries → more.limit ≡ log.limit
     → (ServicesMatch script log.entries old → ServicesMatch script (entry ∷ log.entries) services)
-    → P × IsSound true script more services None
+    → P × IsWorld true script more services None
 entered {log} entry p sound room next is limit match =
     (p.0, sound-again (entry ∷ log.entries) is (limit ∙ p.1.limit) (legal-more entry next room p.1.legal) (match (p.1.services_match sound)))
 
 -- and with the entry of an act
 pub acted-on :
     {P : Type 0} {sound : Bool} {script : ScriptValue} {log more : LogValue} {old new services : Services} {room : Option Act} (outcome : Outcome) (act : Act)
-    → P × IsSound sound script log old room → sound ≡ true → length log.entries < 1000000
+    → P × IsWorld sound script log old room → sound ≡ true → length log.entries < log_limit script
     → left_of script log.entries ≡ act ∷ rest_of (left_of script log.entries) → IsNext script log.entries (Did (speaker_of log.entries) outcome act)
-    → TakesIn act outcome (length log.entries) old new
+    → PhasesGoInOrder → TakesIn act outcome (length log.entries) old new
     → more.entries ≡ Did new.answer.speaker outcome act ∷ log.entries → more.limit ≡ log.limit → services ≡ one_done new
-    → P × IsSound true script more services None
-acted-on {script = script} {log} {old = old} {new} outcome act p sound room left next kept is limit done =
+    → P × IsWorld true script more services None
+acted-on {script = script} {log} {old = old} {new} outcome act p sound room left next order kept is limit done =
     let m = p.1.services_match sound in
-    let match = kept.with_entry script log.entries (record { known = m; left = left; place_is = refl }) in
+    let match = kept.with_entry script log.entries (record { known = m; left = left; place_is = refl; in_order = (order script log.entries p.1.legal.each).before }) in
     entered (Did old.answer.speaker outcome act) p sound room (rw m.answer.speaker next) (is ∙ ap (λ (s : Who). Did s outcome act ∷ log.entries) (ap (λ a. a.speaker) kept.same_answer)) limit (λ m. rw done match)
 
 -- what an act comes to by itself is next
 pub performed :
     {P : Type 0} {sound : Bool} {script : ScriptValue} {log more : LogValue} {old new services : Services} {room : Option Act} (outcome : Outcome) (act : Act)
-    → P × IsSound sound script log old room → sound ≡ true → length log.entries < 1000000
+    → P × IsWorld sound script log old room → sound ≡ true → length log.entries < log_limit script
     → left_of script log.entries ≡ act ∷ rest_of (left_of script log.entries) → next_of script log.entries ≡ by_act script log.entries (speaker_of log.entries) act
-    → IsPerformed act outcome (length log.entries) old new
+    → PhasesGoInOrder → IsPerformed act outcome (length log.entries) old new
     → more.entries ≡ Did new.answer.speaker outcome act ∷ log.entries → more.limit ≡ log.limit → services ≡ one_done new
-    → P × IsSound true script more services None
-performed {script = script} {log} {old = old} outcome act p sound room left next did is limit done =
+    → P × IsWorld true script more services None
+performed {script = script} {log} {old = old} outcome act p sound room left next order did is limit done =
     let m = p.1.services_match sound in
-    let comes = next ∙ (rw m.answer.speaker at (did.comes script log.entries (record { known = m; left = left; place_is = refl }))) in
-    acted-on outcome act p sound room left (rw comes refl) did.kept is limit done
+    let comes = next ∙ (rw m.answer.speaker at (did.comes script log.entries (record { known = m; left = left; place_is = refl; in_order = (order script log.entries p.1.legal.each).before }))) in
+    acted-on outcome act p sound room left (rw comes refl) order did.kept is limit done
 
 -- any act may be refused
 pub refused-taken-in : {old new : Services} {place : ℕ} (act : Act) (fatal : Fatal) → new ≡ with_refusal old → TakesIn act (Refused fatal) place old new

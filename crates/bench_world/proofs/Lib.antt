@@ -1,15 +1,11 @@
+pub mod Acting
 pub mod Answered
-pub mod Asked
-pub mod Cases
 pub mod Configured
 pub mod Creating
 pub mod Entered
 pub mod Heard
 pub mod Later
 pub mod Marks
-pub mod Needed
 pub mod Overriding
-pub mod Performed
-pub mod Phased
 pub mod Told
 pub mod Turns

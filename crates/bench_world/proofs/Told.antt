@@ -4,23 +4,25 @@ use Rattle.std.proofs.lemmas.Bool.Decides.{nat_tests}
 use Rattle.std.specs.List.{list_any}
 use Rattle.std.proofs.lemmas.List.Elements.{All-cons, All-head, All-weaker, All-filter}
 use Rattle.std.proofs.lemmas.List.Folds.{list_any_none}
+use Rattle.std.proofs.lemmas.List.Sorted.{All-permutation}
 use Rattle.std.proofs.lemmas.List.Kept.{AllPairs-cons, AllPairs-filter}
 use Rattle.uvm_phase.specs.declared.phases.Phase.{Phase}
 use Rattle.uvm_phase.specs.declared.agendas.Cause.{Cause}
 use Rattle.uvm_phase.specs.declared.agendas.Due.{Due}
 use Rattle.uvm_phase.specs.Phases.{number_of, same_phase}
 use Rattle.uvm_phase.specs.Dues.{same_cause, in_order}
-use Rattle.uvm_phase.proofs.Ordered.{filter-in_order, All-in_order, without-taken}
+use Rattle.uvm_phase.specs.Laws.{OrderKeepsAll, OrderKeepsFilters, OrderLosesFirst}
 use Rattle.uvm_object.specs.declared.acts.Who.{Who}
 use Rattle.uvm_object.specs.declared.acts.Call.{Call}
 use Rattle.uvm_object.specs.declared.acts.Call.TheVariants as call
 use Rattle.uvm_object.specs.declared.acts.Act.TheVariants.{Get}
 use Rattle.uvm_object.specs.declared.entries.Outcome.TheVariants.{Value}
-use Rattle.bench_world.specs.declared.stages.Stage.{Stage}
-use Rattle.bench_world.specs.declared.stages.Stage.TheVariants.{Before, During, After, Ended}
-use Rattle.bench_world.specs.History.{running}
-use Rattle.bench_world.specs.Dues.{calls_after, is_open}
-use Rattle.bench_world.specs.Services.{IsAgenda, ArePhases}
+use Rattle.bench_history.specs.declared.stages.Stage.{Stage}
+use Rattle.bench_history.specs.declared.stages.Stage.TheVariants.{Before, During, After, Ended}
+use Rattle.bench_history.specs.History.{running}
+use Rattle.bench_history.specs.Dues.{calls_after, is_open}
+use Rattle.bench_history.specs.Laws.{next_number}
+use Rattle.bench_world.specs.Services.{IsAgenda}
 
 -- a filter by two tests is one filter after the other
 filter-tested : {A : Type 0} (p : A → Bool) (x : A) (rest known : List A) (b : Bool) → rest ≡ filter p known → (if b && p x then x ∷ rest else rest) ≡ filter p (if b then x ∷ known else known)
@@ -85,11 +87,11 @@ agenda-caused caused heard ended dues more due a before is =
 pub agenda-told :
     (value : Option ℤ) (field : List ℕ) (performer : Who) (time : ℕ) (stage : Stage)
     (caused : List (Due Who Call)) (heard : List Cause) (ended : List Phase) (count : ℕ) (dues more : List (Due Who Call))
-    → ArePhases stage ended → IsAgenda caused heard ended count dues
+    → All (λ phase. number_of phase < next_number stage) ended → IsAgenda caused heard ended count dues
     → more ≡ in_order (calls_after (Value value) (Get field) performer (running stage) time count ++ filter (is_open heard ended) caused)
     → IsAgenda (calls_after (Value value) (Get field) performer (running stage) time count ++ caused) heard ended (suc count) more
 agenda-told value field performer time (During phase) caused heard ended count dues more phases a is =
-    agenda-caused caused heard ended dues more (record { time = time; cause = record { place = count; number = 0 }; phase = phase; owner = performer; notice = call.Config field value }) a phases.before is
+    agenda-caused caused heard ended dues more (record { time = time; cause = record { place = count; number = 0 }; phase = phase; owner = performer; notice = call.Config field value }) a phases is
 agenda-told value field performer time Before caused heard ended count dues more phases a is = rw (is, ← a.are) (agenda-later a)
 agenda-told value field performer time (After phase) caused heard ended count dues more phases a is = rw (is, ← a.are) (agenda-later a)
 agenda-told value field performer time Ended caused heard ended count dues more phases a is = rw (is, ← a.are) (agenda-later a)
@@ -102,13 +104,14 @@ first-holds P (x ∷ xs) first all e = let same : x ≡ first = cc in subst P sa
 -- one call is heard
 pub agenda-heard :
     (caused : List (Due Who Call)) (heard : List Cause) (ended : List Phase) (count : ℕ) (dues left : List (Due Who Call)) (due : Due Who Call)
+    → OrderKeepsAll Who Call → OrderLosesFirst Who Call
     → IsAgenda caused heard ended count dues → slice_get dues 0 ≡ Some due → left ≡ drop 1 dues
     → IsAgenda caused (due.cause ∷ heard) ended (suc count) left
-agenda-heard caused heard ended count dues left due a first is =
+agenda-heard caused heard ended count dues left due keeps loses a first is =
     let known = filter (is_open heard ended) caused in
     let apart = AllPairs-filter (λ one other. same_cause one.cause other.cause ≡ false) (is_open heard ended) caused a.distinct in
-    let taken = without-taken known dues left (Some due) apart a.are (sym first) is in
-    let within : All (λ other. other.cause.place < count) dues = rw a.are (All-in_order (λ other. other.cause.place < count) known (All-filter (is_open heard ended) (λ other. other.cause.place < count) caused a.caused_within)) in
+    let taken = loses known dues left (Some due) apart a.are (sym first) is in
+    let within : All (λ other. other.cause.place < count) dues = rw a.are (All-permutation (λ other. other.cause.place < count) known (in_order known) (keeps known) (All-filter (is_open heard ended) (λ other. other.cause.place < count) caused a.caused_within)) in
     let here : due.cause.place < count = first-holds (λ other. other.cause.place < count) dues due within first in
     let l = agenda-later a in
     record {
@@ -121,15 +124,15 @@ agenda-heard caused heard ended count dues left due a first is =
 -- a phase ends
 pub agenda-ended :
     (caused : List (Due Who Call)) (heard : List Cause) (ended : List Phase) (count : ℕ) (dues left : List (Due Who Call)) (phase : Phase)
-    → IsAgenda caused heard ended count dues → left ≡ filter (λ due. not (same_phase due.phase phase)) dues
+    → OrderKeepsFilters Who Call → IsAgenda caused heard ended count dues → left ≡ filter (λ due. not (same_phase due.phase phase)) dues
     → IsAgenda caused heard (phase ∷ ended) (suc count) left
-agenda-ended caused heard ended count dues left phase a is =
+agenda-ended caused heard ended count dues left phase keeps a is =
     let known = filter (is_open heard ended) caused in
     let l = agenda-later a in
     record {
       are =
           is ∙ ap (filter (λ due. not (same_phase due.phase phase))) a.are
-          ∙ filter-in_order (λ due. not (same_phase due.phase phase)) known
+          ∙ keeps (λ due. not (same_phase due.phase phase)) known
           ∙ ap in_order (sym (filter-twice (λ due. not (same_phase due.phase phase)) (is_open heard ended) (is_open heard (phase ∷ ended)) (λ due. one-ended (not (list_any (same_cause due.cause) heard)) (same_phase due.phase phase) (list_any (same_phase due.phase) ended)) caused));
       distinct = a.distinct;
       caused_within = l.caused_within;

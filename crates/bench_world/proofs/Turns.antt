@@ -1,12 +1,11 @@
 -- Who had a call, over lists alone.
 use Rattle.std.proofs.lemmas.Bool.Decides.{nat_tests}
 use Rattle.std.proofs.lemmas.List.Folds.{list_any_none}
-use Rattle.std.proofs.Common.{◌≡◌, ℕ, suc, ◌<◌, Bool, true, false, not, ◌==◌, List, [], ◌∷◌, ◌++◌, map, filter, fold, Option, Some, None, IfSome, refl, ap, ◌∙◌, sym, arith, if◌then◌else◌}
+use Rattle.std.proofs.Common.{◌≡◌, ℕ, suc, ◌<◌, true, false, not, ◌==◌, List, [], ◌∷◌, ◌++◌, map, filter, refl, ap, ◌∙◌, sym, arith, if◌then◌else◌}
 use Rattle.std.specs.List.{All}
 use Rattle.std.proofs.lemmas.List.Elements.{All-append, All-cons, All-head, All-tail}
-use Rattle.uvm_tree.specs.Cursors.{sooner, least}
 use Rattle.bench_world.specs.declared.services.Component.{Component}
-use Rattle.bench_world.specs.History.{had_call}
+use Rattle.bench_history.specs.History.{had_call}
 use Rattle.bench_world.specs.Services.{cleared, with_call, marked, waiting_in, AreTurns}
 
 cleared-marked : (called nodes : List ℕ) → map cleared (map (marked called) nodes) ≡ map (marked []) nodes
@@ -32,19 +31,6 @@ turns-heard {components} {called} {count} node lt turns = record {
   within = turns.within;
   called_within = All-cons (λ other. other < count) node called lt turns.called_within;
 }
-
--- the least of some numbers is one of them
-sooner-holds : (P : ℕ → Type 0) (before : ℕ → ℕ → Bool) (best : Option ℕ) (n : ℕ) → IfSome best P → P n → IfSome (sooner before best n) P
-sooner-holds P before None n here there = there
-sooner-holds P before (Some best) n here there = elim (before n best) as (λ b. IfSome (if b then Some n else Some best) P) [ true ↦ there | false ↦ here ]
-
-fold-holds : (P : ℕ → Type 0) (before : ℕ → ℕ → Bool) (best : Option ℕ) (numbers : List ℕ) → IfSome best P → All P numbers → IfSome (fold (sooner before) best numbers) P
-fold-holds P before best [] here there = here
-fold-holds P before best (n ∷ numbers) here there =
-    fold-holds P before (sooner before best n) numbers (sooner-holds P before best n here (All-head P n numbers there)) (All-tail P n numbers there)
-
-pub least-holds : (P : ℕ → Type 0) (before : ℕ → ℕ → Bool) (numbers : List ℕ) → All P numbers → IfSome (least before numbers) P
-least-holds P before numbers all = fold-holds P before None numbers tt all
 
 -- the components that had no call
 pub waiting-marked : (called nodes : List ℕ) → waiting_in (map (marked called) nodes) ≡ filter (λ node. not (had_call called node)) nodes

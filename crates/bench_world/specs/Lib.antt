@@ -1,7 +1,2 @@
-pub mod Configuration
-pub mod Dues
-pub mod History
-pub mod Next
-pub mod Refusals
 pub mod Services
-pub mod Story
+pub mod Worlds

@@ -1,5 +1,5 @@
 -- What a world keeps beside its log, and that it is what the log says.
-use Rattle.std.specs.Prelude.{◌≡◌, ℕ, ◌<◌, ◌≤◌, ◌+◌, Bool, true, false, ◌==◌, ◌||◌, List, [], ◌∷◌, length, map, filter, reverse, slice_get, Option, Some, None, All, AllPairs, Result, Ok, Err, if◌then◌else◌}
+use Rattle.std.specs.Prelude.{◌≡◌, ℕ, ◌<◌, ◌≤◌, ◌+◌, Bool, true, false, ◌==◌, ◌||◌, List, [], ◌∷◌, length, drop, map, filter, reverse, slice_get, Option, Some, None, All, AllPairs, Result, Ok, Err, if◌then◌else◌}
 use Rattle.std.specs.Option.{ForSome}
 use Rattle.std.specs.List.{list_any}
 use Rattle.uvm_glob.specs.Paths.{path_text}
@@ -18,7 +18,6 @@ use Rattle.uvm_object.specs.Acts.{node_of}
 use Rattle.uvm_object.specs.declared.acts.Who.{Who}
 use Rattle.uvm_object.specs.declared.acts.Call.{Call}
 use Rattle.uvm_object.specs.declared.acts.Act.{Act}
-use Rattle.uvm_object.specs.declared.acts.Act.TheVariants.{Create}
 use Rattle.uvm_object.specs.declared.fatals.Fatal.{Fatal}
 use Rattle.uvm_object.specs.declared.fatals.Fatal.TheVariants.{OverrideLoop}
 use Rattle.uvm_object.specs.declared.entries.Entry.{Entry}
@@ -27,27 +26,26 @@ use Rattle.uvm_object.specs.declared.entries.Outcome.{Outcome}
 use Rattle.bench_script.specs.Scripts.{ScriptValue}
 use Rattle.bench_world.specs.declared.creations.Uncreated.{Uncreated}
 use Rattle.bench_world.specs.declared.creations.Uncreated.TheVariants.{Refused, Memory}
-use Rattle.bench_world.specs.declared.creations.Need as needs
+use Rattle.bench_history.specs.declared.needs.Need as needs
 use Rattle.bench_world.specs.declared.attempts.Attempt.{Attempt}
 use Rattle.bench_world.specs.declared.attempts.Attempt.TheVariants.{Became, Needed}
 use Rattle.bench_world.specs.declared.services.LastAnswer.{LastAnswer}
 use Rattle.bench_world.specs.declared.services.Component.{Component}
 use Rattle.bench_world.specs.declared.services.Services.{Services}
-use Rattle.bench_world.specs.declared.stages.Stage.{Stage}
-use Rattle.bench_world.specs.declared.stages.Stage.TheVariants.{Before, During, After, Ended}
-use Rattle.bench_world.specs.Configuration.{settings_of}
-use Rattle.bench_world.specs.Dues.{caused_of, heard_of, ended_of, is_open}
-use Rattle.bench_world.specs.History.{stage_of, now_of, nodes_of, components_of, called_of, had_call, opening, answer_of, done_of, is_noted, left_of, rest_of, speaker_of, overrides_of, ends_build, asks_exit, refuses_test}
-use Rattle.bench_world.specs.Next.{Exactly, Need, by_act}
+use Rattle.bench_history.specs.Configuration.{settings_of}
+use Rattle.bench_history.specs.Dues.{caused_of, heard_of, ended_of, is_open}
+use Rattle.bench_history.specs.History.{stage_of, now_of, nodes_of, components_of, called_of, had_call, opening, left_of, rest_of, speaker_of, overrides_of, ends_build, asks_exit, refuses_test}
+use Rattle.bench_history.specs.Cases.{Exactly, Need, by_act}
+use Rattle.bench_history.specs.Laws.{next_number}
 
 -- the factory has the types, and gives what the overrides give
 pub record IsFactory (types : Types) (overrides : List Override) (kept : Kept) : Type 0 where
   pub types_are : types_of kept ≡ types
-  pub steps : (kind : ℕ) (path : List (List ℕ)) → step_at kept kind path ≡ type_step overrides kind (path_text path)
+  pub steps : (type_id : ℕ) (path : List (List ℕ)) → step_at kept type_id path ≡ type_step overrides type_id (path_text path)
 
 -- nothing but a loop of overrides keeps a creation from being performed
 abbrev pub MayBeCreated : Result (List ℕ) Fatal → Type 0
-MayBeCreated (Ok ty) = Unit {0}
+MayBeCreated (Ok type_name) = Unit {0}
 MayBeCreated (Err OverrideLoop) = Unit {0}
 MayBeCreated (Err fatal) = ⊥
 
@@ -86,15 +84,19 @@ abbrev pub acts_at : Act → List Entry → Option ℕ → List Act
 acts_at opening history None = opening ∷ []
 acts_at opening history (Some place) = acts_in (slice_get (reverse history) place)
 
--- who gave the last answer, where it stands, how many acts it has and how many were done, and whether it ended with a note
-pub record IsAnswer (opening : Act) (history : List Entry) (acts : List Act) (last : Who) (deeds : ℕ) (ended : Bool) (kept : LastAnswer) : Type 0 where
+-- none are left after a note
+abbrev pub unless_noted : Bool → List Act → List Act
+unless_noted true acts = []
+unless_noted false acts = acts
+
+-- who gave the last answer, where it stands, how many acts it has and how many have their entry, and whether it ended with a note: the
+-- others are left
+pub record IsAnswer (opening : Act) (history : List Entry) (left : List Act) (last : Who) (kept : LastAnswer) : Type 0 where
   pub speaker : kept.speaker ≡ last
-  pub place : acts_at opening history kept.place ≡ acts
+  pub rest : unless_noted kept.noted (drop kept.done (acts_at opening history kept.place)) ≡ left
   pub within : ForSome kept.place (λ place. place < length history)
-  pub count : kept.count ≡ length acts
-  pub done : kept.done ≡ deeds
-  pub noted : kept.noted ≡ ended
-  pub few : deeds ≤ length acts
+  pub count : kept.count ≡ length (acts_at opening history kept.place)
+  pub few : kept.done ≤ kept.count
 
 -- the settings give what the list of them gives
 pub record IsSettings (settings : List Setting) (kept : config.Kept) : Type 0 where
@@ -108,17 +110,6 @@ pub record IsAgenda (caused : List (Due Who Call)) (heard : List Cause) (ended :
   pub caused_within : All (λ due. due.cause.place < count) caused
   pub heard_within : All (λ cause. cause.place < count) heard
 
--- the phases go in their order: the number of the next one that may begin, or of the one that runs
-abbrev pub next_number : Stage → ℕ
-next_number Before = 0
-next_number (During phase) = number_of phase
-next_number (After phase) = number_of phase + 1
-next_number Ended = 9
-
--- those that have ended stand before it
-pub record ArePhases (stage : Stage) (ended : List Phase) : Type 0 where
-  pub before : All (λ phase. number_of phase < next_number stage) ended
-
 -- each thing that is kept is what the history says
 pub record ServicesMatch (script : ScriptValue) (history : List Entry) (services : Services) : Type 0 where
   pub stage : services.stage ≡ stage_of history
@@ -126,19 +117,20 @@ pub record ServicesMatch (script : ScriptValue) (history : List Entry) (services
   pub tree : services.tree.nodes ≡ nodes_of history
   pub factory : IsFactory script.types (overrides_of script history) services.factory
   pub turns : AreTurns (components_of history) (called_of history) (length (nodes_of history)) services.components.items
-  pub answer : IsAnswer (opening script) history (answer_of script history) (speaker_of history) (done_of history) (is_noted history) services.answer
+  pub answer : IsAnswer (opening script) history (left_of script history) (speaker_of history) services.answer
   pub built : services.built ≡ list_any ends_build history
   pub exit_asked : services.exit_asked ≡ list_any asks_exit history
   pub settings : IsSettings (settings_of script history) services.settings
   pub agenda : IsAgenda (caused_of history) (heard_of history) (ended_of history) (length history) services.agenda.dues
-  pub phases : ArePhases (stage_of history) (ended_of history)
   pub test_refused : services.test_refused ≡ list_any refuses_test history
 
--- an act of the last answer is to be performed: what is kept is what the log says, and its entry will stand at a place
+-- an act of the last answer is to be performed: what is kept is what the log says, the phases went in their order, and its entry will
+-- stand at a place
 pub record IsScene (script : ScriptValue) (history : List Entry) (act : Act) (place : ℕ) (services : Services) : Type 0 where
   pub known : ServicesMatch script history services
   pub left : left_of script history ≡ act ∷ rest_of (left_of script history)
   pub place_is : length history ≡ place
+  pub in_order : All (λ phase. number_of phase < next_number (stage_of history)) (ended_of history)
 
 -- a refusal asks for exit, and may be the test's
 abbrev pub with_refusal : Services → Services
@@ -162,11 +154,6 @@ pub record IsPerformed (act : Act) (outcome : Outcome) (place : ℕ) (old new : 
 pub record IsInNeed (act : Act) (need : needs.Need) (place : ℕ) (old new : Services) : Type 0 where
   pub comes : (script : ScriptValue) (history : List Entry) → IsScene script history act place old → by_act script history old.answer.speaker act ≡ Need need old.answer.speaker act
   pub same : new ≡ old
-
--- an act creates an object
-abbrev pub IsCreation : Act → Type 0
-IsCreation (Create ty name) = Unit {0}
-IsCreation act = ⊥
 
 -- what an attempt to perform an act comes to
 abbrev pub IsAttempt : Act → Attempt → ℕ → Services → Services → Type 0

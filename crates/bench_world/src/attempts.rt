@@ -7,11 +7,11 @@ ghost use Rattle.uvm_object.specs.declared.entries.Outcome.TheVariants.{Refused}
 ghost use Rattle.bench_world.specs.Services.{IsAttempt, one_done, with_refusal};
 
 use crate::configuring::{get_field, set_field};
-use crate::creations::Need;
 use crate::entries::push;
 use crate::making::create;
 use crate::performing::{add, override_inst, override_type};
 use crate::services::Services;
+use bench_history::Need;
 use std::alloc::{AllocError, Global};
 use uvm_object::{Act, Deed, Entry, Fatal, Log, LoggedOutcome};
 use uvm_tree::NodeId;
@@ -35,7 +35,7 @@ pub(crate) fn perform(
     ensures { IfOk result (λ attempt. IsAttempt act.now attempt place services.old services.new) }
 {
     match act {
-        Act::Create { ty, name } => create(services, ty, name),
+        Act::Create { type_name, name } => create(services, type_name, name),
         Act::Add { name, what } => add(services, *name, *what),
         Act::Set { glob, field, value } => set_field(services, alloc, glob, *field, *value),
         Act::Get { field } => get_field(services, alloc, place, *field),

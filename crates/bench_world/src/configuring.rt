@@ -11,25 +11,25 @@ ghost use Rattle.uvm_object.specs.declared.acts.Act.TheVariants.{Set, Get};
 ghost use Rattle.uvm_object.specs.declared.acts.Call.{Call};
 ghost use Rattle.uvm_object.specs.declared.acts.Who.{Who};
 ghost use Rattle.uvm_object.specs.declared.entries.Outcome.TheVariants.{Value};
-ghost use Rattle.bench_world.specs.History.{running};
-ghost use Rattle.bench_world.specs.Configuration.{given_setting, is_building};
-ghost use Rattle.bench_world.specs.Dues.{calls_after};
+ghost use Rattle.bench_history.specs.History.{running};
+ghost use Rattle.bench_history.specs.Configuration.{given_setting, is_building};
+ghost use Rattle.bench_history.specs.Dues.{calls_after};
 ghost use Rattle.bench_world.specs.Services.{IsAttempt, IsSettings};
 
 use crate::attempts::{Attempt, refused};
 use crate::performing::scope_under;
 use crate::services::Services;
-use crate::stages::Stage;
+use bench_history::Stage;
 use bench_script::Setting;
 use std::alloc::{AllocError, Global};
-use uvm_config::Settings;
+use uvm_config::{Settings, laws};
 use uvm_glob::{Glob, Name, Path};
 use uvm_object::{Call, Fatal, LoggedOutcome, Who};
 use uvm_phase::{Cause, Phase};
 use uvm_tree::{NodeId, Tree};
 
 // A field is set under the performer's path, unless there are too many settings.
-#[tactic(auto, unfolding(crate::specs::Refusals::setting_of))]
+#[tactic(auto, unfolding(bench_history::specs::Refusals::setting_of))]
 pub(crate) fn set_field(
     services: &mut Services,
     alloc: Global,
@@ -70,6 +70,7 @@ pub(crate) fn given_settings(alloc: Global, given: &[Setting]) -> Result<Setting
     requires { length given.now ≤ 65536 }
     ensures { IfOk result (IsSettings (reverse (map given_setting given.now))) }
 {
+    laws::none_set_no_answer();
     let mut settings = Settings::new(alloc);
     for setting in given {
         set_given(&mut settings, setting)?;
@@ -101,6 +102,7 @@ fn set(
     ensures { OnOk result ((given : List config.Setting) → IsSettings given settings.old →
         IsSettings (record { scope = scope; field = field; precedence = precedence_of building depth; value = value } ∷ given) settings.new) }
 {
+    laws::answers_are_given();
     match settings.set(depth, building, scope, field, value) {
         Ok(()) => Ok(()),
         Err(_) => Err(AllocError),

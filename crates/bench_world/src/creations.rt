@@ -1,4 +1,4 @@
-//! What the acts of an answer come to.
+//! What creations come to.
 
 ghost use Rattle.std.specs.Prelude.{◌≡◌, ◌∷◌, ◌++◌, [], List, None, Some, Ok, Err, IfOk, IfErr, IfSome, length, ok_or};
 ghost use Rattle.uvm_factory.specs.declared.overrides.Override.{Override};
@@ -9,63 +9,58 @@ ghost use Rattle.uvm_glob.specs.Paths.{path_text};
 ghost use Rattle.uvm_tree.specs.Nodes.{path_at};
 ghost use Rattle.uvm_object.specs.Acts.{node_of};
 ghost use Rattle.uvm_factory.specs.declared.types.Kind.TheVariants.{Component};
-ghost use Rattle.bench_world.specs.Next.{Needs, by_creation};
-ghost use Rattle.bench_world.specs.Refusals.{component_named, child_refusal, name_made, creation_of};
+ghost use Rattle.bench_history.specs.Upshots.{Needs, by_creation};
+ghost use Rattle.bench_history.specs.Refusals.{component_named, child_refusal, name_made, creation_of};
 ghost use Rattle.bench_world.specs.Services.{IsFactory, IsRefusedBy};
 
 use crate::services::Services;
+use bench_history::Need;
 use uvm_factory::{Factory, Kind, TypeId};
 use uvm_glob::{Name, Path};
-use uvm_object::Fatal;
+use uvm_object::{Fatal, Who};
 use uvm_tree::{NodeId, Tree, TreeFault};
-
-/// An object that is needed: its kind, the type that the factory makes, and where it will stand.
-#[derive(Debug, Drop)]
-pub struct Need {
-    pub kind: Kind,
-    pub ty: Name,
-    pub path: Path,
-}
 
 /// Why nothing is created.
 #[derive(Clone, Copy, Debug, PartialEq, Eq)]
-pub enum Uncreated {
+pub(crate) enum Uncreated {
     /// The act is refused.
     Refused(Fatal),
     /// Memory was refused.
     Memory,
 }
 
-// What the creation of a component by the speaker comes to.
-#[tactic(auto, using(crate::proofs::Creating::creating), unfolding(crate::specs::Refusals::creation_of))]
+// What the creation of a component by somebody comes to. Memory is wanted for the new path before the overrides are followed, and
+// so refused after every refusal but that of a loop.
+#[tactic(auto, using(crate::proofs::Creating::creating), unfolding(bench_history::specs::Refusals::creation_of))]
 pub(crate) fn what_is_created(
     services: &Services,
-    ty: &Name,
+    performer: &Who,
+    type_name: &Name,
     name: &Name,
 ) -> Result<Need, Uncreated>
     ensures ok { IfOk result (λ need. (types : Types) (overrides : List Override) → IsFactory types overrides services.now.factory →
-        by_creation Component (path_at services.now.tree.nodes (node_of services.now.answer.speaker) ++ name.now ∷ [])
-        (creation_of services.now.built types overrides services.now.tree.nodes (node_of services.now.answer.speaker) ty.now name.now) ≡ Needs need) }
+        by_creation Component (path_at services.now.tree.nodes (node_of performer.now) ++ name.now ∷ [])
+        (creation_of services.now.built types overrides services.now.tree.nodes (node_of performer.now) type_name.now name.now) ≡ Needs need) }
     ensures err { IfErr result (λ fault. (types : Types) (overrides : List Override) → IsFactory types overrides services.now.factory →
-        IsRefusedBy (creation_of services.now.built types overrides services.now.tree.nodes (node_of services.now.answer.speaker) ty.now name.now) fault) }
+        IsRefusedBy (creation_of services.now.built types overrides services.now.tree.nodes (node_of performer.now) type_name.now name.now) fault) }
 {
     if services.built {
         return Err(Uncreated::Refused(Fatal::CreatedAfterBuild));
     }
-    let Some(kind) = component_named(&services.factory, ty) else {
+    let Some(type_id) = component_named(&services.factory, type_name) else {
         return Err(Uncreated::Refused(Fatal::InvalidType));
     };
-    let parent = services.answer.speaker.node();
+    let parent = performer.node();
     if let Some(fatal) = child_refusal(&services.tree, parent, name) {
         return Err(Uncreated::Refused(fatal));
     }
     let Some(path) = child_path(&services.tree, parent, name) else {
         return Err(Uncreated::Memory);
     };
-    match made_name(&services.factory, kind, ty, &path) {
-        Some(ty) => Ok(Need {
+    match made_name(&services.factory, type_id, type_name, &path) {
+        Some(type_name) => Ok(Need {
             kind: Kind::Component,
-            ty,
+            type_name,
             path,
         }),
         None => Err(Uncreated::Refused(Fatal::OverrideLoop)),
@@ -76,9 +71,9 @@ pub(crate) fn what_is_created(
 fn component_named(factory: &Factory, name: &Name) -> Option<TypeId>
     ensures { result ≡ component_named (types_of factory.now) name.now }
 {
-    let kind = factory.find(name)?;
-    match factory.kind_of(kind) {
-        Some(Kind::Component) => Some(kind),
+    let type_id = factory.find(name)?;
+    match factory.kind_of(type_id) {
+        Some(Kind::Component) => Some(type_id),
         _ => None,
     }
 }
@@ -107,10 +102,10 @@ fn child_path(tree: &Tree, parent: NodeId, name: &Name) -> Option<Path>
 }
 
 // The name of the type that is made at a path, if the overrides are no loop.
-fn made_name(factory: &Factory, kind: TypeId, asked: &Name, path: &Path) -> Option<Name>
-    ensures { (types : Types) (overrides : List Override) → IsFactory types overrides factory.now → component_named types asked.now ≡ Some kind → name_made types asked.now (made_type overrides (length types) (path_text path.now) kind) ≡ ok_or result Fatal.OverrideLoop }
+fn made_name(factory: &Factory, type_id: TypeId, asked: &Name, path: &Path) -> Option<Name>
+    ensures { (types : Types) (overrides : List Override) → IsFactory types overrides factory.now → component_named types asked.now ≡ Some type_id → name_made types asked.now (made_type overrides (length types) (path_text path.now) type_id) ≡ ok_or result Fatal.OverrideLoop }
 {
-    let made = factory.resolve(kind, path).ok()?;
+    let made = factory.resolve(type_id, path).ok()?;
     match factory.name_of(made) {
         Some(name) => Some(*name),
         None => Some(*asked),

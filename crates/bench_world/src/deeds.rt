@@ -1,19 +1,21 @@
 //! The last answer, and its next act.
 
-ghost use Rattle.std.specs.Prelude.{◌≡◌, length, OnErr, IfOk, IfErr, Some, slice_get, true};
+ghost use Rattle.std.specs.Prelude.{◌≡◌, length, OnErr, IfOk, Some, slice_get, true};
 ghost use Rattle.std.specs.Option.{option_copied};
 ghost use Rattle.uvm_object.specs.declared.acts.Act.{Act};
-ghost use Rattle.bench_world.specs.History.{left_of, head_of, speaker_of};
-ghost use Rattle.bench_world.specs.Next.{Needs, next_of, creating, creation_now};
-ghost use Rattle.bench_world.specs.Services.{acts_at, IsRefusedBy};
-ghost use Rattle.bench_world.specs.Story.{IsActed, MayAct, MayPerform, broken};
+ghost use Rattle.bench_history.specs.History.{left_of, head_of, speaker_of};
+ghost use Rattle.bench_history.specs.Upshots.{refusal_in, upshot_of};
+ghost use Rattle.bench_history.specs.Laws.{IsCreation};
+ghost use Rattle.bench_history.specs.Next.{next_of};
+ghost use Rattle.bench_world.specs.Services.{acts_at};
+ghost use Rattle.bench_world.specs.Worlds.{IsActed, MayAct, MayPerform, broken};
 
 use crate::attempts::{Attempt, enter, perform};
-use crate::creations::{Need, Uncreated, what_is_created};
+use crate::creations::{Uncreated, what_is_created};
 use crate::worlds::World;
+use bench_history::{Need, laws};
 use std::alloc::AllocError;
-use uvm_glob::Name;
-use uvm_object::{Act, Deed, Entry, Log, Who};
+use uvm_object::{Act, Deed, Entry, Fatal, Log, Who};
 
 impl World {
     /// Who gave the last answer; the top before any.
@@ -49,12 +51,14 @@ impl World {
     }
 
     /// The next act of the last answer. It is performed, or refused, and has its entry then: none is answered. Or it needs an object:
-    /// then nothing has changed, and `made` or `declined` enters it.
+    /// then the log and the services are as before, room that was reserved is given up, and `made` or `declined` enters it.
     pub fn did(&mut self) -> Result<Option<Need>, AllocError>
         requires { MayAct self.old }
         ensures ok { IfOk result (λ need. IsActed (next_of self.old.script self.old.history) need self.old self.new) }
         ensures err { OnErr result (self.new ≡ broken self.old) }
     {
+        // An act is left.
+        laws::acts_go_in_order();
         match self.next_deed() {
             Ok(Some(deed)) => self.perform(deed),
             Ok(None) => unreachable!(),
@@ -62,14 +66,21 @@ impl World {
         }
     }
 
-    /// What a creation by the speaker comes to. Memory is wanted for the new path before the overrides are followed, and so
-    /// refused after every refusal but that of a loop.
-    pub fn creation(&self, ty: &Name, name: &Name) -> Result<Need, Uncreated>
-        requires { self.now.sound ≡ true }
-        ensures ok { IfOk result (λ need. creating self.now.script self.now.history (speaker_of self.now.history) ty.now name.now ≡ Needs need) }
-        ensures err { IfErr result (IsRefusedBy (creation_now self.now.script self.now.history (speaker_of self.now.history) ty.now name.now)) }
+    /// Why a creation by somebody would be refused now, if so; whether there is an object to be made is told when it is needed.
+    /// Memory is refused after every refusal but that of a loop of overrides.
+    pub fn refusal(&self, performer: &Who, act: &Act) -> Result<Option<Fatal>, AllocError>
+        requires sound { self.now.sound ≡ true }
+        requires creates { IsCreation act.now }
+        ensures { IfOk result (λ refusal. refusal ≡ refusal_in (upshot_of self.now.script self.now.history performer.now act.now)) }
     {
-        what_is_created(&self.services, ty, name)
+        let Act::Create { type_name, name } = act else {
+            unreachable!()
+        };
+        match what_is_created(&self.services, performer, type_name, name) {
+            Ok(_) => Ok(None),
+            Err(Uncreated::Refused(fatal)) => Ok(Some(fatal)),
+            Err(Uncreated::Memory) => Err(AllocError),
+        }
     }
 
     // The next act, to stand in its entry.
@@ -103,6 +114,8 @@ impl World {
         ensures ok { IfOk result (λ need. IsActed (next_of self.old.script self.old.history) need self.old self.new) }
         ensures err { OnErr result (self.new ≡ broken self.old) }
     {
+        // A call that an act causes is due in a phase that has not ended.
+        laws::phases_go_in_order();
         self.sound = false;
         self.room = None;
         let place = self.log.len();

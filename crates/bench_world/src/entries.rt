@@ -2,26 +2,27 @@
 
 ghost use Rattle.std.specs.Prelude.{◌≡◌, ◌||◌, ◌∷◌, ◌<◌, length, true, OnOk, OnErr, IsOk, Some, None, All};
 ghost use Rattle.uvm_object.specs.declared.entries.Entry.TheVariants.{Begin, End, Heard, Note, Over};
-ghost use Rattle.bench_world.specs.History.{next_call, order_of, reason_of, ends_build};
+ghost use Rattle.bench_history.specs.History.{next_call, order_of, reason_of, ends_build};
 ghost use Rattle.uvm_tree.specs.Cursors.{is_before, least, sooner};
 ghost use Rattle.std.specs.Option.{ForSome};
 ghost use Rattle.bench_world.specs.Services.{waiting_in};
-ghost use Rattle.bench_world.specs.Next.{next_of, Exactly, Answer};
-ghost use Rattle.bench_world.specs.Story.{MayEnter, after, broken};
+ghost use Rattle.bench_history.specs.Cases.{Exactly, Answer};
+ghost use Rattle.bench_history.specs.Next.{next_of};
+ghost use Rattle.bench_world.specs.Worlds.{MayEnter, world_after, broken};
 
 use crate::services::{Component, LastAnswer, clear_calls, mark_call};
-use crate::stages::Stage;
 use crate::worlds::World;
+use bench_history::{Stage, laws};
 use std::alloc::AllocError;
 use uvm_object::{Acts, Call, Entry, Fatal, Log, Reason, Who};
-use uvm_phase::{Cause, Phase, Walk};
+use uvm_phase::{Cause, Phase, Walk, laws as agenda};
 use uvm_tree::{NodeId, Tree};
 
 impl World {
     /// A phase begins.
     pub fn begin(&mut self, phase: Phase) -> Result<(), AllocError>
         requires { MayEnter self.old (Exactly (Begin phase)) }
-        ensures ok { OnOk result (self.new ≡ after (Begin phase) self.old) }
+        ensures ok { OnOk result (self.new ≡ world_after (Begin phase) self.old) }
         ensures err { OnErr result (self.new ≡ broken self.old) }
     {
         self.sound = false;
@@ -36,9 +37,10 @@ impl World {
     /// A phase ends.
     pub fn end(&mut self, phase: Phase) -> Result<(), AllocError>
         requires { MayEnter self.old (Exactly (End phase)) }
-        ensures ok { OnOk result (self.new ≡ after (End phase) self.old) }
+        ensures ok { OnOk result (self.new ≡ world_after (End phase) self.old) }
         ensures err { OnErr result (self.new ≡ broken self.old) }
     {
+        agenda::order_keeps_filters::<Who, Call>();
         self.sound = false;
         self.room = None;
         push(&mut self.log, Entry::End(phase))?;
@@ -52,9 +54,11 @@ impl World {
     /// Somebody was called in the running phase and answered.
     pub fn heard(&mut self, who: Who, call: Call, acts: Acts) -> Result<(), AllocError>
         requires { MayEnter self.old (Answer who call None) }
-        ensures ok { OnOk result (self.new ≡ after (Heard who call None acts) self.old) }
+        ensures ok { OnOk result (self.new ≡ world_after (Heard who call None acts) self.old) }
         ensures err { OnErr result (self.new ≡ broken self.old) }
     {
+        // Who is asked is a component.
+        laws::asked_are_components();
         self.sound = false;
         self.room = None;
         let (place, count) = (self.log.len(), acts.len());
@@ -82,9 +86,13 @@ impl World {
         acts: Acts,
     ) -> Result<(), AllocError>
         requires { MayEnter self.old (Answer who call (Some cause)) }
-        ensures ok { OnOk result (self.new ≡ after (Heard who call (Some cause) acts) self.old) }
+        ensures ok { OnOk result (self.new ≡ world_after (Heard who call (Some cause) acts) self.old) }
         ensures err { OnErr result (self.new ≡ broken self.old) }
     {
+        // The call is the first of the agenda, which is then taken from it.
+        laws::due_calls_go_in_order();
+        agenda::order_keeps_all::<Who, Call>();
+        agenda::order_loses_first::<Who, Call>();
         self.sound = false;
         self.room = None;
         let (place, count) = (self.log.len(), acts.len());
@@ -105,7 +113,7 @@ impl World {
     /// The kernel reports at a node; what is left of the last answer is passed over.
     pub fn note(&mut self, fatal: Fatal, node: NodeId) -> Result<(), AllocError>
         requires { MayEnter self.old (Exactly (Note fatal node)) }
-        ensures ok { OnOk result (self.new ≡ after (Note fatal node) self.old) }
+        ensures ok { OnOk result (self.new ≡ world_after (Note fatal node) self.old) }
         ensures err { OnErr result (self.new ≡ broken self.old) }
     {
         self.sound = false;
@@ -120,7 +128,7 @@ impl World {
     /// Nothing comes after.
     pub fn over(&mut self, reason: Reason) -> Result<(), AllocError>
         requires { MayEnter self.old (Exactly (Over reason)) }
-        ensures ok { OnOk result (self.new ≡ after (Over reason) self.old) }
+        ensures ok { OnOk result (self.new ≡ world_after (Over reason) self.old) }
         ensures err { OnErr result (self.new ≡ broken self.old) }
     {
         self.sound = false;
@@ -147,7 +155,7 @@ impl World {
 
     /// The node whose turn it is in a phase: of the components that had no call since a phase began, the least in the order
     /// of the phase.
-    #[tactic(auto, unfolding(crate::specs::History::next_call))]
+    #[tactic(auto, unfolding(bench_history::specs::History::next_call))]
     pub fn next_call(&self, phase: Phase) -> Option<NodeId>
         requires { self.now.sound ≡ true }
         ensures { result ≡ next_call phase self.now.history }

@@ -9,11 +9,8 @@ mod entries;
 mod making;
 mod performing;
 mod services;
-mod stages;
 #[cfg(test)]
 mod tests;
 mod worlds;
 
-pub use creations::{Need, Uncreated};
-pub use stages::Stage;
 pub use worlds::World;

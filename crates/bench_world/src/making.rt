@@ -5,17 +5,19 @@ ghost use Rattle.uvm_object.specs.Acts.{node_of};
 ghost use Rattle.uvm_object.specs.declared.acts.Act.TheVariants.{Create};
 ghost use Rattle.uvm_object.specs.declared.acts.Who.TheVariants as who;
 ghost use Rattle.uvm_object.specs.declared.entries.Outcome.TheVariants.{Made};
-ghost use Rattle.bench_world.specs.History.{created_name, left_of, head_of, nodes_of};
-ghost use Rattle.bench_world.specs.Next.{next_of, need_in, made_in, declined_in};
-ghost use Rattle.bench_world.specs.Refusals.{child_refusal};
-ghost use Rattle.bench_world.specs.Services.{TakesIn, IsAttempt, IsCreation};
-ghost use Rattle.bench_world.specs.Story.{MayCreate, after, broken};
+ghost use Rattle.bench_history.specs.History.{created_name, left_of, head_of, nodes_of};
+ghost use Rattle.bench_history.specs.Next.{next_of, need_in, made_in, declined_in};
+ghost use Rattle.bench_history.specs.Refusals.{child_refusal};
+ghost use Rattle.bench_history.specs.Laws.{IsCreation};
+ghost use Rattle.bench_world.specs.Services.{TakesIn, IsAttempt};
+ghost use Rattle.bench_world.specs.Worlds.{MayCreate, world_after, broken};
 
 use crate::attempts::{Attempt, enter, refused};
 use crate::creations::{Uncreated, what_is_created};
 use crate::performing::add_child;
 use crate::services::{Component, Services};
 use crate::worlds::World;
+use bench_history::laws;
 use std::alloc::{AllocError, Global};
 use std::marker::Model;
 use uvm_glob::Name;
@@ -69,6 +71,8 @@ impl World {
         ensures needed { OnOk result (self.old.sound ≡ true → IsSome (need_in (next_of self.old.script self.old.history)) → self.new.ready ≡ true) }
         ensures err { OnErr result (self.new ≡ record self.old { ready = false }) }
     {
+        // Where an object is needed an act is left.
+        laws::needs_are_creations();
         self.room = None;
         if !self.sound {
             return Ok(());
@@ -85,24 +89,24 @@ impl World {
     }
 
     /// The needed object, which is of this type, is made: who it is now.
-    pub fn made(&mut self, ty: Name) -> Result<Who, AllocError>
+    pub fn made(&mut self, type_name: Name) -> Result<Who, AllocError>
         requires may { MayCreate self.old }
-        requires ty { IfSome (need_in (next_of self.old.script self.old.history)) (λ need. need.ty ≡ ty) }
+        requires type_name { IfSome (need_in (next_of self.old.script self.old.history)) (λ need. need.type_name ≡ type_name) }
         ensures who { IfOk result (λ made. made ≡ who.Node (length (nodes_of self.old.history))) }
-        ensures ok { OnOk result (IfSome (made_in (next_of self.old.script self.old.history)) (λ entry. self.new ≡ after entry self.old)) }
+        ensures ok { OnOk result (IfSome (made_in (next_of self.old.script self.old.history)) (λ entry. self.new ≡ world_after entry self.old)) }
         ensures err { OnErr result (self.new ≡ broken self.old) }
         ensures ready { self.old.ready ≡ true → IsOk result }
     {
         if self.room.is_none() && self.reserve().is_err() {
             return Err(self.fail());
         }
-        Ok(Who::Node(self.make(ty)))
+        Ok(Who::Node(self.make(type_name)))
     }
 
     /// The needed object is declined.
     pub fn declined(&mut self) -> Result<(), AllocError>
         requires { MayCreate self.old }
-        ensures ok { OnOk result (IfSome (declined_in (next_of self.old.script self.old.history)) (λ entry. self.new ≡ after entry self.old)) }
+        ensures ok { OnOk result (IfSome (declined_in (next_of self.old.script self.old.history)) (λ entry. self.new ≡ world_after entry self.old)) }
         ensures err { OnErr result (self.new ≡ broken self.old) }
         ensures ready { self.old.ready ≡ true → IsOk result }
     {
@@ -114,20 +118,22 @@ impl World {
     }
 
     // An object is made in the room for it.
-    fn make(&mut self, ty: Name) -> NodeId
+    fn make(&mut self, type_name: Name) -> NodeId
         requires may { MayCreate self.old }
-        requires ty { IfSome (need_in (next_of self.old.script self.old.history)) (λ need. need.ty ≡ ty) }
+        requires type_name { IfSome (need_in (next_of self.old.script self.old.history)) (λ need. need.type_name ≡ type_name) }
         requires ready { self.old.ready ≡ true }
         ensures node { result ≡ length (nodes_of self.old.history) }
-        ensures ok { IfSome (made_in (next_of self.old.script self.old.history)) (λ entry. self.new ≡ after entry self.old) }
+        ensures ok { IfSome (made_in (next_of self.old.script self.old.history)) (λ entry. self.new ≡ world_after entry self.old) }
     {
+        laws::needs_are_creations();
+        laws::phases_go_in_order();
         self.sound = false;
         let Some(room) = self.room.take() else {
             unreachable!()
         };
         let (deed, name) = room.into_parts();
         let node = grow(&mut self.services, deed.act());
-        let made = LoggedOutcome::made(name, ty);
+        let made = LoggedOutcome::made(name, type_name);
         let Ok(()) = enter(&mut self.log, &mut self.services, made, deed) else {
             unreachable!()
         };
@@ -139,8 +145,10 @@ impl World {
     fn decline(&mut self)
         requires may { MayCreate self.old }
         requires ready { self.old.ready ≡ true }
-        ensures { IfSome (declined_in (next_of self.old.script self.old.history)) (λ entry. self.new ≡ after entry self.old) }
+        ensures { IfSome (declined_in (next_of self.old.script self.old.history)) (λ entry. self.new ≡ world_after entry self.old) }
     {
+        laws::needs_are_creations();
+        laws::phases_go_in_order();
         self.sound = false;
         let Some(room) = self.room.take() else {
             unreachable!()
@@ -155,10 +163,15 @@ impl World {
 }
 
 // A component is to be created below the performer's node: an object is needed, or it is refused.
-pub(crate) fn create(services: &mut Services, ty: &Name, name: &Name) -> Result<Attempt, AllocError>
-    ensures { IfOk result (λ attempt. (place : ℕ) → IsAttempt (Create ty.now name.now) attempt place services.old services.new) }
+pub(crate) fn create(
+    services: &mut Services,
+    type_name: &Name,
+    name: &Name,
+) -> Result<Attempt, AllocError>
+    ensures { IfOk result (λ attempt. (place : ℕ) → IsAttempt (Create type_name.now name.now) attempt place services.old services.new) }
 {
-    match what_is_created(services, ty, name) {
+    let performer = services.answer.speaker;
+    match what_is_created(services, &performer, type_name, name) {
         Ok(need) => Ok(Attempt::Needed(need)),
         Err(Uncreated::Refused(fatal)) => Ok(Attempt::Became(refused(services, fatal))),
         Err(Uncreated::Memory) => Err(AllocError),
@@ -172,7 +185,7 @@ fn grow(services: &mut Services, act: &Act) -> NodeId
     requires tree { services.old.tree.spare ≡ Some (node_of services.old.answer.speaker) }
     requires components { vec_len services.old.components < vec_capacity services.old.components }
     ensures node { result ≡ length services.old.tree.nodes }
-    ensures kept { (ty : List ℕ) (place : ℕ) → TakesIn act.now (Made ty) place services.old services.new }
+    ensures kept { (type_name : List ℕ) (place : ℕ) → TakesIn act.now (Made type_name) place services.old services.new }
 {
     let parent = services.answer.speaker.node();
     let name = created_name(act);

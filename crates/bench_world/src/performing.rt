@@ -10,15 +10,15 @@ ghost use Rattle.uvm_tree.specs.Nodes.{child, path_at};
 ghost use Rattle.uvm_object.specs.Acts.{node_of};
 ghost use Rattle.uvm_object.specs.declared.acts.Act.TheVariants.{Add, OverrideType, OverrideInst};
 ghost use Rattle.uvm_object.specs.declared.fatals.Fatal.TheVariants.{InvalidType};
-ghost use Rattle.bench_world.specs.History.{kind_of, with_override};
-ghost use Rattle.bench_world.specs.Refusals.{Does, Refuses, addition_of, child_refusal, done_unless, overriding_of};
+ghost use Rattle.bench_history.specs.History.{kind_of, with_override};
+ghost use Rattle.bench_history.specs.Refusals.{Does, Refuses, addition_of, child_refusal, done_unless, overriding_of};
 ghost use Rattle.bench_world.specs.Services.{IsAttempt, IsFactory};
 
 use crate::attempts::{Attempt, refused};
 use crate::creations::child_refusal;
 use crate::services::Services;
 use std::alloc::{AllocError, Global};
-use uvm_factory::Factory;
+use uvm_factory::{Factory, laws};
 use uvm_glob::{Glob, Name};
 use uvm_object::{Fatal, LoggedOutcome, What};
 use uvm_tree::{NodeId, NodeKind, Tree};
@@ -71,7 +71,7 @@ pub(crate) fn override_inst(
 }
 
 // Why nothing is added under a name, if so.
-#[tactic(auto, unfolding(crate::specs::Refusals::addition_of))]
+#[tactic(auto, unfolding(bench_history::specs::Refusals::addition_of))]
 fn addition_refusal(services: &Services, name: &Name) -> Option<Fatal>
     ensures outcome { addition_of services.now.built services.now.tree.nodes (node_of services.now.answer.speaker) name.now ≡ done_unless result }
     ensures free { IfNone result (child_refusal services.now.tree.nodes (node_of services.now.answer.speaker) name.now ≡ None) }
@@ -92,7 +92,7 @@ fn kind_of(what: What) -> NodeKind
 }
 
 // Overrides a type, where that is not refused.
-#[tactic(auto, unfolding(crate::specs::Refusals::overriding_of))]
+#[tactic(auto, unfolding(bench_history::specs::Refusals::overriding_of))]
 fn override_everywhere(
     factory: &mut Factory,
     original: &Name,
@@ -103,6 +103,7 @@ fn override_everywhere(
     ensures { OnOk result ((types : Types) (overrides : List Override) → IsFactory types overrides factory.old →
         IsFactory types (with_override (type_named types original.now) (type_named types new.now) (λ o n. Whole o n replace) overrides) factory.new) }
 {
+    laws::steps_are_given();
     let (Some(original), Some(new)) = (factory.find(original), factory.find(new)) else {
         unreachable!()
     };
@@ -113,7 +114,7 @@ fn override_everywhere(
 }
 
 // Overrides a type at the paths that a glob matches, where that is not refused.
-#[tactic(auto, unfolding(crate::specs::Refusals::overriding_of))]
+#[tactic(auto, unfolding(bench_history::specs::Refusals::overriding_of))]
 fn override_within(
     factory: &mut Factory,
     original: &Name,
@@ -124,6 +125,7 @@ fn override_within(
     ensures { OnOk result ((types : Types) (overrides : List Override) → IsFactory types overrides factory.old →
         IsFactory types (with_override (type_named types original.now) (type_named types new.now) (λ o n. Instance o n scope) overrides) factory.new) }
 {
+    laws::steps_are_given();
     let (Some(original), Some(new)) = (factory.find(original), factory.find(new)) else {
         unreachable!()
     };
@@ -134,7 +136,7 @@ fn override_within(
 }
 
 // Whether a type may be overridden by another.
-#[tactic(auto, unfolding(crate::specs::Refusals::overriding_of))]
+#[tactic(auto, unfolding(bench_history::specs::Refusals::overriding_of))]
 fn can_override(factory: &Factory, original: &Name, new: &Name) -> bool
     ensures { overriding_of (types_of factory.now) original.now new.now ≡ (if result then Does else Refuses InvalidType) }
 {

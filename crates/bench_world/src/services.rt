@@ -2,11 +2,11 @@
 
 ghost use Rattle.std.specs.Prelude.{◌≡◌, [], map};
 ghost use Rattle.bench_script.specs.Scripts.{ScriptValue};
-ghost use Rattle.bench_world.specs.Configuration.{settings_of};
-ghost use Rattle.bench_world.specs.History.{overrides_of};
+ghost use Rattle.bench_history.specs.Configuration.{settings_of};
+ghost use Rattle.bench_history.specs.History.{overrides_of};
 ghost use Rattle.bench_world.specs.Services.{IsFactory, IsSettings, ServicesMatch, cleared, with_call};
 
-use crate::stages::Stage;
+use bench_history::Stage;
 use std::alloc::Global;
 use uvm_config::Settings;
 use uvm_factory::Factory;

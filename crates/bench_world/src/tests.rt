@@ -1,10 +1,14 @@
 //! The first entries of a small run.
 
-use crate::{Stage, World};
+ghost use Rattle.std.specs.Prelude.{IfOk};
+ghost use Rattle.bench_history.specs.Laws.{IsCreation};
+
+use crate::World;
+use bench_history::Stage;
 use bench_script::read;
 use std::test::Fail;
-use uvm_glob::Name;
-use uvm_object::Act;
+use uvm_glob::{Name, PathFault};
+use uvm_object::{Act, Fatal};
 use uvm_phase::Phase;
 use uvm_tree::NodeId;
 
@@ -13,7 +17,7 @@ const SCRIPT: &[u8] = b"version = 1\ntest = \"t\"\n[[type]]\nname = \"t\"\nkind 
 // The type and the name of what an act creates.
 fn created(act: Option<&Act>) -> Option<(Name, Name)> {
     match act {
-        Some(Act::Create { ty, name }) => Some((*ty, *name)),
+        Some(Act::Create { type_name, name }) => Some((*type_name, *name)),
         _ => None,
     }
 }
@@ -37,14 +41,36 @@ fn a_new_world_is_to_create_the_test(rt: HostRuntime) -> Result<(), Fail> {
 }
 
 #[test]
-fn the_creation_of_the_test_is_of_its_type_at_its_path(rt: HostRuntime) -> Result<(), Fail> {
-    let ty = Name::new(b"t")?;
-    let name = Name::new(b"uvm_test_top")?;
+fn a_new_world_lends_its_services(rt: HostRuntime) -> Result<(), Fail> {
     let script = read(rt.alloc(), SCRIPT)?;
     assert!(rt; script.test().is_some());
     let world = World::new(rt.alloc(), script)?;
-    assert!(rt;
-        matches!(world.creation(&ty, &name), Ok(made) if made.ty == ty && made.path.depth() == 1)
-    );
+    assert!(rt; world.factory().find(&Name::new(b"t")?).is_some());
+    assert!(rt; !world.settings().is_full());
+    assert!(rt; world.agenda().first().is_none());
+    assert_eq!(rt; world.phase(), None);
+    assert!(rt; !world.exit_asked());
     Ok(())
+}
+
+#[test]
+fn a_creation_of_an_unknown_type_would_be_refused(rt: HostRuntime) -> Result<(), Fail> {
+    let script = read(rt.alloc(), SCRIPT)?;
+    assert!(rt; script.test().is_some());
+    let world = World::new(rt.alloc(), script)?;
+    let name = Name::new(b"uvm_test_top")?;
+    let top = world.speaker();
+    let known = create(b"t", name)?;
+    assert_eq!(rt; world.refusal(&top, &known)?, None);
+    let unknown = create(b"u", name)?;
+    assert_eq!(rt; world.refusal(&top, &unknown)?, Some(Fatal::InvalidType));
+    Ok(())
+}
+
+// The creation of a component of a type.
+fn create(type_name: &[u8], name: Name) -> Result<Act, PathFault>
+    ensures { IfOk result IsCreation }
+{
+    let type_name = Name::new(type_name)?;
+    Ok(Act::Create { type_name, name })
 }

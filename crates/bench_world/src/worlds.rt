@@ -2,26 +2,30 @@
 
 ghost use Rattle.std.specs.Prelude.{◌≡◌, [], IfOk, true, false, IsSome, None, length, nat_le};
 ghost use Rattle.bench_script.specs.Factories.{IsFactoryOf};
-ghost use Rattle.bench_world.specs.History.{opening, stage_of, now_of, nodes_of};
+ghost use Rattle.bench_history.specs.History.{log_limit, opening, stage_of, running, now_of, nodes_of, overrides_of, asks_exit};
+ghost use Rattle.std.specs.List.{list_any};
 ghost use Rattle.std.specs.Option.{option_copied};
+ghost use Rattle.uvm_phase.specs.Dues.{in_order};
+ghost use Rattle.bench_world.specs.Services.{IsFactory, IsSettings};
 ghost use Rattle.uvm_glob.specs.Paths.{path_text};
 ghost use Rattle.uvm_config.specs.Answers.{config_answer};
-ghost use Rattle.bench_world.specs.Configuration.{settings_of};
-ghost use Rattle.bench_world.specs.Dues.{due_now};
-ghost use Rattle.bench_world.specs.Next.{IsLegal};
-ghost use Rattle.bench_world.specs.Story.{Story};
+ghost use Rattle.bench_history.specs.Configuration.{settings_of};
+ghost use Rattle.bench_history.specs.Dues.{due_calls, due_now};
+ghost use Rattle.bench_history.specs.Next.{IsLegal};
+ghost use Rattle.bench_world.specs.Worlds.{WorldValue};
 
 use crate::configuring::given_settings;
 use crate::making::Room;
 use crate::services::Services;
-use crate::stages::Stage;
+use bench_history::Stage;
 use bench_script::Script;
 use std::alloc::{AllocError, Global};
 use std::marker::Model;
+use uvm_config::Settings;
 use uvm_factory::Factory;
 use uvm_glob::{Name, Path};
 use uvm_object::{Act, Call, Deed, Log, Who};
-use uvm_phase::{Agenda, Due};
+use uvm_phase::{Agenda, Due, Phase};
 use uvm_tree::{NodeId, Tree};
 
 /// A legal log with the script of the run and the services. While `sound()` is true each service is what the log says.
@@ -40,15 +44,15 @@ pub struct World {
 
 impl Model for World {
     ghost use Rattle.std.specs.Prelude.{◌≡◌, is_some};
-    ghost use Rattle.bench_world.specs.Story.{Story, IsSound};
+    ghost use Rattle.bench_world.specs.Worlds.{WorldValue, IsWorld};
     ghost use Rattle.bench_script.specs.Factories.{IsFactoryOf};
-    ghost use Rattle.bench_world.specs.History.{opening};
+    ghost use Rattle.bench_history.specs.History.{opening};
 
-    ghost Value = { Story };
+    ghost Value = { WorldValue };
 
     ghost view = { λ w. record { script = w.script; history = w.log.entries; sound = w.sound; ready = is_some w.room } };
 
-    ghost invariant = { λ w. (w.creation ≡ opening w.script) × IsSound w.sound w.script w.log w.services w.room };
+    ghost invariant = { λ w. (w.creation ≡ opening w.script) × IsWorld w.sound w.script w.log w.services w.room };
 }
 
 impl World {
@@ -101,7 +105,7 @@ impl World {
 
     /// Whether the log has as many entries as it may have.
     pub fn is_full(&self) -> bool
-        ensures { result ≡ nat_le 1000000 (length self.now.history) }
+        ensures { result ≡ nat_le (log_limit self.now.script) (length self.now.history) }
     {
         self.log.is_full()
     }
@@ -112,6 +116,25 @@ impl World {
         ensures { result ≡ stage_of self.now.history }
     {
         self.services.stage
+    }
+
+    /// The phase that runs, if one does (IEEE 1800.2-2020, Clause 9).
+    pub fn phase(&self) -> Option<Phase>
+        requires { self.now.sound ≡ true }
+        ensures { result ≡ running (stage_of self.now.history) }
+    {
+        match self.services.stage {
+            Stage::During(phase) => Some(phase),
+            _ => None,
+        }
+    }
+
+    /// Whether a report has asked for exit (Clause 6).
+    pub fn exit_asked(&self) -> bool
+        requires { self.now.sound ≡ true }
+        ensures { result ≡ list_any asks_exit self.now.history }
+    {
+        self.services.exit_asked
     }
 
     /// The present time in ticks.
@@ -131,7 +154,7 @@ impl World {
     }
 
     /// The call that is due at the present time, of several the first.
-    #[tactic(auto, unfolding(crate::specs::Dues::due_now))]
+    #[tactic(auto, unfolding(bench_history::specs::Dues::due_now))]
     pub fn due_now(&self) -> Option<&Due<Who, Call>>
         requires { self.now.sound ≡ true }
         ensures { option_copied result ≡ due_now self.now.history }
@@ -140,6 +163,30 @@ impl World {
             Some(due) if due.time == self.now() => Some(due),
             _ => None,
         }
+    }
+
+    /// The factory: its types are the script's, and each step is that of the accepted overrides (Clause 8).
+    pub fn factory(&self) -> &Factory
+        requires { self.now.sound ≡ true }
+        ensures { IsFactory self.now.script.types (overrides_of self.now.script self.now.history) result.now }
+    {
+        &self.services.factory
+    }
+
+    /// The settings: each answer is that of the accepted settings (Annex C).
+    pub fn settings(&self) -> &Settings
+        requires { self.now.sound ≡ true }
+        ensures { IsSettings (settings_of self.now.script self.now.history) result.now }
+    {
+        &self.services.settings
+    }
+
+    /// The agenda: the calls that are due, in their order.
+    pub fn agenda(&self) -> &Agenda<Who, Call>
+        requires { self.now.sound ≡ true }
+        ensures { result.now.dues ≡ in_order (due_calls self.now.history) }
+    {
+        &self.services.agenda
     }
 
     /// The tree.
@@ -161,11 +208,14 @@ fn opening(script: &Script, factory: &Factory) -> Act
     let Some(test) = script.test() else {
         unreachable!()
     };
-    let Some(ty) = factory.name_of(test) else {
+    let Some(type_name) = factory.name_of(test) else {
         unreachable!()
     };
     let Ok(name) = Name::new(b"uvm_test_top") else {
         unreachable!()
     };
-    Act::Create { ty: *ty, name }
+    Act::Create {
+        type_name: *type_name,
+        name,
+    }
 }

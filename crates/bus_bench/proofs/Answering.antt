@@ -3,7 +3,7 @@ use Rattle.std.proofs.Common.{◌≡◌, ◌≢◌, ℕ, ◌+◌, ◌<◌, ◌�
 use Rattle.std.specs.List.{concat}
 use Rattle.std.specs.Io.KnownBytes.{Appends, Keeps}
 use Rattle.std.proofs.lemmas.List.{append_assoc, append-nil, take-map, take_more, take_all, map-append, length-map}
-use Rattle.uvm_factory.specs.Steps.{made, next_of}
+use Rattle.uvm_factory.specs.Steps.{made, next_type}
 use Rattle.uvm_factory.specs.Observed.{Kept, types_of, made_at, next_at}
 use Rattle.bench_script.specs.declared.scripts.Probe.{Probe}
 use Rattle.bench_script.specs.Scripts.{ScriptValue}
@@ -55,13 +55,13 @@ lines-some script i within none =
     absurd (omega arith)
 
 -- the factory of a script makes what the script says
-pub made_for-factory : (script : ScriptValue) (kept : Kept) (probe : Probe) → IsFactoryOf script kept → made_at kept probe.path probe.kind ≡ made_for script probe
+pub made_for-factory : (script : ScriptValue) (kept : Kept) (probe : Probe) → IsFactoryOf script kept → made_at kept probe.path probe.type_id ≡ made_for script probe
 made_for-factory script kept probe same =
-    ap (λ types. made (next_at kept probe.path) (length types) probe.kind) same.types
-    ∙ (λ i. made (λ from. next_of from (same.steps from probe.path i)) (length script.types) probe.kind)
+    ap (λ types. made (next_at kept probe.path) (length types) probe.type_id) same.types
+    ∙ (λ i. made (λ from. next_type from (same.steps from probe.path i)) (length script.types) probe.type_id)
 
 -- so its line is the script's
-pub line-factory : (script : ScriptValue) (kept : Kept) (probe : Probe) → IsFactoryOf script kept → answer_line (types_of kept) probe (made_at kept probe.path probe.kind) ≡ probe_line script probe
+pub line-factory : (script : ScriptValue) (kept : Kept) (probe : Probe) → IsFactoryOf script kept → answer_line (types_of kept) probe (made_at kept probe.path probe.type_id) ≡ probe_line script probe
 line-factory script kept probe same =
-    ap (λ types. answer_line types probe (made_at kept probe.path probe.kind)) same.types
+    ap (λ types. answer_line types probe (made_at kept probe.path probe.type_id)) same.types
     ∙ ap (answer_line script.types probe) (made_for-factory script kept probe same)

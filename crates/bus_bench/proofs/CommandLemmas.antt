@@ -15,7 +15,7 @@ use Rattle.clap.specs.declared.parser.matches.Found.{Found}
 use Rattle.clap.proofs.WalkLemmas.{first_value-rows}
 use Rattle.bus_bench.specs.declared.jobs.Job.{Job}
 use Rattle.bus_bench.specs.Commands.{Asked, has_bad_name, HasFile, NamesJob, bus_bench_app, debug_app, run_app, seed_parser, seed_rule, trace_rule}
-use Rattle.bus_bench.specs.Faults.{IsFaultOf, IsRefusedBy}
+use Rattle.bus_bench.specs.Faults.{IsJobFault, IsRefusalOf}
 use Rattle.bus_bench.specs.declared.jobs.JobFault.{JobFault}
 use Rattle.bus_bench.specs.declared.jobs.JobFault.TheVariants.{Refused, BadName, Memory}
 use Rattle.clap.specs.declared.error.Error.{Error}
@@ -180,7 +180,7 @@ pub found_rows : (a : App) (words : List Text) (m : ArgMatches) → a ≡ bus_be
 found_rows a words m is matches = (matches (ap is_simple is)).1 ∙ ap (λ (x : App). subcommand_of x words) is
 
 -- a bad name is all that is wrong with words that have no fault
-pub bad_name_alone : (kinds : Kinds) (named : Option Asked) (r : Result Job JobFault) → kinds ≡ [] → OnErr r ((r ≡ Err BadName) × (has_bad_name named ≡ true)) → IfErr r (IsRefusedBy kinds)
+pub bad_name_alone : (kinds : Kinds) (named : Option Asked) (r : Result Job JobFault) → kinds ≡ [] → OnErr r ((r ≡ Err BadName) × (has_bad_name named ≡ true)) → IfErr r (IsRefusalOf kinds)
 bad_name_alone kinds named (Ok x) none bad = tt
 bad_name_alone kinds named (Err (Refused given)) none bad = let other : Err (Refused given) ≡ Err BadName = bad.0 in cc
 bad_name_alone kinds named (Err BadName) none bad = none
@@ -191,7 +191,7 @@ on_ok (Ok job) x = x
 on_ok (Err fault) x = tt
 
 -- where clap's error can only be want of memory, so can the fault
-pub only_memory : {J : Type 0} (r : Result J JobFault) (e : Error) → IsErrAnd r (IsFaultOf e) → kind_of e ≡ OutOfMemory → OnErr r ((r ≡ Err BadName) ⊎ (r ≡ Err Memory))
+pub only_memory : {J : Type 0} (r : Result J JobFault) (e : Error) → IsErrAnd r (IsJobFault e) → kind_of e ≡ OutOfMemory → OnErr r ((r ≡ Err BadName) ⊎ (r ≡ Err Memory))
 only_memory (Ok x) e made memory = tt
 only_memory (Err (Refused given)) e made memory = absurd (made.1 memory)
 only_memory (Err BadName) e made memory = absurd made

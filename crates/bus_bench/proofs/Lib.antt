@@ -4,3 +4,4 @@ pub mod CommandLemmas
 pub mod PlainLemmas
 pub mod ReadLemmas
 pub mod Answering
+pub mod Goings

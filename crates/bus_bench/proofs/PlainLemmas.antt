@@ -6,7 +6,7 @@ use Rattle.clap.specs.Words.{Text, kind_of, takes}
 use Rattle.clap.specs.declared.error.Error.{Error}
 use Rattle.clap.specs.declared.error.kind.ErrorKind.TheVariants.{OutOfMemory}
 use Rattle.bus_bench.specs.Commands.{AsksFor, Asked, bus_bench_app, debug, has_bad_name, is_flag, named_job, run, words_of}
-use Rattle.bus_bench.specs.Faults.{IsFaultOf}
+use Rattle.bus_bench.specs.Faults.{IsJobFault}
 use Rattle.bus_bench.specs.declared.jobs.JobFault.{JobFault}
 use Rattle.bus_bench.specs.declared.jobs.JobFault.TheVariants.{Refused, BadName, Memory}
 use Rattle.bus_bench.specs.declared.jobs.Job.{Job}
@@ -48,7 +48,7 @@ gives_job named asked (Ok job) is good made refused = let same : Some (words_of 
 gives_job named asked (Err fault) is good made refused = let bad : true ≡ false = sym refused.1 ∙ (ap has_bad_name is ∙ good) in cc
 
 -- where such words have a fault, it is want of memory
-pub gives_memory : (words : List Text) (asked : Asked) (r : Result Job JobFault) (e : Error) → takes bus_bench_app words ≡ true → IsErrAnd r (IsFaultOf e)
+pub gives_memory : (words : List Text) (asked : Asked) (r : Result Job JobFault) (e : Error) → takes bus_bench_app words ≡ true → IsErrAnd r (IsJobFault e)
     → (takes bus_bench_app words ≡ true → kind_of e ≡ OutOfMemory) → Gives asked r
 gives_memory words asked (Ok job) e taken made memory = absurd made
 gives_memory words asked (Err (Refused given)) e taken made memory = absurd (made.1 (memory taken))

@@ -9,7 +9,8 @@ use Rattle.uvm_factory.specs.Overrides.{made_type}
 use Rattle.bench_script.specs.declared.scripts.Probe.{Probe}
 use Rattle.bench_script.specs.declared.faults.ScriptFault.{ScriptFault}
 use Rattle.bench_script.specs.declared.faults.ScriptFault.TheVariants as faults
-use Rattle.bench_script.specs.Scripts.{ScriptValue, script_of_bytes}
+use Rattle.bench_script.specs.Documents.{script_of_bytes}
+use Rattle.bench_script.specs.Scripts.{ScriptValue}
 use Rattle.bus_bench.specs.declared.verdicts.Breakage.{Breakage}
 use Rattle.bus_bench.specs.declared.verdicts.Breakage.TheVariants.{Memory, LogFull, Output, Unread}
 use Rattle.bus_bench.specs.declared.verdicts.Verdict.{Verdict}
@@ -17,7 +18,7 @@ use Rattle.bus_bench.specs.declared.verdicts.Verdict.TheVariants.{Clean, Faulty,
 
 -- the name of a type
 abbrev pub name_at : Types → ℕ → List ℕ
-name_at types kind = option_map_or (λ t. t.0) (slice_get types kind) []
+name_at types type_id = option_map_or (λ t. t.0) (slice_get types type_id) []
 
 -- which type is made, or that the overrides lead in a loop
 abbrev pub answer_text : Types → Option ℕ → List ℕ
@@ -26,11 +27,11 @@ answer_text types (Some made) = codes " -> " ++ name_at types made
 
 -- `TYPE @ PATH -> MADE` or `TYPE @ PATH loops`
 abbrev pub answer_line : Types → Probe → Option ℕ → List ℕ
-answer_line types probe made = name_at types probe.kind ++ codes " @ " ++ path_text probe.path ++ answer_text types made ++ 10 ∷ []
+answer_line types probe made = name_at types probe.type_id ++ codes " @ " ++ path_text probe.path ++ answer_text types made ++ 10 ∷ []
 
 -- the type that the script's factory makes for a probe
 abbrev pub made_for : ScriptValue → Probe → Option ℕ
-made_for script probe = made_type (reverse script.overrides) (length script.types) (path_text probe.path) probe.kind
+made_for script probe = made_type (reverse script.overrides) (length script.types) (path_text probe.path) probe.type_id
 
 -- a line for each probe
 abbrev pub probe_line : ScriptValue → Probe → List ℕ

@@ -7,16 +7,16 @@ use Rattle.bus_bench.specs.declared.jobs.JobFault.{JobFault}
 use Rattle.bus_bench.specs.declared.jobs.JobFault.TheVariants.{Refused, BadName, Memory}
 
 -- the fault that clap's error comes to: want of memory is one of its own
-abbrev pub IsFaultOf : Error → JobFault → Type 0
-IsFaultOf error (Refused given) = (given ≡ error) × (kind_of error ≢ OutOfMemory)
-IsFaultOf error BadName = ⊥
-IsFaultOf error Memory = kind_of error ≡ OutOfMemory
+abbrev pub IsJobFault : Error → JobFault → Type 0
+IsJobFault error (Refused given) = (given ≡ error) × (kind_of error ≢ OutOfMemory)
+IsJobFault error BadName = ⊥
+IsJobFault error Memory = kind_of error ≡ OutOfMemory
 
 -- a refusal has one of these kinds, and a bad name is told only where there are none
-abbrev pub IsRefusedBy : Kinds → JobFault → Type 0
-IsRefusedBy kinds (Refused error) = IsAmong (kind_of error) kinds
-IsRefusedBy kinds BadName = kinds ≡ []
-IsRefusedBy kinds Memory = Unit {0}
+abbrev pub IsRefusalOf : Kinds → JobFault → Type 0
+IsRefusalOf kinds (Refused error) = IsAmong (kind_of error) kinds
+IsRefusalOf kinds BadName = kinds ≡ []
+IsRefusalOf kinds Memory = Unit {0}
 
 -- the exit status where the words ask for nothing
 abbrev pub status_of_fault : JobFault → ℕ

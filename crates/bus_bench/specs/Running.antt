@@ -9,9 +9,11 @@ use Rattle.uvm_object.specs.Logs.{newest}
 use Rattle.bench_script.specs.declared.faults.ScriptFault.{ScriptFault}
 use Rattle.bench_script.specs.declared.faults.ScriptFault.TheVariants as faults
 use Rattle.bench_script.specs.Reading.{and_then}
-use Rattle.bench_script.specs.Scripts.{ScriptValue, script_of_bytes, test_among}
-use Rattle.bench_world.specs.Next.{IsLegal}
-use Rattle.bench_core.specs.Plays.{Play, after, is_over, last_text}
+use Rattle.bench_script.specs.Documents.{script_of_bytes, test_among}
+use Rattle.bench_script.specs.Scripts.{ScriptValue}
+use Rattle.bench_history.specs.Next.{IsLegal}
+use Rattle.bench_history.specs.History.{is_over, log_limit}
+use Rattle.bench_core.specs.Cores.{CoreValue, core_after, last_text}
 use Rattle.bus_bench.specs.declared.verdicts.Breakage.{Breakage}
 use Rattle.bus_bench.specs.declared.verdicts.Breakage.TheVariants.{Memory, LogFull, Output, Unread}
 use Rattle.bus_bench.specs.declared.verdicts.Verdict.{Verdict}
@@ -51,7 +53,7 @@ RanTo reason script trace old new = (history : List Entry) × (newest history �
 -- where a run broke off: so far as memory was there; with a full log that is not over; or where a write failed
 abbrev pub BrokeOffRun : Breakage → ScriptValue → Bool → Option (List ℕ) → Option (List ℕ) → Type 0
 BrokeOffRun Memory script trace old new = (history : List Entry) × WroteLog script trace old new history
-BrokeOffRun LogFull script trace old new = (history : List Entry) × (1000000 ≤ length history) × (is_over history ≡ false) × WroteLog script trace old new history
+BrokeOffRun LogFull script trace old new = (history : List Entry) × (log_limit script ≤ length history) × (is_over history ≡ false) × WroteLog script trace old new history
 BrokeOffRun Output script trace old new = Unit {0}
 BrokeOffRun Unread script trace old new = ⊥
 
@@ -69,16 +71,16 @@ IsBenchRun asked trace old new (Broken breakage) =
     ((breakage ≡ Memory) × Keeps old new) ⊎ ((script : ScriptValue) × (asked ≡ Ok script) × BrokeOffRun breakage script trace old new)
 
 -- one more entry
-pub record Grows (old new : Play) : Type 0 where
+pub record Grows (old new : CoreValue) : Type 0 where
   pub entry : Entry
-  pub is : new ≡ after entry old
+  pub is : new ≡ core_after entry old
 
 -- why no entry was made: want of memory, or a full log that is not over
-abbrev pub IsHalted : Breakage → Play → Type 0
-IsHalted Memory play = Unit {0}
-IsHalted LogFull play = (1000000 ≤ length play.history) × (is_over play.history ≡ false)
-IsHalted Output play = ⊥
-IsHalted Unread play = ⊥
+abbrev pub IsHalted : Breakage → CoreValue → Type 0
+IsHalted Memory core = Unit {0}
+IsHalted LogFull core = (log_limit core.script ≤ length core.history) × (is_over core.history ≡ false)
+IsHalted Output core = ⊥
+IsHalted Unread core = ⊥
 
 -- why a line was not written, and that nothing was where memory was refused
 abbrev pub IsUnwritten : Breakage → Option (List ℕ) → Option (List ℕ) → Type 0

@@ -6,7 +6,7 @@ ghost use Rattle.clap.specs.declared.builder.command.Command.TheViews.{out-Comma
 ghost use Rattle.bus_bench.specs.Commands.{bus_bench_app, debug_app, file_rule, run_app, seed_rule, test_rule, trace_rule};
 ghost use Rattle.bus_bench.specs.Commands.{asked_in, has_bad_name, is_bad_test, job_named, named_job, seed_in, words_of};
 ghost use Rattle.bus_bench.specs.Commands.{AsksFor, HasFile, IsDebugOf, IsRunOf, NamesJob, ReadsSeed, ReadsTrace};
-ghost use Rattle.bus_bench.specs.Faults.{IsRefusedBy};
+ghost use Rattle.bus_bench.specs.Faults.{IsRefusalOf};
 
 use crate::jobs::{Job, JobFault};
 use clap::{Arg, ArgAction, ArgMatches, Command, value_parser};
@@ -25,7 +25,7 @@ pub fn job<'a, S: AsStr>(alloc: Global, words: &'a [S]) -> Result<Job<'a>, JobFa
     ensures faultless { OnOk result (fault_of bus_bench_app (map S.text words.now) ≡ []) }
 
     // A refusal has a kind that clap's meaning gives the words, and words that it takes have none.
-    ensures refused { IfErr result (IsRefusedBy (fault_of bus_bench_app (map S.text words.now))) }
+    ensures refused { IfErr result (IsRefusalOf (fault_of bus_bench_app (map S.text words.now))) }
     ensures taken { takes bus_bench_app (map S.text words.now) ≡ true
         → OnErr result ((result ≡ Err JobFault.BadName) ⊎ (result ≡ Err JobFault.Memory)) }
 

@@ -65,14 +65,14 @@ fn write_answers<W: io::Write>(
 
 // The line of a probe.
 fn line_of(alloc: Global, factory: &Factory, probe: &Probe) -> Result<Vec<u8>, AllocError>
-    requires { probe.now.kind < length (types_of factory.now) }
-    ensures { IfOk result (λ line. line.items ≡ answer_line (types_of factory.now) probe.now (made_at factory.now probe.now.path probe.now.kind)) }
+    requires { probe.now.type_id < length (types_of factory.now) }
+    ensures { IfOk result (λ line. line.items ≡ answer_line (types_of factory.now) probe.now (made_at factory.now probe.now.path probe.now.type_id)) }
 {
     let mut line = Vec::new(alloc);
-    push_name(factory, probe.kind, &mut line)?;
+    push_name(factory, probe.type_id, &mut line)?;
     line.extend_from_slice(b" @ ")?;
     probe.path.write(&mut line)?;
-    match factory.resolve(probe.kind, &probe.path) {
+    match factory.resolve(probe.type_id, &probe.path) {
         Ok(made) => {
             line.extend_from_slice(b" -> ")?;
             push_name(factory, made, &mut line)?;
@@ -85,10 +85,10 @@ fn line_of(alloc: Global, factory: &Factory, probe: &Probe) -> Result<Vec<u8>, A
 }
 
 // Appends the name of a type.
-fn push_name(factory: &Factory, kind: TypeId, line: &mut Vec<u8>) -> Result<(), AllocError>
-    ensures { OnOk result (line.new.items ≡ line.old.items ++ name_at (types_of factory.now) kind) }
+fn push_name(factory: &Factory, type_id: TypeId, line: &mut Vec<u8>) -> Result<(), AllocError>
+    ensures { OnOk result (line.new.items ≡ line.old.items ++ name_at (types_of factory.now) type_id) }
 {
-    match factory.name_of(kind) {
+    match factory.name_of(type_id) {
         Some(name) => line.extend_from_slice(name.as_bytes()),
         None => Ok(()),
     }

@@ -1,6 +1,6 @@
 //! What the words of the command line ask for.
 ghost use Rattle.std.specs.Prelude.{◌≡◌};
-ghost use Rattle.bus_bench.specs.Faults.{IsFaultOf};
+ghost use Rattle.bus_bench.specs.Faults.{IsJobFault};
 ghost use Rattle.bus_bench.specs.declared.jobs.JobFault.TheVariants.{Memory};
 
 use clap::error::ErrorKind;
@@ -45,7 +45,7 @@ impl From<AllocError> for JobFault {
 }
 
 impl From<clap::Error> for JobFault {
-    ghost from_gives = { IsFaultOf };
+    ghost from_gives = { IsJobFault };
 
     fn from(error: clap::Error) -> JobFault {
         match error.kind() {

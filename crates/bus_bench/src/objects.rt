@@ -9,16 +9,18 @@ use uvm_object::{Acts, Call, UvmObject};
 /// Answers each call with no acts. It shows nothing of itself.
 #[derive(Drop)]
 pub struct Idle {
-    ty: Name,
+    type_name: Name,
 }
 
 impl Idle {
     /// A new object, if the type is this one's.
-    pub fn of_type(ty: &Name) -> Option<Idle>
-        ensures { result ≡ (if bytes_eq ty.now (codes "idle") then Some (record { ty = ty.now }) else None) }
+    pub fn of_type(type_name: &Name) -> Option<Idle>
+        ensures { result ≡ (if bytes_eq type_name.now (codes "idle") then Some (record { type_name = type_name.now }) else None) }
     {
-        if ty.as_bytes() == b"idle".as_slice() {
-            Some(Idle { ty: *ty })
+        if type_name.as_bytes() == b"idle".as_slice() {
+            Some(Idle {
+                type_name: *type_name,
+            })
         } else {
             None
         }
@@ -31,12 +33,12 @@ impl UvmObject for Idle {
 
     ghost view = { λ _. [] };
 
-    ghost name = { λ idle. idle.ty };
+    ghost name = { λ idle. idle.type_name };
 
     ghost says = { λ _. IdleSays };
 
     fn type_name(&self) -> &Name {
-        &self.ty
+        &self.type_name
     }
 
     fn hear(&mut self, alloc: Global, _call: &Call) -> Result<Acts, AllocError> {

@@ -4,15 +4,17 @@ ghost use Rattle.std.specs.Prelude.{◌≡◌, ◌≢◌, ◌&&◌, [], OnOk, If
 ghost use Rattle.std.specs.Io.KnownBytes.{Appends};
 ghost use Rattle.uvm_object.specs.Logs.{newest};
 ghost use Rattle.uvm_object.specs.declared.entries.Entry.TheVariants.{Over};
-ghost use Rattle.bench_world.specs.Next.{IsLegal};
+ghost use Rattle.bench_history.specs.Next.{IsLegal};
 ghost use Rattle.bench_core.specs.declared.cores.Health.TheVariants.{Good};
-ghost use Rattle.bench_core.specs.Plays.{is_over, is_sound, last_text};
-ghost use Rattle.bench_kernel.specs.Casts.{is_done, need_in};
+ghost use Rattle.bench_history.specs.History.{is_over};
+ghost use Rattle.bench_core.specs.Cores.{is_sound, last_text};
+ghost use Rattle.bench_kernel.specs.Kernels.{is_done, open_need};
 ghost use Rattle.bus_bench.specs.Running.{Grows, IsBenchRun, IsHalted, IsRun, IsUnwritten, script_to_run};
 
 use crate::objects::Idle;
 use crate::verdicts::{Breakage, Verdict};
 use bench_core::CoreFault;
+use bench_history::laws;
 use bench_kernel::{Kernel, Step};
 use bench_script::{Script, ScriptFault};
 use rand_core::{Rng, SeedableRng};
@@ -86,8 +88,8 @@ fn run_boxed<R: Rng, W: io::Write>(
         script,
         words,
         trace,
-        |ty: &Name| -> Result<Option<Box<dyn UvmObject>>, AllocError> {
-            match Idle::of_type(ty) {
+        |type_name: &Name| -> Result<Option<Box<dyn UvmObject>>, AllocError> {
+            match Idle::of_type(type_name) {
                 Some(idle) => match Box::new(alloc, idle) {
                     Ok(object) => Ok(Some(object)),
                     Err(_) => Err(AllocError),
@@ -175,6 +177,8 @@ fn make_entry<O: UvmObject, R: Rng, F: Fn(&Name) -> Result<Option<O>, AllocError
     ensures ok { IfOk result (λ made. MatchBool made (Grows kernel.old.core kernel.new.core) ((is_over kernel.old.core.history ≡ true) × (kernel.new ≡ kernel.old))) }
     ensures err { IfErr result (λ breakage. IsHalted breakage kernel.old.core) }
 {
+    // Where something comes the run is not over.
+    laws::nothing_after_over();
     match kernel.step(words) {
         Ok(Step::Over) => Ok(false),
         Ok(Step::Moved) => Ok(true),
@@ -204,15 +208,15 @@ fn fill<O: UvmObject, F: Fn(&Name) -> Result<Option<O>, AllocError>>(
     make: &F,
 ) -> Result<(), Breakage>
     requires callable { F.IsAlwaysCallable make.now }
-    requires needed { IsSome (need_in kernel.old) }
+    requires needed { IsSome (open_need kernel.old) }
     ensures ok { OnOk result (Grows kernel.old.core kernel.new.core) }
     ensures err { IfErr result (λ breakage. breakage ≡ Breakage.Memory) }
 {
     let Some(need) = kernel.need() else {
         unreachable!()
     };
-    let ty = need.ty;
-    match make(&ty) {
+    let type_name = need.type_name;
+    match make(&type_name) {
         Ok(Some(object)) => match kernel.supply(object) {
             Ok(()) => Ok(()),
             Err(_) => Err(Breakage::Memory),

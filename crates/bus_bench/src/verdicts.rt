@@ -14,7 +14,7 @@ use std::io;
 pub enum Verdict {
     /// All that was asked for was done.
     Clean,
-    /// The run counted an error or a fatal one, or ended otherwise than by finishing.
+    /// The run ended otherwise than by finishing.
     Faulty,
     /// The script is refused.
     Refused(ScriptFault),

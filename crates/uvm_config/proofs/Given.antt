@@ -5,7 +5,7 @@ use Rattle.std.proofs.lemmas.Bool.{and_parts, and_cases, cases_Bool, false≢tru
 use Rattle.std.proofs.lemmas.Bool.Decides.{nat_tests}
 use Rattle.std.proofs.lemmas.List.{take_more, reverse-append}
 use Rattle.uvm_config.specs.Choice.{gives_way, answer_after}
-use Rattle.uvm_config.specs.Answers.{Setting, answers_at, answering, is_greatest, greatest, newest, answer_of, strongest_answer, AnswersAreGiven}
+use Rattle.uvm_config.specs.Answers.{Setting, answers_at, answering, is_greatest, greatest, newest, answer_of, strongest_answer, NoneSetNoAnswer, AnswersAreGiven}
 
 -- no setting answers in an empty list
 pub answer-none : (text asked : List ℕ) → strongest_answer [] text asked ≡ None
@@ -106,6 +106,9 @@ answer-push settings s text asked =
 pub answer-more : (settings : List Setting) (i : ℕ) (d : Setting) (text asked : List ℕ) → i < length settings → strongest_answer (reverse (take (i + 1) settings)) text asked ≡ answer_after (get_or settings i d).scope (get_or settings i d).field (get_or settings i d).precedence (get_or settings i d).value text asked (strongest_answer (reverse (take i settings)) text asked)
 answer-more settings i d text asked within =
     ap (λ l. strongest_answer (reverse l) text asked) (take_more settings i d within) ∙ answer-push (take i settings) (get_or settings i d) text asked
+
+pub none_set_no_answer : NoneSetNoAnswer
+none_set_no_answer text asked = answer-none text asked
 
 pub answers_are_given : AnswersAreGiven
 answers_are_given setting older text asked = answer-given setting older text asked

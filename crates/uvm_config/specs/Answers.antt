@@ -45,6 +45,10 @@ strongest_answer settings text asked = option_map answer_of (newest (greatest (a
 abbrev pub config_answer : List Setting → List ℕ → List ℕ → Option ℤ
 config_answer settings text asked = option_map (λ answer. answer.value) (strongest_answer settings text asked)
 
+-- where nothing is set nothing answers
+abbrev pub NoneSetNoAnswer : Type 0
+NoneSetNoAnswer = (text asked : List ℕ) → strongest_answer [] text asked ≡ None
+
 -- one more setting changes the answer at each path's text and field as `answer_after` says
 abbrev pub AnswersAreGiven : Type 0
 AnswersAreGiven =

@@ -1,6 +1,12 @@
 //! Laws of the definitions: what they say, in other words. The functions do nothing; their contracts are the laws.
 
-ghost use Rattle.uvm_config.specs.Answers.{AnswersAreGiven, AnswerIsStrongest, NoneWhereNoneAnswers};
+ghost use Rattle.uvm_config.specs.Answers.{NoneSetNoAnswer, AnswersAreGiven, AnswerIsStrongest, NoneWhereNoneAnswers};
+
+/// Where nothing is set nothing answers.
+#[tactic(auto, using(crate::proofs::Given::none_set_no_answer))]
+pub fn none_set_no_answer()
+    ensures { NoneSetNoAnswer }
+{}
 
 /// One more setting changes the answer as the clause of `Settings::set` says.
 #[tactic(auto, using(crate::proofs::Given::answers_are_given))]

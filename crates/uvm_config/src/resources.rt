@@ -11,9 +11,13 @@ use uvm_glob::{Glob, Name, Path};
 // A setting as it is kept, which the standard calls a resource. Contracts see it as a `Setting`.
 #[derive(Drop)]
 pub(crate) struct Resource {
+    /// Matches the whole paths at which it answers.
     pub scope: Glob,
+    /// The field that it sets.
     pub field: Name,
+    /// How strong it is; of those that match the greatest answers.
     pub precedence: u16,
+    /// The value of the field.
     pub value: i64,
 }
 

@@ -5,16 +5,16 @@ use Rattle.std.specs.Option.{option_or}
 use Rattle.std.proofs.Math.Bool.{and-false}
 use Rattle.std.proofs.lemmas.List.{take_more, reverse-append}
 use Rattle.uvm_glob.specs.Globs.{matches}
-use Rattle.uvm_factory.specs.declared.overrides.Step.TheVariants.{ByInstance, ByType}
+use Rattle.uvm_factory.specs.declared.overrides.OverrideStep.TheVariants.{ByInstance, ByType}
 use Rattle.uvm_factory.specs.declared.overrides.Override.{Override}
 use Rattle.uvm_factory.specs.declared.overrides.Override.TheVariants.{Instance, Whole}
 use Rattle.uvm_factory.specs.Steps.{after_instance, after_type, after_override, is_by_instance, gives_way}
-use Rattle.uvm_factory.specs.Overrides.{newest, oldest, in_force, step_from, instance_of, type_of, type_step, StepsAreGiven}
+use Rattle.uvm_factory.specs.Overrides.{newest, oldest, in_force, step_from, instance_of, type_of, type_step, NoneGivenNoStep, StepsAreGiven, StepsAreGivenInOrder}
 
 -- no override gives no step
-pub step-none : (kind : ℕ) (text : List ℕ) → type_step [] kind text ≡ None
+pub step-none : (type_id : ℕ) (text : List ℕ) → type_step [] type_id text ≡ None
 unfolding type_step
-step-none kind text = refl
+step-none type_id text = refl
 
 -- one more instance override
 instance_more : (new : ℕ) (first : Option ℕ) (by_type : Option (ℕ × Bool)) → step_from (Some (unwrap_or first new)) by_type ≡ (if not (is_by_instance (step_from first by_type)) && true then Some (ByInstance new) else step_from first by_type)
@@ -65,20 +65,26 @@ type_tests false replace new first types = refl
 type_tests true replace new first types = type_more replace new first types
 
 -- the step after one more override
-pub step-given : (o : Override) (older : List Override) (kind : ℕ) (text : List ℕ) → type_step (o ∷ older) kind text ≡ after_override o kind text (type_step older kind text)
+pub step-given : (o : Override) (older : List Override) (type_id : ℕ) (text : List ℕ) → type_step (o ∷ older) type_id text ≡ after_override o type_id text (type_step older type_id text)
 unfolding type_step after_instance after_type
-step-given (Instance original new scope) older kind text =
-    instance_tests (original == kind) (matches scope text) new (filter_map (instance_of kind text) older) (in_force (filter_map (type_of kind) older))
-step-given (Whole original new replace) older kind text =
-    type_tests (original == kind) replace new (oldest (filter_map (instance_of kind text) older)) (filter_map (type_of kind) older)
+step-given (Instance original new scope) older type_id text =
+    instance_tests (original == type_id) (matches scope text) new (filter_map (instance_of type_id text) older) (in_force (filter_map (type_of type_id) older))
+step-given (Whole original new replace) older type_id text =
+    type_tests (original == type_id) replace new (oldest (filter_map (instance_of type_id text) older)) (filter_map (type_of type_id) older)
 
 -- the same where the overrides are kept in the order in which they were given
-pub step-push : (os : List Override) (o : Override) (kind : ℕ) (text : List ℕ) → type_step (reverse (os ++ o ∷ [])) kind text ≡ after_override o kind text (type_step (reverse os) kind text)
-step-push os o kind text = ap (λ l. type_step l kind text) (reverse-append os (o ∷ [])) ∙ step-given o (reverse os) kind text
+pub step-push : (os : List Override) (o : Override) (type_id : ℕ) (text : List ℕ) → type_step (reverse (os ++ o ∷ [])) type_id text ≡ after_override o type_id text (type_step (reverse os) type_id text)
+step-push os o type_id text = ap (λ l. type_step l type_id text) (reverse-append os (o ∷ [])) ∙ step-given o (reverse os) type_id text
 
-pub step-more : (os : List Override) (i : ℕ) (d : Override) (kind : ℕ) (text : List ℕ) → i < length os → type_step (reverse (take (i + 1) os)) kind text ≡ after_override (get_or os i d) kind text (type_step (reverse (take i os)) kind text)
-step-more os i d kind text within =
-    ap (λ l. type_step (reverse l) kind text) (take_more os i d within) ∙ step-push (take i os) (get_or os i d) kind text
+pub step-more : (os : List Override) (i : ℕ) (d : Override) (type_id : ℕ) (text : List ℕ) → i < length os → type_step (reverse (take (i + 1) os)) type_id text ≡ after_override (get_or os i d) type_id text (type_step (reverse (take i os)) type_id text)
+step-more os i d type_id text within =
+    ap (λ l. type_step (reverse l) type_id text) (take_more os i d within) ∙ step-push (take i os) (get_or os i d) type_id text
+
+pub none_given_no_step : NoneGivenNoStep
+none_given_no_step type_id text = step-none type_id text
 
 pub steps_are_given : StepsAreGiven
-steps_are_given o older kind text = step-given o older kind text
+steps_are_given o older type_id text = step-given o older type_id text
+
+pub steps_are_given_in_order : StepsAreGivenInOrder
+steps_are_given_in_order overrides i d type_id text within = step-more overrides i d type_id text within

@@ -22,12 +22,12 @@ refusal Memory = None
 
 -- the place of the type with a name
 abbrev pub type_named : Types → List ℕ → Option ℕ
-type_named types name = position (pointwise nat_eq name) (map (λ t. t.0) types)
+type_named types type_name = position (pointwise nat_eq type_name) (map (λ t. t.0) types)
 
 -- why a name is not registered
 abbrev pub register_fault : Types → List ℕ → Option FactoryFault
-register_fault types name =
-    if is_some (type_named types name) then Some Known
+register_fault types type_name =
+    if is_some (type_named types type_name) then Some Known
     else if nat_le 1024 (length types) then Some Full
     else None
 

@@ -10,7 +10,7 @@ ghost use Rattle.uvm_factory.specs.Kept.{Kept, types_of, step_at, next_at, resol
 ghost use Rattle.uvm_factory.specs.Steps.{original_of, new_of, after_instance, after_type, after_override};
 
 use crate::faults::{FactoryFault, Unmade};
-use crate::overrides::{Override, Step};
+use crate::overrides::{Override, OverrideStep};
 use crate::types::{Kind, TypeId};
 use indexmap::IndexMap;
 use std::alloc::{AllocError, Global};
@@ -48,7 +48,7 @@ impl Factory {
     #[tactic(auto, unfolding(crate::specs::Kept::types_of, crate::specs::Kept::step_at))]
     pub fn new(alloc: Global) -> Factory
         ensures types { types_of result ≡ [] }
-        ensures steps { (kind : ℕ) (path : List (List ℕ)) → step_at result kind path ≡ None }
+        ensures steps { (type_id : ℕ) (path : List (List ℕ)) → step_at result type_id path ≡ None }
     {
         Factory {
             types: IndexMap::new(alloc),
@@ -58,21 +58,21 @@ impl Factory {
 
     /// Registers a type: the first of `Known`, `Full` and `Memory` that holds, if one does.
     #[tactic(auto, unfolding(crate::specs::Kept::types_of, crate::specs::Kept::step_at))]
-    pub fn register(&mut self, name: Name, kind: Kind) -> Result<TypeId, FactoryFault>
-        ensures ok { IfOk result (λ id. (register_fault (types_of self.old) name ≡ None) × (id ≡ length (types_of self.old))) }
-        ensures types { OnOk result (types_of self.new ≡ types_of self.old ++ (name, kind) ∷ []) }
-        ensures steps { OnOk result ((asked : ℕ) (path : List (List ℕ)) → step_at self.new asked path ≡ step_at self.old asked path) }
-        ensures err { IfErr result (λ fault. register_fault (types_of self.old) name ≡ refusal fault) }
+    pub fn register(&mut self, type_name: Name, kind: Kind) -> Result<TypeId, FactoryFault>
+        ensures ok { IfOk result (λ id. (register_fault (types_of self.old) type_name ≡ None) × (id ≡ length (types_of self.old))) }
+        ensures types { OnOk result (types_of self.new ≡ types_of self.old ++ (type_name, kind) ∷ []) }
+        ensures steps { OnOk result ((type_id : ℕ) (path : List (List ℕ)) → step_at self.new type_id path ≡ step_at self.old type_id path) }
+        ensures err { IfErr result (λ fault. register_fault (types_of self.old) type_name ≡ refusal fault) }
         ensures unchanged { OnErr result (IsSame self.old self.new) }
     {
-        if self.types.get_index_of(&name).is_some() {
+        if self.types.get_index_of(&type_name).is_some() {
             return Err(FactoryFault::Known);
         }
         let place = self.types.len();
         if place >= Factory::MAX_TYPES {
             return Err(FactoryFault::Full);
         }
-        add_type(&mut self.types, name, kind)?;
+        add_type(&mut self.types, type_name, kind)?;
         Ok(TypeId::new(place as u16))
     }
 
@@ -86,8 +86,8 @@ impl Factory {
         replace: bool,
     ) -> Result<(), FactoryFault>
         ensures ok { OnOk result (override_fault (types_of self.old) original new ≡ None) }
-        ensures steps { OnOk result ((kind : ℕ) (path : List (List ℕ)) →
-            step_at self.new kind path ≡ after_type original new replace kind (step_at self.old kind path)) }
+        ensures steps { OnOk result ((type_id : ℕ) (path : List (List ℕ)) →
+            step_at self.new type_id path ≡ after_type original new replace type_id (step_at self.old type_id path)) }
         ensures types { OnOk result (types_of self.new ≡ types_of self.old) }
         ensures err { IfErr result (λ fault. override_fault (types_of self.old) original new ≡ refusal fault) }
         ensures unchanged { OnErr result (IsSame self.old self.new) }
@@ -109,8 +109,8 @@ impl Factory {
         scope: Glob,
     ) -> Result<(), FactoryFault>
         ensures ok { OnOk result (override_fault (types_of self.old) original new ≡ None) }
-        ensures steps { OnOk result ((kind : ℕ) (path : List (List ℕ)) →
-            step_at self.new kind path ≡ after_instance original new scope kind (path_text path) (step_at self.old kind path)) }
+        ensures steps { OnOk result ((type_id : ℕ) (path : List (List ℕ)) →
+            step_at self.new type_id path ≡ after_instance original new scope type_id (path_text path) (step_at self.old type_id path)) }
         ensures types { OnOk result (types_of self.new ≡ types_of self.old) }
         ensures err { IfErr result (λ fault. override_fault (types_of self.old) original new ≡ refusal fault) }
         ensures unchanged { OnErr result (IsSame self.old self.new) }
@@ -131,57 +131,57 @@ impl Factory {
         if asked.place() >= self.types.len() {
             return Err(Unmade::NoType);
         }
-        let mut kind = asked;
+        let mut type_id = asked;
         let mut left = self.types.len();
-        while let Some(next) = self.next(kind, path) {
+        while let Some(next) = self.next(type_id, path) {
             if left == 0 {
                 return Err(Unmade::Loop);
             }
             left -= 1;
-            kind = next;
+            type_id = next;
         }
-        Ok(kind)
+        Ok(type_id)
     }
 
     /// What a type is replaced by at a path, if an override reaches it there. Takes no memory.
-    pub fn step(&self, kind: TypeId, path: &Path) -> Option<Step>
-        ensures { result ≡ step_at self.now kind path.now }
+    pub fn step(&self, type_id: TypeId, path: &Path) -> Option<OverrideStep>
+        ensures { result ≡ step_at self.now type_id path.now }
     {
         let mut step = None;
         for given in &self.overrides {
-            step = given.after(kind, path, step);
+            step = given.after(type_id, path, step);
         }
         step
     }
 
-    /// The type of a name. Takes no memory.
+    /// The type of a name, if one is registered under it. Takes no memory.
     #[tactic(auto, unfolding(crate::specs::Kept::types_of))]
-    pub fn find(&self, name: &Name) -> Option<TypeId>
-        ensures { result ≡ type_named (types_of self.now) name.now }
+    pub fn find(&self, type_name: &Name) -> Option<TypeId>
+        ensures { result ≡ type_named (types_of self.now) type_name.now }
     {
-        match self.types.get_index_of(name) {
+        match self.types.get_index_of(type_name) {
             Some(place) => Some(TypeId::new(place as u16)),
             None => None,
         }
     }
 
-    /// The name of a type. Takes no memory.
+    /// The name of a type, if it is registered. Takes no memory.
     #[tactic(auto, unfolding(crate::specs::Kept::types_of))]
-    pub fn name_of(&self, kind: TypeId) -> Option<&Name>
-        ensures { option_copied result ≡ option_map (λ t. t.0) (slice_get (types_of self.now) kind) }
+    pub fn name_of(&self, type_id: TypeId) -> Option<&Name>
+        ensures { option_copied result ≡ option_map (λ t. t.0) (slice_get (types_of self.now) type_id) }
     {
-        match self.types.get_index(kind.place()) {
-            Some((name, _)) => Some(name),
+        match self.types.get_index(type_id.place()) {
+            Some((type_name, _)) => Some(type_name),
             None => None,
         }
     }
 
-    /// The kind of a type. Takes no memory.
+    /// The kind of a type, if it is registered. Takes no memory.
     #[tactic(auto, unfolding(crate::specs::Kept::types_of))]
-    pub fn kind_of(&self, kind: TypeId) -> Option<Kind>
-        ensures { result ≡ option_map (λ t. t.1) (slice_get (types_of self.now) kind) }
+    pub fn kind_of(&self, type_id: TypeId) -> Option<Kind>
+        ensures { result ≡ option_map (λ t. t.1) (slice_get (types_of self.now) type_id) }
     {
-        match self.types.get_index(kind.place()) {
+        match self.types.get_index(type_id.place()) {
             Some((_, kind)) => Some(*kind),
             None => None,
         }
@@ -191,8 +191,8 @@ impl Factory {
     #[tactic(auto, unfolding(crate::specs::Kept::types_of, crate::specs::Kept::step_at))]
     fn add(&mut self, given: Override) -> Result<(), FactoryFault>
         ensures ok { OnOk result (override_fault (types_of self.old) (original_of given) (new_of given) ≡ None) }
-        ensures steps { OnOk result ((kind : ℕ) (path : List (List ℕ)) →
-            step_at self.new kind path ≡ after_override given kind (path_text path) (step_at self.old kind path)) }
+        ensures steps { OnOk result ((type_id : ℕ) (path : List (List ℕ)) →
+            step_at self.new type_id path ≡ after_override given type_id (path_text path) (step_at self.old type_id path)) }
         ensures types { OnOk result (types_of self.new ≡ types_of self.old) }
         ensures err { IfErr result (λ fault. override_fault (types_of self.old) (original_of given) (new_of given) ≡ refusal fault) }
         ensures unchanged { OnErr result (IsSame self.old self.new) }
@@ -217,20 +217,20 @@ impl Factory {
     }
 
     // The next type of the row, if it is another.
-    fn next(&self, kind: TypeId, path: &Path) -> Option<TypeId>
-        ensures { result ≡ next_at self.now path.now kind }
+    fn next(&self, type_id: TypeId, path: &Path) -> Option<TypeId>
+        ensures { result ≡ next_at self.now path.now type_id }
     {
-        let new = self.step(kind, path)?.new_type();
-        if new == kind { None } else { Some(new) }
+        let new = self.step(type_id, path)?.new_type();
+        if new == type_id { None } else { Some(new) }
     }
 }
 
 // Adds a type behind the others.
-fn add_type(types: &mut IndexMap<Name, Kind>, name: Name, kind: Kind) -> Result<(), AllocError>
-    requires { get (pointwise nat_eq) types.old name ≡ None }
-    ensures ok { OnOk result (types.new.entries ≡ types.old.entries ++ (name, kind) ∷ []) }
+fn add_type(types: &mut IndexMap<Name, Kind>, type_name: Name, kind: Kind) -> Result<(), AllocError>
+    requires { get (pointwise nat_eq) types.old type_name ≡ None }
+    ensures ok { OnOk result (types.new.entries ≡ types.old.entries ++ (type_name, kind) ∷ []) }
     ensures err { OnErr result (types.new.entries ≡ types.old.entries) }
 {
-    types.insert(name, kind)?;
+    types.insert(type_name, kind)?;
     Ok(())
 }

@@ -4,16 +4,17 @@ use std::alloc::{AllocError, AllocFailed};
 use std::error::Error;
 use std::fmt;
 
-/// Why the factory does not register or override, in the order in which it is looked for.
+/// Why the factory does not register or override, in the order in which it is looked for. A call that is refused changes
+/// nothing.
 #[derive(Clone, Copy, Debug, PartialEq, Eq)]
 pub enum FactoryFault {
-    /// A type of that name is registered.
+    /// A type of that name is registered already (`register`).
     Known,
-    /// No such type is registered.
+    /// One of the two types is not registered (`override_type`, `override_inst`).
     NoType,
-    /// One type is a component's and the other a sequence's.
+    /// One of the two types is a component's and the other a sequence's (`override_type`, `override_inst`).
     KindDiffers,
-    /// 1,024 types are registered.
+    /// 1,024 types are registered, and one more would be next (`register`).
     Full,
     /// Memory was refused.
     Memory,
@@ -60,12 +61,12 @@ impl<T: Drop> From<AllocFailed<T>> for FactoryFault {
     }
 }
 
-/// Why no type is made.
+/// Why no type is made, in the order in which it is looked for.
 #[derive(Clone, Copy, Debug, PartialEq, Eq)]
 pub enum Unmade {
-    /// No such type is registered.
+    /// The type that is asked for is not registered.
     NoType,
-    /// The overrides lead from the type in a loop.
+    /// The overrides lead from the type in a loop: through more steps than there are types.
     Loop,
 }
 

@@ -11,5 +11,5 @@ mod types;
 
 pub use factories::Factory;
 pub use faults::{FactoryFault, Unmade};
-pub use overrides::{Override, Step};
+pub use overrides::{Override, OverrideStep};
 pub use types::{Kind, TypeId};

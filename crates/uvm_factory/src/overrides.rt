@@ -8,39 +8,45 @@ use crate::types::TypeId;
 use std::alloc::AllocError;
 use uvm_glob::{Glob, Path};
 
-/// An override of a type by another.
+/// An override of a type by another (IEEE 1800.2-2020, Clause 8).
 #[derive(Debug, Drop)]
 pub enum Override {
-    /// Holds at the paths that the glob matches.
+    /// An instance override: it holds at the paths that the glob matches.
     Instance {
+        /// The type that is replaced.
         original: TypeId,
+        /// The type that replaces it.
         new: TypeId,
+        /// Matches the whole paths at which the override holds.
         scope: Glob,
     },
-    /// Holds at every path. One that does not replace gives way to a type override that was there before.
+    /// A type override: it holds at every path.
     Whole {
+        /// The type that is replaced.
         original: TypeId,
+        /// The type that replaces it.
         new: TypeId,
+        /// Whether it takes the place of a type override that was there before; otherwise it gives way to it.
         replace: bool,
     },
 }
 
 /// What a type is replaced by at a path.
 #[derive(Clone, Copy, Debug, PartialEq, Eq)]
-pub enum Step {
-    /// By an instance override.
+pub enum OverrideStep {
+    /// By this type, in an instance override.
     ByInstance(TypeId),
-    /// By a type override.
+    /// By this type, in a type override.
     ByType(TypeId),
 }
 
-impl Step {
+impl OverrideStep {
     /// The type that replaces it.
     pub fn new_type(self) -> TypeId
         ensures { result ≡ type_in self }
     {
         match self {
-            Step::ByInstance(new) | Step::ByType(new) => new,
+            OverrideStep::ByInstance(new) | OverrideStep::ByType(new) => new,
         }
     }
 }
@@ -92,11 +98,16 @@ impl Override {
 
     // The step of a type at a path, which was `before`, after this override.
     #[tactic(auto, unfolding(crate::specs::Steps::after_instance, crate::specs::Steps::after_type))]
-    pub(crate) fn after(&self, kind: TypeId, path: &Path, before: Option<Step>) -> Option<Step>
-        ensures { result ≡ after_override self.now kind (path_text path.now) before }
+    pub(crate) fn after(
+        &self,
+        type_id: TypeId,
+        path: &Path,
+        before: Option<OverrideStep>,
+    ) -> Option<OverrideStep>
+        ensures { result ≡ after_override self.now type_id (path_text path.now) before }
     {
         match (self, before) {
-            (Override::Instance { .. }, Some(Step::ByInstance(_))) => before,
+            (Override::Instance { .. }, Some(OverrideStep::ByInstance(_))) => before,
             (
                 Override::Instance {
                     original,
@@ -105,13 +116,13 @@ impl Override {
                 },
                 _,
             ) => {
-                if *original == kind && scope.matches(path) {
-                    Some(Step::ByInstance(*new))
+                if *original == type_id && scope.matches(path) {
+                    Some(OverrideStep::ByInstance(*new))
                 } else {
                     before
                 }
             }
-            (Override::Whole { .. }, Some(Step::ByInstance(_))) => before,
+            (Override::Whole { .. }, Some(OverrideStep::ByInstance(_))) => before,
             (
                 Override::Whole {
                     original,
@@ -120,8 +131,8 @@ impl Override {
                 },
                 _,
             ) => {
-                if *original == kind && (*replace || before.is_none()) {
-                    Some(Step::ByType(*new))
+                if *original == type_id && (*replace || before.is_none()) {
+                    Some(OverrideStep::ByType(*new))
                 } else {
                     before
                 }

@@ -1,6 +1,6 @@
 //! Examples of what the definitions mean, and that each call succeeds where there is memory.
 
-use crate::{Factory, FactoryFault, Kind, Step, TypeId, Unmade};
+use crate::{Factory, FactoryFault, Kind, OverrideStep, TypeId, Unmade};
 use std::alloc::Global;
 use std::test::Fail;
 use uvm_glob::{Glob, Name, Path};
@@ -25,9 +25,9 @@ fn letters(alloc: Global) -> Result<Factory, Fail> {
     Ok(factory)
 }
 
-fn type_of(factory: &Factory, name: &str) -> Result<TypeId, Fail> {
-    let name = Name::new(name.as_bytes())?;
-    Ok(factory.find(&name).ok_or("a type")?)
+fn type_of(factory: &Factory, type_name: &str) -> Result<TypeId, Fail> {
+    let type_name = Name::new(type_name.as_bytes())?;
+    Ok(factory.find(&type_name).ok_or("a type")?)
 }
 
 // The name of the type that is made for A at a path, or why none is.
@@ -44,9 +44,9 @@ fn made(alloc: Global, overrides: &[(&str, &str, Scope)], path: &str) -> Result<
     }
     let path = Path::parse(alloc, path.as_bytes())?;
     match factory.resolve(type_of(&factory, "A")?, &path) {
-        Ok(kind) => {
-            let name = factory.name_of(kind).ok_or("a name")?;
-            Ok(format!(in alloc; "{name}")?)
+        Ok(type_id) => {
+            let type_name = factory.name_of(type_id).ok_or("a name")?;
+            Ok(format!(in alloc; "{type_name}")?)
         }
         Err(unmade) => Ok(format!(in alloc; "{unmade}")?),
     }
@@ -189,22 +189,22 @@ fn a_step_tells_its_override(rt: HostRuntime) -> Result<(), Fail> {
     );
     factory.override_type(a, b, false)?;
     factory.override_inst(a, c, Glob::new(rt.alloc(), b"x.*")?)?;
-    for (kind, path, want) in [
-        (a, "x", Some(Step::ByType(b))),
-        (a, "x.y", Some(Step::ByInstance(c))),
+    for (type_id, path, want) in [
+        (a, "x", Some(OverrideStep::ByType(b))),
+        (a, "x.y", Some(OverrideStep::ByInstance(c))),
         (b, "x.y", None),
     ] {
         let path_made = Path::parse(rt.alloc(), path.as_bytes())?;
-        let step = factory.step(kind, &path_made);
-        assert_eq!(rt; step, want, "{kind:?} at {path}");
+        let step = factory.step(type_id, &path_made);
+        assert_eq!(rt; step, want, "{type_id:?} at {path}");
         let new = match step {
             Some(step) => step.new_type(),
-            None => kind,
+            None => type_id,
         };
         assert_eq!(rt;
-            factory.resolve(kind, &path_made),
+            factory.resolve(type_id, &path_made),
             Ok(new),
-            "{kind:?} at {path}"
+            "{type_id:?} at {path}"
         );
     }
     Ok(())

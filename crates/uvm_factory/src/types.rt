@@ -4,10 +4,12 @@ ghost use Rattle.std.specs.Prelude.{◌≡◌};
 
 use std::marker::Model;
 
-/// What objects of a type are.
+/// What objects of a type are. A type is overridden by types of its own kind alone.
 #[derive(Clone, Copy, Debug, PartialEq, Eq)]
 pub enum Kind {
+    /// Components, which stand in the tree of a testbench.
     Component,
+    /// Sequences, which stand in no tree.
     Sequence,
 }
 
@@ -29,7 +31,8 @@ impl Model for TypeId {
 }
 
 impl TypeId {
-    pub(crate) fn new(place: u16) -> TypeId
+    /// The type at a place, from 0, whether or not a factory has one there.
+    pub fn new(place: u16) -> TypeId
         ensures { result ≡ place }
     {
         TypeId { place }

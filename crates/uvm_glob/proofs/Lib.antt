@@ -1,3 +1,4 @@
+pub mod Bytes
 pub mod ChildTexts
 pub mod Meaning
 pub mod Parts

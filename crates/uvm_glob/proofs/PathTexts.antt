@@ -60,7 +60,7 @@ pub record IsPath (names : List (List ℕ)) : Type 0 where
   pub shallow : length names ≤ 32
 
 -- no fault of a text is there
-no_fault : (empty long bad deep : Bool) → first_fault empty long bad deep ≡ None → (empty ≡ false) × (long ≡ false) × (bad ≡ false) × (deep ≡ false)
+pub no_fault : (empty long bad deep : Bool) → first_fault empty long bad deep ≡ None → (empty ≡ false) × (long ≡ false) × (bad ≡ false) × (deep ≡ false)
 no_fault true long bad deep h = cc
 no_fault false true bad deep h = cc
 no_fault false false true deep h = cc

@@ -1,5 +1,5 @@
 -- Why a text is refused.
-use Rattle.std.specs.Prelude.{Bool, true, false, Option, Some, None, Result, Ok, Err}
+use Rattle.std.specs.Prelude.{ℕ, Bool, true, false, List, Option, Some, None, Result, Ok, Err, codes}
 use Rattle.uvm_glob.specs.declared.faults.PathFault.{PathFault}
 use Rattle.uvm_glob.specs.declared.faults.PathFault.TheVariants.{Empty, TooLong, BadByte, TooDeep, Memory}
 
@@ -23,3 +23,11 @@ first_fault false false false false = None
 abbrev pub unless : {T E : Type 0} → Option E → T → Result T E
 unless None value = Ok value
 unless (Some fault) value = Err fault
+
+-- what is told of each fault
+abbrev pub fault_text : PathFault → List ℕ
+fault_text Empty = codes "an empty name"
+fault_text TooLong = codes "too long"
+fault_text BadByte = codes "a byte that may not stand there"
+fault_text TooDeep = codes "more than 32 names"
+fault_text Memory = codes "out of memory"

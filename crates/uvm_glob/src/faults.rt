@@ -21,6 +21,11 @@ pub enum PathFault {
 }
 
 impl fmt::Display for PathFault {
+    ghost use Rattle.std.specs.Prelude.{Some};
+    ghost use Rattle.uvm_glob.specs.Faults.{fault_text};
+
+    ghost output = { λ fault. Some (fault_text fault) };
+
     fn fmt<W: fmt::Write>(&self, f: &mut fmt::Formatter<W>) -> fmt::Result {
         f.write_str(match self {
             PathFault::Empty => "an empty name",

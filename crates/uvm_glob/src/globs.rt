@@ -9,7 +9,9 @@ ghost use Rattle.uvm_glob.specs.Paths.{dotted, path_text};
 use crate::faults::PathFault;
 use crate::matching::matches_text;
 use crate::paths::{Path, dotted};
+use crate::texts::as_text;
 use std::alloc::{AllocError, Global};
+use std::fmt;
 use std::marker::Model;
 
 /// A glob: bytes of 0x21 to 0x7E without `/`. `*` stands for zero or more characters, `+` for one or more, `?` for
@@ -20,11 +22,15 @@ pub struct Glob {
 }
 
 impl Model for Glob {
-    ghost use Rattle.std.specs.Prelude.{List, ℕ};
+    ghost use Rattle.std.specs.Prelude.{◌≡◌, List, ℕ, true};
+    ghost use Rattle.std.specs.List.{list_all};
+    ghost use Rattle.uvm_glob.specs.Globs.{is_glob_byte};
 
     ghost Value = { List ℕ };
 
     ghost view = { λ g. g.text.items };
+
+    ghost invariant = { λ g. list_all is_glob_byte g.text.items ≡ true };
 }
 
 impl Glob {
@@ -77,6 +83,17 @@ impl Glob {
         Ok(Glob {
             text: self.text.clone()?,
         })
+    }
+}
+
+/// The text of the glob.
+impl fmt::Display for Glob {
+    ghost use Rattle.std.specs.Prelude.{Some};
+
+    ghost output = { λ glob. Some glob };
+
+    fn fmt<W: fmt::Write>(&self, f: &mut fmt::Formatter<W>) -> fmt::Result {
+        f.write_str(as_text(self.text.as_slice()))
     }
 }
 

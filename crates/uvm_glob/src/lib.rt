@@ -11,6 +11,7 @@ mod paths;
 mod rooms;
 #[cfg(test)]
 mod tests;
+mod texts;
 
 pub use faults::PathFault;
 pub use globs::Glob;

@@ -12,6 +12,7 @@ ghost use Rattle.uvm_glob.specs.Faults.{unless};
 ghost use Rattle.uvm_glob.specs.Names.{name_fault, is_name_byte};
 
 use crate::faults::PathFault;
+use crate::texts::as_text;
 use std::cmp::Ordering;
 use std::fmt;
 use std::hash::{Hash, Hasher};
@@ -120,12 +121,15 @@ impl Hash for Name {
     }
 }
 
+/// The bytes of the name.
 impl fmt::Display for Name {
+    ghost use Rattle.std.specs.Prelude.{Some};
+
+    ghost output = { λ name. Some name };
+
+    #[tactic(auto, using(crate::proofs::Bytes::name_bytes))]
     fn fmt<W: fmt::Write>(&self, f: &mut fmt::Formatter<W>) -> fmt::Result {
-        for b in self.as_bytes() {
-            f.write_char(char::from(*b))?;
-        }
-        Ok(())
+        f.write_str(as_text(self.as_bytes()))
     }
 }
 

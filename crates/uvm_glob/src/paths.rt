@@ -1,11 +1,12 @@
 //! Paths of names.
 
-ghost use Rattle.std.specs.Prelude.{count_by, ◌≡◌, ◌+◌, ◌≤◌, [], ◌∷◌, ◌++◌, length, None, IfOk, IfErr, OnOk, OnErr, nat_lt, nat_eq, ◌==◌, refl};
+ghost use Rattle.std.specs.Prelude.{count_by, ◌≡◌, ◌+◌, ◌≤◌, [], ◌∷◌, ◌++◌, length, None, IfOk, IfErr, OnOk, OnErr, nat_lt, nat_eq, ◌==◌, refl, true};
 ghost use Rattle.std.specs.Cmp.{partial_equiv_from_equiv, po};
 ghost use Rattle.std.specs.Cmp.Lexicographic.{pointwise, slice_cmp, lists_equiv, lists_total, lists_ties, nat_list_eq_equiv, nat_list_cmp_total, texts_ties};
 ghost use Rattle.std.specs.List.{list_any, list_all};
 ghost use Rattle.std.specs.Ordering.{nat_cmp, as_partial_cmp};
 ghost use Rattle.uvm_glob.specs.Faults.{refusal};
+ghost use Rattle.uvm_glob.specs.Globs.{is_glob_byte};
 ghost use Rattle.uvm_glob.specs.Names.{is_name_byte};
 ghost use Rattle.uvm_glob.specs.Orders.{down_cmp, up_cmp};
 ghost use Rattle.uvm_glob.specs.Paths.{path_text, path_fault, between_dots, names_of, dotted, size_fault};
@@ -13,8 +14,10 @@ ghost use Rattle.uvm_glob.specs.Paths.{path_text, path_fault, between_dots, name
 use crate::faults::PathFault;
 use crate::names::{Name, are_name_bytes};
 use crate::orders::{down_cmp, up_cmp};
+use crate::texts::as_text;
 use std::alloc::{AllocError, Global};
 use std::cmp::Ordering;
+use std::fmt;
 use std::marker::Model;
 
 /// A path: the names from below the top down to a component. It has at most 32 names, and its text, the names with a
@@ -126,7 +129,8 @@ impl Path {
 
     // The text of the path.
     pub(crate) fn text(&self) -> &[u8]
-        ensures { result.now ≡ path_text self.now }
+        ensures text { result.now ≡ path_text self.now }
+        ensures bytes { list_all is_glob_byte result.now ≡ true }
     {
         self.text.as_slice()
     }
@@ -144,6 +148,17 @@ impl Path {
                 text: dotted(*self.text.allocator(), front, back)?,
             }),
         }
+    }
+}
+
+/// The path's text, as `write` gives it: that of the top is empty.
+impl fmt::Display for Path {
+    ghost use Rattle.std.specs.Prelude.{Some};
+
+    ghost output = { λ path. Some (path_text path) };
+
+    fn fmt<W: fmt::Write>(&self, f: &mut fmt::Formatter<W>) -> fmt::Result {
+        f.write_str(as_text(self.text()))
     }
 }
 

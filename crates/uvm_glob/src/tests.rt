@@ -306,6 +306,19 @@ fn children_stand_first_in_up(rt: HostRuntime) -> Result<(), Fail> {
 }
 
 #[test]
+fn paths_and_globs_are_printed_as_their_texts(rt: HostRuntime) -> Result<(), Fail> {
+    for text in ["", "a", "a.b[0].c"] {
+        let path = path_at(rt.alloc(), text.as_bytes())?;
+        assert_eq!(rt; format!(in rt.alloc(); "{path}")?.as_str(), text);
+    }
+    for text in ["", "*", "a[0].?+"] {
+        let glob = Glob::new(rt.alloc(), text.as_bytes())?;
+        assert_eq!(rt; format!(in rt.alloc(); "{glob}")?.as_str(), text);
+    }
+    Ok(())
+}
+
+#[test]
 fn faults_are_printed(rt: HostRuntime) -> Result<(), Fail> {
     for (fault, want) in [
         (PathFault::Empty, "an empty name"),

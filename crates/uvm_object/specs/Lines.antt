@@ -46,7 +46,7 @@ replace_text true = codes " replace"
 replace_text false = []
 
 abbrev pub act_text : Act → List ℕ
-act_text (Create ty name) = codes "create " ++ ty ++ 32 ∷ name
+act_text (Create type_name name) = codes "create " ++ type_name ++ 32 ∷ name
 act_text (Add name what) = codes "add " ++ name ++ 32 ∷ what_text what
 act_text (Set glob field value) = codes "set (" ++ glob ++ codes ") " ++ field ++ 32 ∷ signed_decimal value
 act_text (Get field) = codes "get " ++ field
@@ -55,7 +55,7 @@ act_text (OverrideInst original new glob) = codes "override " ++ original ++ 32 
 
 abbrev pub outcome_text : Outcome → List ℕ
 outcome_text Done = codes "done"
-outcome_text (Made ty) = codes "made " ++ ty
+outcome_text (Made type_name) = codes "made " ++ type_name
 outcome_text (Value value) = codes "value " ++ value_text value
 outcome_text (Refused fatal) = codes "refused " ++ id_of fatal
 

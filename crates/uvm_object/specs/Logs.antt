@@ -1,6 +1,8 @@
 -- What contracts see of a log.
-use Rattle.std.specs.Prelude.{ℕ, List, [], ◌∷◌, Option, Some, None}
+use Rattle.std.specs.Prelude.{ℕ, List, [], ◌∷◌, Option, Some, None, codes}
 use Rattle.uvm_object.specs.declared.entries.Entry.{Entry}
+use Rattle.uvm_object.specs.declared.logs.LogFault.{LogFault}
+use Rattle.uvm_object.specs.declared.logs.LogFault.TheVariants.{Full, Memory}
 
 -- the entries, the newest first, how many there may be, and for how many more there is room
 pub record LogValue : Type 0 where
@@ -12,3 +14,8 @@ pub record LogValue : Type 0 where
 abbrev pub newest : List Entry → Option Entry
 newest [] = None
 newest (entry ∷ before) = Some entry
+
+-- what is told of each fault
+abbrev pub fault_text : LogFault → List ℕ
+fault_text Full = codes "log full"
+fault_text Memory = codes "out of memory"

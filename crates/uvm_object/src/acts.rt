@@ -4,8 +4,10 @@ ghost use Rattle.std.specs.Prelude.{◌≡◌, ◌==◌, ◌++◌, ◌∷◌, []
 ghost use Rattle.uvm_object.specs.Acts.{node_of};
 
 use std::alloc::{AllocError, Global};
+use std::iter::FusedIterator;
 use std::marker::Model;
 use std::rc::Rc;
+use std::slice;
 use uvm_glob::{Glob, Name};
 use uvm_phase::Phase;
 use uvm_tree::NodeId;
@@ -27,7 +29,7 @@ impl Who {
         }
     }
 
-    /// The same, for a place that keeps it.
+    /// The same value.
     pub fn copy(&self) -> Who
         ensures { result ≡ self.now }
     {
@@ -41,14 +43,22 @@ pub enum Call {
     /// Its turn in a phase (IEEE 1800.2-2020, Clause 9).
     Phase(Phase),
     /// The value that a field has, if it has one: after `Act::Get` (Annex C).
-    Config { field: Name, value: Option<i64> },
+    Config {
+        /// The field that was asked for.
+        field: Name,
+        /// Its value at the performer's path, if one was set.
+        value: Option<i64>,
+    },
 }
 
 /// What a component adds below itself.
 #[derive(Clone, Copy, Debug, PartialEq, Eq)]
 pub enum What {
     /// A FIFO for so many items, 0 for any number (Clause 12).
-    Fifo { size: u16 },
+    Fifo {
+        /// How many items it holds at most, 0 for any number.
+        size: u16,
+    },
 }
 
 /// What an object asks for in its answer to a call. Globs are taken under the path of the performer.
@@ -56,46 +66,60 @@ pub enum What {
 pub enum Act {
     /// Create a component of a type as a child, by the factory (Clause 8).
     Create {
-        ty: Name,
+        /// The type that is asked for, which an override may replace.
+        type_name: Name,
+        /// The child's name.
         name: Name,
     },
     /// Add a child that is no component.
     Add {
+        /// The child's name.
         name: Name,
+        /// What the child is.
         what: What,
     },
     /// Set a field for the paths that a glob matches (Annex C, uvm_config_db).
     Set {
+        /// The paths, as below the performer's.
         glob: Glob,
+        /// The field.
         field: Name,
+        /// Its value.
         value: i64,
     },
     /// Ask for the value of a field at the performer's path; it comes as a call (Annex C).
     Get {
+        /// The field.
         field: Name,
     },
     /// Override a type everywhere (Clause 8); without `replace` an override of that type that is there stays.
     OverrideType {
+        /// The type that is replaced.
         original: Name,
+        /// The type that is made for it, of the same kind.
         new: Name,
+        /// Whether this override replaces one that is there.
         replace: bool,
     },
     /// Override a type at the paths that a glob matches (Clause 8).
     OverrideInst {
+        /// The type that is replaced.
         original: Name,
+        /// The type that is made for it, of the same kind.
         new: Name,
+        /// The paths, as below the performer's.
         glob: Glob,
     },
 }
 
 impl Act {
-    /// An equal act.
+    /// An equal act. The error is want of memory.
     pub fn copy(&self) -> Result<Act, AllocError>
         ensures { IfOk result (λ act. act ≡ self.now) }
     {
         Ok(match self {
-            Act::Create { ty, name } => Act::Create {
-                ty: *ty,
+            Act::Create { type_name, name } => Act::Create {
+                type_name: *type_name,
                 name: *name,
             },
             Act::Add { name, what } => Act::Add {
@@ -146,7 +170,7 @@ impl Model for Deed {
 }
 
 impl Deed {
-    /// An act, to be shared.
+    /// An act, to be shared. The error is want of memory.
     pub fn new(alloc: Global, act: Act) -> Result<Deed, AllocError>
         ensures { IfOk result (λ deed. deed ≡ act) }
     {
@@ -175,8 +199,11 @@ impl Deed {
 // Most answers have one act, for which no list is made.
 #[derive(Debug, Drop)]
 enum Deeds {
+    /// No act.
     None,
+    /// One act.
     One(Deed),
+    /// Any number of acts, in order.
     Many(Box<Vec<Deed>>),
 }
 
@@ -208,7 +235,7 @@ impl Acts {
         }
     }
 
-    /// Adds an act at the end.
+    /// Adds an act at the end. The error is want of memory, and leaves the acts as they were.
     pub fn push(&mut self, act: Act) -> Result<(), AllocError>
         ensures ok { OnOk result (self.new ≡ self.old ++ act ∷ []) }
         ensures err { OnErr result (self.new ≡ self.old) }
@@ -243,7 +270,7 @@ impl Acts {
         self.len() == 0
     }
 
-    /// The act at a place, from 0.
+    /// The act at a place, from 0, if there are so many.
     pub fn get(&self, place: usize) -> Option<&Act>
         ensures { option_copied result ≡ slice_get self.now place }
     {
@@ -253,7 +280,7 @@ impl Acts {
         }
     }
 
-    /// The act at a place, from 0, to be shared.
+    /// The act at a place, from 0, to be shared, if there are so many.
     pub fn deed(&self, place: usize) -> Option<&Deed>
         ensures { option_copied result ≡ slice_get self.now place }
     {
@@ -262,6 +289,78 @@ impl Acts {
             Deeds::Many(all) => all.get(place),
             _ => None,
         }
+    }
+
+    /// The acts in order. It takes no memory.
+    pub fn iter(&self) -> ActsIter<'_>
+        ensures { result ≡ self.now }
+    {
+        ActsIter {
+            left: match &self.deeds {
+                Deeds::None => &[],
+                Deeds::One(deed) => slice::from_ref(deed),
+                Deeds::Many(all) => all.as_slice(),
+            },
+        }
+    }
+}
+
+/// An iterator over the acts of an answer, in order. Contracts see the list of those that are left.
+#[derive(Drop)]
+pub struct ActsIter<'a> {
+    left: &'a [Deed],
+}
+
+impl<'a> Model for ActsIter<'a> {
+    ghost use Rattle.std.specs.Prelude.{List};
+    ghost use Rattle.uvm_object.specs.declared.acts.Act.{Act};
+
+    ghost Value = { List Act };
+
+    ghost view = { λ it. it.left.now };
+}
+
+impl<'a> Iterator for ActsIter<'a> {
+    ghost use Rattle.std.specs.Iterator.{YieldsFirstRef, item_count};
+
+    type Item = &'a Act;
+
+    ghost next_gives = { YieldsFirstRef (λ it. it) };
+
+    ghost remaining = { item_count (λ it. it) };
+
+    fn next(&mut self) -> Option<&'a Act> {
+        let (first, left) = self.left.split_first()?;
+        self.left = left;
+        Some(first.act())
+    }
+
+    fn size_hint(&self) -> (usize, Option<usize>) {
+        let len = self.left.len();
+        (len, Some(len))
+    }
+}
+
+impl ExactSizeIterator for ActsIter<'_> {
+    fn len(&self) -> usize {
+        self.left.len()
+    }
+}
+
+impl FusedIterator for ActsIter<'_> {}
+
+/// The acts in order.
+impl<'a> IntoIterator for &'a Acts {
+    ghost use Rattle.std.specs.Prelude.{◌≡◌};
+
+    type Item = &'a Act;
+
+    type IntoIter = ActsIter<'a>;
+
+    ghost into_iter_gives = { λ acts it. it ≡ acts.now };
+
+    fn into_iter(self) -> ActsIter<'a> {
+        self.iter()
     }
 }
 

@@ -20,9 +20,9 @@ pub enum Outcome {
     Done,
     /// An object of this type was created.
     Made(Name),
-    /// This value was found, or none.
+    /// A field was asked for: its value, if it has one.
     Value(Option<i64>),
-    /// It was refused.
+    /// It was refused, and this was reported.
     Refused(Fatal),
 }
 
@@ -119,10 +119,15 @@ impl LoggedActs {
 // An outcome of two words: a name stands behind a pointer, and a value that was not found is a variant of its own.
 #[derive(Debug, Drop)]
 enum CompactOutcome {
+    /// It was performed.
     Done,
+    /// An object of this type was created.
     Made(Box<Name>),
+    /// A field without a value was asked for.
     NoValue,
+    /// This value was found.
     Value(i64),
+    /// It was refused.
     Refused(Fatal),
 }
 
@@ -142,7 +147,7 @@ impl Model for LoggedOutcome {
 }
 
 impl LoggedOutcome {
-    /// It was performed.
+    /// The outcome `Done`.
     pub fn done() -> LoggedOutcome
         ensures { result ≡ Done }
     {
@@ -151,17 +156,17 @@ impl LoggedOutcome {
         }
     }
 
-    /// An object of a type was created; the room is for the type's name.
-    pub fn made(mut room: Box<Name>, ty: Name) -> LoggedOutcome
-        ensures { result ≡ Made ty }
+    /// The outcome `Made`; the room is for the type's name, so that no memory is taken.
+    pub fn made(mut room: Box<Name>, type_name: Name) -> LoggedOutcome
+        ensures { result ≡ Made type_name }
     {
-        *room = ty;
+        *room = type_name;
         LoggedOutcome {
             compact: CompactOutcome::Made(room),
         }
     }
 
-    /// This value was found, or none.
+    /// The outcome `Value`.
     pub fn value(value: Option<i64>) -> LoggedOutcome
         ensures { result ≡ Value value }
     {
@@ -172,7 +177,7 @@ impl LoggedOutcome {
         LoggedOutcome { compact }
     }
 
-    /// It was refused.
+    /// The outcome `Refused`.
     pub fn refused(fatal: Fatal) -> LoggedOutcome
         ensures { result ≡ Refused fatal }
     {
@@ -187,7 +192,7 @@ impl LoggedOutcome {
     {
         match &self.compact {
             CompactOutcome::Done => Outcome::Done,
-            CompactOutcome::Made(ty) => Outcome::Made(**ty),
+            CompactOutcome::Made(type_name) => Outcome::Made(**type_name),
             CompactOutcome::NoValue => Outcome::Value(None),
             CompactOutcome::Value(value) => Outcome::Value(Some(*value)),
             CompactOutcome::Refused(fatal) => Outcome::Refused(*fatal),
@@ -204,28 +209,37 @@ pub enum Entry {
     End(Phase),
     /// An object was called and answered. A call that was due names its cause; a phase's call has none.
     Heard {
+        /// Who was called.
         who: Who,
+        /// The call.
         call: LoggedCall,
+        /// Why it was due.
         cause: LoggedCause,
+        /// The answer.
         acts: LoggedActs,
     },
     /// An act of the last answer was performed or refused.
     Did {
+        /// Who answered it.
         who: Who,
+        /// What became of it.
         outcome: LoggedOutcome,
+        /// The act.
         act: Deed,
     },
     /// The kernel reports at a node.
     Note {
+        /// The report.
         fatal: Fatal,
+        /// The node.
         node: NodeId,
     },
-    /// Nothing comes after.
+    /// The run is over: no entry comes after.
     Over(Reason),
 }
 
 impl Entry {
-    /// The entry of a call that was answered. It takes memory for the call and its answer.
+    /// The entry of a call that was answered. It takes memory for the call and its answer; the error is want of it.
     pub fn heard(
         alloc: Global,
         who: Who,

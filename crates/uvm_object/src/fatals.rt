@@ -25,7 +25,7 @@ pub enum Fatal {
 }
 
 impl Fatal {
-    /// The id of the report.
+    /// The id of the report, as `ILLCRT`.
     pub fn id(self) -> &'static str
         ensures { result.now ≡ id_of self }
     {
@@ -41,7 +41,7 @@ impl Fatal {
         }
     }
 
-    /// The text of the report.
+    /// The text of the report, in a few words.
     pub fn text(self) -> &'static str
         ensures { result.now ≡ text_of self }
     {

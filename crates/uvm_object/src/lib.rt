@@ -10,7 +10,7 @@ mod objects;
 #[cfg(test)]
 mod tests;
 
-pub use acts::{Act, Acts, Call, Deed, What, Who};
+pub use acts::{Act, Acts, ActsIter, Call, Deed, What, Who};
 pub use entries::{Entry, LoggedActs, LoggedCall, LoggedCause, LoggedOutcome, Outcome, Reason};
 pub use fatals::Fatal;
 pub use lines::line_of;

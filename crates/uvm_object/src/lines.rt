@@ -111,7 +111,7 @@ fn push_act(act: &Act, line: &mut Vec<u8>) -> Result<(), AllocError>
     ensures { OnOk result (line.new.items ≡ line.old.items ++ act_text act.now) }
 {
     match act {
-        Act::Create { ty, name } => push_names(b"create ", ty, name, line),
+        Act::Create { type_name, name } => push_names(b"create ", type_name, name, line),
         Act::Add { name, what } => {
             line.extend_from_slice(b"add ")?;
             line.extend_from_slice(name.as_bytes())?;
@@ -185,9 +185,9 @@ fn push_outcome(outcome: &Outcome, line: &mut Vec<u8>) -> Result<(), AllocError>
 {
     match outcome {
         Outcome::Done => line.extend_from_slice(b"done"),
-        Outcome::Made(ty) => {
+        Outcome::Made(type_name) => {
             line.extend_from_slice(b"made ")?;
-            line.extend_from_slice(ty.as_bytes())
+            line.extend_from_slice(type_name.as_bytes())
         }
         Outcome::Value(value) => {
             line.extend_from_slice(b"value ")?;

@@ -1,13 +1,14 @@
 //! The log.
 
 ghost use Rattle.std.specs.Prelude.{◌≡◌, ◌≢◌, ◌==◌, ◌↔◌, ◌∷◌, ◌<◌, ◌≤◌, [], length, reverse, nat_le, slice_get, Err, OnOk, OnErr, option_copied};
+ghost use Rattle.std.specs.Slice.Iter.{iter_rest};
 ghost use Rattle.uvm_object.specs.Logs.{newest};
 
 use crate::entries::Entry;
 use std::alloc::{AllocError, AllocFailed, Global};
 use std::error::Error;
-use std::fmt;
 use std::marker::Model;
+use std::{fmt, slice};
 
 /// Why an entry is not taken, in the order in which it is looked for.
 #[derive(Clone, Copy, Debug, PartialEq, Eq)]
@@ -19,6 +20,11 @@ pub enum LogFault {
 }
 
 impl fmt::Display for LogFault {
+    ghost use Rattle.std.specs.Prelude.{Some};
+    ghost use Rattle.uvm_object.specs.Logs.{fault_text};
+
+    ghost output = { λ fault. Some (fault_text fault) };
+
     fn fmt<W: fmt::Write>(&self, f: &mut fmt::Formatter<W>) -> fmt::Result {
         f.write_str(match self {
             LogFault::Full => "log full",
@@ -58,7 +64,7 @@ impl Model for Log {
 }
 
 impl Log {
-    /// No entries, and room for none. The limit is a number of entries.
+    /// No entries, and room for none. The limit is how many entries there may be.
     pub fn new(alloc: Global, limit: usize) -> Log
         ensures entries { result.entries ≡ [] }
         ensures limit { result.limit ≡ limit }
@@ -69,7 +75,7 @@ impl Log {
         }
     }
 
-    /// Makes room for an entry: the next `push` then takes no memory.
+    /// Makes room for an entry: the next `push` then takes no memory. The error is want of memory.
     pub fn reserve(&mut self) -> Result<(), AllocError>
         ensures entries { self.new.entries ≡ self.old.entries }
         ensures limit { self.new.limit ≡ self.old.limit }
@@ -116,17 +122,40 @@ impl Log {
         self.entries.is_empty()
     }
 
-    /// The entry at a place, from 0 for the first.
+    /// The entry at a place, from 0 for the oldest, if there are so many.
     pub fn get(&self, place: usize) -> Option<&Entry>
         ensures { option_copied result ≡ slice_get (reverse self.now.entries) place }
     {
         self.entries.get(place)
     }
 
-    /// The newest entry.
+    /// The newest entry, if there is one.
     pub fn last(&self) -> Option<&Entry>
         ensures { option_copied result ≡ newest self.now.entries }
     {
         self.entries.last()
+    }
+
+    /// The entries in order, from the oldest. It takes no memory.
+    pub fn iter(&self) -> slice::Iter<'_, Entry>
+        ensures { iter_rest result ≡ reverse self.now.entries }
+    {
+        self.entries.iter()
+    }
+}
+
+/// The entries in order, from the oldest.
+impl<'a> IntoIterator for &'a Log {
+    ghost use Rattle.std.specs.Prelude.{◌≡◌, reverse};
+    ghost use Rattle.std.specs.Slice.Iter.{iter_rest};
+
+    type Item = &'a Entry;
+
+    type IntoIter = slice::Iter<'a, Entry>;
+
+    ghost into_iter_gives = { λ log it. iter_rest it ≡ reverse log.now.entries };
+
+    fn into_iter(self) -> slice::Iter<'a, Entry> {
+        self.iter()
     }
 }

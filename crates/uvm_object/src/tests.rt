@@ -41,7 +41,7 @@ fn override_inst(alloc: Global) -> Result<Act, Fail> {
 
 fn create() -> Result<Act, Fail> {
     Ok(Act::Create {
-        ty: Name::new(b"t")?,
+        type_name: Name::new(b"t")?,
         name: Name::new(b"uvm_test_top")?,
     })
 }
@@ -86,6 +86,41 @@ fn acts_stand_in_order(rt: HostRuntime) -> Result<(), Fail> {
     assert_eq!(rt; is_replaced(acts.get(0)), Some(true));
     assert_eq!(rt; is_replaced(acts.get(1)), Some(false));
     assert!(rt; acts.get(2).is_none());
+    Ok(())
+}
+
+#[test]
+fn acts_are_gone_over_in_order(rt: HostRuntime) -> Result<(), Fail> {
+    let mut acts = Acts::new(rt.alloc());
+    for (place, replace) in [true, false, false].into_iter().enumerate() {
+        assert_eq!(rt; acts.iter().len(), place);
+        acts.push(override_type(replace)?)?;
+    }
+    let mut seen = Vec::new(rt.alloc());
+    for act in &acts {
+        seen.push(is_replaced(Some(act)))?;
+    }
+    assert_eq!(rt;
+        seen.as_slice(),
+        [Some(true), Some(false), Some(false)].as_slice()
+    );
+    Ok(())
+}
+
+#[test]
+fn a_log_is_gone_over_from_the_oldest(rt: HostRuntime) -> Result<(), Fail> {
+    let mut log = Log::new(rt.alloc(), 2);
+    for phase in [Phase::Build, Phase::Connect] {
+        log.push(Entry::End(phase))?;
+    }
+    let mut seen = Vec::new(rt.alloc());
+    for entry in &log {
+        seen.push(ended(Some(entry)))?;
+    }
+    assert_eq!(rt;
+        seen.as_slice(),
+        [Some(Phase::Build), Some(Phase::Connect)].as_slice()
+    );
     Ok(())
 }
 

@@ -7,6 +7,7 @@ use Rattle.std.proofs.lemmas.List.Kept.{AllPairs-cons}
 use Rattle.std.proofs.lemmas.List.Sorted.{IsPermutation-refl, IsPermutation-sym, IsPermutation-trans, IsPermutation-cons, IsPermutation-middle, All-permutation, length_permutation}
 use Rattle.uvm_phase.specs.declared.agendas.Due.{Due}
 use Rattle.uvm_phase.specs.Dues.{same_cause, is_before, insert_due, in_order, IsInOrder, IsOrderOf}
+use Rattle.uvm_phase.specs.Laws.{OrderKeepsAll, OrderKeepsFilters, OrderLosesFirst}
 use Rattle.uvm_phase.proofs.Before.{before_others, not_before}
 
 -- an insertion moves elements
@@ -165,3 +166,12 @@ pub without-taken : {O N : Type 0} (known dues left : List (Due O N)) (taken : O
 without-taken known [] left taken apart is first rest = rw first tt
 without-taken known (due ∷ others) left taken apart is first rest =
     rw first (rest ∙ sym (without-first known due others apart (sym is)))
+
+pub order_keeps_all : {O N : Type 0} → OrderKeepsAll O N
+order_keeps_all dues = IsPermutation-in_order dues
+
+pub order_keeps_filters : {O N : Type 0} → OrderKeepsFilters O N
+order_keeps_filters p dues = filter-in_order p dues
+
+pub order_loses_first : {O N : Type 0} → OrderLosesFirst O N
+order_loses_first known dues left taken apart is first rest = without-taken known dues left taken apart is first rest

@@ -1,2 +1,3 @@
 pub mod Phases
 pub mod Dues
+pub mod Laws

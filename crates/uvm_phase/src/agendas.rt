@@ -8,21 +8,27 @@ use crate::phases::Phase;
 use std::alloc::{AllocError, Global};
 use std::marker::Model;
 
-/// What caused a call: the place of an entry of a log, and the number of the call among those of that entry.
+/// What caused a call.
 #[derive(Clone, Copy, Debug, PartialEq, Eq)]
 pub struct Cause {
+    /// The place of an entry of a log, from 0.
     pub place: u64,
+    /// The number of the call among those of that entry, from 0.
     pub number: u64,
 }
 
-/// A call that is due: when, why, in which phase it was asked for, who is called and with what.
+/// A call that is due.
 #[derive(Debug, Drop)]
 pub struct Due<O, N> {
-    /// In ticks.
+    /// When it is due, in ticks of simulated time.
     pub time: u64,
+    /// Why it is due. At one time the calls of earlier causes come first.
     pub cause: Cause,
+    /// The phase in which it was asked for; `Agenda::clear` takes out the calls of a phase.
     pub phase: Phase,
+    /// Who is called; `Agenda::cancel` takes out the calls of an owner.
     pub owner: O,
+    /// What the owner is told.
     pub notice: N,
 }
 
@@ -40,7 +46,7 @@ impl<O, N> Due<O, N> {
     }
 }
 
-/// The calls that are due while a phase runs (Clause 9). They come due by time, at one time by the place of the cause, then
+/// The calls that are due while a phase runs (IEEE 1800.2-2020, Clause 9). They come due by time, at one time by the place of the cause, then
 /// by its number, and where these are equal in the order in which they were added. Contracts see them in this order, and
 /// beside them for how many more there is room.
 #[derive(Drop)]

@@ -3,17 +3,26 @@
 ghost use Rattle.std.specs.Prelude.{◌≡◌, Some};
 ghost use Rattle.uvm_phase.specs.Phases.{number_of, phase_after, walk_of, name_of};
 
-/// A phase, in the order in which they run. `Run` alone takes simulated time.
+/// A phase, in the order in which they run (IEEE 1800.2-2020, Clause 9). `Run` alone takes simulated time.
 #[derive(Clone, Copy, Debug, PartialEq, Eq)]
 pub enum Phase {
+    /// Components are made and configured.
     Build,
+    /// Ports are connected.
     Connect,
+    /// What was made is looked over and adjusted.
     EndOfElaboration,
+    /// The last phase before time passes.
     StartOfSimulation,
+    /// Stimulus is given, and time passes.
     Run,
+    /// What the run left is collected.
     Extract,
+    /// What was collected is checked.
     Check,
+    /// The outcome is reported.
     Report,
+    /// What is open is closed.
     Final,
 }
 
@@ -51,7 +60,8 @@ impl Phase {
         }
     }
 
-    /// Build and final go down, the others up (Clause 9; that run is started up is this project's choice).
+    /// Build and final go down, the others up (IEEE 1800.2-2020, Clause 9; that run is started up is this project's
+    /// choice).
     pub fn walk(self) -> Walk
         ensures { result ≡ walk_of self }
     {
@@ -62,7 +72,7 @@ impl Phase {
     }
 }
 
-/// The order of the phases.
+/// The order of the phases, from build to final.
 #[derive(Clone, Copy, Debug)]
 pub struct Schedule;
 

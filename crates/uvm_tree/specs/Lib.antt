@@ -1,5 +1,6 @@
 pub mod Children
 pub mod Cursors
 pub mod Directions
+pub mod Faults
 pub mod Nodes
 mod Rooms

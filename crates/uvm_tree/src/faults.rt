@@ -4,22 +4,27 @@ use std::alloc::{AllocError, AllocFailed};
 use std::error::Error;
 use std::fmt;
 
-/// Why a node is not added, in the order in which it is looked for.
+/// Why a node is not added, in the order in which it is looked for. A call that is refused adds nothing.
 #[derive(Clone, Copy, Debug, PartialEq, Eq)]
 pub enum TreeFault {
-    /// There is no such parent.
+    /// The tree has no node of the parent's number.
     NoParent,
-    /// The parent has a child of that name.
+    /// The parent has a child of that name already.
     NameTaken,
     /// The path would have more than 32 names, or more than 1,024 bytes.
     TooDeep,
-    /// There are 4,096 nodes besides the top.
+    /// There are 4,096 nodes besides the top, and one more would be next.
     Full,
     /// Memory was refused.
     Memory,
 }
 
 impl fmt::Display for TreeFault {
+    ghost use Rattle.std.specs.Prelude.{Some};
+    ghost use Rattle.uvm_tree.specs.Faults.{fault_text};
+
+    ghost output = { λ fault. Some (fault_text fault) };
+
     fn fmt<W: fmt::Write>(&self, f: &mut fmt::Formatter<W>) -> fmt::Result {
         f.write_str(match self {
             TreeFault::NoParent => "no such parent",

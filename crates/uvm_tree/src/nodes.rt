@@ -9,11 +9,17 @@ use uvm_glob::{Name, Path};
 /// What stands at a node.
 #[derive(Clone, Copy, Debug, PartialEq, Eq)]
 pub enum NodeKind {
+    /// A component; the top is one.
     Component,
+    /// A sequencer, which lets sequences have their turn.
     Sequencer,
+    /// A queue of what is put into it.
     Fifo,
+    /// A port, which calls what it is connected to.
     Port,
+    /// An export, which hands calls on to what it is connected to.
     Export,
+    /// An implementation, at which calls end.
     Imp,
 }
 
@@ -51,11 +57,14 @@ impl NodeId {
     }
 }
 
-/// A node: its parent and its name under it, which the top alone has not, its path, and what stands there.
+/// A node of a tree.
 #[derive(Debug, Drop)]
 pub struct Node {
+    /// Its parent, and its name under it; the top alone has none.
     pub under: Option<(NodeId, Name)>,
+    /// Its path: the names from below the top down to it.
     pub path: Path,
+    /// What stands there.
     pub kind: NodeKind,
 }
 

@@ -61,7 +61,8 @@ impl Tree {
         }
     }
 
-    /// Makes room for the next child of a parent, if there is such a node: its `add` then takes no memory.
+    /// Makes room for the next child of a parent, if there is such a node: its `add` then takes no memory. An error where
+    /// memory is refused; no node changes.
     pub fn reserve(&mut self, parent: NodeId) -> Result<(), AllocError>
         ensures nodes { self.new.nodes ≡ self.old.nodes }
         ensures spare { OnOk result (IsSome (node_at self.old.nodes parent) → self.new.spare ≡ Some parent) }
@@ -122,7 +123,7 @@ impl Tree {
         }
     }
 
-    /// The node at a path, the top at its own.
+    /// The node at a path, the top at its own; none where no node has that path.
     pub fn find(&self, path: &Path) -> Option<NodeId>
         ensures { result ≡ number_of self.now.nodes path.now }
     {
@@ -135,7 +136,7 @@ impl Tree {
         }
     }
 
-    /// The path of a node.
+    /// The path of a node; none where there is no such node.
     pub fn path(&self, id: NodeId) -> Option<&Path>
         ensures { option_copied result ≡ option_map (λ node. node.path) (node_at self.now.nodes id) }
     {
@@ -145,7 +146,7 @@ impl Tree {
         }
     }
 
-    /// What stands at a node.
+    /// What stands at a node; none where there is no such node.
     pub fn kind(&self, id: NodeId) -> Option<NodeKind>
         ensures { result ≡ option_map (λ node. node.kind) (node_at self.now.nodes id) }
     {
@@ -155,7 +156,7 @@ impl Tree {
         }
     }
 
-    /// The parent of a node; the top has none.
+    /// The parent of a node; none for the top, and where there is no such node.
     pub fn parent(&self, id: NodeId) -> Option<NodeId>
         ensures { result ≡ option_and_then parent_of (node_at self.now.nodes id) }
     {

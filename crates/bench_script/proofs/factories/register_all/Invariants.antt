@@ -8,4 +8,4 @@ abbrev pub invariant-loop-name : goal.invariant-loop-name
 invariant-loop-name l =
     (types_of l.factory ≡ take l.name-index l.types)
     × CanRegister (types_of l.factory) (drop l.name-index l.types)
-    × ((kind : ℕ) (path : List (List ℕ)) → step_at l.factory kind path ≡ step_at l.fn.factory kind path)
+    × ((type_id : ℕ) (path : List (List ℕ)) → step_at l.factory type_id path ≡ step_at l.fn.factory type_id path)

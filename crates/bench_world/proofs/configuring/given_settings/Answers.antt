@@ -2,7 +2,7 @@ use Rattle.bench_world.proofs.Configured.{settings-none, given-more}
 use Rattle.bench_world.proofs.configuring.given_settings.Goals as goal
 
 pub loop-setting-init : goal.loop-setting-init
-loop-setting-init c = settings-none c.new-settings.ensures.answers c.new-settings.ensures.accepted
+loop-setting-init c = settings-none c.none_set_no_answer.ensures c.new-settings.ensures.answers c.new-settings.ensures.accepted
 
 -- one more setting
 pub loop-setting-preserved : goal.loop-setting-preserved

@@ -1,5 +1,5 @@
 use Rattle.std.proofs.Common.{map, reverse, take}
-use Rattle.bench_world.specs.Configuration.{given_setting}
+use Rattle.bench_history.specs.Configuration.{given_setting}
 use Rattle.bench_world.specs.Services.{IsSettings}
 use Rattle.bench_world.proofs.configuring.given_settings.Given as goal
 

@@ -3,8 +3,8 @@ use Rattle.std.proofs.lemmas.Int.{to_z-of_z}
 use Rattle.std.proofs.Common.{w64, ◌≡◌, ◌∙◌, true, false, nat_le, length, ap, sym, refl, rules}
 use Rattle.uvm_object.specs.declared.acts.Act.TheVariants.{Set}
 use Rattle.uvm_object.specs.declared.fatals.Fatal.TheVariants.{TooManySettings}
-use Rattle.bench_world.specs.Configuration.{settings_of}
-use Rattle.bench_world.specs.Refusals.{setting_of}
+use Rattle.bench_history.specs.Configuration.{settings_of}
+use Rattle.bench_history.specs.Refusals.{setting_of}
 use Rattle.bench_world.proofs.Later.{acted, refused-performed}
 use Rattle.bench_world.proofs.configuring.set_field.Goals as goal
 

@@ -1,7 +1,7 @@
 use Rattle.std.proofs.Common.{◌≡◌, ◌<◌, length, drop, fold}
 use Rattle.std.specs.Option.{ForSome}
 use Rattle.uvm_tree.specs.Cursors.{is_before, least, sooner}
-use Rattle.bench_world.specs.History.{order_of}
+use Rattle.bench_history.specs.History.{order_of}
 use Rattle.bench_world.specs.Services.{waiting_in}
 use Rattle.bench_world.proofs.entries.first_waiting.Given as goal
 

@@ -2,7 +2,7 @@ use Rattle.std.proofs.Common.{[], ◌∷◌, ◌++◌, length, refl, rules}
 use Rattle.uvm_tree.specs.declared.nodes.NodeKind.TheVariants.{Component}
 use Rattle.uvm_tree.specs.Nodes.{child}
 use Rattle.uvm_object.specs.Acts.{node_of}
-use Rattle.bench_world.specs.History.{nodes_of, components_of, called_of, created_name}
+use Rattle.bench_history.specs.History.{nodes_of, components_of, called_of, created_name}
 use Rattle.bench_world.specs.Services.{AreTurns}
 use Rattle.bench_world.proofs.Answered.{length-snoc}
 use Rattle.bench_world.proofs.Later.{acted}
@@ -10,7 +10,7 @@ use Rattle.bench_world.proofs.Turns.{turns-made}
 use Rattle.bench_world.proofs.making.grow.Goals as goal
 
 pub returns-clause-kept : goal.returns-clause-kept
-returns-clause-kept c = λ ty place. record {
+returns-clause-kept c = λ type_name place. record {
   same_answer = refl;
   with_entry = λ script history s.
       let m = s.known in

@@ -2,8 +2,8 @@ use Rattle.std.proofs.Common.{◌≡◌, ap, ◌∙◌, refl, rules}
 use Rattle.uvm_tree.specs.Nodes.{child}
 use Rattle.uvm_object.specs.Acts.{node_of}
 use Rattle.uvm_object.specs.declared.acts.Act.TheVariants.{Add}
-use Rattle.bench_world.specs.History.{nodes_of, kind_of, is_built}
-use Rattle.bench_world.specs.Refusals.{Does, Refuses, done_unless, addition_of}
+use Rattle.bench_history.specs.History.{nodes_of, kind_of, is_built}
+use Rattle.bench_history.specs.Refusals.{Does, Refuses, done_unless, addition_of}
 use Rattle.bench_world.proofs.Answered.{turns-more, one-longer}
 use Rattle.bench_world.proofs.Later.{acted, refused-performed}
 use Rattle.bench_world.proofs.performing.add.Goals as goal

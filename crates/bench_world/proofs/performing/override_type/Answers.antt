@@ -1,7 +1,7 @@
 use Rattle.std.proofs.Common.{◌≡◌, refl, rules}
 use Rattle.uvm_object.specs.declared.acts.Act.TheVariants.{OverrideType}
 use Rattle.uvm_object.specs.declared.fatals.Fatal.TheVariants.{InvalidType}
-use Rattle.bench_world.specs.Refusals.{Does, Refuses, overriding_of}
+use Rattle.bench_history.specs.Refusals.{Does, Refuses, overriding_of}
 use Rattle.bench_world.proofs.Later.{acted, refused-performed}
 use Rattle.bench_world.proofs.performing.override_type.Goals as goal
 

@@ -1,5 +1,5 @@
 use Rattle.std.proofs.Common.{◌≡◌, true, length}
-use Rattle.bench_kernel.specs.Casts.{is_done}
+use Rattle.bench_kernel.specs.Kernels.{is_done}
 use Rattle.bus_bench.proofs.running.give_all_back.Given as goal
 
 -- objects may be given back all the while

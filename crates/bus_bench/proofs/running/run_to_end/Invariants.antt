@@ -1,5 +1,6 @@
 use Rattle.std.proofs.Common.{◌≡◌, ◌-◌, length}
-use Rattle.bench_world.specs.Next.{IsLegal}
+use Rattle.bench_history.specs.History.{log_limit}
+use Rattle.bench_history.specs.Next.{IsLegal}
 use Rattle.bench_core.specs.declared.cores.Health.TheVariants.{Good}
 use Rattle.bus_bench.specs.Running.{Wrote}
 use Rattle.bus_bench.proofs.running.run_to_end.Given as goal
@@ -15,4 +16,4 @@ invariant-loop-kernel g l = record {
 
 -- the log grows
 abbrev pub decreases-loop-kernel : goal.decreases-loop-kernel
-decreases-loop-kernel g l = 1000000 - length l.kernel.core.history
+decreases-loop-kernel g l = log_limit l.fn.kernel.core.script - length l.kernel.core.history

@@ -1,7 +1,7 @@
 use Rattle.std.proofs.Common.{◌≡◌, ◌≤◌, length, refl, sym, arith, below_more}
 use Rattle.std.proofs.lemmas.Map.Entries.{length-keys_of}
 use Rattle.std.specs.Map.{keys_of}
-use Rattle.bench_world.specs.History.{nodes_of}
+use Rattle.bench_history.specs.History.{nodes_of}
 use Rattle.bench_kernel.specs.Orders.{stays}
 use Rattle.bench_kernel.proofs.Ranks.{first-place, key-at}
 use Rattle.bench_kernel.proofs.kernels.Kernel.place_of.Goals as goal

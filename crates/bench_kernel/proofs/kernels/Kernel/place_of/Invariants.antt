@@ -1,6 +1,6 @@
 use Rattle.std.proofs.Common.{◌≡◌, ◌<◌, ℕ, false, slice_index_or}
 use Rattle.std.specs.Map.{keys_of}
-use Rattle.bench_world.specs.History.{nodes_of}
+use Rattle.bench_history.specs.History.{nodes_of}
 use Rattle.bench_kernel.specs.Orders.{stays}
 use Rattle.bench_kernel.proofs.kernels.Kernel.place_of.Given as goal
 

@@ -1,6 +1,6 @@
 use Rattle.std.proofs.Common.{sym, refl}
 use Rattle.uvm_tree.specs.Nodes.{node_at}
-use Rattle.bench_world.specs.History.{nodes_of}
+use Rattle.bench_history.specs.History.{nodes_of}
 use Rattle.bench_kernel.proofs.Ranks.{before-no-node}
 use Rattle.bench_kernel.proofs.kernels.Kernel.stands_before.Goals as goal
 

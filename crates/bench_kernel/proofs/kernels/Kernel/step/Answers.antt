@@ -16,7 +16,7 @@ ask_at-requires g c =
     let m = g.O.UvmObject in
     let kept = c.self.invariant in
     let asks = ask-turn c.in-Ok-Ask.who c.in-Ok-Ask.call c.self.inside.core c.next.new.self (kept.comes c.if-self.false) (rw c.in-Ok-Ask.field-0-is at (c.in-Ok-Ask.ensures.turn)) in
-    rw c.node-node.ensures (asked-held m.view m.name m.says (record { core = c.self.inside.core; held = c.self.inside.held.entries; failed = c.self.inside.failed; unknown = c.self.inside.unknown }) c.in-Ok-Ask.who c.in-Ok-Ask.call asks.cause asks.answers c.if-self.false (rw c.in-Ok-Ask.field-0-is at (c.in-Ok-Ask.ensures.asked)) kept)
+    rw c.node-node.ensures (asked-held c.hold.ensures m.view m.name m.says (record { core = c.self.inside.core; held = c.self.inside.held.entries; failed = c.self.inside.failed; unknown = c.self.inside.unknown }) c.in-Ok-Ask.who c.in-Ok-Ask.call asks.cause asks.answers c.if-self.false (rw c.in-Ok-Ask.field-0-is at (c.in-Ok-Ask.ensures.asked)) kept)
 
 pub invariant_of-self-in_default : goal.invariant_of-self-in_default
 invariant_of-self-in_default g c =
@@ -48,7 +48,7 @@ invariant_of-self-in-Ok-Ask g c =
     let m = g.O.UvmObject in
     let kept = c.self.invariant in
     let asks = ask-turn c.in-Ok-Ask.who c.in-Ok-Ask.call c.self.inside.core c.next.new.self (kept.comes c.if-self.false) (rw c.in-Ok-Ask.field-0-is at (c.in-Ok-Ask.ensures.turn)) in
-    kept-heard m.view m.name m.says (record { core = c.self.inside.core; held = c.self.inside.held.entries; failed = c.self.inside.failed; unknown = c.self.inside.unknown }) c.heard.new.self c.ask_at.new.held.entries c.in-Ok-Ask.who c.node-node.result c.in-Ok-Ask.call asks.cause c.in-Ok.acts
+    kept-heard c.hold.ensures m.view m.name m.says (record { core = c.self.inside.core; held = c.self.inside.held.entries; failed = c.self.inside.failed; unknown = c.self.inside.unknown }) c.heard.new.self c.ask_at.new.held.entries c.in-Ok-Ask.who c.node-node.result c.in-Ok-Ask.call asks.cause c.in-Ok.acts
     asks.answers c.if-self.false (heard-is c.in-Ok-Ask.who c.in-Ok-Ask.call c.in-Ok.acts c.self.inside.core c.next.new.self c.heard.new.self asks c.in_ok-heard-in-Ok-Ask.ensures.ok)
     c.node-node.ensures c.in-Ok.ensures kept
 
@@ -68,13 +68,13 @@ pub invariant_of-self-in-Ok-Moved : goal.invariant_of-self-in-Ok-Moved
 invariant_of-self-in-Ok-Moved g c =
     let m = g.O.UvmObject in
     let moved = moved-turn c.self.inside.core c.next.new.self (rw c.in-Ok-Moved.field-0-is at (c.in-Ok-Moved.ensures.turn)) in
-    rw moved.is (kept-moved m.view m.name m.says (record { core = c.self.inside.core; held = c.self.inside.held.entries; failed = c.self.inside.failed; unknown = c.self.inside.unknown }) moved.entry moved.exact c.if-self.false c.self.invariant)
+    rw moved.is (kept-moved c.hold.ensures m.view m.name m.says (record { core = c.self.inside.core; held = c.self.inside.held.entries; failed = c.self.inside.failed; unknown = c.self.inside.unknown }) moved.entry moved.exact c.if-self.false c.self.invariant)
 
 pub returns-in-Ok-Moved-clause-step : goal.returns-in-Ok-Moved-clause-step
 returns-in-Ok-Moved-clause-step g c =
     let m = g.O.UvmObject in
     let moved = moved-turn c.self.inside.core c.next.new.self (rw c.in-Ok-Moved.field-0-is at (c.in-Ok-Moved.ensures.turn)) in
-    rw (← c.self.view_is) (c.if-self.false, moved-step m.view m.name m.says (record { core = c.self.inside.core; held = c.self.inside.held.entries; failed = c.self.inside.failed; unknown = c.self.inside.unknown }) c.next.new.self moved)
+    rw (← c.self.view_is) (c.if-self.false, moved-step m.view m.name m.says c.hold.ensures.silent (record { core = c.self.inside.core; held = c.self.inside.held.entries; failed = c.self.inside.failed; unknown = c.self.inside.unknown }) c.next.new.self moved)
 
 pub invariant_of-self-in-Err : goal.invariant_of-self-in-Err
 invariant_of-self-in-Err g c =

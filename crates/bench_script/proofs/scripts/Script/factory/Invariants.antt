@@ -8,4 +8,4 @@ use Rattle.bench_script.proofs.scripts.Script.factory.Given as goal
 abbrev pub invariant-loop-given : goal.invariant-loop-given
 invariant-loop-given l =
     (types_of l.factory ≡ l.self.types)
-    × ((kind : ℕ) (path : List (List ℕ)) → step_at l.factory kind path ≡ type_step (reverse (take l.given-index l.overrides)) kind (path_text path))
+    × ((type_id : ℕ) (path : List (List ℕ)) → step_at l.factory type_id path ≡ type_step (reverse (take l.given-index l.overrides)) type_id (path_text path))

@@ -2,7 +2,6 @@ use Rattle.std.proofs.Common.{refl, rules}
 use Rattle.uvm_object.specs.declared.entries.Entry.TheVariants.{Begin}
 use Rattle.bench_world.proofs.Later.{later, entered}
 use Rattle.bench_world.proofs.Turns.{turns-begin}
-use Rattle.bench_world.proofs.Phased.{phases-begin}
 use Rattle.bench_world.proofs.worlds.World.begin.Goals as goal
 
 pub invariant_of-self-2 : goal.invariant_of-self-2
@@ -10,5 +9,4 @@ invariant_of-self-2 c =
     let r = rw (← c.self.view_is) at c.requires in
     entered (Begin c.args.phase) c.self.invariant r.sound r.room (rw r.next refl) c.in_ok-push.ensures.ok c.in_ok-push.ensures.limit (λ m.
     let turns = rw (← c.clear_calls.ensures) at (turns-begin m.turns) in
-    let phases = phases-begin c.self.inside.script c.self.inside.log.entries c.args.phase _ r.next m.phases in
     search (rules, later))

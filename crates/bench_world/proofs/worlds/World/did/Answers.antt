@@ -1,6 +1,6 @@
 use Rattle.std.proofs.Common.{◌∙◌, sym}
 use Rattle.bench_world.proofs.Answered.{head-left}
-use Rattle.bench_world.proofs.Performed.{performs-first, performs-some}
+use Rattle.bench_world.proofs.Acting.{acts-first, acts-some}
 use Rattle.bench_world.proofs.worlds.World.did.Goals as goal
 
 pub perform-requires : goal.perform-requires
@@ -10,8 +10,8 @@ perform-requires c =
       sound = c.requires.sound;
       room = c.requires.room;
       left = head-left _ _ head;
-      next = performs-first c.args.self.now.script c.args.self.now.history c.in-Ok-Some.deed c.requires.next head;
+      next = acts-first c.acts_go_in_order.ensures c.args.self.now.script c.args.self.now.history c.in-Ok-Some.deed c.requires.next head;
     }
 
 pub unreachable-requires : goal.unreachable-requires
-unreachable-requires c = performs-some c.args.self.now.script c.args.self.now.history c.requires.next (sym c.in-Ok-None.ensures ∙ c.in-Ok-None.field-0-is)
+unreachable-requires c = acts-some c.acts_go_in_order.ensures c.args.self.now.script c.args.self.now.history c.requires.next (sym c.in-Ok-None.ensures ∙ c.in-Ok-None.field-0-is)

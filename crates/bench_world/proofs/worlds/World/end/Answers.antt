@@ -1,9 +1,8 @@
 use Rattle.std.proofs.Common.{◌||◌, refl, ◌∙◌, ap, rules}
 use Rattle.uvm_object.specs.declared.entries.Entry.TheVariants.{End}
-use Rattle.bench_world.specs.Dues.{caused_of, heard_of, ended_of}
-use Rattle.bench_world.specs.History.{ends_build}
+use Rattle.bench_history.specs.Dues.{caused_of, heard_of, ended_of}
+use Rattle.bench_history.specs.History.{ends_build}
 use Rattle.bench_world.proofs.Later.{later, entered}
-use Rattle.bench_world.proofs.Phased.{phases-end}
 use Rattle.bench_world.proofs.Told.{agenda-ended}
 use Rattle.bench_world.proofs.worlds.World.end.Goals as goal
 
@@ -13,6 +12,5 @@ invariant_of-self-2 c =
     let before = c.self.inside.log.entries in
     entered (End c.args.phase) c.self.invariant r.sound r.room (rw r.next refl) c.in_ok-push.ensures.ok c.in_ok-push.ensures.limit (λ m.
     let built = c.is_built_with-self-inside.ensures ∙ ap (λ built. ends_build (End c.args.phase) || built) m.built in
-    let agenda = agenda-ended (caused_of before) (heard_of before) (ended_of before) _ _ _ c.args.phase m.agenda c.clear.ensures in
-    let phases = phases-end c.self.inside.script before c.args.phase (ended_of before) r.next m.phases in
+    let agenda = agenda-ended (caused_of before) (heard_of before) (ended_of before) _ _ _ c.args.phase c.order_keeps_filters.ensures m.agenda c.clear.ensures in
     search (rules, later))

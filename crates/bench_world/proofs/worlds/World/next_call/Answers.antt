@@ -1,7 +1,7 @@
 use Rattle.std.proofs.Common.{◌∙◌, ap}
 use Rattle.uvm_phase.specs.Phases.{walk_of}
 use Rattle.uvm_tree.specs.Cursors.{is_before, least}
-use Rattle.bench_world.specs.History.{order_of, next_call, components_of, called_of}
+use Rattle.bench_history.specs.History.{order_of, next_call, components_of, called_of}
 use Rattle.bench_world.proofs.Turns.{waiting-marked, all-marked}
 use Rattle.bench_world.proofs.worlds.World.next_call.Goals as goal
 

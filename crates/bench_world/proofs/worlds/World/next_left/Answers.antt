@@ -1,5 +1,5 @@
 use Rattle.std.proofs.Common.{◌∙◌}
-use Rattle.bench_world.specs.History.{opening}
+use Rattle.bench_history.specs.History.{opening}
 use Rattle.bench_world.proofs.Answered.{answer-head}
 use Rattle.bench_world.proofs.worlds.World.next_left.Goals as goal
 

@@ -1,10 +1,9 @@
 use Rattle.std.proofs.Common.{refl, rules}
 use Rattle.uvm_object.specs.declared.entries.Entry.TheVariants.{Over}
 use Rattle.bench_world.proofs.Later.{later, entered}
-use Rattle.bench_world.proofs.Phased.{phases-over}
 use Rattle.bench_world.proofs.worlds.World.over.Goals as goal
 
 pub invariant_of-self-2 : goal.invariant_of-self-2
 invariant_of-self-2 c =
     let r = rw (← c.self.view_is) at c.requires in
-    entered (Over c.args.reason) c.self.invariant r.sound r.room (rw r.next refl) c.in_ok-push.ensures.ok c.in_ok-push.ensures.limit (λ m. search (rules, later, phases-over))
+    entered (Over c.args.reason) c.self.invariant r.sound r.room (rw r.next refl) c.in_ok-push.ensures.ok c.in_ok-push.ensures.limit (λ m. search (rules, later))

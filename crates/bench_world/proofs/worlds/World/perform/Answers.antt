@@ -6,4 +6,4 @@ invariant_of-self-in-Became c =
     let r = rw (← c.self.view_is) at c.requires in
     let did = rw (c.in-Became.is, c.act.ensures, c.len-place.ensures) at c.in_ok-outcome.ensures in
     let entered = c.in_ok-enter-in-Became.ensures in
-    performed c.in-Became.outcome c.args.deed c.self.invariant r.sound r.room r.left r.next did entered.ok entered.limit entered.services
+    performed c.in-Became.outcome c.args.deed c.self.invariant r.sound r.room r.left r.next c.phases_go_in_order.ensures did entered.ok entered.limit entered.services

@@ -7,5 +7,5 @@ use Rattle.uvm_factory.proofs.factories.Factory.add.Goals as goal
 -- one more override
 pub returns-clause-steps : goal.returns-clause-steps
 unfolding step_at
-returns-clause-steps c = λ kind path.
-    rw (c.in_ok-push.ensures.items, step-push c.self.inside.overrides.items c.args.given kind (path_text path), ← c.self.view_is) refl
+returns-clause-steps c = λ type_id path.
+    rw (c.in_ok-push.ensures.items, step-push c.self.inside.overrides.items c.args.given type_id (path_text path), ← c.self.view_is) refl

@@ -6,4 +6,4 @@ use Rattle.uvm_factory.proofs.factories.Factory.new.Goals as goal
 -- no override was given
 pub returns-clause-steps : goal.returns-clause-steps
 unfolding step_at
-returns-clause-steps c = λ kind path. rw c.new-2.ensures.items (step-none kind (path_text path))
+returns-clause-steps c = λ type_id path. rw c.new-2.ensures.items (step-none type_id (path_text path))

@@ -5,4 +5,4 @@ use Rattle.uvm_factory.proofs.factories.Factory.step.Given as goal
 
 -- the step after the overrides so far
 abbrev pub invariant-loop-given : goal.invariant-loop-given
-invariant-loop-given l = l.step ≡ type_step (reverse (take l.given-index l.given-items)) l.kind (path_text l.path)
+invariant-loop-given l = l.step ≡ type_step (reverse (take l.given-index l.given-items)) l.type_id (path_text l.path)

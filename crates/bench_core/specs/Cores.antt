@@ -1,0 +1,127 @@
+-- What contracts see of the machine.
+use Rattle.std.specs.Prelude.{◌≡◌, ◌<◌, ◌≤◌, ℕ, Bool, true, false, List, ◌∷◌, length, [], Option, Some, None, Result, Ok, Err, IsSome, Contains}
+use Rattle.uvm_object.specs.Acts.{node_of}
+use Rattle.uvm_object.specs.declared.acts.Act.{Act}
+use Rattle.uvm_object.specs.declared.entries.Entry.{Entry}
+use Rattle.uvm_object.specs.declared.entries.Entry.TheVariants.{Heard}
+use Rattle.uvm_object.specs.Lines.{entry_line}
+use Rattle.bench_script.specs.Scripts.{ScriptValue}
+use Rattle.bench_history.specs.History.{log_limit, nodes_of, components_of}
+use Rattle.bench_history.specs.Laws.{IsSomething}
+use Rattle.bench_history.specs.declared.needs.Need.{Need}
+use Rattle.bench_core.specs.declared.cores.Health.{Health}
+use Rattle.bench_core.specs.declared.cores.Health.TheVariants.{Good, Full, Broken}
+use Rattle.bench_history.specs.Cases as next
+use Rattle.bench_history.specs.Next.{next_of, need_in}
+use Rattle.bench_world.specs.Worlds.{WorldValue}
+use Rattle.bench_core.specs.declared.cores.Standing.{Standing}
+use Rattle.bench_core.specs.declared.cores.Standing.TheVariants.{Nothing, Needed, Asked}
+use Rattle.bench_core.specs.declared.cores.Turn as turn
+use Rattle.bench_core.specs.declared.faults.CoreFault.{CoreFault}
+use Rattle.bench_core.specs.declared.faults.CoreFault.TheVariants.{Memory, LogFull, Failed, NoTest}
+
+-- the script, the entries with the newest first, what was asked and not answered yet, and how the machine is
+pub record CoreValue : Type 0 where
+  pub script : ScriptValue
+  pub history : List Entry
+  pub standing : Standing
+  pub health : Health
+
+-- it goes on; and what it keeps is what the log says, as long as memory was not refused
+abbrev pub is_good : Health → Bool
+is_good Good = true
+is_good health = false
+
+abbrev pub is_sound : Health → Bool
+is_sound Broken = false
+is_sound health = true
+
+-- one more entry, which answers what was asked
+abbrev pub core_after : Entry → CoreValue → CoreValue
+core_after entry core = record core { history = entry ∷ core.history; standing = Nothing }
+
+-- the machine has failed, with nothing asked
+abbrev pub failed_from : Health → CoreValue → CoreValue
+failed_from health core = record core { standing = Nothing; health = health }
+
+-- what was asked is what comes next
+abbrev pub Comes : Standing → next.Next → Type 0
+Comes Nothing comes = Unit {0}
+Comes (Needed need) comes = need_in comes ≡ Some need
+Comes (Asked performer call cause) comes = comes ≡ next.Answer performer call cause
+
+-- there is room for the entry of what was asked
+abbrev pub HasRoom : Standing → WorldValue → Type 0
+HasRoom Nothing world = Unit {0}
+HasRoom (Needed need) world = (length world.history < log_limit world.script) × (world.ready ≡ true)
+HasRoom (Asked performer call cause) world = length world.history < log_limit world.script
+
+-- while memory was not refused the world is sound; what was asked comes next, and is asked of a machine that goes on
+pub record IsCore (world : WorldValue) (standing : Standing) (health : Health) : Type 0 where
+  pub sound : is_sound health ≡ true → world.sound ≡ true
+  pub comes : Comes standing (next_of world.script world.history)
+  pub room : HasRoom standing world
+  pub none : is_good health ≡ false → standing ≡ Nothing
+
+-- what a turn is, by what comes next
+abbrev pub IsTurn : next.Next → turn.Turn → CoreValue → CoreValue → Type 0
+IsTurn (next.Exactly entry) result old new = (result ≡ turn.TheVariants.Moved) × (new ≡ core_after entry old)
+IsTurn (next.Answer performer call cause) result old new = (result ≡ turn.TheVariants.Ask performer call) × (new ≡ record old { standing = Asked performer call cause })
+IsTurn (next.Need need performer act) result old new = (result ≡ turn.TheVariants.Need) × (new ≡ record old { standing = Needed need })
+IsTurn next.Nothing result old new = (result ≡ turn.TheVariants.Over) × (new ≡ old)
+
+-- why a turn is refused: something would come, and the log is full, or it is not and memory is refused; or it was before
+abbrev pub IsRefusedTurn : CoreFault → CoreValue → CoreValue → Type 0
+IsRefusedTurn Memory old new = (old.health ≡ Good) × (length old.history < log_limit old.script) × IsSomething (next_of old.script old.history) × (new ≡ failed_from Broken old)
+IsRefusedTurn LogFull old new = (old.health ≡ Good) × (log_limit old.script ≤ length old.history) × IsSomething (next_of old.script old.history) × (new ≡ failed_from Full old)
+IsRefusedTurn Failed old new = (is_good old.health ≡ false) × (new ≡ old)
+IsRefusedTurn NoTest old new = ⊥
+
+-- what `next` gives: what stands is told again, else what comes next is done
+abbrev pub IsNextTurn : Standing → Result turn.Turn CoreFault → CoreValue → CoreValue → Type 0
+IsNextTurn Nothing (Ok result) old new = (old.health ≡ Good) × IsTurn (next_of old.script old.history) result old new
+IsNextTurn Nothing (Err fault) old new = IsRefusedTurn fault old new
+IsNextTurn (Needed need) result old new = (result ≡ Ok turn.TheVariants.Need) × (new ≡ old)
+IsNextTurn (Asked performer call cause) result old new = (result ≡ Ok (turn.TheVariants.Ask performer call)) × (new ≡ old)
+
+-- why there is no machine of a script
+abbrev pub IsUnmade : ScriptValue → CoreFault → Type 0
+IsUnmade script NoTest = script.test ≡ None
+IsUnmade script Memory = IsSome script.test
+IsUnmade script LogFull = ⊥
+IsUnmade script Failed = ⊥
+
+-- what stands, as a turn
+abbrev pub turn_of : Standing → Option turn.Turn
+turn_of Nothing = None
+turn_of (Needed need) = Some turn.TheVariants.Need
+turn_of (Asked performer call cause) = Some (turn.TheVariants.Ask performer call)
+
+-- who is called, if somebody is, is a component
+abbrev pub AsksComponent : turn.Turn → List Entry → Type 0
+AsksComponent (turn.TheVariants.Ask performer call) history = Contains (components_of history) (node_of performer)
+AsksComponent result history = Unit {0}
+
+-- somebody is called
+abbrev pub IsAsk : Option turn.Turn → Type 0
+IsAsk (Some (turn.TheVariants.Ask performer call)) = Unit {0}
+IsAsk (Some other) = ⊥
+IsAsk None = ⊥
+
+-- the object that is needed
+abbrev pub need_of : Standing → Option Need
+need_of Nothing = None
+need_of (Needed need) = Some need
+need_of (Asked performer call cause) = None
+
+-- the entry of an answer to what was asked
+abbrev pub answer_in : Standing → List Act → Option Entry
+answer_in Nothing acts = None
+answer_in (Needed need) acts = None
+answer_in (Asked performer call cause) acts = Some (Heard performer call cause acts)
+
+-- the text of the newest entry, where it is asked for
+abbrev pub last_text : Bool → List Entry → List ℕ
+last_text false history = []
+last_text true [] = []
+last_text true (entry ∷ before) = entry_line (nodes_of (entry ∷ before)) entry

@@ -1,0 +1,283 @@
+-- Who is called: a component, which is a node of the tree.
+use Rattle.std.proofs.Common.{◌≡◌, ℕ, ◌<◌, ◌≤◌, ◌==◌, ◌⊎◌, inl, inr, Bool, true, false, not, if◌then◌else◌, List, [], ◌∷◌, length, slice_get, Option, Some, None, IfSome, refl, ap, ◌∙◌, sym, subst, arith}
+use Rattle.std.specs.List.{All, Contains}
+use Rattle.std.proofs.lemmas.Bool.Decides.{nat_tests}
+use Rattle.std.proofs.lemmas.List.Elements.{All-nil, All-cons, All-head, All-tail, All-push, All-append, All-weaker, All-filter, All-contains, All-contains_itself, Contains-append_left}
+use Rattle.std.proofs.lemmas.List.Sorted.{All-permutation}
+use Rattle.uvm_phase.specs.declared.phases.Phase.{Phase}
+use Rattle.uvm_phase.specs.declared.agendas.Cause.{Cause}
+use Rattle.uvm_phase.specs.declared.agendas.Due.{Due}
+use Rattle.uvm_phase.specs.Dues.{in_order}
+use Rattle.uvm_phase.specs.Phases.{walk_of}
+use Rattle.uvm_phase.specs.Laws.{OrderKeepsAll}
+use Rattle.uvm_tree.specs.Cursors.{is_before}
+use Rattle.uvm_object.specs.Acts.{node_of}
+use Rattle.uvm_object.specs.Objects.{exchanged_in}
+use Rattle.uvm_object.specs.declared.acts.Who.{Who}
+use Rattle.uvm_object.specs.declared.acts.Call.{Call}
+use Rattle.uvm_object.specs.declared.acts.Act.{Act}
+use Rattle.uvm_object.specs.declared.entries.Outcome.{Outcome}
+use Rattle.uvm_object.specs.declared.entries.Outcome.TheVariants.{Made, Value}
+use Rattle.uvm_object.specs.declared.entries.Entry.{Entry}
+use Rattle.uvm_object.specs.declared.entries.Entry.TheVariants.{Heard, Did, Note}
+use Rattle.bench_script.specs.Scripts.{ScriptValue}
+use Rattle.bench_history.specs.declared.needs.Need as declared
+use Rattle.bench_history.specs.History.{stage_of, now_of, running, nodes_of, components_of, left_of, rest_of, speaker_of, order_of, called_of, had_call, next_call, opening}
+use Rattle.bench_history.specs.Dues.{told_by, due_from, calls_after, caused_of, heard_of, ended_of, is_open, due_calls, first_due, due_at, due_now}
+use Rattle.bench_history.specs.Cases.{Next, Exactly, Answer, Need, Nothing}
+use Rattle.bench_history.specs.Next.{next_of, Allows, IsNext, EachIsNext}
+use Rattle.bench_history.specs.Laws.{HasGrown, AskedAreComponents, ComponentsAreNodes, NewNodesAreUnasked}
+use Rattle.bench_history.proofs.Inversion.{IsOwn, Case, AtEnd, ByOwn, ByNeed, ByDeed, ByDue, ByTurn, ByEnd, ByBegin, case-of}
+use Rattle.bench_history.proofs.Needed.{needed}
+use Rattle.bench_history.proofs.Leasts.{least-holds}
+use Rattle.bench_history.proofs.Grown.{IsPlain, IsPlainNext, plain-next, exact-keeps-components, nodes-more, components-grow, made_objects_are_new}
+
+-- the components are below the nodes of one more entry, too
+below-weaker : (entry : Entry) (before : List Entry) → All (λ node. node < length (nodes_of before)) (components_of before) → All (λ node. node < length (nodes_of (entry ∷ before))) (components_of before)
+below-weaker entry before below =
+    let more = nodes-more entry before in
+    All-weaker (λ node. node < length (nodes_of before)) (λ node. node < length (nodes_of (entry ∷ before))) (λ node lt. omega (arith, more, lt)) (components_of before) below
+
+-- an entry that leaves the components as they were keeps them below the nodes
+below-same : (entry : Entry) (before : List Entry) → components_of (entry ∷ before) ≡ components_of before → All (λ node. node < length (nodes_of before)) (components_of before) → All (λ node. node < length (nodes_of (entry ∷ before))) (components_of (entry ∷ before))
+below-same entry before e below = subst (All (λ node. node < length (nodes_of (entry ∷ before)))) (sym e) (below-weaker entry before below)
+
+-- so does one that makes an object
+below-made : (entry : Entry) (before : List Entry) (path : List (List ℕ)) → HasGrown before path entry → All (λ node. node < length (nodes_of before)) (components_of before) → All (λ node. node < length (nodes_of (entry ∷ before))) (components_of (entry ∷ before))
+below-made entry before path g below =
+    let count = g.count in
+    subst (All (λ node. node < length (nodes_of (entry ∷ before)))) (sym g.components)
+    (All-push (λ node. node < length (nodes_of (entry ∷ before))) (components_of before) (length (nodes_of before)) (below-weaker entry before below) (omega (arith, count)))
+
+-- and so does each entry that is next
+below-next : (script : ScriptValue) (before : List Entry) (entry : Entry) (next : Next) → next_of script before ≡ next → Allows next entry → All (λ node. node < length (nodes_of before)) (components_of before) → All (λ node. node < length (nodes_of (entry ∷ before))) (components_of (entry ∷ before))
+below-next script before entry (Exactly expected) is allows below = below-same entry before (exact-keeps-components script before entry (is ∙ ap Exactly (sym allows))) below
+below-next script before entry (Answer performer call cause) is allows below = below-same entry before (ap (λ (e : Entry). components_of (e ∷ before)) allows.1) below
+below-next script before entry (Need need performer act) is (inl made) below = below-made entry before need.path (subst (HasGrown before need.path) (sym made) (made_objects_are_new script before need performer act is)) below
+below-next script before entry (Need need performer act) is (inr declined) below = below-same entry before (ap (λ (e : Entry). components_of (e ∷ before)) declined) below
+below-next script before entry Nothing is allows below = absurd allows
+
+-- each component is a node of the tree
+pub components_are_nodes : ComponentsAreNodes
+components_are_nodes script [] each = All-nil (λ node. node < 1)
+components_are_nodes script (entry ∷ before) each = below-next script before entry (next_of script before) refl each.0 (components_are_nodes script before each.1)
+
+-- a component stays one
+contains-more : (entry : Entry) (before : List Entry) (node : ℕ) → Contains (components_of before) node → Contains (components_of (entry ∷ before)) node
+contains-more entry before node has =
+    let more = components-grow entry before in
+    subst (λ (components : List ℕ). Contains components node) (sym more.1) (Contains-append_left (components_of before) more.0 node has)
+
+-- whoever waits for a call is a component, and so is whoever spoke last, unless nobody did and the answer is the script's
+record Known (script : ScriptValue) (history : List Entry) : Type 0 where
+  owners : All (λ due. Contains (components_of history) (node_of due.owner)) (caused_of history)
+  speaker : Contains (components_of history) (node_of (speaker_of history)) ⊎ All (λ act. act ≡ opening script) (left_of script history)
+
+-- who is asked is a component
+abbrev AsksOne : List Entry → Next → Type 0
+AsksOne history (Answer performer call cause) = Contains (components_of history) (node_of performer)
+AsksOne history next = Unit {0}
+
+-- the node whose turn has come is a component
+turn-one : (history : List Entry) (phase : Phase) → IfSome (next_call phase history) (Contains (components_of history))
+unfolding next_call
+turn-one history phase =
+    let components = components_of history in
+    least-holds (Contains components) (is_before (order_of (walk_of phase)) (nodes_of history)) _
+    (All-filter (λ node. not (had_call (called_of history) node)) (Contains components) components (All-contains_itself components))
+
+-- what holds of each call holds of the one that is due
+first-of : (P : Due Who Call → Type 0) (dues : List (Due Who Call)) → All P dues → IfSome (slice_get dues 0) P
+first-of P [] all = tt
+first-of P (due ∷ dues) all = All-head P due dues all
+
+-- or of none, by a test
+due-tested : (P : Due Who Call → Type 0) (due : Due Who Call) (b : Bool) → P due → IfSome (if b then Some due else None) P
+due-tested P due true holds = holds
+due-tested P due false holds = tt
+
+-- at the present time
+due-holds : (P : Due Who Call → Type 0) (now : ℕ) (first : Option (Due Who Call)) → IfSome first P → IfSome (due_at now first) P
+due-holds P now None holds = tt
+due-holds P now (Some due) holds = due-tested P due (due.time == now) holds
+
+module _ (keeps : OrderKeepsAll Who Call) where
+  -- of all calls that were caused, of the one that is due now
+  due-one : (history : List Entry) (P : Due Who Call → Type 0) → All P (caused_of history) → IfSome (due_now history) P
+  unfolding due_now
+  due-one history P all =
+      due-holds P (now_of history) (first_due history)
+      (first-of P (in_order (due_calls history)) (All-permutation P (due_calls history) (in_order (due_calls history)) (keeps (due_calls history)) (All-filter (is_open (heard_of history) (ended_of history)) P (caused_of history) all)))
+
+  -- its owner is a component
+  asks-due : (history : List Entry) (due : Due Who Call) → All (λ due. Contains (components_of history) (node_of due.owner)) (caused_of history) → due_now history ≡ Some due → Contains (components_of history) (node_of due.owner)
+  asks-due history due owners now =
+      let P : Due Who Call → Type 0 = λ due. Contains (components_of history) (node_of due.owner) in
+      subst (λ (found : Option (Due Who Call)). IfSome found P) now (due-one history P owners)
+
+  -- in each case of the machine a component is asked, if anybody is
+  asks-case : (script : ScriptValue) (history : List Entry) (next : Next) → Known script history → Case script history next → AsksOne history next
+  asks-case script history next known (AtEnd ended e) = subst (AsksOne history) (sym e) tt
+  asks-case script history next known (ByOwn entry own e) = subst (AsksOne history) (sym e) tt
+  asks-case script history next known (ByNeed act need left upshot e) = subst (AsksOne history) (sym e) tt
+  asks-case script history next known (ByDeed act effect left upshot e) = subst (AsksOne history) (sym e) tt
+  asks-case script history next known (ByDue due now e) = subst (AsksOne history) (sym e) (asks-due history due known.owners now)
+  asks-case script history next known (ByTurn phase node turn e) = subst (AsksOne history) (sym e) (subst (λ (found : Option ℕ). IfSome found (Contains (components_of history))) turn (turn-one history phase))
+  asks-case script history next known (ByEnd phase runs e) = subst (AsksOne history) (sym e) tt
+  asks-case script history next known (ByBegin phase may e) = subst (AsksOne history) (sym e) tt
+
+  -- so that an answer is a component's
+  asks-one : (script : ScriptValue) (history : List Entry) (performer : Who) (call : Call) (cause : Option Cause) → Known script history → next_of script history ≡ Answer performer call cause → Contains (components_of history) (node_of performer)
+  asks-one script history performer call cause known e = subst (AsksOne history) e (asks-case script history _ known (case-of script history))
+
+  -- an answer was asked for
+  heard-asked : (performer : Who) (call : Call) (cause : Option Cause) (acts : List Act) (next : Next) → IsPlainNext next → Allows next (Heard performer call cause acts) → next ≡ Answer performer call cause
+  heard-asked performer call cause acts (Exactly entry) plain allows = absurd (subst IsPlain (sym allows) plain)
+  heard-asked performer call cause acts (Answer other asked why) plain allows = let same : Heard performer call cause acts ≡ Heard other asked why allows.0 = allows.1 in cc
+  heard-asked performer call cause acts (Need need other act) plain (inl made) = cc
+  heard-asked performer call cause acts (Need need other act) plain (inr declined) = cc
+  heard-asked performer call cause acts Nothing plain allows = absurd allows
+
+  -- and who was heard is a component
+  heard-one : (script : ScriptValue) (before : List Entry) (performer : Who) (call : Call) (cause : Option Cause) (acts : List Act) → Known script before → IsNext script before (Heard performer call cause acts) → Contains (components_of before) (node_of performer)
+  heard-one script before performer call cause acts known next =
+      asks-one script before performer call cause known (heard-asked performer call cause acts (next_of script before) (plain-next script before) next)
+
+-- an act was the speaker's next
+record IsDeed (script : ScriptValue) (history : List Entry) (performer : Who) (act : Act) : Type 0 where
+  performer_is : performer ≡ speaker_of history
+  left : left_of script history ≡ act ∷ rest_of (left_of script history)
+
+-- the entry that alone is next, where it is an act's
+abbrev DeedIn : ScriptValue → List Entry → Next → Type 0
+DeedIn script history (Exactly (Did performer outcome act)) = IsDeed script history performer act
+DeedIn script history next = Unit {0}
+
+-- what the machine writes by itself is no act's
+deed-own : (script : ScriptValue) (history : List Entry) (entry : Entry) → IsOwn entry → DeedIn script history (Exactly entry)
+deed-own script history (Did performer outcome act) own = absurd own
+deed-own script history entry own = tt
+
+-- in each case of the machine an act that comes is the speaker's next
+deed-case : (script : ScriptValue) (history : List Entry) (next : Next) → Case script history next → DeedIn script history next
+deed-case script history next (AtEnd ended e) = subst (DeedIn script history) (sym e) tt
+deed-case script history next (ByOwn entry own e) = subst (DeedIn script history) (sym e) (deed-own script history entry own)
+deed-case script history next (ByNeed act need left upshot e) = subst (DeedIn script history) (sym e) tt
+deed-case script history next (ByDeed act effect left upshot e) = subst (DeedIn script history) (sym e) (record { performer_is = refl; left = left })
+deed-case script history next (ByDue due now e) = subst (DeedIn script history) (sym e) tt
+deed-case script history next (ByTurn phase node turn e) = subst (DeedIn script history) (sym e) tt
+deed-case script history next (ByEnd phase runs e) = subst (DeedIn script history) (sym e) tt
+deed-case script history next (ByBegin phase may e) = subst (DeedIn script history) (sym e) tt
+
+-- and so is one that needs an object
+deed-needed :
+    (script : ScriptValue) (history : List Entry) (need : declared.Need) (performer other : Who) (outcome expected : Outcome) (act deed : Act)
+    → next_of script history ≡ Need need other deed → Did performer outcome act ≡ Did other expected deed → IsDeed script history performer act
+deed-needed script history need performer other outcome expected act deed is e =
+    let n = needed script history need other deed is in
+    let who : performer ≡ other = cc in
+    let what : act ≡ deed = cc in
+    record { performer_is = who ∙ n.performer_is; left = rw what n.left }
+
+-- an entry of an act that is next is of the speaker's next act
+deed-next : (script : ScriptValue) (history : List Entry) (performer : Who) (outcome : Outcome) (act : Act) (next : Next) → next_of script history ≡ next → Allows next (Did performer outcome act) → IsDeed script history performer act
+deed-next script history performer outcome act (Exactly expected) is allows =
+    let here : DeedIn script history (Exactly expected) = subst (DeedIn script history) is (deed-case script history _ (case-of script history)) in
+    subst (λ (entry : Entry). DeedIn script history (Exactly entry)) (sym allows) here
+deed-next script history performer outcome act (Answer other call cause) is allows = let same : Did performer outcome act ≡ Heard other call cause allows.0 = allows.1 in cc
+deed-next script history performer outcome act (Need need other deed) is (inl made) = deed-needed script history need performer other outcome (Made need.type_name) act deed is made
+deed-next script history performer outcome act (Need need other deed) is (inr declined) = deed-needed script history need performer other outcome _ act deed is declined
+deed-next script history performer outcome act Nothing is allows = absurd allows
+
+-- the call that an act causes is its performer's
+due-owner : (P : Who → Type 0) (notice : Option Call) (performer : Who) (phase : Option Phase) (time place : ℕ) → (notice ≡ None) ⊎ P performer → All (λ due. P due.owner) (due_from notice performer phase time place)
+due-owner P None performer phase time place who = All-nil _
+due-owner P (Some notice) performer None time place who = All-nil _
+due-owner P (Some notice) performer (Some phase) time place (inl none) = cc
+due-owner P (Some notice) performer (Some phase) time place (inr holds) = All-cons (λ due. P due.owner) _ [] holds (All-nil (λ due. P due.owner))
+
+-- the opening of the run is a creation, which causes no call
+opening-tells : (script : ScriptValue) (outcome : Outcome) → told_by outcome (opening script) ≡ None
+opening-tells script (Value value) = refl
+opening-tells script outcome = refl
+
+-- with one more entry the owners stay components
+owners-more : (script : ScriptValue) (before : List Entry) (entry : Entry) → Known script before → All (λ due. Contains (components_of (entry ∷ before)) (node_of due.owner)) (caused_of before)
+owners-more script before entry known =
+    All-weaker (λ due. Contains (components_of before) (node_of due.owner)) (λ due. Contains (components_of (entry ∷ before)) (node_of due.owner)) (λ due has. contains-more entry before (node_of due.owner) has) (caused_of before) known.owners
+
+-- an act tells nobody, or its performer is a component
+deed-owner :
+    (script : ScriptValue) (before : List Entry) (entry : Entry) (performer : Who) (outcome : Outcome) (act : Act) → IsDeed script before performer act
+    → Contains (components_of before) (node_of (speaker_of before)) ⊎ All (λ act. act ≡ opening script) (left_of script before)
+    → (told_by outcome act ≡ None) ⊎ Contains (components_of (entry ∷ before)) (node_of performer)
+deed-owner script before entry performer outcome act deed (inl has) = inr (contains-more entry before (node_of performer) (rw deed.performer_is has))
+deed-owner script before entry performer outcome act deed (inr opens) =
+    let first = subst (All (λ one. one ≡ opening script)) deed.left opens in
+    let same : act ≡ opening script = All-head (λ one. one ≡ opening script) act (rest_of (left_of script before)) first in
+    inl (rw same (opening-tells script outcome))
+
+-- with one more entry that is no answer the speaker stays a component, or nobody spoke
+speaker-more :
+    (script : ScriptValue) (before : List Entry) (entry : Entry) → (All (λ act. act ≡ opening script) (left_of script before) → All (λ act. act ≡ opening script) (left_of script (entry ∷ before)))
+    → Contains (components_of before) (node_of (speaker_of before)) ⊎ All (λ act. act ≡ opening script) (left_of script before)
+    → Contains (components_of (entry ∷ before)) (node_of (speaker_of before)) ⊎ All (λ act. act ≡ opening script) (left_of script (entry ∷ before))
+speaker-more script before entry more (inl has) = inl (contains-more entry before (node_of (speaker_of before)) has)
+speaker-more script before entry more (inr opens) = inr (more opens)
+
+-- what holds of all acts holds of the rest of them
+rest-all : (P : Act → Type 0) (acts : List Act) → All P acts → All P (rest_of acts)
+rest-all P [] all = all
+rest-all P (act ∷ acts) all = All-tail P act acts all
+
+module _ (keeps : OrderKeepsAll Who Call) where
+  -- an act keeps what is known
+  known-did : (script : ScriptValue) (before : List Entry) (performer : Who) (outcome : Outcome) (act : Act) → Known script before → IsNext script before (Did performer outcome act) → Known script (Did performer outcome act ∷ before)
+  known-did script before performer outcome act known next =
+      let entry = Did performer outcome act in
+      let deed = deed-next script before performer outcome act (next_of script before) refl next in
+      record {
+        owners =
+            All-append (λ due. Contains (components_of (entry ∷ before)) (node_of due.owner)) (calls_after outcome act performer (running (stage_of before)) (now_of before) (length before)) (caused_of before)
+            (due-owner (λ who. Contains (components_of (entry ∷ before)) (node_of who)) (told_by outcome act) performer (running (stage_of before)) (now_of before) (length before) (deed-owner script before entry performer outcome act deed known.speaker))
+            (owners-more script before entry known);
+        speaker = speaker-more script before entry (rest-all (λ one. one ≡ opening script) (left_of script before)) known.speaker;
+      }
+
+  -- so does each entry that is next
+  known-more : (script : ScriptValue) (before : List Entry) (entry : Entry) → Known script before → IsNext script before entry → Known script (entry ∷ before)
+  known-more script before (Heard performer call cause acts) known next = record { owners = known.owners; speaker = inl (heard-one keeps script before performer call cause acts known next) }
+  known-more script before (Did performer outcome act) known next = known-did script before performer outcome act known next
+  known-more script before (Note fatal node) known next = record { owners = known.owners; speaker = speaker-more script before (Note fatal node) (λ opens. All-nil (λ one. one ≡ opening script)) known.speaker }
+  known-more script before entry known next = record { owners = known.owners; speaker = known.speaker }
+
+  -- so that it is known of every log of which each entry was next
+  known-of : (script : ScriptValue) (history : List Entry) → EachIsNext script history → Known script history
+  known-of script [] each = record { owners = All-nil _; speaker = inr (All-cons (λ one. one ≡ opening script) (opening script) [] refl (All-nil (λ one. one ≡ opening script))) }
+  known-of script (entry ∷ before) each = known-more script before entry (known-of script before each.1) each.0
+
+  -- who is asked is a component
+  pub asked_are_components : AskedAreComponents
+  asked_are_components script history performer call cause each e = asks-one keeps script history performer call cause (known-of script history each) e
+
+  -- an answer of another is not the node's
+  apart : (performer : Who) (node : ℕ) (call : Call) (cause : Option Cause) (acts : List Act) → node_of performer < node → exchanged_in node (Heard performer call cause acts) ≡ []
+  apart performer node call cause acts lt =
+      let other : (node_of performer == node) ≡ false = grind (arith, nat_tests) in
+      rw other refl
+
+  -- an entry that is next asks no node behind those of the tree
+  unasked-in : (script : ScriptValue) (before : List Entry) (node : ℕ) (entry : Entry) → EachIsNext script before → IsNext script before entry → length (nodes_of before) ≤ node → exchanged_in node entry ≡ []
+  unasked-in script before node (Heard performer call cause acts) each next le =
+      let has = heard-one keeps script before performer call cause acts (known-of script before each) next in
+      let lt : node_of performer < length (nodes_of before) = All-contains (λ other. other < length (nodes_of before)) (components_of before) (node_of performer) (components_are_nodes script before each) has in
+      apart performer node call cause acts (omega (arith, lt, le))
+  unasked-in script before node entry each next le = refl
+
+  -- behind the nodes of the tree nobody was asked
+  pub new_nodes_are_unasked : NewNodesAreUnasked
+  new_nodes_are_unasked script [] node each le = refl
+  new_nodes_are_unasked script (entry ∷ before) node each le =
+      let more = nodes-more entry before in
+      let fewer : length (nodes_of before) ≤ node = omega (arith, more, le) in
+      rw (unasked-in script before node entry each.1 each.0 fewer) (new_nodes_are_unasked script before node each.1 fewer)

@@ -1,0 +1,154 @@
+-- What one more entry adds to a log: nodes, components, and what somebody was asked.
+use Rattle.std.proofs.Common.{◌≡◌, ℕ, ◌≤◌, List, [], ◌∷◌, ◌++◌, length, slice_get, Option, Some, refl, ap, ◌∙◌, sym, subst, arith}
+use Rattle.std.specs.Option.{option_map_or}
+use Rattle.std.proofs.lemmas.List.{append-nil, length-append}
+use Rattle.uvm_tree.specs.declared.nodes.Node.{Node}
+use Rattle.uvm_tree.specs.declared.nodes.NodeKind.TheVariants.{Component}
+use Rattle.uvm_tree.specs.Nodes.{child}
+use Rattle.uvm_object.specs.Acts.{node_of}
+use Rattle.uvm_object.specs.Objects.{exchanged_in}
+use Rattle.uvm_object.specs.declared.acts.Who.{Who}
+use Rattle.uvm_object.specs.declared.acts.Act.{Act}
+use Rattle.uvm_object.specs.declared.acts.Act.TheVariants.{Add}
+use Rattle.uvm_object.specs.declared.entries.Outcome.{Outcome}
+use Rattle.uvm_object.specs.declared.entries.Outcome.TheVariants.{Done, Made}
+use Rattle.uvm_object.specs.declared.entries.Entry.{Entry}
+use Rattle.uvm_object.specs.declared.entries.Entry.TheVariants.{Heard, Did}
+use Rattle.bench_script.specs.Scripts.{ScriptValue}
+use Rattle.bench_history.specs.History.{created_name, nodes_of, nodes_after, components_of, components_after}
+use Rattle.bench_history.specs.Cases.{Next, Exactly}
+use Rattle.bench_history.specs.Next.{next_of}
+use Rattle.bench_history.specs.Refusals.{Effect, Does, Finds, Refuses, effect_outcome}
+use Rattle.bench_history.specs.Laws.{MachineEntriesAreSilent, NodesStay, MadeObjectsAreNew}
+use Rattle.bench_history.proofs.Inversion.{IsOwn, Case, AtEnd, ByOwn, ByNeed, ByDeed, ByDue, ByTurn, ByEnd, ByBegin, case-of}
+use Rattle.bench_history.proofs.Needed.{needed}
+
+-- no object was made
+abbrev pub NotMade : Outcome → Type 0
+NotMade (Made type_name) = ⊥
+NotMade outcome = Unit {0}
+
+-- nobody answered, and no object was made
+abbrev pub IsPlain : Entry → Type 0
+IsPlain (Heard performer call cause acts) = ⊥
+IsPlain (Did performer outcome act) = NotMade outcome
+IsPlain entry = Unit {0}
+
+-- an entry that alone is next is plain
+abbrev pub IsPlainNext : Next → Type 0
+IsPlainNext (Exactly entry) = IsPlain entry
+IsPlainNext next = Unit {0}
+
+-- an act that creates nothing makes no object
+plain-effect : (effect : Effect) → NotMade (effect_outcome effect)
+plain-effect Does = tt
+plain-effect (Finds value) = tt
+plain-effect (Refuses fatal) = tt
+
+-- nor does what the machine writes by itself
+plain-own : (entry : Entry) → IsOwn entry → IsPlain entry
+plain-own (Heard performer call cause acts) own = own
+plain-own (Did performer outcome act) own = absurd own
+plain-own entry own = tt
+
+-- in each case of the machine
+plain-case : (script : ScriptValue) (history : List Entry) (next : Next) → Case script history next → IsPlainNext next
+plain-case script history next (AtEnd ended e) = subst IsPlainNext (sym e) tt
+plain-case script history next (ByOwn entry own e) = subst IsPlainNext (sym e) (plain-own entry own)
+plain-case script history next (ByNeed act need left upshot e) = subst IsPlainNext (sym e) tt
+plain-case script history next (ByDeed act effect left upshot e) = subst IsPlainNext (sym e) (plain-effect effect)
+plain-case script history next (ByDue due now e) = subst IsPlainNext (sym e) tt
+plain-case script history next (ByTurn phase node turn e) = subst IsPlainNext (sym e) tt
+plain-case script history next (ByEnd phase runs e) = subst IsPlainNext (sym e) tt
+plain-case script history next (ByBegin phase may e) = subst IsPlainNext (sym e) tt
+
+-- so that what alone is next is plain
+pub plain-next : (script : ScriptValue) (history : List Entry) → IsPlainNext (next_of script history)
+plain-next script history = plain-case script history _ (case-of script history)
+
+-- and an entry that alone is next is
+pub exact-plain : (script : ScriptValue) (history : List Entry) (entry : Entry) → next_of script history ≡ Exactly entry → IsPlain entry
+exact-plain script history entry e = subst IsPlainNext e (plain-next script history)
+
+-- a plain entry is no exchange of any node
+silent : (node : ℕ) (entry : Entry) → IsPlain entry → exchanged_in node entry ≡ []
+silent node (Heard performer call cause acts) plain = absurd plain
+silent node entry plain = refl
+
+-- an entry that alone is next is nobody's answer
+exact-is-silent : (script : ScriptValue) (history : List Entry) (entry : Entry) (node : ℕ) → next_of script history ≡ Exactly entry → exchanged_in node entry ≡ []
+exact-is-silent script history entry node e = silent node entry (exact-plain script history entry e)
+
+-- an outcome that makes no object adds no component
+keeps-outcome : (node : ℕ) (components : List ℕ) (outcome : Outcome) → NotMade outcome → components_after node components outcome ≡ components
+keeps-outcome node components (Made type_name) plain = absurd plain
+keeps-outcome node components outcome plain = refl
+
+-- nor does a plain entry
+keeps-components : (history : List Entry) (entry : Entry) → IsPlain entry → components_of (entry ∷ history) ≡ components_of history
+keeps-components history (Did performer outcome act) plain = keeps-outcome (length (nodes_of history)) (components_of history) outcome plain
+keeps-components history entry plain = refl
+
+-- and makes no component
+pub exact-keeps-components : (script : ScriptValue) (history : List Entry) (entry : Entry) → next_of script history ≡ Exactly entry → components_of (entry ∷ history) ≡ components_of history
+exact-keeps-components script history entry e = keeps-components history entry (exact-plain script history entry e)
+
+-- so it is the machine's own
+pub machine_entries_are_silent : MachineEntriesAreSilent
+machine_entries_are_silent script history entry e = record { silent = λ node. exact-is-silent script history entry node e; keeps = exact-keeps-components script history entry e }
+
+-- a list that has more than another, at its end
+abbrev pub HasMore : {A : Type 0} → List A → List A → Type 0
+HasMore {A} before after = (more : List A) × (after ≡ before ++ more)
+
+-- nothing more
+no-more : {A : Type 0} (xs : List A) → HasMore xs xs
+no-more xs = ([], sym (append-nil xs))
+
+-- one element more
+one-more : {A : Type 0} (xs : List A) (x : A) → HasMore xs (xs ++ x ∷ [])
+one-more xs x = (x ∷ [], refl)
+
+-- what becomes of an act takes no node away
+grow-after : (nodes : List Node) (performer : Who) (outcome : Outcome) (act : Act) → HasMore nodes (nodes_after nodes performer outcome act)
+grow-after nodes performer (Made type_name) act = one-more nodes _
+grow-after nodes performer Done (Add name what) = one-more nodes _
+grow-after nodes performer outcome act = no-more nodes
+
+-- an entry takes no node away
+pub nodes_stay : NodesStay
+nodes_stay (Did performer outcome act) before = grow-after (nodes_of before) performer outcome act
+nodes_stay entry before = no-more (nodes_of before)
+
+-- a list with more at its end is no shorter
+longer : {A : Type 0} (xs ys : List A) → HasMore xs ys → length xs ≤ length ys
+longer xs ys has = omega (arith, length-append xs has.0, ap length has.1)
+
+-- so that their number does not fall
+pub nodes-more : (entry : Entry) (before : List Entry) → length (nodes_of before) ≤ length (nodes_of (entry ∷ before))
+nodes-more entry before = longer (nodes_of before) (nodes_of (entry ∷ before)) (nodes_stay entry before)
+
+-- what an act came to takes no component away
+outcome-grows : (node : ℕ) (components : List ℕ) (outcome : Outcome) → HasMore components (components_after node components outcome)
+outcome-grows node components (Made type_name) = one-more components node
+outcome-grows node components outcome = no-more components
+
+-- nor does an entry
+pub components-grow : (entry : Entry) (before : List Entry) → (more : List ℕ) × (components_of (entry ∷ before) ≡ components_of before ++ more)
+components-grow (Did performer outcome act) before = outcome-grows (length (nodes_of before)) (components_of before) outcome
+components-grow entry before = no-more (components_of before)
+
+-- the element behind a list
+get-behind : (xs : List Node) (x : Node) → slice_get (xs ++ x ∷ []) (length xs) ≡ Some x
+get-behind [] x = refl
+get-behind (y ∷ ys) x = get-behind ys x
+
+-- an object is made
+pub made_objects_are_new : MadeObjectsAreNew
+made_objects_are_new script history need performer act e =
+    let made = child (nodes_of history) (node_of performer) (created_name act) Component in
+    record {
+      components = refl;
+      count = omega (arith, length-append (nodes_of history) (made ∷ []));
+      path_is = ap (λ (found : Option Node). option_map_or (λ node. node.path) found []) (get-behind (nodes_of history) made) ∙ sym (needed script history need performer act e).path_is;
+    }

@@ -1,0 +1,122 @@
+-- The phases go in their order.
+use Rattle.std.proofs.Common.{◌≡◌, ◌+◌, ◌<◌, List, [], ◌∷◌, reverse, take, Some, inl, inr, refl, ap, ◌∙◌, sym, subst, arith}
+use Rattle.std.specs.List.{All}
+use Rattle.std.proofs.lemmas.List.Elements.{All-nil, All-cons, All-weaker}
+use Rattle.uvm_phase.specs.declared.phases.Phase.{Phase}
+use Rattle.uvm_phase.specs.declared.phases.Phase.TheVariants.{Build, Connect, EndOfElaboration, StartOfSimulation, Run, Extract, Check, Report, Final}
+use Rattle.uvm_phase.specs.Phases.{phases, number_of, phase_after}
+use Rattle.uvm_object.specs.declared.entries.Entry.{Entry}
+use Rattle.uvm_object.specs.declared.entries.Entry.TheVariants.{Begin, End, Over}
+use Rattle.bench_script.specs.Scripts.{ScriptValue}
+use Rattle.bench_history.specs.declared.stages.Stage.{Stage}
+use Rattle.bench_history.specs.declared.stages.Stage.TheVariants.{Before, During, After, Ended}
+use Rattle.bench_history.specs.History.{stage_of}
+use Rattle.bench_history.specs.Dues.{ended_of}
+use Rattle.bench_history.specs.Cases.{Next, Exactly, Answer, Need, Nothing, phase_to_begin}
+use Rattle.bench_history.specs.Next.{next_of, Allows, IsNext}
+use Rattle.bench_history.specs.Laws.{next_number, ArePhasesInOrder, PhasesGoInOrder}
+use Rattle.bench_history.proofs.Inversion.{IsOwn, Case, AtEnd, ByOwn, ByNeed, ByDeed, ByDue, ByTurn, ByEnd, ByBegin, case-of}
+
+-- the phase after one has the next number
+number-after : (last phase : Phase) → phase_after last ≡ Some phase → number_of phase ≡ number_of last + 1
+number-after Build phase e = let same : Connect ≡ phase = cc in rw (← same) refl
+number-after Connect phase e = let same : EndOfElaboration ≡ phase = cc in rw (← same) refl
+number-after EndOfElaboration phase e = let same : StartOfSimulation ≡ phase = cc in rw (← same) refl
+number-after StartOfSimulation phase e = let same : Run ≡ phase = cc in rw (← same) refl
+number-after Run phase e = let same : Extract ≡ phase = cc in rw (← same) refl
+number-after Extract phase e = let same : Check ≡ phase = cc in rw (← same) refl
+number-after Check phase e = let same : Report ≡ phase = cc in rw (← same) refl
+number-after Report phase e = let same : Final ≡ phase = cc in rw (← same) refl
+number-after Final phase e = cc
+
+-- the phase that begins is the one that may begin next
+begin-number : (stage : Stage) (phase : Phase) → phase_to_begin stage ≡ Some phase → number_of phase ≡ next_number stage
+begin-number Before phase e = let same : Build ≡ phase = cc in rw (← same) refl
+begin-number (During running) phase e = cc
+begin-number (After last) phase e = number-after last phase e
+begin-number Ended phase e = cc
+
+begin-on : (stage : Stage) (phase : Phase) → phase_to_begin stage ≡ Some phase → stage ≡ Ended → ⊥
+begin-on Before phase may ended = cc
+begin-on (During running) phase may ended = cc
+begin-on (After last) phase may ended = cc
+begin-on Ended phase may ended = cc
+
+begin-case : (script : ScriptValue) (history : List Entry) (phase : Phase) (next : Next) → next ≡ Exactly (Begin phase) → Case script history next → (number_of phase ≡ next_number (stage_of history)) × (stage_of history ≡ Ended → ⊥)
+begin-case script history phase next is (AtEnd over e) = cc
+begin-case script history phase next is (ByOwn entry own e) = let same : entry ≡ Begin phase = cc in absurd (subst IsOwn same own)
+begin-case script history phase next is (ByNeed act need left upshot e) = cc
+begin-case script history phase next is (ByDeed act effect left upshot e) = cc
+begin-case script history phase next is (ByDue due now e) = cc
+begin-case script history phase next is (ByTurn running node turn e) = cc
+begin-case script history phase next is (ByEnd running runs e) = cc
+begin-case script history phase next is (ByBegin begins may e) = let same : begins ≡ phase = cc in rw (← same) (begin-number (stage_of history) begins may, begin-on (stage_of history) begins may)
+
+-- a phase that ends is the one that runs
+end-case : (script : ScriptValue) (history : List Entry) (phase : Phase) (next : Next) → next ≡ Exactly (End phase) → Case script history next → stage_of history ≡ During phase
+end-case script history phase next is (AtEnd over e) = cc
+end-case script history phase next is (ByOwn entry own e) = let same : entry ≡ End phase = cc in absurd (subst IsOwn same own)
+end-case script history phase next is (ByNeed act need left upshot e) = cc
+end-case script history phase next is (ByDeed act effect left upshot e) = cc
+end-case script history phase next is (ByDue due now e) = cc
+end-case script history phase next is (ByTurn running node turn e) = cc
+end-case script history phase next is (ByEnd running runs e) = let same : running ≡ phase = cc in rw (← same) runs
+end-case script history phase next is (ByBegin begins may e) = cc
+
+-- a mark of a phase comes alone
+begin-alone : (phase : Phase) (next : Next) → Allows next (Begin phase) → next ≡ Exactly (Begin phase)
+begin-alone phase (Exactly entry) allows = rw allows refl
+begin-alone phase (Answer performer call cause) allows = let other = allows.1 in cc
+begin-alone phase (Need need performer act) (inl made) = cc
+begin-alone phase (Need need performer act) (inr declined) = cc
+begin-alone phase Nothing allows = absurd allows
+
+end-alone : (phase : Phase) (next : Next) → Allows next (End phase) → next ≡ Exactly (End phase)
+end-alone phase (Exactly entry) allows = rw allows refl
+end-alone phase (Answer performer call cause) allows = let other = allows.1 in cc
+end-alone phase (Need need performer act) (inl made) = cc
+end-alone phase (Need need performer act) (inr declined) = cc
+end-alone phase Nothing allows = absurd allows
+
+below : (phase : Phase) → number_of phase < 9
+below Build = omega arith
+below Connect = omega arith
+below EndOfElaboration = omega arith
+below StartOfSimulation = omega arith
+below Run = omega arith
+below Extract = omega arith
+below Check = omega arith
+below Report = omega arith
+below Final = omega arith
+
+-- a phase that ends is the next of the nine
+ends-next : (phase : Phase) → phase ∷ reverse (take (number_of phase) phases) ≡ reverse (take (number_of phase + 1) phases)
+ends-next Build = refl
+ends-next Connect = refl
+ends-next EndOfElaboration = refl
+ends-next StartOfSimulation = refl
+ends-next Run = refl
+ends-next Extract = refl
+ends-next Check = refl
+ends-next Report = refl
+ends-next Final = refl
+
+in-order-more : (script : ScriptValue) (before : List Entry) (entry : Entry) → IsNext script before entry → ArePhasesInOrder before → ArePhasesInOrder (entry ∷ before)
+in-order-more script before (Begin phase) next order =
+    let begins = begin-case script before phase (next_of script before) (begin-alone phase (next_of script before) next) (case-of script before) in
+    record { are = λ on. rw begins.0 (order.are begins.1); before = rw begins.0 order.before }
+in-order-more script before (End phase) next order =
+    let runs = end-case script before phase (next_of script before) (end-alone phase (next_of script before) next) (case-of script before) in
+    let on : stage_of before ≡ Ended → ⊥ = λ ended. let e : During phase ≡ Ended = sym runs ∙ ended in cc in
+    let are : ended_of before ≡ reverse (take (number_of phase) phases) = rw runs at (order.are on) in
+    let earlier : All (λ other. number_of other < number_of phase) (ended_of before) = rw runs at (order.before) in
+    record {
+      are = λ going. ap (λ (ended : List Phase). phase ∷ ended) are ∙ ends-next phase;
+      before = All-cons (λ other. number_of other < number_of phase + 1) phase (ended_of before) (omega arith) (All-weaker (λ other. number_of other < number_of phase) (λ other. number_of other < number_of phase + 1) (λ other lt. omega (arith, lt)) (ended_of before) earlier);
+    }
+in-order-more script before (Over reason) next order = record { are = λ on. absurd (on refl); before = λ k d h. below _ }
+in-order-more script before entry next order = record { are = order.are; before = order.before }
+
+pub phases_go_in_order : PhasesGoInOrder
+phases_go_in_order script [] each = record { are = λ on. refl; before = All-nil (λ phase. number_of phase < 0) }
+phases_go_in_order script (entry ∷ before) each = in-order-more script before entry each.0 (phases_go_in_order script before each.1)

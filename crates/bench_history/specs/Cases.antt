@@ -1,0 +1,84 @@
+-- The machine's cases: for each what comes next, if the case is given.
+use Rattle.std.specs.Prelude.{List, [], ◌∷◌, length, nat_lt, Option, Some, None, option_map, if◌then◌else◌}
+use Rattle.uvm_phase.specs.declared.phases.Phase.{Phase}
+use Rattle.uvm_phase.specs.declared.phases.Phase.TheVariants.{Build}
+use Rattle.uvm_phase.specs.declared.agendas.Cause.{Cause}
+use Rattle.uvm_phase.specs.declared.agendas.Due.{Due}
+use Rattle.uvm_phase.specs.Phases.{phase_after}
+use Rattle.uvm_object.specs.Acts.{node_of}
+use Rattle.uvm_object.specs.declared.acts.Who.{Who}
+use Rattle.uvm_object.specs.declared.acts.Who.TheVariants as who
+use Rattle.uvm_object.specs.declared.acts.Call.{Call}
+use Rattle.uvm_object.specs.declared.acts.Call.TheVariants as call
+use Rattle.uvm_object.specs.declared.acts.Act.{Act}
+use Rattle.uvm_object.specs.declared.fatals.Fatal.TheVariants.{TooManyActs}
+use Rattle.uvm_object.specs.declared.entries.Reason.{Reason}
+use Rattle.uvm_object.specs.declared.entries.Reason.TheVariants.{Finished}
+use Rattle.uvm_object.specs.declared.entries.Entry.{Entry}
+use Rattle.uvm_object.specs.declared.entries.Entry.TheVariants.{Begin, End, Did, Note, Over}
+use Rattle.bench_script.specs.Scripts.{ScriptValue}
+use Rattle.bench_history.specs.declared.needs.Need as declared
+use Rattle.bench_history.specs.declared.stages.Stage.{Stage}
+use Rattle.bench_history.specs.declared.stages.Stage.TheVariants.{Before, After, Ended}
+use Rattle.bench_history.specs.History.{most_acts, next_call, speaker_of}
+use Rattle.bench_history.specs.Refusals.{effect_outcome}
+use Rattle.bench_history.specs.Upshots.{Upshot, Needs, Gives, upshot_of}
+
+-- what comes next: this entry; the answer of somebody to a call; an object for an act, made or declined; or nothing
+pub data Next : Type 0 where
+  Exactly : (entry : Entry) → Next
+  Answer : (performer : Who) → (call : Call) → (cause : Option Cause) → Next
+  Need : (need : declared.Need) → (performer : Who) → (act : Act) → Next
+  Nothing : Next
+
+-- the run is over: nothing comes any more
+abbrev pub end_reached : Stage → Option Next
+end_reached Ended = Some Nothing
+end_reached stage = None
+
+-- the run is given up: after a refusal, or a note, nothing but its end comes
+abbrev pub giving_up : Option Reason → Option Next
+giving_up reason = option_map (λ reason. Exactly (Over reason)) reason
+
+-- of an answer of too many acts none is performed: all of them are left, and a note comes in their place
+abbrev pub long_answer : List Entry → List Act → Option Next
+long_answer history left = if nat_lt most_acts (length left) then Some (Exactly (Note TooManyActs (node_of (speaker_of history)))) else None
+
+-- an act becomes something at once, or needs an object
+abbrev pub by_upshot : Who → Act → Upshot → Next
+by_upshot performer act (Needs need) = Need need performer act
+by_upshot performer act (Gives effect) = Exactly (Did performer (effect_outcome effect) act)
+
+abbrev pub by_act : ScriptValue → List Entry → Who → Act → Next
+by_act script history performer act = by_upshot performer act (upshot_of script history performer act)
+
+-- of the acts that are left the first is next
+abbrev pub first_act : ScriptValue → List Entry → List Act → Option Next
+first_act script history [] = None
+first_act script history (act ∷ acts) = Some (by_act script history (speaker_of history) act)
+
+-- a call is due
+abbrev pub call_due : Option (Due Who Call) → Option Next
+call_due due = option_map (λ due. Answer due.owner due.notice (Some due.cause)) due
+
+-- it is somebody's turn in the phase that runs
+abbrev pub phase_call : List Entry → Option Phase → Option Next
+phase_call history None = None
+phase_call history (Some phase) = option_map (λ node. Answer (who.Node node) (call.Phase phase) None) (next_call phase history)
+
+-- the phase that runs ends, once each component had its call
+abbrev pub phase_end : Option Phase → Option Next
+phase_end phase = option_map (λ phase. Exactly (End phase)) phase
+
+-- a phase begins: the first, or the one after that which has ended
+abbrev pub phase_to_begin : Stage → Option Phase
+phase_to_begin Before = Some Build
+phase_to_begin (After phase) = phase_after phase
+phase_to_begin stage = None
+
+abbrev pub phase_begin : Option Phase → Option Next
+phase_begin phase = option_map (λ phase. Exactly (Begin phase)) phase
+
+-- after the last phase the run is over
+abbrev pub finish : Option Next
+finish = Some (Exactly (Over Finished))

@@ -1,0 +1,75 @@
+-- The calls that a log has caused and that nobody has heard yet.
+use Rattle.std.specs.Prelude.{ℕ, Bool, not, ◌&&◌, ◌==◌, List, [], ◌∷◌, ◌++◌, length, filter, slice_get, Option, Some, None, if◌then◌else◌}
+use Rattle.std.specs.List.{flat_map, list_any}
+use Rattle.uvm_phase.specs.declared.phases.Phase.{Phase}
+use Rattle.uvm_phase.specs.declared.agendas.Cause.{Cause}
+use Rattle.uvm_phase.specs.declared.agendas.Due.{Due}
+use Rattle.uvm_phase.specs.Phases.{same_phase}
+use Rattle.uvm_phase.specs.Dues.{same_cause, in_order}
+use Rattle.uvm_object.specs.declared.acts.Who.{Who}
+use Rattle.uvm_object.specs.declared.acts.Call.{Call}
+use Rattle.uvm_object.specs.declared.acts.Call.TheVariants as call
+use Rattle.uvm_object.specs.declared.acts.Act.{Act}
+use Rattle.uvm_object.specs.declared.acts.Act.TheVariants.{Get}
+use Rattle.uvm_object.specs.declared.entries.Outcome.{Outcome}
+use Rattle.uvm_object.specs.declared.entries.Outcome.TheVariants.{Value}
+use Rattle.uvm_object.specs.declared.entries.Entry.{Entry}
+use Rattle.uvm_object.specs.declared.entries.Entry.TheVariants.{End, Heard, Did}
+use Rattle.bench_history.specs.History.{stage_of, now_of, running}
+
+-- the call that an act causes: a Get has its answer. No other act causes one
+abbrev pub told_by : Outcome → Act → Option Call
+told_by (Value value) (Get field) = Some (call.Config field value)
+told_by outcome act = None
+
+-- it is due at once, while a phase runs
+abbrev pub due_from : Option Call → Who → Option Phase → ℕ → ℕ → List (Due Who Call)
+due_from (Some notice) performer (Some phase) time place =
+    record { time = time; cause = record { place = place; number = 0 }; phase = phase; owner = performer; notice = notice } ∷ []
+due_from (Some notice) performer None time place = []
+due_from None performer phase time place = []
+
+abbrev pub calls_after : Outcome → Act → Who → Option Phase → ℕ → ℕ → List (Due Who Call)
+calls_after outcome act performer phase time place = due_from (told_by outcome act) performer phase time place
+
+-- all calls that were caused; the place of an entry is the number of those before it
+abbrev pub caused_of : List Entry → List (Due Who Call)
+caused_of [] = []
+caused_of (Did performer outcome act ∷ before) =
+    calls_after outcome act performer (running (stage_of before)) (now_of before) (length before) ++ caused_of before
+caused_of (entry ∷ before) = caused_of before
+
+-- the causes of those that were heard
+abbrev pub heard_in : Entry → List Cause
+heard_in (Heard performer call (Some cause) acts) = cause ∷ []
+heard_in entry = []
+
+abbrev pub heard_of : List Entry → List Cause
+heard_of history = flat_map heard_in history
+
+-- the phases that have ended
+abbrev pub ended_in : Entry → List Phase
+ended_in (End phase) = phase ∷ []
+ended_in entry = []
+
+abbrev pub ended_of : List Entry → List Phase
+ended_of history = flat_map ended_in history
+
+-- neither was the call heard, nor has its phase ended
+abbrev pub is_open : List Cause → List Phase → Due Who Call → Bool
+is_open heard ended due = not (list_any (same_cause due.cause) heard) && not (list_any (same_phase due.phase) ended)
+
+abbrev pub due_calls : List Entry → List (Due Who Call)
+due_calls history = filter (is_open (heard_of history) (ended_of history)) (caused_of history)
+
+-- the one that comes first, by time and then cause
+abbrev pub first_due : List Entry → Option (Due Who Call)
+first_due history = slice_get (in_order (due_calls history)) 0
+
+-- if it is due at the present time
+abbrev pub due_at : ℕ → Option (Due Who Call) → Option (Due Who Call)
+due_at now None = None
+due_at now (Some due) = if due.time == now then Some due else None
+
+unfoldable pub due_now : List Entry → Option (Due Who Call)
+due_now history = due_at (now_of history) (first_due history)

@@ -1,0 +1,193 @@
+-- What a log says. A history is the list of its entries, the newest first.
+use Rattle.std.specs.Prelude.{ℕ, Bool, true, false, not, ◌==◌, List, [], ◌∷◌, ◌++◌, length, reverse, filter, slice_get, codes, Option, Some, None, if◌then◌else◌}
+use Rattle.std.specs.List.{list_any}
+use Rattle.std.specs.Option.{option_map_or}
+use Rattle.uvm_glob.specs.Paths.{path_text, dotted}
+use Rattle.uvm_glob.specs.Orders.{down_cmp, up_cmp}
+use Rattle.uvm_factory.specs.declared.overrides.Override.{Override}
+use Rattle.uvm_factory.specs.declared.overrides.Override.TheVariants.{Instance, Whole}
+use Rattle.uvm_factory.specs.Faults.{Types, type_named}
+use Rattle.uvm_phase.specs.declared.phases.Phase.{Phase}
+use Rattle.uvm_phase.specs.declared.phases.Phase.TheVariants.{Build}
+use Rattle.uvm_phase.specs.declared.phases.Walk.{Walk}
+use Rattle.uvm_phase.specs.declared.phases.Walk.TheVariants.{Down, Up}
+use Rattle.uvm_phase.specs.Phases.{walk_of}
+use Rattle.uvm_tree.specs.declared.nodes.Node.{Node}
+use Rattle.uvm_tree.specs.declared.nodes.NodeKind.{NodeKind}
+use Rattle.uvm_tree.specs.declared.nodes.NodeKind.TheVariants as kind
+use Rattle.uvm_tree.specs.Nodes.{top, child, path_at}
+use Rattle.uvm_tree.specs.Cursors.{PathOrder, is_before, least}
+use Rattle.uvm_object.specs.declared.acts.Who.{Who}
+use Rattle.uvm_object.specs.declared.acts.Who.TheVariants as who
+use Rattle.uvm_object.specs.Acts.{node_of}
+use Rattle.uvm_object.specs.declared.acts.What.{What}
+use Rattle.uvm_object.specs.declared.acts.What.TheVariants as what
+use Rattle.uvm_object.specs.declared.acts.Act.{Act}
+use Rattle.uvm_object.specs.declared.acts.Act.TheVariants.{Create, Add, OverrideType, OverrideInst}
+use Rattle.uvm_object.specs.declared.entries.Outcome.{Outcome}
+use Rattle.uvm_object.specs.declared.entries.Outcome.TheVariants.{Done, Made, Refused}
+use Rattle.uvm_object.specs.declared.entries.Reason.{Reason}
+use Rattle.uvm_object.specs.declared.entries.Reason.TheVariants.{Exit, NoTest}
+use Rattle.uvm_object.specs.declared.entries.Entry.{Entry}
+use Rattle.uvm_object.specs.declared.entries.Entry.TheVariants.{Begin, End, Heard, Did, Note, Over}
+use Rattle.bench_script.specs.Scripts.{ScriptValue}
+use Rattle.bench_history.specs.declared.stages.Stage.{Stage}
+use Rattle.bench_history.specs.declared.stages.Stage.TheVariants.{Before, During, After, Ended}
+
+-- the most entries of a log
+abbrev pub log_limit : ScriptValue → ℕ
+log_limit script = 1000000
+
+-- the most acts of an answer
+abbrev pub most_acts : ℕ
+most_acts = 64
+
+-- where the run stands
+abbrev pub stage_of : List Entry → Stage
+stage_of [] = Before
+stage_of (Begin phase ∷ before) = During phase
+stage_of (End phase ∷ before) = After phase
+stage_of (Over reason ∷ before) = Ended
+stage_of (entry ∷ before) = stage_of before
+
+-- the present time in ticks: no entry moves it yet
+abbrev pub now_of : List Entry → ℕ
+now_of [] = 0
+now_of (entry ∷ before) = now_of before
+
+-- the phase that runs
+abbrev pub running : Stage → Option Phase
+running (During phase) = Some phase
+running stage = None
+
+-- the name of the object that an act creates; no other act creates one
+abbrev pub created_name : Act → List ℕ
+created_name (Create type_name name) = name
+created_name act = []
+
+-- what an addition adds to the tree
+abbrev pub kind_of : What → NodeKind
+kind_of (what.Fifo size) = kind.Fifo
+
+-- the nodes of the tree: each object that is made and each accepted addition is one under its performer
+abbrev pub nodes_after : List Node → Who → Outcome → Act → List Node
+nodes_after nodes performer (Made type_name) act = nodes ++ child nodes (node_of performer) (created_name act) kind.Component ∷ []
+nodes_after nodes performer Done (Add name what) = nodes ++ child nodes (node_of performer) name (kind_of what) ∷ []
+nodes_after nodes performer outcome act = nodes
+
+abbrev pub nodes_of : List Entry → List Node
+nodes_of [] = top ∷ []
+nodes_of (Did performer outcome act ∷ before) = nodes_after (nodes_of before) performer outcome act
+nodes_of (entry ∷ before) = nodes_of before
+
+-- the nodes that hold an object
+abbrev pub components_after : ℕ → List ℕ → Outcome → List ℕ
+components_after node components (Made type_name) = components ++ node ∷ []
+components_after node components outcome = components
+
+abbrev pub components_of : List Entry → List ℕ
+components_of [] = []
+components_of (Did performer outcome act ∷ before) = components_after (length (nodes_of before)) (components_of before) outcome
+components_of (entry ∷ before) = components_of before
+
+-- the nodes that had their call since the phase began: a call without a cause is a phase's
+abbrev pub called_of : List Entry → List ℕ
+called_of [] = []
+called_of (Begin phase ∷ before) = []
+called_of (Heard performer call None acts ∷ before) = node_of performer ∷ called_of before
+called_of (entry ∷ before) = called_of before
+
+abbrev pub had_call : List ℕ → ℕ → Bool
+had_call called node = list_any (λ other. other == node) called
+
+-- the order in which a phase goes
+abbrev pub order_of : Walk → PathOrder
+order_of Down = down_cmp
+order_of Up = up_cmp
+
+-- the node whose turn it is: of those that hold an object and had no call the least by the phase's order
+unfoldable pub next_call : Phase → List Entry → Option ℕ
+next_call phase history =
+    least (is_before (order_of (walk_of phase)) (nodes_of history))
+    (filter (λ node. not (had_call (called_of history) node)) (components_of history))
+
+-- the name of a type; one that is not there goes by another name
+abbrev pub type_name : Types → ℕ → List ℕ → List ℕ
+type_name types type_id other = option_map_or (λ t. t.0) (slice_get types type_id) other
+
+-- the script counts as an answer of the top, whose one act creates the test; without a test its type is the empty name, which is refused
+abbrev pub opening : ScriptValue → Act
+opening script = Create (option_map_or (λ test. type_name script.types test []) script.test []) (codes "uvm_test_top")
+
+abbrev pub rest_of : List Act → List Act
+rest_of [] = []
+rest_of (act ∷ acts) = acts
+
+-- the acts of the last answer that are left: one goes with each of their entries, performed or refused, and a note leaves none. Before
+-- any answer the script's is left
+abbrev pub left_of : ScriptValue → List Entry → List Act
+left_of script [] = opening script ∷ []
+left_of script (Heard performer call cause acts ∷ before) = acts
+left_of script (Did performer outcome act ∷ before) = rest_of (left_of script before)
+left_of script (Note fatal node ∷ before) = []
+left_of script (entry ∷ before) = left_of script before
+
+abbrev pub head_of : List Act → Option Act
+head_of [] = None
+head_of (act ∷ acts) = Some act
+
+-- who gave the last answer
+abbrev pub speaker_of : List Entry → Who
+speaker_of [] = who.Node 0
+speaker_of (Heard performer call cause acts ∷ before) = performer
+speaker_of (entry ∷ before) = speaker_of before
+
+-- the overrides, the newest first: those of the accepted acts, behind them the script's
+abbrev pub with_override : Option ℕ → Option ℕ → (ℕ → ℕ → Override) → List Override → List Override
+with_override (Some original) (Some new) make overrides = make original new ∷ overrides
+with_override (Some original) None make overrides = overrides
+with_override None new make overrides = overrides
+
+abbrev pub overrides_after : Types → List Node → List Override → Who → Outcome → Act → List Override
+overrides_after types nodes overrides performer Done (OverrideType original new replace) =
+    with_override (type_named types original) (type_named types new) (λ o n. Whole o n replace) overrides
+overrides_after types nodes overrides performer Done (OverrideInst original new glob) =
+    with_override (type_named types original) (type_named types new) (λ o n. Instance o n (dotted (path_text (path_at nodes (node_of performer))) glob)) overrides
+overrides_after types nodes overrides performer outcome act = overrides
+
+abbrev pub overrides_of : ScriptValue → List Entry → List Override
+overrides_of script [] = reverse script.overrides
+overrides_of script (Did performer outcome act ∷ before) = overrides_after script.types (nodes_of before) (overrides_of script before) performer outcome act
+overrides_of script (entry ∷ before) = overrides_of script before
+
+-- build has ended
+abbrev pub ends_build : Entry → Bool
+ends_build (End Build) = true
+ends_build entry = false
+
+abbrev pub is_built : List Entry → Bool
+is_built history = list_any ends_build history
+
+-- each fatal report asks for exit
+abbrev pub asks_exit : Entry → Bool
+asks_exit (Did performer (Refused fatal) act) = true
+asks_exit (Note fatal node) = true
+asks_exit entry = false
+
+-- the one act of the top is the creation of the test
+abbrev pub refuses_test : Entry → Bool
+refuses_test (Did performer (Refused fatal) act) = node_of performer == 0
+refuses_test entry = false
+
+-- why the run is given up, if it is
+abbrev pub reason_of : List Entry → Option Reason
+reason_of history =
+    if list_any refuses_test history then Some NoTest
+    else if list_any asks_exit history then Some Exit
+    else None
+
+-- the newest entry is the end of the run
+abbrev pub is_over : List Entry → Bool
+is_over [] = false
+is_over (Over reason ∷ before) = true
+is_over (entry ∷ before) = false

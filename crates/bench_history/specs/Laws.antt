@@ -1,0 +1,116 @@
+-- What holds of all logs in which each entry was next, and of what comes next in them.
+use Rattle.std.specs.Prelude.{◌≡◌, ◌<◌, ◌≤◌, ◌+◌, ℕ, suc, true, false, List, [], ◌∷◌, ◌++◌, length, reverse, take, Option, Some, None, IsSome, All, Contains}
+use Rattle.uvm_phase.specs.declared.agendas.Cause.{Cause}
+use Rattle.uvm_phase.specs.declared.agendas.Due.{Due}
+use Rattle.uvm_phase.specs.Phases.{phases, number_of}
+use Rattle.uvm_tree.specs.declared.nodes.Node.{Node}
+use Rattle.uvm_tree.specs.Nodes.{node_at, path_at}
+use Rattle.uvm_object.specs.Acts.{node_of}
+use Rattle.uvm_object.specs.Objects.{exchanged_in, life_of}
+use Rattle.uvm_object.specs.declared.acts.Who.{Who}
+use Rattle.uvm_object.specs.declared.acts.Call.{Call}
+use Rattle.uvm_object.specs.declared.acts.Act.{Act}
+use Rattle.uvm_object.specs.declared.acts.Act.TheVariants.{Create}
+use Rattle.uvm_object.specs.declared.entries.Outcome.TheVariants.{Made}
+use Rattle.uvm_object.specs.declared.entries.Entry.{Entry}
+use Rattle.uvm_object.specs.declared.entries.Entry.TheVariants.{Did}
+use Rattle.bench_script.specs.Scripts.{ScriptValue}
+use Rattle.bench_history.specs.declared.needs.Need as declared
+use Rattle.bench_history.specs.declared.stages.Stage.{Stage}
+use Rattle.bench_history.specs.declared.stages.Stage.TheVariants.{Before, During, After, Ended}
+use Rattle.bench_history.specs.History.{stage_of, nodes_of, components_of, created_name, left_of, rest_of, speaker_of, is_over}
+use Rattle.bench_history.specs.Dues.{ended_of, first_due}
+use Rattle.bench_history.specs.Refusals.{child_refusal}
+use Rattle.bench_history.specs.Cases.{Next, Exactly, Answer, Need, Nothing, by_act}
+use Rattle.bench_history.specs.Next.{next_of, need_in, IsAct, EachIsNext}
+
+-- the number of the next phase that may begin, or of the one that runs
+abbrev pub next_number : Stage → ℕ
+next_number Before = 0
+next_number (During phase) = number_of phase
+next_number (After phase) = number_of phase + 1
+next_number Ended = 9
+
+-- the phases go in their order: until the end those that have ended are the first of the nine, each once, and so they stand before the one
+-- that runs, or may begin next
+pub record ArePhasesInOrder (history : List Entry) : Type 0 where
+  pub are : (stage_of history ≡ Ended → ⊥) → ended_of history ≡ reverse (take (next_number (stage_of history)) phases)
+  pub before : All (λ phase. number_of phase < next_number (stage_of history)) (ended_of history)
+
+abbrev pub PhasesGoInOrder : Type 0
+PhasesGoInOrder = (script : ScriptValue) (history : List Entry) → EachIsNext script history → ArePhasesInOrder history
+
+-- whoever is asked is a component
+abbrev pub AskedAreComponents : Type 0
+AskedAreComponents = (script : ScriptValue) (history : List Entry) (performer : Who) (call : Call) (cause : Option Cause) → EachIsNext script history → next_of script history ≡ Answer performer call cause → Contains (components_of history) (node_of performer)
+
+-- and each component is a node of the tree
+abbrev pub ComponentsAreNodes : Type 0
+ComponentsAreNodes = (script : ScriptValue) (history : List Entry) → EachIsNext script history → All (λ node. node < length (nodes_of history)) (components_of history)
+
+-- a call with a cause is the one that is due first
+abbrev pub DueCallsGoInOrder : Type 0
+DueCallsGoInOrder = (script : ScriptValue) (history : List Entry) (performer : Who) (call : Call) (cause : Cause) → next_of script history ≡ Answer performer call (Some cause) → (due : Due Who Call) × (first_due history ≡ Some due) × (due.cause ≡ cause) × (due.owner ≡ performer) × (due.notice ≡ call)
+
+-- where an act is next, it is the first of those that are left
+pub record IsFirstAct (script : ScriptValue) (history : List Entry) (act : Act) : Type 0 where
+  pub left : left_of script history ≡ act ∷ rest_of (left_of script history)
+  pub next : next_of script history ≡ by_act script history (speaker_of history) act
+
+abbrev pub ActsGoInOrder : Type 0
+ActsGoInOrder = (script : ScriptValue) (history : List Entry) → IsAct (next_of script history) → (act : Act) × IsFirstAct script history act
+
+-- an act creates an object
+abbrev pub IsCreation : Act → Type 0
+IsCreation (Create type_name name) = Unit {0}
+IsCreation act = ⊥
+
+-- an act that needs an object creates it, under a name that is free, and its performer stands at a node of the tree
+pub record IsWanted (script : ScriptValue) (history : List Entry) (act : Act) : Type 0 where
+  pub need : declared.Need
+  pub next : next_of script history ≡ Need need (speaker_of history) act
+  pub creates : IsCreation act
+  pub path_is : need.path ≡ path_at (nodes_of history) (node_of (speaker_of history)) ++ created_name act ∷ []
+  pub free : child_refusal (nodes_of history) (node_of (speaker_of history)) (created_name act) ≡ None
+  pub speaker : IsSome (node_at (nodes_of history) (node_of (speaker_of history)))
+
+abbrev pub NeedsAreCreations : Type 0
+NeedsAreCreations = (script : ScriptValue) (history : List Entry) → IsSome (need_in (next_of script history)) → (act : Act) × (left_of script history ≡ act ∷ rest_of (left_of script history)) × IsWanted script history act
+
+-- something comes next
+abbrev pub IsSomething : Next → Type 0
+IsSomething Nothing = ⊥
+IsSomething next = Unit {0}
+
+-- after the end of a run nothing comes
+abbrev pub NothingAfterOver : Type 0
+NothingAfterOver = (script : ScriptValue) (history : List Entry) → is_over history ≡ true → next_of script history ≡ Nothing
+
+-- and before it something does
+abbrev pub SomethingBeforeOver : Type 0
+SomethingBeforeOver = (script : ScriptValue) (history : List Entry) → EachIsNext script history → is_over history ≡ false → IsSomething (next_of script history)
+
+-- an entry that alone may come next is nobody's answer, and makes no component
+pub record IsMachines (history : List Entry) (entry : Entry) : Type 0 where
+  pub silent : (node : ℕ) → exchanged_in node entry ≡ []
+  pub keeps : components_of (entry ∷ history) ≡ components_of history
+
+abbrev pub MachineEntriesAreSilent : Type 0
+MachineEntriesAreSilent = (script : ScriptValue) (history : List Entry) (entry : Entry) → next_of script history ≡ Exactly entry → IsMachines history entry
+
+-- no entry takes a node away
+abbrev pub NodesStay : Type 0
+NodesStay = (entry : Entry) (before : List Entry) → (more : List Node) × (nodes_of (entry ∷ before) ≡ nodes_of before ++ more)
+
+-- an object that is made is one component more: the node behind those that were there, at its path
+pub record HasGrown (history : List Entry) (path : List (List ℕ)) (entry : Entry) : Type 0 where
+  pub components : components_of (entry ∷ history) ≡ components_of history ++ length (nodes_of history) ∷ []
+  pub count : length (nodes_of (entry ∷ history)) ≡ suc (length (nodes_of history))
+  pub path_is : path_at (nodes_of (entry ∷ history)) (length (nodes_of history)) ≡ path
+
+abbrev pub MadeObjectsAreNew : Type 0
+MadeObjectsAreNew = (script : ScriptValue) (history : List Entry) (need : declared.Need) (performer : Who) (act : Act) → next_of script history ≡ Need need performer act → HasGrown history need.path (Did performer (Made need.type_name) act)
+
+-- behind the nodes of the tree nobody was asked
+abbrev pub NewNodesAreUnasked : Type 0
+NewNodesAreUnasked = (script : ScriptValue) (history : List Entry) (node : ℕ) → EachIsNext script history → length (nodes_of history) ≤ node → life_of node history ≡ []

@@ -1,0 +1,73 @@
+-- What may come next in a log, and what a legal log is.
+use Rattle.std.specs.Prelude.{◌≡◌, ◌≤◌, List, [], ◌∷◌, length, Option, Some, None, ◌⊎◌}
+use Rattle.uvm_object.specs.declared.acts.Act.{Act}
+use Rattle.uvm_object.specs.declared.fatals.Fatal.TheVariants.{NoObject}
+use Rattle.uvm_object.specs.declared.entries.Outcome.TheVariants.{Made, Refused}
+use Rattle.uvm_object.specs.declared.entries.Entry.{Entry}
+use Rattle.uvm_object.specs.declared.entries.Entry.TheVariants.{Heard, Did}
+use Rattle.bench_script.specs.Scripts.{ScriptValue}
+use Rattle.bench_history.specs.declared.needs.Need as declared
+use Rattle.bench_history.specs.History.{log_limit, stage_of, running, left_of, reason_of}
+use Rattle.bench_history.specs.Dues.{due_now}
+use Rattle.bench_history.specs.Cases.{Next, Exactly, Answer, Need, Nothing, end_reached, giving_up, long_answer, first_act, call_due, phase_call, phase_end, phase_begin, phase_to_begin, finish}
+
+-- of some cases the first that is given
+abbrev pub first_of : List (Option Next) → Next
+first_of [] = Nothing
+first_of (Some next ∷ cases) = next
+first_of (None ∷ cases) = first_of cases
+
+-- the machine's cases, in the order in which they are looked at
+unfoldable pub next_of : ScriptValue → List Entry → Next
+next_of script history =
+    first_of (
+    end_reached (stage_of history)
+    ∷ giving_up (reason_of history)
+    ∷ long_answer history (left_of script history)
+    ∷ first_act script history (left_of script history)
+    ∷ call_due (due_now history)
+    ∷ phase_call history (running (stage_of history))
+    ∷ phase_end (running (stage_of history))
+    ∷ phase_begin (phase_to_begin (stage_of history))
+    ∷ finish
+    ∷ [])
+
+-- two things are free: the acts of an answer, and whether a needed object is made or declined
+abbrev pub Allows : Next → Entry → Type 0
+Allows (Exactly expected) entry = entry ≡ expected
+Allows (Answer performer call cause) entry = (acts : List Act) × (entry ≡ Heard performer call cause acts)
+Allows (Need need performer act) entry = (entry ≡ Did performer (Made need.type_name) act) ⊎ (entry ≡ Did performer (Refused NoObject) act)
+Allows Nothing entry = ⊥
+
+abbrev pub IsNext : ScriptValue → List Entry → Entry → Type 0
+IsNext script history entry = Allows (next_of script history) entry
+
+-- whether an act is what comes next, which becomes something at once or needs an object
+abbrev pub IsAct : Next → Type 0
+IsAct (Exactly (Did performer outcome act)) = Unit {0}
+IsAct (Need need performer act) = Unit {0}
+IsAct next = ⊥
+
+-- the object that is needed
+abbrev pub need_in : Next → Option declared.Need
+need_in (Need need performer act) = Some need
+need_in next = None
+
+-- the entry where it is made, and where it is declined
+abbrev pub made_in : Next → Option Entry
+made_in (Need need performer act) = Some (Did performer (Made need.type_name) act)
+made_in next = None
+
+abbrev pub declined_in : Next → Option Entry
+declined_in (Need need performer act) = Some (Did performer (Refused NoObject) act)
+declined_in next = None
+
+-- each entry was next after those before it
+abbrev pub EachIsNext : ScriptValue → List Entry → Type 0
+EachIsNext script [] = Unit {0}
+EachIsNext script (entry ∷ before) = IsNext script before entry × EachIsNext script before
+
+-- a legal log. The run need not be at its end
+pub record IsLegal (script : ScriptValue) (history : List Entry) : Type 0 where
+  pub each : EachIsNext script history
+  pub few : length history ≤ log_limit script

@@ -1,0 +1,81 @@
+//! Laws of legal logs: what holds of each of them, and of what comes next. The functions do nothing; their contracts are the laws, for
+//! all scripts and all logs.
+
+ghost use Rattle.bench_history.specs.Laws.{PhasesGoInOrder, AskedAreComponents, ComponentsAreNodes, DueCallsGoInOrder, ActsGoInOrder, NeedsAreCreations, NothingAfterOver, SomethingBeforeOver, MachineEntriesAreSilent, NodesStay, MadeObjectsAreNew, NewNodesAreUnasked};
+
+use uvm_object::{Call, Who};
+use uvm_phase::laws as agenda;
+
+/// The phases go in their order (IEEE 1800.2-2020, Clause 9): until the end of the run those that have ended are the first of the
+/// nine, each once, and so they stand before the one that runs, or may begin next.
+#[tactic(auto, using(crate::proofs::Phased::phases_go_in_order))]
+pub fn phases_go_in_order()
+    ensures { PhasesGoInOrder }
+{}
+
+/// Whoever is asked is a component.
+pub fn asked_are_components()
+    ensures { AskedAreComponents }
+{
+    agenda::order_keeps_all::<Who, Call>();
+}
+
+/// Each component is a node of the tree.
+#[tactic(auto, using(crate::proofs::Called::components_are_nodes))]
+pub fn components_are_nodes()
+    ensures { ComponentsAreNodes }
+{}
+
+/// A call that has a cause is the one that is due first, and its owner's.
+#[tactic(auto, using(crate::proofs::Performed::due_calls_go_in_order))]
+pub fn due_calls_go_in_order()
+    ensures { DueCallsGoInOrder }
+{}
+
+/// Where an act is next, it is the first of the last answer's that are left.
+#[tactic(auto, using(crate::proofs::Performed::acts_go_in_order))]
+pub fn acts_go_in_order()
+    ensures { ActsGoInOrder }
+{}
+
+/// An act that needs an object creates it, under a name that is free.
+#[tactic(auto, using(crate::proofs::Needed::needs_are_creations))]
+pub fn needs_are_creations()
+    ensures { NeedsAreCreations }
+{}
+
+/// Nothing comes after the end of a run.
+#[tactic(auto, using(crate::proofs::Ended::nothing_after_over))]
+pub fn nothing_after_over()
+    ensures { NothingAfterOver }
+{}
+
+/// Something comes before the end of a run.
+#[tactic(auto, using(crate::proofs::Ended::something_before_over))]
+pub fn something_before_over()
+    ensures { SomethingBeforeOver }
+{}
+
+/// An entry that alone may come next, one that waits for nobody, is nobody's answer, and makes no component.
+pub fn machine_entries_are_silent()
+    ensures { MachineEntriesAreSilent }
+{}
+
+/// No entry takes a node away.
+#[tactic(auto, using(crate::proofs::Grown::nodes_stay))]
+pub fn nodes_stay()
+    ensures { NodesStay }
+{}
+
+/// An object that is made is one component more, the newest node.
+#[tactic(auto, using(crate::proofs::Grown::made_objects_are_new))]
+pub fn made_objects_are_new()
+    ensures { MadeObjectsAreNew }
+{}
+
+/// Behind the nodes of the tree nobody was asked.
+pub fn new_nodes_are_unasked()
+    ensures { NewNodesAreUnasked }
+{
+    agenda::order_keeps_all::<Who, Call>();
+}

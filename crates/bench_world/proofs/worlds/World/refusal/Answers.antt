@@ -1,0 +1,19 @@
+use Rattle.uvm_factory.specs.declared.types.Kind.TheVariants.{Component}
+use Rattle.bench_history.specs.History.{overrides_of}
+use Rattle.bench_world.proofs.Creating.{needed-unrefused, refused-why}
+use Rattle.bench_world.proofs.worlds.World.refusal.Goals as goal
+use Rattle.bench_world.proofs.worlds.World.refusal.Goals.{in-Ok, in-Err-Refused, in-Err-Memory}
+
+pub returns : goal.returns
+returns c =
+    let sound = rw (← c.self.view_is) at c.requires.sound in
+    let m = c.self.invariant.1.services_match sound in
+    elim c.match-what_is_created.branch [
+      | in-Ok w ↦
+          let needs = rw (m.built, m.tree) at (w.in-Ok.ensures.ok c.self.inside.script.types (overrides_of c.self.inside.script c.self.inside.log.entries) m.factory) in
+          rw (w.result-is, ← c.self.view_is, c.in-Create.is) (needed-unrefused _ needs)
+      | in-Err-Refused w ↦
+          let why = rw (w.in-Err-Refused.field-0-is, m.built, m.tree) at (w.in-Err-Refused.ensures.err c.self.inside.script.types (overrides_of c.self.inside.script c.self.inside.log.entries) m.factory) in
+          rw (w.result-is, ← c.self.view_is, c.in-Create.is) (refused-why Component _ _ why)
+      | in-Err-Memory w ↦ rw w.result-is tt
+    ]

@@ -1,0 +1,77 @@
+-- What contracts see of a world.
+use Rattle.std.specs.Prelude.{◌≡◌, ◌<◌, Bool, true, false, List, ◌∷◌, length, Option, Some, None, IsSome, vec_len, vec_capacity}
+use Rattle.std.specs.Option.{ForSome}
+use Rattle.uvm_tree.specs.Nodes.{node_at}
+use Rattle.uvm_object.specs.Acts.{node_of}
+use Rattle.uvm_object.specs.declared.acts.Act.{Act}
+use Rattle.uvm_object.specs.declared.entries.Entry.{Entry}
+use Rattle.uvm_object.specs.Logs.{LogValue}
+use Rattle.bench_script.specs.Scripts.{ScriptValue}
+use Rattle.bench_world.specs.declared.services.Services.{Services}
+use Rattle.bench_history.specs.History.{log_limit, left_of, rest_of, speaker_of}
+use Rattle.bench_history.specs.Cases.{Next, Exactly, Need, by_act}
+use Rattle.bench_history.specs.Next.{next_of, need_in, IsAct, IsLegal}
+use Rattle.bench_history.specs.declared.needs.Need as needs
+use Rattle.bench_world.specs.Services.{ServicesMatch}
+
+-- the script, the entries with the newest first, whether the services are what they say, and whether there is room for
+-- what comes of the next act
+pub record WorldValue : Type 0 where
+  pub script : ScriptValue
+  pub history : List Entry
+  pub sound : Bool
+  pub ready : Bool
+
+-- one more entry
+abbrev pub world_after : Entry → WorldValue → WorldValue
+world_after entry world = record world { history = entry ∷ world.history; ready = false }
+
+-- memory was refused
+abbrev pub broken : WorldValue → WorldValue
+broken world = record world { sound = false; ready = false }
+
+-- there is room for the entry of an act, and for a node under its performer
+pub record IsReady (act : Act) (left : List Act) (log : LogValue) (services : Services) : Type 0 where
+  pub act_is : left ≡ act ∷ rest_of left
+  pub log_spare : 0 < log.spare
+  pub tree_spare : IsSome (node_at services.tree.nodes (node_of services.answer.speaker)) → services.tree.spare ≡ Some (node_of services.answer.speaker)
+  pub components : vec_len services.components < vec_capacity services.components
+
+-- the log is legal, and while the world is sound its services are what the log says
+pub record IsWorld (sound : Bool) (script : ScriptValue) (log : LogValue) (services : Services) (room : Option Act) : Type 0 where
+  pub limit : log.limit ≡ log_limit script
+  pub legal : IsLegal script log.entries
+  pub services_match : sound ≡ true → ServicesMatch script log.entries services
+  pub ready : sound ≡ true → ForSome room (λ act. IsReady act (left_of script log.entries) log services)
+
+-- this may be the next entry
+pub record MayEnter (world : WorldValue) (comes : Next) : Type 0 where
+  pub sound : world.sound ≡ true
+  pub room : length world.history < log_limit world.script
+  pub next : next_of world.script world.history ≡ comes
+
+-- an act of the last answer comes next
+pub record MayAct (world : WorldValue) : Type 0 where
+  pub sound : world.sound ≡ true
+  pub room : length world.history < log_limit world.script
+  pub next : IsAct (next_of world.script world.history)
+
+-- it is this one
+pub record MayPerform (world : WorldValue) (act : Act) : Type 0 where
+  pub sound : world.sound ≡ true
+  pub room : length world.history < log_limit world.script
+  pub left : left_of world.script world.history ≡ act ∷ rest_of (left_of world.script world.history)
+  pub next : next_of world.script world.history ≡ by_act world.script world.history (speaker_of world.history) act
+
+-- an object is needed next
+pub record MayCreate (world : WorldValue) : Type 0 where
+  pub sound : world.sound ≡ true
+  pub room : length world.history < log_limit world.script
+  pub next : IsSome (need_in (next_of world.script world.history))
+
+-- what comes of the next act: its entry; or the object that it needs, and then room that was reserved is given up, and nothing else
+-- has changed
+abbrev pub IsActed : Next → Option needs.Need → WorldValue → WorldValue → Type 0
+IsActed (Exactly entry) None old new = new ≡ world_after entry old
+IsActed (Need need performer act) (Some told) old new = (told ≡ need) × (new ≡ record old { ready = false })
+IsActed next told old new = ⊥

@@ -49,6 +49,12 @@ MayBeCreated (Ok type_name) = Unit {0}
 MayBeCreated (Err OverrideLoop) = Unit {0}
 MayBeCreated (Err fatal) = ⊥
 
+-- the same of a refusal that is told ahead
+abbrev pub MayWantMemory : Option Fatal → Type 0
+MayWantMemory None = Unit {0}
+MayWantMemory (Some OverrideLoop) = Unit {0}
+MayWantMemory (Some fatal) = ⊥
+
 -- a creation is refused for this cause; memory is wanted before the overrides are followed, and after all else
 abbrev pub IsRefusedBy : Result (List ℕ) Fatal → Uncreated → Type 0
 IsRefusedBy creation (Refused fatal) = creation ≡ Err fatal

@@ -7,7 +7,7 @@ ghost use Rattle.bench_history.specs.History.{left_of, head_of, speaker_of};
 ghost use Rattle.bench_history.specs.Upshots.{refusal_in, upshot_of};
 ghost use Rattle.bench_history.specs.Laws.{IsCreation};
 ghost use Rattle.bench_history.specs.Next.{next_of};
-ghost use Rattle.bench_world.specs.Services.{acts_at};
+ghost use Rattle.bench_world.specs.Services.{acts_at, MayWantMemory};
 ghost use Rattle.bench_world.specs.Worlds.{IsActed, MayAct, MayPerform, broken};
 
 use crate::attempts::{Attempt, enter, perform};
@@ -71,7 +71,8 @@ impl World {
     pub fn refusal(&self, performer: &Who, act: &Act) -> Result<Option<Fatal>, AllocError>
         requires sound { self.now.sound ≡ true }
         requires creates { IsCreation act.now }
-        ensures { IfOk result (λ refusal. refusal ≡ refusal_in (upshot_of self.now.script self.now.history performer.now act.now)) }
+        ensures ok { IfOk result (λ refusal. refusal ≡ refusal_in (upshot_of self.now.script self.now.history performer.now act.now)) }
+        ensures err { OnErr result (MayWantMemory (refusal_in (upshot_of self.now.script self.now.history performer.now act.now))) }
     {
         let Act::Create { type_name, name } = act else {
             unreachable!()

@@ -3,7 +3,7 @@
 ghost use Rattle.std.specs.Prelude.{◌≡◌, ◌<◌, [], true, false, OnOk, OnErr, IfOk, IfErr, IfSome, IsSome, Some, None, ◌&&◌, length, ◌++◌, if◌then◌else◌, option_map};
 ghost use Rattle.std.specs.Bool.{OnTrue, OnFalse};
 ghost use Rattle.std.specs.Option.{option_copied};
-ghost use Rattle.uvm_tree.specs.Nodes.{node_at, number_of};
+ghost use Rattle.uvm_tree.specs.Nodes.{node_at, number_at};
 ghost use Rattle.uvm_object.specs.declared.acts.Who.TheVariants as who;
 ghost use Rattle.bench_history.specs.History.{is_over, log_limit, nodes_of, now_of, running, stage_of};
 ghost use Rattle.uvm_glob.specs.Paths.{path_text};
@@ -248,7 +248,7 @@ impl Core {
 
     /// The node at a path, the top at its own. None once memory was refused.
     pub fn find(&self, path: &Path) -> Option<NodeId>
-        ensures { result ≡ (if is_sound self.now.health then number_of (nodes_of self.now.history) path.now else None) }
+        ensures { result ≡ (if is_sound self.now.health then number_at (nodes_of self.now.history) path.now else None) }
     {
         if !self.is_sound() {
             return None;

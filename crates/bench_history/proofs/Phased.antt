@@ -4,7 +4,7 @@ use Rattle.std.specs.List.{All}
 use Rattle.std.proofs.lemmas.List.Elements.{All-nil, All-cons, All-weaker}
 use Rattle.uvm_phase.specs.declared.phases.Phase.{Phase}
 use Rattle.uvm_phase.specs.declared.phases.Phase.TheVariants.{Build, Connect, EndOfElaboration, StartOfSimulation, Run, Extract, Check, Report, Final}
-use Rattle.uvm_phase.specs.Phases.{phases, number_of, phase_after}
+use Rattle.uvm_phase.specs.Phases.{phases, phase_number, phase_after}
 use Rattle.uvm_object.specs.declared.entries.Entry.{Entry}
 use Rattle.uvm_object.specs.declared.entries.Entry.TheVariants.{Begin, End, Over}
 use Rattle.bench_script.specs.Scripts.{ScriptValue}
@@ -18,7 +18,7 @@ use Rattle.bench_history.specs.Laws.{next_number, ArePhasesInOrder, PhasesGoInOr
 use Rattle.bench_history.proofs.Inversion.{IsOwn, Case, AtEnd, ByOwn, ByNeed, ByDeed, ByDue, ByTurn, ByEnd, ByBegin, case-of}
 
 -- the phase after one has the next number
-number-after : (last phase : Phase) → phase_after last ≡ Some phase → number_of phase ≡ number_of last + 1
+number-after : (last phase : Phase) → phase_after last ≡ Some phase → phase_number phase ≡ phase_number last + 1
 number-after Build phase e = let same : Connect ≡ phase = cc in rw (← same) refl
 number-after Connect phase e = let same : EndOfElaboration ≡ phase = cc in rw (← same) refl
 number-after EndOfElaboration phase e = let same : StartOfSimulation ≡ phase = cc in rw (← same) refl
@@ -30,7 +30,7 @@ number-after Report phase e = let same : Final ≡ phase = cc in rw (← same) r
 number-after Final phase e = cc
 
 -- the phase that begins is the one that may begin next
-begin-number : (stage : Stage) (phase : Phase) → phase_to_begin stage ≡ Some phase → number_of phase ≡ next_number stage
+begin-number : (stage : Stage) (phase : Phase) → phase_to_begin stage ≡ Some phase → phase_number phase ≡ next_number stage
 begin-number Before phase e = let same : Build ≡ phase = cc in rw (← same) refl
 begin-number (During running) phase e = cc
 begin-number (After last) phase e = number-after last phase e
@@ -42,7 +42,7 @@ begin-on (During running) phase may ended = cc
 begin-on (After last) phase may ended = cc
 begin-on Ended phase may ended = cc
 
-begin-case : (script : ScriptValue) (history : List Entry) (phase : Phase) (next : Next) → next ≡ Exactly (Begin phase) → Case script history next → (number_of phase ≡ next_number (stage_of history)) × (stage_of history ≡ Ended → ⊥)
+begin-case : (script : ScriptValue) (history : List Entry) (phase : Phase) (next : Next) → next ≡ Exactly (Begin phase) → Case script history next → (phase_number phase ≡ next_number (stage_of history)) × (stage_of history ≡ Ended → ⊥)
 begin-case script history phase next is (AtEnd over e) = cc
 begin-case script history phase next is (ByOwn entry own e) = let same : entry ≡ Begin phase = cc in absurd (subst IsOwn same own)
 begin-case script history phase next is (ByNeed act need left upshot e) = cc
@@ -78,7 +78,7 @@ end-alone phase (Need need performer act) (inl made) = cc
 end-alone phase (Need need performer act) (inr declined) = cc
 end-alone phase Nothing allows = absurd allows
 
-below : (phase : Phase) → number_of phase < 9
+below : (phase : Phase) → phase_number phase < 9
 below Build = omega arith
 below Connect = omega arith
 below EndOfElaboration = omega arith
@@ -90,7 +90,7 @@ below Report = omega arith
 below Final = omega arith
 
 -- a phase that ends is the next of the nine
-ends-next : (phase : Phase) → phase ∷ reverse (take (number_of phase) phases) ≡ reverse (take (number_of phase + 1) phases)
+ends-next : (phase : Phase) → phase ∷ reverse (take (phase_number phase) phases) ≡ reverse (take (phase_number phase + 1) phases)
 ends-next Build = refl
 ends-next Connect = refl
 ends-next EndOfElaboration = refl
@@ -108,15 +108,15 @@ in-order-more script before (Begin phase) next order =
 in-order-more script before (End phase) next order =
     let runs = end-case script before phase (next_of script before) (end-alone phase (next_of script before) next) (case-of script before) in
     let on : stage_of before ≡ Ended → ⊥ = λ ended. let e : During phase ≡ Ended = sym runs ∙ ended in cc in
-    let are : ended_of before ≡ reverse (take (number_of phase) phases) = rw runs at (order.are on) in
-    let earlier : All (λ other. number_of other < number_of phase) (ended_of before) = rw runs at (order.before) in
+    let are : ended_of before ≡ reverse (take (phase_number phase) phases) = rw runs at (order.are on) in
+    let earlier : All (λ other. phase_number other < phase_number phase) (ended_of before) = rw runs at (order.before) in
     record {
       are = λ going. ap (λ (ended : List Phase). phase ∷ ended) are ∙ ends-next phase;
-      before = All-cons (λ other. number_of other < number_of phase + 1) phase (ended_of before) (omega arith) (All-weaker (λ other. number_of other < number_of phase) (λ other. number_of other < number_of phase + 1) (λ other lt. omega (arith, lt)) (ended_of before) earlier);
+      before = All-cons (λ other. phase_number other < phase_number phase + 1) phase (ended_of before) (omega arith) (All-weaker (λ other. phase_number other < phase_number phase) (λ other. phase_number other < phase_number phase + 1) (λ other lt. omega (arith, lt)) (ended_of before) earlier);
     }
 in-order-more script before (Over reason) next order = record { are = λ on. absurd (on refl); before = λ k d h. below _ }
 in-order-more script before entry next order = record { are = order.are; before = order.before }
 
 pub phases_go_in_order : PhasesGoInOrder
-phases_go_in_order script [] each = record { are = λ on. refl; before = All-nil (λ phase. number_of phase < 0) }
+phases_go_in_order script [] each = record { are = λ on. refl; before = All-nil (λ phase. phase_number phase < 0) }
 phases_go_in_order script (entry ∷ before) each = in-order-more script before entry each.0 (phases_go_in_order script before each.1)

@@ -2,7 +2,7 @@
 use Rattle.std.specs.Prelude.{◌≡◌, ◌<◌, ◌≤◌, ◌+◌, ℕ, suc, true, false, List, [], ◌∷◌, ◌++◌, length, reverse, take, Option, Some, None, IsSome, All, Contains}
 use Rattle.uvm_phase.specs.declared.agendas.Cause.{Cause}
 use Rattle.uvm_phase.specs.declared.agendas.Due.{Due}
-use Rattle.uvm_phase.specs.Phases.{phases, number_of}
+use Rattle.uvm_phase.specs.Phases.{phases, phase_number}
 use Rattle.uvm_tree.specs.declared.nodes.Node.{Node}
 use Rattle.uvm_tree.specs.Nodes.{node_at, path_at}
 use Rattle.uvm_object.specs.Acts.{node_of}
@@ -27,15 +27,15 @@ use Rattle.bench_history.specs.Next.{next_of, need_in, IsAct, EachIsNext}
 -- the number of the next phase that may begin, or of the one that runs
 abbrev pub next_number : Stage → ℕ
 next_number Before = 0
-next_number (During phase) = number_of phase
-next_number (After phase) = number_of phase + 1
+next_number (During phase) = phase_number phase
+next_number (After phase) = phase_number phase + 1
 next_number Ended = 9
 
 -- the phases go in their order: until the end those that have ended are the first of the nine, each once, and so they stand before the one
 -- that runs, or may begin next
 pub record ArePhasesInOrder (history : List Entry) : Type 0 where
   pub are : (stage_of history ≡ Ended → ⊥) → ended_of history ≡ reverse (take (next_number (stage_of history)) phases)
-  pub before : All (λ phase. number_of phase < next_number (stage_of history)) (ended_of history)
+  pub before : All (λ phase. phase_number phase < next_number (stage_of history)) (ended_of history)
 
 abbrev pub PhasesGoInOrder : Type 0
 PhasesGoInOrder = (script : ScriptValue) (history : List Entry) → EachIsNext script history → ArePhasesInOrder history

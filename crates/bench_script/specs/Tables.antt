@@ -42,8 +42,8 @@ abbrev pub new_name_in : Types → Data → Result (List ℕ) ScriptFault
 new_name_in types value = and_then (name_in value) (λ name. if is_some (type_named types name) then Err BadName else Ok name)
 
 -- the place of the type that a value names
-abbrev pub type_in : Types → Data → Result ℕ ScriptFault
-type_in types value = and_then (name_in value) (λ name. ok_or (type_named types name) UnknownType)
+abbrev pub type_id_in : Types → Data → Result ℕ ScriptFault
+type_id_in types value = and_then (name_in value) (λ name. ok_or (type_named types name) UnknownType)
 
 abbrev pub type_row : Types → Data → Result (List ℕ × Kind) ScriptFault
 type_row types element =
@@ -64,8 +64,8 @@ override_of original new (Some scope) replace = Instance original new scope
 abbrev pub override_row : Types → Data → Result Override ScriptFault
 override_row types element =
     and_then (table_in (codes "orig" ∷ codes "new" ∷ codes "at" ∷ codes "replace" ∷ []) element) (λ table.
-    and_then (required (codes "orig") (type_in types) table) (λ original.
-    and_then (required (codes "new") (type_in types) table) (λ new.
+    and_then (required (codes "orig") (type_id_in types) table) (λ original.
+    and_then (required (codes "new") (type_id_in types) table) (λ new.
     and_then (same_kinds types original new) (λ _.
     and_then (optional (codes "at") None (some_of glob_in) table) (λ scope.
     and_then (optional (codes "replace") true flag_in table) (λ replace.
@@ -82,7 +82,7 @@ setting_row element =
 abbrev pub probe_row : Types → Data → Result Probe ScriptFault
 probe_row types element =
     and_then (table_in (codes "type" ∷ codes "path" ∷ []) element) (λ table.
-    and_then (required (codes "type") (type_in types) table) (λ type_id.
+    and_then (required (codes "type") (type_id_in types) table) (λ type_id.
     and_then (required (codes "path") path_in table) (λ path.
     Ok (record { type_id = type_id; path = path }))))
 

@@ -5,7 +5,7 @@ ghost use Rattle.toml.specs.View.{view, table_view};
 ghost use Rattle.uvm_factory.specs.Faults.{type_named};
 ghost use Rattle.bench_script.specs.Reading.{IsReading};
 ghost use Rattle.bench_script.specs.Sound.{CanOverride, CanProbe};
-ghost use Rattle.bench_script.specs.Tables.{new_name_in, type_in, type_row, override_row, setting_row, probe_row, types_in, overrides_in, settings_in, probes_in};
+ghost use Rattle.bench_script.specs.Tables.{new_name_in, type_id_in, type_row, override_row, setting_row, probe_row, types_in, overrides_in, settings_in, probes_in};
 
 use crate::faults::ScriptFault;
 use crate::keys::{elements, few_elements, member, required, table};
@@ -107,7 +107,7 @@ fn new_name(types: &TypeTable, value: &Value) -> Result<Name, ScriptFault>
 
 // The type that a value names.
 fn type_named(types: &TypeTable, value: &Value) -> Result<TypeId, ScriptFault>
-    ensures place { result ≡ type_in types.now (view value.now) }
+    ensures place { result ≡ type_id_in types.now (view value.now) }
     ensures known { IfOk result (λ type_id. type_id < length types.now) }
 {
     let name = name(value)?;

@@ -9,7 +9,7 @@ use Rattle.std.proofs.lemmas.List.Kept.{AllPairs-cons, AllPairs-filter}
 use Rattle.uvm_phase.specs.declared.phases.Phase.{Phase}
 use Rattle.uvm_phase.specs.declared.agendas.Cause.{Cause}
 use Rattle.uvm_phase.specs.declared.agendas.Due.{Due}
-use Rattle.uvm_phase.specs.Phases.{number_of, same_phase}
+use Rattle.uvm_phase.specs.Phases.{phase_number, same_phase}
 use Rattle.uvm_phase.specs.Dues.{same_cause, in_order}
 use Rattle.uvm_phase.specs.Laws.{OrderKeepsAll, OrderKeepsFilters, OrderLosesFirst}
 use Rattle.uvm_object.specs.declared.acts.Who.{Who}
@@ -56,9 +56,9 @@ fresh heard cause within =
     list_any_none (same_cause cause) heard (All-weaker (λ other. other.place < cause.place) (λ other. same_cause cause other ≡ false) (λ other lt. grind (arith, nat_tests)) heard within)
 
 -- nor has a phase ended that stands behind all that have
-runs : (ended : List Phase) (phase : Phase) → All (λ other. number_of other < number_of phase) ended → list_any (same_phase phase) ended ≡ false
+runs : (ended : List Phase) (phase : Phase) → All (λ other. phase_number other < phase_number phase) ended → list_any (same_phase phase) ended ≡ false
 runs ended phase within =
-    list_any_none (same_phase phase) ended (All-weaker (λ other. number_of other < number_of phase) (λ other. same_phase phase other ≡ false) (λ other lt. grind (arith, nat_tests)) ended within)
+    list_any_none (same_phase phase) ended (All-weaker (λ other. phase_number other < phase_number phase) (λ other. same_phase phase other ≡ false) (λ other lt. grind (arith, nat_tests)) ended within)
 
 -- one more entry
 pub agenda-later : {caused : List (Due Who Call)} {heard : List Cause} {ended : List Phase} {count : ℕ} {dues : List (Due Who Call)} → IsAgenda caused heard ended count dues → IsAgenda caused heard ended (suc count) dues
@@ -72,7 +72,7 @@ agenda-later {caused} {heard} {ended} {count} a = record {
 -- one that causes a call
 agenda-caused :
     (caused : List (Due Who Call)) (heard : List Cause) (ended : List Phase) (dues more : List (Due Who Call)) (due : Due Who Call)
-    → IsAgenda caused heard ended due.cause.place dues → All (λ other. number_of other < number_of due.phase) ended
+    → IsAgenda caused heard ended due.cause.place dues → All (λ other. phase_number other < phase_number due.phase) ended
     → more ≡ in_order (due ∷ filter (is_open heard ended) caused)
     → IsAgenda (due ∷ caused) heard ended (suc due.cause.place) more
 agenda-caused caused heard ended dues more due a before is =
@@ -87,7 +87,7 @@ agenda-caused caused heard ended dues more due a before is =
 pub agenda-told :
     (value : Option ℤ) (field : List ℕ) (performer : Who) (time : ℕ) (stage : Stage)
     (caused : List (Due Who Call)) (heard : List Cause) (ended : List Phase) (count : ℕ) (dues more : List (Due Who Call))
-    → All (λ phase. number_of phase < next_number stage) ended → IsAgenda caused heard ended count dues
+    → All (λ phase. phase_number phase < next_number stage) ended → IsAgenda caused heard ended count dues
     → more ≡ in_order (calls_after (Value value) (Get field) performer (running stage) time count ++ filter (is_open heard ended) caused)
     → IsAgenda (calls_after (Value value) (Get field) performer (running stage) time count ++ caused) heard ended (suc count) more
 agenda-told value field performer time (During phase) caused heard ended count dues more phases a is =

@@ -12,7 +12,7 @@ use Rattle.uvm_config.specs.Observed as config
 use Rattle.uvm_phase.specs.declared.phases.Phase.{Phase}
 use Rattle.uvm_phase.specs.declared.agendas.Cause.{Cause}
 use Rattle.uvm_phase.specs.declared.agendas.Due.{Due}
-use Rattle.uvm_phase.specs.Phases.{number_of}
+use Rattle.uvm_phase.specs.Phases.{phase_number}
 use Rattle.uvm_phase.specs.Dues.{same_cause, in_order}
 use Rattle.uvm_object.specs.Acts.{node_of}
 use Rattle.uvm_object.specs.declared.acts.Who.{Who}
@@ -136,7 +136,7 @@ pub record IsScene (script : ScriptValue) (history : List Entry) (act : Act) (pl
   pub known : ServicesMatch script history services
   pub left : left_of script history ≡ act ∷ rest_of (left_of script history)
   pub place_is : length history ≡ place
-  pub in_order : All (λ phase. number_of phase < next_number (stage_of history)) (ended_of history)
+  pub in_order : All (λ phase. phase_number phase < next_number (stage_of history)) (ended_of history)
 
 -- a refusal asks for exit, and may be the test's
 abbrev pub with_refusal : Services → Services

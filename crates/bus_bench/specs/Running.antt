@@ -5,7 +5,7 @@ use Rattle.uvm_object.specs.declared.entries.Reason.{Reason}
 use Rattle.uvm_object.specs.declared.entries.Reason.TheVariants.{Finished}
 use Rattle.uvm_object.specs.declared.entries.Entry.{Entry}
 use Rattle.uvm_object.specs.declared.entries.Entry.TheVariants.{Over}
-use Rattle.uvm_object.specs.Logs.{newest}
+use Rattle.uvm_glob.specs.Lists.{newest}
 use Rattle.bench_script.specs.declared.faults.ScriptFault.{ScriptFault}
 use Rattle.bench_script.specs.declared.faults.ScriptFault.TheVariants as faults
 use Rattle.bench_script.specs.Reading.{and_then}

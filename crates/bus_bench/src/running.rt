@@ -2,7 +2,7 @@
 
 ghost use Rattle.std.specs.Prelude.{◌≡◌, ◌≢◌, ◌&&◌, [], OnOk, IfOk, IfErr, IsSome, Some, Ok, Err, true, MatchBool, option_copied};
 ghost use Rattle.std.specs.Io.KnownBytes.{Appends};
-ghost use Rattle.uvm_object.specs.Logs.{newest};
+ghost use Rattle.uvm_glob.specs.Lists.{newest};
 ghost use Rattle.uvm_object.specs.declared.entries.Entry.TheVariants.{Over};
 ghost use Rattle.bench_history.specs.Next.{IsLegal};
 ghost use Rattle.bench_core.specs.declared.cores.Health.TheVariants.{Good};

@@ -5,7 +5,8 @@ use Rattle.std.proofs.lemmas.Bool.{and_parts, and_cases, cases_Bool, false≢tru
 use Rattle.std.proofs.lemmas.Bool.Decides.{nat_tests}
 use Rattle.std.proofs.lemmas.List.{take_more, reverse-append}
 use Rattle.uvm_config.specs.Choice.{gives_way, answer_after}
-use Rattle.uvm_config.specs.Answers.{Setting, answers_at, answering, is_greatest, greatest, newest, answer_of, strongest_answer, NoneSetNoAnswer, AnswersAreGiven}
+use Rattle.uvm_glob.specs.Lists.{newest}
+use Rattle.uvm_config.specs.Answers.{Setting, answers_at, answering, is_greatest, greatest, answer_of, strongest_answer, NoneSetNoAnswer, AnswersAreGiven}
 
 -- no setting answers in an empty list
 pub answer-none : (text asked : List ℕ) → strongest_answer [] text asked ≡ None

@@ -3,6 +3,7 @@ use Rattle.std.specs.Prelude.{◌≡◌, ◌<◌, ◌≤◌, ◌↔◌, ℕ, ℤ
 use Rattle.std.specs.List.{list_all}
 use Rattle.std.specs.Cmp.Lexicographic.{pointwise}
 use Rattle.uvm_glob.specs.Globs.{matches}
+use Rattle.uvm_glob.specs.Lists.{newest}
 use Rattle.uvm_config.specs.Choice.{Answer, answer_after}
 
 -- a value of a field, for the paths that the scope matches
@@ -27,11 +28,6 @@ is_greatest settings setting = list_all (λ other. nat_le other.precedence setti
 -- the settings of greatest precedence
 abbrev pub greatest : List Setting → List Setting
 greatest settings = filter (is_greatest settings) settings
-
--- the setting that was set last
-abbrev pub newest : List Setting → Option Setting
-newest [] = None
-newest (setting ∷ older) = Some setting
 
 -- what a setting answers
 abbrev pub answer_of : Setting → Answer

@@ -8,8 +8,9 @@ use Rattle.uvm_glob.specs.Globs.{matches}
 use Rattle.uvm_factory.specs.declared.overrides.OverrideStep.TheVariants.{ByInstance, ByType}
 use Rattle.uvm_factory.specs.declared.overrides.Override.{Override}
 use Rattle.uvm_factory.specs.declared.overrides.Override.TheVariants.{Instance, Whole}
-use Rattle.uvm_factory.specs.Steps.{after_instance, after_type, after_override, is_by_instance, gives_way}
-use Rattle.uvm_factory.specs.Overrides.{newest, oldest, in_force, step_from, instance_of, type_of, type_step, NoneGivenNoStep, StepsAreGiven, StepsAreGivenInOrder}
+use Rattle.uvm_factory.specs.Steps.{after_instance, after_type, after_override, is_by_instance, takes_effect}
+use Rattle.uvm_glob.specs.Lists.{newest}
+use Rattle.uvm_factory.specs.Overrides.{oldest, in_force, step_from, instance_of, type_of, type_step, NoneGivenNoStep, StepsAreGiven, StepsAreGivenInOrder}
 
 -- no override gives no step
 pub step-none : (type_id : ℕ) (text : List ℕ) → type_step [] type_id text ≡ None
@@ -31,26 +32,26 @@ some_in_force x xs = by (newest (filter (λ o. o.1) (x ∷ xs)))
     by (Some o) = (o, refl)
 
 -- one more type override
-replacing_more : (new : ℕ) (first : Option ℕ) (by_type : Option (ℕ × Bool)) → step_from first (Some (new, true)) ≡ (if gives_way true (step_from first by_type) then Some (ByType new) else step_from first by_type)
+replacing_more : (new : ℕ) (first : Option ℕ) (by_type : Option (ℕ × Bool)) → step_from first (Some (new, true)) ≡ (if takes_effect true (step_from first by_type) then Some (ByType new) else step_from first by_type)
 replacing_more new None None = refl
 replacing_more new None (Some o) = refl
 replacing_more new (Some old) by_type = refl
 
-kept_more : (new : ℕ) (first : Option ℕ) (o : ℕ × Bool) → step_from first (Some o) ≡ (if gives_way false (step_from first (Some o)) then Some (ByType new) else step_from first (Some o))
+kept_more : (new : ℕ) (first : Option ℕ) (o : ℕ × Bool) → step_from first (Some o) ≡ (if takes_effect false (step_from first (Some o)) then Some (ByType new) else step_from first (Some o))
 kept_more new None o = refl
 kept_more new (Some old) o = refl
 
-first_more : (new : ℕ) (first : Option ℕ) → step_from first (Some (new, false)) ≡ (if gives_way false (step_from first None) then Some (ByType new) else step_from first None)
+first_more : (new : ℕ) (first : Option ℕ) → step_from first (Some (new, false)) ≡ (if takes_effect false (step_from first None) then Some (ByType new) else step_from first None)
 first_more new None = refl
 first_more new (Some old) = refl
 
-giving_more : (new : ℕ) (first : Option ℕ) (types : List (ℕ × Bool)) → step_from first (in_force ((new, false) ∷ types)) ≡ (if gives_way false (step_from first (in_force types)) then Some (ByType new) else step_from first (in_force types))
+giving_more : (new : ℕ) (first : Option ℕ) (types : List (ℕ × Bool)) → step_from first (in_force ((new, false) ∷ types)) ≡ (if takes_effect false (step_from first (in_force types)) then Some (ByType new) else step_from first (in_force types))
 giving_more new first [] = first_more new first
 giving_more new first (x ∷ xs) =
     let o = some_in_force x xs in
     rw o.1 (kept_more new first o.0)
 
-type_more : (replace : Bool) (new : ℕ) (first : Option ℕ) (types : List (ℕ × Bool)) → step_from first (in_force ((new, replace) ∷ types)) ≡ (if gives_way replace (step_from first (in_force types)) then Some (ByType new) else step_from first (in_force types))
+type_more : (replace : Bool) (new : ℕ) (first : Option ℕ) (types : List (ℕ × Bool)) → step_from first (in_force ((new, replace) ∷ types)) ≡ (if takes_effect replace (step_from first (in_force types)) then Some (ByType new) else step_from first (in_force types))
 type_more true new first types = replacing_more new first (in_force types)
 type_more false new first types = giving_more new first types
 
@@ -60,7 +61,7 @@ instance_tests false fits new rest by_type = refl
 instance_tests true false new rest by_type = rw and-false
 instance_tests true true new rest by_type = instance_more new (oldest rest) by_type
 
-type_tests : (this replace : Bool) (new : ℕ) (first : Option ℕ) (types : List (ℕ × Bool)) → step_from first (in_force (cons_option (if this then Some (new, replace) else None) types)) ≡ (if this && gives_way replace (step_from first (in_force types)) then Some (ByType new) else step_from first (in_force types))
+type_tests : (this replace : Bool) (new : ℕ) (first : Option ℕ) (types : List (ℕ × Bool)) → step_from first (in_force (cons_option (if this then Some (new, replace) else None) types)) ≡ (if this && takes_effect replace (step_from first (in_force types)) then Some (ByType new) else step_from first (in_force types))
 type_tests false replace new first types = refl
 type_tests true replace new first types = type_more replace new first types
 

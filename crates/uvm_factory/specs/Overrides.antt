@@ -3,17 +3,14 @@ use Rattle.std.specs.Prelude.{◌≡◌, ◌+◌, ◌<◌, ℕ, Bool, List, [], 
 use Rattle.std.specs.List.{filter_map}
 use Rattle.std.specs.Option.{option_or}
 use Rattle.uvm_glob.specs.Globs.{matches}
+use Rattle.uvm_glob.specs.Lists.{newest}
 use Rattle.uvm_factory.specs.declared.overrides.OverrideStep.{OverrideStep}
 use Rattle.uvm_factory.specs.declared.overrides.OverrideStep.TheVariants.{ByInstance, ByType}
 use Rattle.uvm_factory.specs.declared.overrides.Override.{Override}
 use Rattle.uvm_factory.specs.declared.overrides.Override.TheVariants.{Instance, Whole}
 use Rattle.uvm_factory.specs.Steps.{next_type, made, after_override}
 
--- the first and the last of a list, of which the newest stands first
-abbrev pub newest : {A : Type 0} → List A → Option A
-newest [] = None
-newest (x ∷ xs) = Some x
-
+-- of a list with the newest first, the oldest
 abbrev pub oldest : {A : Type 0} → List A → Option A
 oldest [] = None
 oldest (x ∷ xs) = Some (unwrap_or (oldest xs) x)

@@ -22,10 +22,10 @@ is_by_instance (Some (ByInstance new)) = true
 is_by_instance (Some (ByType new)) = false
 
 -- a type override changes the step where none gave it, or where it replaces a type override
-abbrev pub gives_way : Bool → Option OverrideStep → Bool
-gives_way replace None = true
-gives_way replace (Some (ByInstance new)) = false
-gives_way replace (Some (ByType new)) = replace
+abbrev pub takes_effect : Bool → Option OverrideStep → Bool
+takes_effect replace None = true
+takes_effect replace (Some (ByInstance new)) = false
+takes_effect replace (Some (ByType new)) = replace
 
 -- the step of a type at a path's text after an instance override
 unfoldable pub after_instance : ℕ → ℕ → List ℕ → ℕ → List ℕ → Option OverrideStep → Option OverrideStep
@@ -35,7 +35,7 @@ after_instance original new scope type_id text before =
 -- the step of a type after a type override
 unfoldable pub after_type : ℕ → ℕ → Bool → ℕ → Option OverrideStep → Option OverrideStep
 after_type original new replace type_id before =
-    if original == type_id && gives_way replace before then Some (ByType new) else before
+    if original == type_id && takes_effect replace before then Some (ByType new) else before
 
 abbrev pub after_override : Override → ℕ → List ℕ → Option OverrideStep → Option OverrideStep
 after_override (Instance original new scope) type_id text before = after_instance original new scope type_id text before

@@ -6,3 +6,4 @@ pub mod Globs
 pub mod Parts
 pub mod Orders
 pub mod Differences
+pub mod Lists

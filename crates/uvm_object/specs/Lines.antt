@@ -2,7 +2,7 @@
 use Rattle.std.specs.Prelude.{ℕ, ℤ, Option, Some, None, Bool, true, false, List, [], ◌∷◌, ◌++◌, length, codes}
 use Rattle.std.specs.Fmt.{decimal, signed_decimal}
 use Rattle.uvm_glob.specs.Paths.{path_text}
-use Rattle.uvm_phase.specs.Phases.{name_of}
+use Rattle.uvm_phase.specs.Phases.{phase_name}
 use Rattle.uvm_tree.specs.declared.nodes.Node.{Node}
 use Rattle.uvm_tree.specs.Nodes.{path_at}
 use Rattle.uvm_object.specs.declared.acts.Who.{Who}
@@ -35,7 +35,7 @@ value_text None = codes "none"
 value_text (Some value) = signed_decimal value
 
 abbrev pub call_text : Call → List ℕ
-call_text (call.Phase phase) = name_of phase
+call_text (call.Phase phase) = phase_name phase
 call_text (call.Config field value) = codes "config " ++ field ++ 32 ∷ value_text value
 
 abbrev pub what_text : What → List ℕ
@@ -65,8 +65,8 @@ reason_text Exit = codes "exit"
 reason_text NoTest = codes "no_test"
 
 abbrev pub entry_text : List Node → Entry → List ℕ
-entry_text nodes (Begin phase) = codes "begin " ++ name_of phase
-entry_text nodes (End phase) = codes "end " ++ name_of phase
+entry_text nodes (Begin phase) = codes "begin " ++ phase_name phase
+entry_text nodes (End phase) = codes "end " ++ phase_name phase
 entry_text nodes (Heard who call cause acts) = codes "heard " ++ who_text nodes who ++ 32 ∷ call_text call ++ codes ": " ++ decimal (length acts)
 entry_text nodes (Did who outcome act) = codes "did " ++ who_text nodes who ++ 32 ∷ act_text act ++ codes ": " ++ outcome_text outcome
 entry_text nodes (Note fatal node) = codes "note " ++ id_of fatal ++ 32 ∷ shown_path (path_at nodes node)

@@ -10,11 +10,6 @@ pub record LogValue : Type 0 where
   pub limit : ℕ
   pub spare : ℕ
 
--- the entry that came last
-abbrev pub newest : List Entry → Option Entry
-newest [] = None
-newest (entry ∷ before) = Some entry
-
 -- what is told of each fault
 abbrev pub fault_text : LogFault → List ℕ
 fault_text Full = codes "log full"

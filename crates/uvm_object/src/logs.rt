@@ -2,7 +2,7 @@
 
 ghost use Rattle.std.specs.Prelude.{◌≡◌, ◌≢◌, ◌==◌, ◌↔◌, ◌∷◌, ◌<◌, ◌≤◌, [], length, reverse, nat_le, slice_get, Err, OnOk, OnErr, option_copied};
 ghost use Rattle.std.specs.Slice.Iter.{iter_rest};
-ghost use Rattle.uvm_object.specs.Logs.{newest};
+ghost use Rattle.uvm_glob.specs.Lists.{newest};
 
 use crate::entries::Entry;
 use std::alloc::{AllocError, AllocFailed, Global};

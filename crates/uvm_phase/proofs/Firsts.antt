@@ -7,7 +7,7 @@ use Rattle.std.proofs.lemmas.List.Edits.{remove-append_right}
 use Rattle.std.proofs.lemmas.List.Elements.{All-nil, All-cons, All-head, All-tail, All-push, All-append, All-weaker, All-same}
 use Rattle.std.proofs.lemmas.List.Sorted.{IsPermutation-reverse, All-permutation}
 use Rattle.uvm_phase.specs.declared.agendas.Due.{Due}
-use Rattle.uvm_phase.specs.Dues.{is_before, in_order, IsFirstPlace}
+use Rattle.uvm_phase.specs.Dues.{is_due_before, in_order, IsFirstPlace}
 use Rattle.uvm_phase.proofs.Before.{before_others, not_before, not_before_self}
 use Rattle.uvm_phase.proofs.Ordered.{After, NotBefore, Ordered, Ordered-in_order, All-in_order, insert_due-first}
 
@@ -15,7 +15,7 @@ use Rattle.uvm_phase.proofs.Ordered.{After, NotBefore, Ordered, Ordered-in_order
 in_order-middle : {O N : Type 0} (due : Due O N) (late early : List (Due O N)) → All (NotBefore due) late → All (After due) early → in_order (late ++ due ∷ early) ≡ due ∷ in_order (late ++ early)
 in_order-middle due [] early after before = insert_due-first due (in_order early) (All-in_order (After due) early before)
 in_order-middle due (other ∷ late) early after before =
-    let here : is_before other due ≡ false = All-head (NotBefore due) other late after in
+    let here : is_due_before other due ≡ false = All-head (NotBefore due) other late after in
     rw (in_order-middle due late early (All-tail (NotBefore due) other late after) before, here) refl
 
 reverse-parts : {O N : Type 0} (front : List (Due O N)) (due : Due O N) (behind : List (Due O N)) → reverse (front ++ due ∷ behind) ≡ reverse behind ++ due ∷ reverse front
@@ -78,7 +78,7 @@ first_of_one [] some = absurd (omega arith)
 first_of_one (due ∷ dues) some = record { front = []; due = due; behind = []; parts = refl; here = refl; before = All-nil (After due); after = All-nil (NotBefore due) }
 
 -- one more, which comes before the first so far, or does not
-new_first : {O N : Type 0} (dues : List (Due O N)) (place : ℕ) (due : Due O N) (first : IsFirstPlace dues place) → is_before due first.due ≡ true → IsFirstPlace (dues ++ due ∷ []) (length dues)
+new_first : {O N : Type 0} (dues : List (Due O N)) (place : ℕ) (due : Due O N) (first : IsFirstPlace dues place) → is_due_before due first.due ≡ true → IsFirstPlace (dues ++ due ∷ []) (length dues)
 new_first dues place due first sooner = record {
   front = dues;
   due = due;
@@ -94,7 +94,7 @@ new_first dues place due first sooner = record {
   after = All-nil (NotBefore due);
 }
 
-same_first : {O N : Type 0} (dues : List (Due O N)) (place : ℕ) (due : Due O N) (first : IsFirstPlace dues place) → is_before due first.due ≡ false → IsFirstPlace (dues ++ due ∷ []) place
+same_first : {O N : Type 0} (dues : List (Due O N)) (place : ℕ) (due : Due O N) (first : IsFirstPlace dues place) → is_due_before due first.due ≡ false → IsFirstPlace (dues ++ due ∷ []) place
 same_first dues place due first later = record {
   front = first.front;
   due = first.due;
@@ -112,17 +112,17 @@ read_first dues n place other first within is =
     ∙ index_by_parts (take n dues) place first.front first.due first.behind other first.parts first.here
 
 -- the same of the first so far, as it is read
-new_read : {O N : Type 0} (dues : List (Due O N)) (n place : ℕ) (due other : Due O N) → n < length dues → place < n → other ≡ get_or dues place other → is_before due other ≡ true → IsFirstPlace (take n dues) place → IsFirstPlace (take n dues ++ due ∷ []) n
+new_read : {O N : Type 0} (dues : List (Due O N)) (n place : ℕ) (due other : Due O N) → n < length dues → place < n → other ≡ get_or dues place other → is_due_before due other ≡ true → IsFirstPlace (take n dues) place → IsFirstPlace (take n dues ++ due ∷ []) n
 new_read {O} {N} dues n place due other more within other_is sooner first =
-    let Before : Due O N → Type 0 = λ d. is_before due d ≡ true in
+    let Before : Due O N → Type 0 = λ d. is_due_before due d ≡ true in
     let size : length (take n dues) ≡ n = rw length-take (omega arith) in
     let found = new_first (take n dues) place due first (subst Before (read_first dues n place other first within other_is) sooner) in
     let Found : ℕ → Type 0 = λ at. IsFirstPlace (take n dues ++ due ∷ []) at in
     subst Found size found
 
-same_read : {O N : Type 0} (dues : List (Due O N)) (n place : ℕ) (due other : Due O N) → place < n → other ≡ get_or dues place other → is_before due other ≡ false → IsFirstPlace (take n dues) place → IsFirstPlace (take n dues ++ due ∷ []) place
+same_read : {O N : Type 0} (dues : List (Due O N)) (n place : ℕ) (due other : Due O N) → place < n → other ≡ get_or dues place other → is_due_before due other ≡ false → IsFirstPlace (take n dues) place → IsFirstPlace (take n dues ++ due ∷ []) place
 same_read {O} {N} dues n place due other within other_is later first =
-    let Later : Due O N → Type 0 = λ d. is_before due d ≡ false in
+    let Later : Due O N → Type 0 = λ d. is_due_before due d ≡ false in
     same_first (take n dues) place due first (subst Later (read_first dues n place other first within other_is) later)
 
 -- with one more of a list
@@ -132,7 +132,7 @@ with_more {O} {N} dues n place due more is found =
     subst Found (ap (λ d. take n dues ++ d ∷ []) is ∙ sym (take_more dues n due more)) found
 
 -- one step of a search for the first
-pub first-step : {O N : Type 0} (dues : List (Due O N)) (n place : ℕ) (due other : Due O N) (b : Bool) → n < length dues → due ≡ get_or dues n due → other ≡ get_or dues place other → b ≡ is_before due other → (place < n) × IsFirstPlace (take n dues) place → ((if b then n else place) < n + 1) × IsFirstPlace (take (n + 1) dues) (if b then n else place)
+pub first-step : {O N : Type 0} (dues : List (Due O N)) (n place : ℕ) (due other : Due O N) (b : Bool) → n < length dues → due ≡ get_or dues n due → other ≡ get_or dues place other → b ≡ is_due_before due other → (place < n) × IsFirstPlace (take n dues) place → ((if b then n else place) < n + 1) × IsFirstPlace (take (n + 1) dues) (if b then n else place)
 first-step dues n place due other true more due_is other_is sooner so_far =
     (omega arith, with_more dues n n due more due_is (new_read dues n place due other more so_far.0 other_is (sym sooner) so_far.1))
 first-step dues n place due other false more due_is other_is later so_far =
@@ -145,6 +145,6 @@ least_is (first ∷ dues) due ordered is =
     let same : due ≡ first = cc in
     rw same (All-cons (NotBefore first) first dues (not_before_self first) ordered.0)
 
-pub least_read : {O N : Type 0} (dues : List (Due O N)) (read : Option (Bor (Due O N))) → option_copied read ≡ slice_get (in_order dues) 0 → IfSome read (λ due. All (λ other. is_before other due.now ≡ false) (in_order dues))
+pub least_read : {O N : Type 0} (dues : List (Due O N)) (read : Option (Bor (Due O N))) → option_copied read ≡ slice_get (in_order dues) 0 → IfSome read (λ due. All (λ other. is_due_before other due.now ≡ false) (in_order dues))
 least_read dues None is = tt
 least_read dues (Some due) is = least_is (in_order dues) due.now (Ordered-in_order dues) is

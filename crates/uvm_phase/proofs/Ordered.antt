@@ -6,7 +6,7 @@ use Rattle.std.proofs.lemmas.List.Elements.{All-nil, All-cons, All-head, All-tai
 use Rattle.std.proofs.lemmas.List.Kept.{AllPairs-cons}
 use Rattle.std.proofs.lemmas.List.Sorted.{IsPermutation-refl, IsPermutation-sym, IsPermutation-trans, IsPermutation-cons, IsPermutation-middle, All-permutation, length_permutation}
 use Rattle.uvm_phase.specs.declared.agendas.Due.{Due}
-use Rattle.uvm_phase.specs.Dues.{same_cause, is_before, insert_due, in_order, IsInOrder, IsOrderOf}
+use Rattle.uvm_phase.specs.Dues.{same_cause, is_due_before, insert_due, in_order, IsInOrder, IsOrderOf}
 use Rattle.uvm_phase.specs.Laws.{OrderKeepsAll, OrderKeepsFilters, OrderLosesFirst}
 use Rattle.uvm_phase.proofs.Before.{before_others, not_before}
 
@@ -19,7 +19,7 @@ insert_due-tested due other others false moved =
 pub IsPermutation-insert_due : {O N : Type 0} (due : Due O N) (dues : List (Due O N)) → IsPermutation (due ∷ dues) (insert_due due dues)
 IsPermutation-insert_due due [] = IsPermutation-refl _
 IsPermutation-insert_due due (other ∷ others) =
-    insert_due-tested due other others (is_before due other) (IsPermutation-insert_due due others)
+    insert_due-tested due other others (is_due_before due other) (IsPermutation-insert_due due others)
 
 -- the order has what the list has
 pub IsPermutation-in_order : {O N : Type 0} (dues : List (Due O N)) → IsPermutation dues (in_order dues)
@@ -52,21 +52,21 @@ behind_from_AllPairs R (due ∷ dues) each =
 
 -- one that comes after a given one, and one that does not come before it
 abbrev pub After : {O N : Type 0} → Due O N → Due O N → Type 0
-After due later = is_before due later ≡ true
+After due later = is_due_before due later ≡ true
 
 abbrev pub NotBefore : {O N : Type 0} → Due O N → Due O N → Type 0
-NotBefore due later = is_before later due ≡ false
+NotBefore due later = is_due_before later due ≡ false
 
 -- the list in order, by recursion
 abbrev pub Ordered : {O N : Type 0} → List (Due O N) → Type 0
 Ordered dues = Behind NotBefore dues
 
 -- what comes before the first of an order comes before all of it
-before_all : {O N : Type 0} (due other : Due O N) (others : List (Due O N)) → is_before due other ≡ true → Ordered (other ∷ others) → All (After due) (other ∷ others)
+before_all : {O N : Type 0} (due other : Due O N) (others : List (Due O N)) → is_due_before due other ≡ true → Ordered (other ∷ others) → All (After due) (other ∷ others)
 before_all due other others first ordered =
     All-cons (After due) other others first (All-weaker (NotBefore other) (After due) (λ later h. before_others due other later first h) others ordered.0)
 
-insert_due-ordered : {O N : Type 0} (due other : Due O N) (others : List (Due O N)) (b : Bool) → is_before due other ≡ b → Ordered (other ∷ others) → Ordered (insert_due due others) → Ordered (if b then due ∷ other ∷ others else other ∷ insert_due due others)
+insert_due-ordered : {O N : Type 0} (due other : Due O N) (others : List (Due O N)) (b : Bool) → is_due_before due other ≡ b → Ordered (other ∷ others) → Ordered (insert_due due others) → Ordered (if b then due ∷ other ∷ others else other ∷ insert_due due others)
 insert_due-ordered due other others true first ordered rest =
     (All-weaker (After due) (NotBefore due) (λ later h. not_before due later h) (other ∷ others) (before_all due other others first ordered), ordered)
 insert_due-ordered due other others false first ordered rest =
@@ -75,7 +75,7 @@ insert_due-ordered due other others false first ordered rest =
 Ordered-insert_due : {O N : Type 0} (due : Due O N) (dues : List (Due O N)) → Ordered dues → Ordered (insert_due due dues)
 Ordered-insert_due due [] ordered = (All-nil (NotBefore due), tt)
 Ordered-insert_due due (other ∷ others) ordered =
-    insert_due-ordered due other others (is_before due other) refl ordered (Ordered-insert_due due others ordered.1)
+    insert_due-ordered due other others (is_due_before due other) refl ordered (Ordered-insert_due due others ordered.1)
 
 pub Ordered-in_order : {O N : Type 0} (dues : List (Due O N)) → Ordered (in_order dues)
 Ordered-in_order [] = tt
@@ -89,12 +89,12 @@ pub is_order_of : {O N : Type 0} (dues : List (Due O N)) → IsOrderOf dues
 is_order_of dues = record { same = IsPermutation-in_order dues; ordered = IsInOrder-in_order dues }
 
 -- what comes before all of a list stands in front of them
-pub insert_due-first : {O N : Type 0} (due : Due O N) (dues : List (Due O N)) → All (λ later. is_before due later ≡ true) dues → insert_due due dues ≡ due ∷ dues
+pub insert_due-first : {O N : Type 0} (due : Due O N) (dues : List (Due O N)) → All (λ later. is_due_before due later ≡ true) dues → insert_due due dues ≡ due ∷ dues
 insert_due-first due [] each = refl
-insert_due-first due (other ∷ others) each = let h : is_before due other ≡ true = All-head (After due) other others each in rw h refl
+insert_due-first due (other ∷ others) each = let h : is_due_before due other ≡ true = All-head (After due) other others each in rw h refl
 
 -- a filter of a list with one more, by whether that one passes
-filter-step : {O N : Type 0} (p : Due O N → Bool) (due other : Due O N) (others : List (Due O N)) (mine this b : Bool) → p due ≡ mine → p other ≡ this → is_before due other ≡ b → Ordered (other ∷ others) → filter p (insert_due due others) ≡ (if mine then insert_due due (filter p others) else filter p others) → filter p (if b then due ∷ other ∷ others else other ∷ insert_due due others) ≡ (if mine then insert_due due (filter p (other ∷ others)) else filter p (other ∷ others))
+filter-step : {O N : Type 0} (p : Due O N → Bool) (due other : Due O N) (others : List (Due O N)) (mine this b : Bool) → p due ≡ mine → p other ≡ this → is_due_before due other ≡ b → Ordered (other ∷ others) → filter p (insert_due due others) ≡ (if mine then insert_due due (filter p others) else filter p others) → filter p (if b then due ∷ other ∷ others else other ∷ insert_due due others) ≡ (if mine then insert_due due (filter p (other ∷ others)) else filter p (other ∷ others))
 filter-step p due other others false this true mine_is this_is b_is ordered rest = rw mine_is refl
 filter-step p due other others false this false mine_is this_is b_is ordered rest = rw rest refl
 filter-step p due other others true this true mine_is this_is b_is ordered rest =
@@ -108,7 +108,7 @@ filter-insert_due p due [] ordered = one (p due)
     one : (b : Bool) → (if b then due ∷ [] else []) ≡ (if b then due ∷ [] else [])
     one b = refl
 filter-insert_due p due (other ∷ others) ordered =
-    filter-step p due other others (p due) (p other) (is_before due other) refl refl refl ordered (filter-insert_due p due others ordered.1)
+    filter-step p due other others (p due) (p other) (is_due_before due other) refl refl refl ordered (filter-insert_due p due others ordered.1)
 
 -- a filter keeps the order
 in_order-tested : {O N : Type 0} (p : Due O N → Bool) (due : Due O N) (dues : List (Due O N)) (b : Bool) → (if b then insert_due due (in_order (filter p dues)) else in_order (filter p dues)) ≡ in_order (if b then due ∷ filter p dues else filter p dues)
@@ -136,7 +136,7 @@ apart-tested due other others false each apart rest =
 apart-insert_due : {O N : Type 0} (due : Due O N) (dues : List (Due O N)) → All (Differ due) dues → Behind Differ dues → Behind Differ (insert_due due dues)
 apart-insert_due due [] each apart = (each, tt)
 apart-insert_due due (other ∷ others) each apart =
-    apart-tested due other others (is_before due other) each apart (apart-insert_due due others (All-tail (Differ due) other others each) apart.1)
+    apart-tested due other others (is_due_before due other) each apart (apart-insert_due due others (All-tail (Differ due) other others each) apart.1)
 
 apart-in_order : {O N : Type 0} (dues : List (Due O N)) → Behind Differ dues → Behind Differ (in_order dues)
 apart-in_order [] apart = tt

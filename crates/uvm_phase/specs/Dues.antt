@@ -8,15 +8,15 @@ abbrev pub same_cause : Cause → Cause → Bool
 same_cause a b = (a.place == b.place) && (a.number == b.number)
 
 -- whether one comes due before another: by time, then by the place of the cause, then by its number
-unfoldable pub is_before : {O N : Type 0} → Due O N → Due O N → Bool
-is_before a b =
+unfoldable pub is_due_before : {O N : Type 0} → Due O N → Due O N → Bool
+is_due_before a b =
     nat_lt a.time b.time
     || ((a.time == b.time) && (nat_lt a.cause.place b.cause.place || ((a.cause.place == b.cause.place) && nat_lt a.cause.number b.cause.number)))
 
 -- with one more, which stands in front of the first that comes after it
 abbrev pub insert_due : {O N : Type 0} → Due O N → List (Due O N) → List (Due O N)
 insert_due due [] = due ∷ []
-insert_due due (other ∷ others) = if is_before due other then due ∷ other ∷ others else other ∷ insert_due due others
+insert_due due (other ∷ others) = if is_due_before due other then due ∷ other ∷ others else other ∷ insert_due due others
 
 -- a list in the order in which its calls come due, of equal ones the last first
 abbrev pub in_order : {O N : Type 0} → List (Due O N) → List (Due O N)
@@ -25,7 +25,7 @@ in_order (due ∷ dues) = insert_due due (in_order dues)
 
 -- none comes due before one that stands in front of it
 abbrev pub IsInOrder : {O N : Type 0} → List (Due O N) → Type 0
-IsInOrder dues = AllPairs (λ due later. is_before later due ≡ false) dues
+IsInOrder dues = AllPairs (λ due later. is_due_before later due ≡ false) dues
 
 -- what contracts see of an agenda: what is due in its order, and for how many more there is room
 pub record AgendaValue (O N : Type 0) : Type 0 where
@@ -40,8 +40,8 @@ pub record IsFirstPlace {O N : Type 0} (dues : List (Due O N)) (place : ℕ) : T
   pub behind : List (Due O N)
   pub parts : dues ≡ front ++ due ∷ behind
   pub here : place ≡ length front
-  pub before : All (λ other. is_before due other ≡ true) front
-  pub after : All (λ other. is_before other due ≡ false) behind
+  pub before : All (λ other. is_due_before due other ≡ true) front
+  pub after : All (λ other. is_due_before other due ≡ false) behind
 
 -- the order has what the list has, in order
 pub record IsOrderOf {O N : Type 0} (dues : List (Due O N)) : Type 0 where

@@ -10,24 +10,24 @@ abbrev pub phases : List Phase
 phases = Build ∷ Connect ∷ EndOfElaboration ∷ StartOfSimulation ∷ Run ∷ Extract ∷ Check ∷ Report ∷ Final ∷ []
 
 -- where a phase stands among them
-abbrev pub number_of : Phase → ℕ
-number_of Build = 0
-number_of Connect = 1
-number_of EndOfElaboration = 2
-number_of StartOfSimulation = 3
-number_of Run = 4
-number_of Extract = 5
-number_of Check = 6
-number_of Report = 7
-number_of Final = 8
+abbrev pub phase_number : Phase → ℕ
+phase_number Build = 0
+phase_number Connect = 1
+phase_number EndOfElaboration = 2
+phase_number StartOfSimulation = 3
+phase_number Run = 4
+phase_number Extract = 5
+phase_number Check = 6
+phase_number Report = 7
+phase_number Final = 8
 
 -- whether two phases are one
 abbrev pub same_phase : Phase → Phase → Bool
-same_phase a b = number_of a == number_of b
+same_phase a b = phase_number a == phase_number b
 
 -- the phase after one, in that list
 abbrev pub phase_after : Phase → Option Phase
-phase_after phase = slice_get phases (number_of phase + 1)
+phase_after phase = slice_get phases (phase_number phase + 1)
 
 -- build and final go from parents to children
 abbrev pub walk_of : Phase → Walk
@@ -35,13 +35,13 @@ walk_of Build = Down
 walk_of Final = Down
 walk_of phase = Up
 
-abbrev pub name_of : Phase → List ℕ
-name_of Build = codes "build"
-name_of Connect = codes "connect"
-name_of EndOfElaboration = codes "end_of_elaboration"
-name_of StartOfSimulation = codes "start_of_simulation"
-name_of Run = codes "run"
-name_of Extract = codes "extract"
-name_of Check = codes "check"
-name_of Report = codes "report"
-name_of Final = codes "final"
+abbrev pub phase_name : Phase → List ℕ
+phase_name Build = codes "build"
+phase_name Connect = codes "connect"
+phase_name EndOfElaboration = codes "end_of_elaboration"
+phase_name StartOfSimulation = codes "start_of_simulation"
+phase_name Run = codes "run"
+phase_name Extract = codes "extract"
+phase_name Check = codes "check"
+phase_name Report = codes "report"
+phase_name Final = codes "final"

@@ -2,7 +2,7 @@
 
 ghost use Rattle.std.specs.Prelude.{◌≡◌, ◌==◌, ◌<◌, ◌↔◌, [], not, length, filter, drop, slice_get, All, OnOk, OnErr, IsOk, IsNone, IfSome, option_copied, false};
 ghost use Rattle.uvm_phase.specs.Phases.{same_phase};
-ghost use Rattle.uvm_phase.specs.Dues.{is_before, insert_due, IsFirstPlace};
+ghost use Rattle.uvm_phase.specs.Dues.{is_due_before, insert_due, IsFirstPlace};
 
 use crate::phases::Phase;
 use std::alloc::{AllocError, Global};
@@ -34,9 +34,9 @@ pub struct Due<O, N> {
 
 impl<O, N> Due<O, N> {
     // Whether it comes due before another.
-    #[tactic(auto, unfolding(crate::specs::Dues::is_before))]
-    fn is_before(&self, other: &Due<O, N>) -> bool
-        ensures { result ≡ is_before self.now other.now }
+    #[tactic(auto, unfolding(crate::specs::Dues::is_due_before))]
+    fn is_due_before(&self, other: &Due<O, N>) -> bool
+        ensures { result ≡ is_due_before self.now other.now }
     {
         let (cause, others) = (self.cause, other.cause);
         self.time < other.time
@@ -109,7 +109,7 @@ impl<O: Drop, N: Drop> Agenda<O, N> {
     /// The call that comes due first, if one is due. Takes no memory.
     pub fn first(&self) -> Option<&Due<O, N>>
         ensures value { option_copied result ≡ slice_get self.now.dues 0 }
-        ensures least { IfSome result (λ due. All (λ other. is_before other due.now ≡ false) self.now.dues) }
+        ensures least { IfSome result (λ due. All (λ other. is_due_before other due.now ≡ false) self.now.dues) }
     {
         let place = first_place(self.dues.as_slice())?;
         self.dues.get(place)
@@ -165,7 +165,7 @@ fn first_place<O, N>(dues: &[Due<O, N>]) -> Option<usize>
     }
     let mut first = 0;
     for place in 1..dues.len() {
-        if dues[place].is_before(&dues[first]) {
+        if dues[place].is_due_before(&dues[first]) {
             first = place;
         }
     }

@@ -1,7 +1,7 @@
 //! The phases and their order.
 
 ghost use Rattle.std.specs.Prelude.{◌≡◌, Some};
-ghost use Rattle.uvm_phase.specs.Phases.{number_of, phase_after, walk_of, name_of};
+ghost use Rattle.uvm_phase.specs.Phases.{phase_number, phase_after, walk_of, phase_name};
 
 /// A phase, in the order in which they run (IEEE 1800.2-2020, Clause 9). `Run` alone takes simulated time.
 #[derive(Clone, Copy, Debug, PartialEq, Eq)]
@@ -38,14 +38,14 @@ pub enum Walk {
 impl Phase {
     /// Where the phase stands in the order of all, from 0.
     pub fn number(self) -> u8
-        ensures { result ≡ number_of self }
+        ensures { result ≡ phase_number self }
     {
         self as u8
     }
 
     /// The name of the phase, as `end_of_elaboration`.
     pub fn name(self) -> &'static str
-        ensures { result.now ≡ name_of self }
+        ensures { result.now ≡ phase_name self }
     {
         match self {
             Phase::Build => "build",

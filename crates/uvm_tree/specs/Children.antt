@@ -14,12 +14,12 @@ pub record ChildrenValue : Type 0 where
   pub last : Option ℕ
 
 -- the name of a node under its parent, which the top has not
-abbrev pub name_of : Node → Option (List ℕ)
-name_of node = option_map (λ under. under.1) node.under
+abbrev pub own_name : Node → Option (List ℕ)
+own_name node = option_map (λ under. under.1) node.under
 
 -- the name of the node of a number
 abbrev pub name_at : List Node → ℕ → Option (List ℕ)
-name_at nodes id = option_and_then name_of (node_at nodes id)
+name_at nodes id = option_and_then own_name (node_at nodes id)
 
 -- whether the name of a node stands before that of another, in byte order, and no name before each
 abbrev pub is_named_before : List Node → ℕ → ℕ → Bool

@@ -32,8 +32,8 @@ abbrev pub is_path : List (List ℕ) → List (List ℕ) → Bool
 is_path = pointwise (pointwise nat_eq)
 
 -- the node at a path
-abbrev pub number_of : List Node → List (List ℕ) → Option ℕ
-number_of nodes path = position (λ node. is_path node.path path) nodes
+abbrev pub number_at : List Node → List (List ℕ) → Option ℕ
+number_at nodes path = position (λ node. is_path node.path path) nodes
 
 -- the parent of a node
 abbrev pub parent_of : Node → Option ℕ

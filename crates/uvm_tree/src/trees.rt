@@ -5,7 +5,7 @@ ghost use Rattle.std.specs.List.{list_any};
 ghost use Rattle.std.specs.Option.{option_copied, ForSome};
 ghost use Rattle.uvm_glob.specs.Paths.{path_fault};
 ghost use Rattle.uvm_tree.specs.declared.nodes.Node.{Node};
-ghost use Rattle.uvm_tree.specs.Nodes.{top, child, path_at, node_at, is_child, is_path, number_of, parent_of, refusal, add_fault};
+ghost use Rattle.uvm_tree.specs.Nodes.{top, child, path_at, node_at, is_child, is_path, number_at, parent_of, refusal, add_fault};
 
 use crate::faults::TreeFault;
 use crate::nodes::{Node, NodeId, NodeKind};
@@ -125,7 +125,7 @@ impl Tree {
 
     /// The node at a path, the top at its own; none where no node has that path.
     pub fn find(&self, path: &Path) -> Option<NodeId>
-        ensures { result ≡ number_of self.now.nodes path.now }
+        ensures { result ≡ number_at self.now.nodes path.now }
     {
         if self.top.path == *path {
             return Some(NodeId::TOP);

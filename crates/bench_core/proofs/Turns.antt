@@ -1,29 +1,28 @@
 -- What a turn says of who is asked, and of the end.
-use Rattle.std.proofs.Common.{◌≡◌, Bool, true, false, List, Some, Result, Ok, Err, IfOk, refl, ◌∙◌, sym, subst}
+use Rattle.std.proofs.Common.{◌≡◌, ◌<◌, length, Bool, true, false, List, Some, Result, Ok, Err, IfOk, refl, sym, subst}
 use Rattle.uvm_object.specs.declared.entries.Entry.{Entry}
 use Rattle.bench_script.specs.Scripts.{ScriptValue}
+use Rattle.bench_history.specs.Limits.{log_limit}
 use Rattle.bench_history.specs.History.{is_over}
 use Rattle.bench_history.specs.Cases as next
 use Rattle.bench_history.specs.Next.{next_of, IsLegal}
 use Rattle.bench_history.specs.Laws.{AskedAreComponents, IsSomething, SomethingBeforeOver}
-use Rattle.bench_core.specs.declared.cores.Standing.{Standing}
-use Rattle.bench_core.specs.declared.cores.Standing.TheVariants.{Nothing, Needed, Asked}
 use Rattle.bench_core.specs.declared.cores.Turn as turn
 use Rattle.bench_core.specs.declared.faults.CoreFault.{CoreFault}
-use Rattle.bench_core.specs.Cores.{CoreValue, Comes, IsTurn, IsNextTurn, AsksComponent, turn_of}
+use Rattle.bench_core.specs.Cores.{Standing, Nothing, Needed, Asked, CoreValue, Comes, HasRoom, IsTurn, IsRequest, IsNextTurn, AsksComponent, turn_of}
 
 -- who was asked is a component
 pub told-component : AskedAreComponents → (script : ScriptValue) (history : List Entry) (standing : Standing) (told : turn.Turn) → IsLegal script history → Comes standing (next_of script history) → turn_of standing ≡ Some told → AsksComponent told history
 told-component components script history Nothing told legal comes e = cc
 told-component components script history (Needed need) told legal comes e = let same : turn.TheVariants.Need ≡ told = cc in subst (λ t. AsksComponent t history) same tt
-told-component components script history (Asked performer call cause) told legal comes e =
-    let same : turn.TheVariants.Ask performer call ≡ told = cc in
-    subst (λ t. AsksComponent t history) same (components script history performer call cause legal.each comes)
+told-component components script history (Asked hearer call cause) told legal comes e =
+    let same : turn.TheVariants.Ask hearer call ≡ told = cc in
+    subst (λ t. AsksComponent t history) same (components script history hearer call cause legal.each comes)
 
 -- and so is who is asked now
 turn-component : AskedAreComponents → (old new : CoreValue) (result : turn.Turn) (comes : next.Next) → next_of old.script old.history ≡ comes → IsLegal old.script old.history → IsTurn comes result old new → AsksComponent result old.history
 turn-component components old new result (next.Exactly entry) is legal t = subst (λ r. AsksComponent r old.history) (sym t.0) tt
-turn-component components old new result (next.Answer performer call cause) is legal t = subst (λ r. AsksComponent r old.history) (sym t.0) (components old.script old.history performer call cause legal.each is)
+turn-component components old new result (next.Answer hearer call cause) is legal t = subst (λ r. AsksComponent r old.history) (sym t.0) (components old.script old.history hearer call cause legal.each is)
 turn-component components old new result (next.Need need performer act) is legal t = subst (λ r. AsksComponent r old.history) (sym t.0) tt
 turn-component components old new result next.Nothing is legal t = subst (λ r. AsksComponent r old.history) (sym t.0) tt
 
@@ -40,7 +39,7 @@ over-at script history false some none e = absurd (subst IsSomething none (some 
 -- a turn that says so is the last
 turn-over : SomethingBeforeOver → (old new : CoreValue) (result : turn.Turn) (comes : next.Next) → next_of old.script old.history ≡ comes → IsLegal old.script old.history → IsTurn comes result old new → result ≡ turn.TheVariants.Over → is_over new.history ≡ true
 turn-over some old new result (next.Exactly entry) is legal t over = let moved = t.0 in cc
-turn-over some old new result (next.Answer performer call cause) is legal t over = let asks = t.0 in cc
+turn-over some old new result (next.Answer hearer call cause) is legal t over = let asks = t.0 in cc
 turn-over some old new result (next.Need need performer act) is legal t over = let needs = t.0 in cc
 turn-over some old new result next.Nothing is legal t over =
     rw t.1 (over-at old.script old.history (is_over old.history) (some old.script old.history legal.each) is refl)
@@ -49,3 +48,14 @@ turn-over some old new result next.Nothing is legal t over =
 pub next-over : SomethingBeforeOver → (old new : CoreValue) (result : Result turn.Turn CoreFault) → IsLegal old.script old.history → IsNextTurn Nothing result old new → IfOk result (λ r. r ≡ turn.TheVariants.Over → is_over new.history ≡ true)
 next-over some old new (Ok result) legal t = λ over. turn-over some old new result (next_of old.script old.history) refl legal t.1 over
 next-over some old new (Err fault) legal t = tt
+
+-- what is asked comes next, and has room
+turn-room : (old new : CoreValue) (result : turn.Turn) (comes : next.Next) → next_of old.script old.history ≡ comes → HasRoom old → IsTurn comes result old new → IsRequest result → length new.history < log_limit new.script
+turn-room old new result (next.Exactly entry) is room t asks = let moved = t.0 in absurd (subst IsRequest t.0 asks)
+turn-room old new result (next.Answer hearer call cause) is room t asks = rw t.1 (room (rw is tt))
+turn-room old new result (next.Need need performer act) is room t asks = rw t.1 (room (rw is tt))
+turn-room old new result next.Nothing is room t asks = absurd (subst IsRequest t.0 asks)
+
+pub next-room : (old new : CoreValue) (result : Result turn.Turn CoreFault) → IsNextTurn Nothing result old new → IfOk result (λ r. IsRequest r → length new.history < log_limit new.script)
+next-room old new (Ok result) t = λ asks. turn-room old new result (next_of old.script old.history) refl t.2 t.1 asks
+next-room old new (Err fault) t = tt

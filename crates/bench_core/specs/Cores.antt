@@ -1,12 +1,16 @@
 -- What contracts see of the machine.
 use Rattle.std.specs.Prelude.{◌≡◌, ◌<◌, ◌≤◌, ℕ, Bool, true, false, List, ◌∷◌, length, [], Option, Some, None, Result, Ok, Err, IsSome, Contains}
+use Rattle.uvm_phase.specs.declared.agendas.Cause.{Cause}
 use Rattle.uvm_object.specs.Acts.{node_of}
+use Rattle.uvm_object.specs.declared.acts.Who.{Who}
+use Rattle.uvm_object.specs.declared.acts.Call.{Call}
 use Rattle.uvm_object.specs.declared.acts.Act.{Act}
 use Rattle.uvm_object.specs.declared.entries.Entry.{Entry}
 use Rattle.uvm_object.specs.declared.entries.Entry.TheVariants.{Heard}
 use Rattle.uvm_object.specs.Lines.{entry_line}
 use Rattle.bench_script.specs.Scripts.{ScriptValue}
-use Rattle.bench_history.specs.History.{log_limit, nodes_of, components_of}
+use Rattle.bench_history.specs.Limits.{log_limit}
+use Rattle.bench_history.specs.History.{nodes_of, components_of}
 use Rattle.bench_history.specs.Laws.{IsSomething}
 use Rattle.bench_history.specs.declared.needs.Need.{Need}
 use Rattle.bench_core.specs.declared.cores.Health.{Health}
@@ -14,13 +18,24 @@ use Rattle.bench_core.specs.declared.cores.Health.TheVariants.{Good, Full, Broke
 use Rattle.bench_history.specs.Cases as next
 use Rattle.bench_history.specs.Next.{next_of, need_in}
 use Rattle.bench_world.specs.Worlds.{WorldValue}
-use Rattle.bench_core.specs.declared.cores.Standing.{Standing}
-use Rattle.bench_core.specs.declared.cores.Standing.TheVariants.{Nothing, Needed, Asked}
+use Rattle.bench_core.specs.declared.cores.Question.{Question}
 use Rattle.bench_core.specs.declared.cores.Turn as turn
 use Rattle.bench_core.specs.declared.faults.CoreFault.{CoreFault}
 use Rattle.bench_core.specs.declared.faults.CoreFault.TheVariants.{Memory, LogFull, Failed, NoTest}
 
--- the script, the entries with the newest first, what was asked and not answered yet, and how the machine is
+-- what was asked, and not answered yet: nothing; an object; or the answer of somebody to a call, which was caused or is a phase's
+pub data Standing : Type 0 where
+  Nothing : Standing
+  Needed : (need : Need) → Standing
+  Asked : (hearer : Who) → (call : Call) → (cause : Option Cause) → Standing
+
+-- an act waits for its object, or a question is open
+abbrev pub standing_of : Option Need → Option Question → Standing
+standing_of (Some need) question = Needed need
+standing_of None (Some question) = Asked question.who question.call question.cause
+standing_of None None = Nothing
+
+-- the script, the entries with the newest first, what was asked, and how the machine is
 pub record CoreValue : Type 0 where
   pub script : ScriptValue
   pub history : List Entry
@@ -48,25 +63,25 @@ failed_from health core = record core { standing = Nothing; health = health }
 abbrev pub Comes : Standing → next.Next → Type 0
 Comes Nothing comes = Unit {0}
 Comes (Needed need) comes = need_in comes ≡ Some need
-Comes (Asked performer call cause) comes = comes ≡ next.Answer performer call cause
+Comes (Asked hearer call cause) comes = comes ≡ next.Answer hearer call cause
 
--- there is room for the entry of what was asked
-abbrev pub HasRoom : Standing → WorldValue → Type 0
-HasRoom Nothing world = Unit {0}
-HasRoom (Needed need) world = (length world.history < log_limit world.script) × (world.ready ≡ true)
-HasRoom (Asked performer call cause) world = length world.history < log_limit world.script
+-- something was asked
+abbrev pub IsAsked : Standing → Type 0
+IsAsked Nothing = ⊥
+IsAsked standing = Unit {0}
 
 -- while memory was not refused the world is sound; what was asked comes next, and is asked of a machine that goes on
-pub record IsCore (world : WorldValue) (standing : Standing) (health : Health) : Type 0 where
+pub record IsCore (world : WorldValue) (question : Option Question) (health : Health) : Type 0 where
   pub sound : is_sound health ≡ true → world.sound ≡ true
-  pub comes : Comes standing (next_of world.script world.history)
-  pub room : HasRoom standing world
-  pub none : is_good health ≡ false → standing ≡ Nothing
+  pub comes : Comes (standing_of world.waiting question) (next_of world.script world.history)
+  pub one : IsSome world.waiting → question ≡ None
+  pub room : IsAsked (standing_of world.waiting question) → length world.history < log_limit world.script
+  pub none : is_good health ≡ false → standing_of world.waiting question ≡ Nothing
 
 -- what a turn is, by what comes next
 abbrev pub IsTurn : next.Next → turn.Turn → CoreValue → CoreValue → Type 0
 IsTurn (next.Exactly entry) result old new = (result ≡ turn.TheVariants.Moved) × (new ≡ core_after entry old)
-IsTurn (next.Answer performer call cause) result old new = (result ≡ turn.TheVariants.Ask performer call) × (new ≡ record old { standing = Asked performer call cause })
+IsTurn (next.Answer hearer call cause) result old new = (result ≡ turn.TheVariants.Ask hearer call) × (new ≡ record old { standing = Asked hearer call cause })
 IsTurn (next.Need need performer act) result old new = (result ≡ turn.TheVariants.Need) × (new ≡ record old { standing = Needed need })
 IsTurn next.Nothing result old new = (result ≡ turn.TheVariants.Over) × (new ≡ old)
 
@@ -77,12 +92,16 @@ IsRefusedTurn LogFull old new = (old.health ≡ Good) × (log_limit old.script �
 IsRefusedTurn Failed old new = (is_good old.health ≡ false) × (new ≡ old)
 IsRefusedTurn NoTest old new = ⊥
 
+-- what comes has room in the log
+abbrev pub HasRoom : CoreValue → Type 0
+HasRoom core = IsSomething (next_of core.script core.history) → length core.history < log_limit core.script
+
 -- what `next` gives: what stands is told again, else what comes next is done
 abbrev pub IsNextTurn : Standing → Result turn.Turn CoreFault → CoreValue → CoreValue → Type 0
-IsNextTurn Nothing (Ok result) old new = (old.health ≡ Good) × IsTurn (next_of old.script old.history) result old new
+IsNextTurn Nothing (Ok result) old new = (old.health ≡ Good) × IsTurn (next_of old.script old.history) result old new × HasRoom old
 IsNextTurn Nothing (Err fault) old new = IsRefusedTurn fault old new
 IsNextTurn (Needed need) result old new = (result ≡ Ok turn.TheVariants.Need) × (new ≡ old)
-IsNextTurn (Asked performer call cause) result old new = (result ≡ Ok (turn.TheVariants.Ask performer call)) × (new ≡ old)
+IsNextTurn (Asked hearer call cause) result old new = (result ≡ Ok (turn.TheVariants.Ask hearer call)) × (new ≡ old)
 
 -- why there is no machine of a script
 abbrev pub IsUnmade : ScriptValue → CoreFault → Type 0
@@ -95,16 +114,22 @@ IsUnmade script Failed = ⊥
 abbrev pub turn_of : Standing → Option turn.Turn
 turn_of Nothing = None
 turn_of (Needed need) = Some turn.TheVariants.Need
-turn_of (Asked performer call cause) = Some (turn.TheVariants.Ask performer call)
+turn_of (Asked hearer call cause) = Some (turn.TheVariants.Ask hearer call)
+
+-- something is asked: an object, or an answer
+abbrev pub IsRequest : turn.Turn → Type 0
+IsRequest turn.TheVariants.Need = Unit {0}
+IsRequest (turn.TheVariants.Ask hearer call) = Unit {0}
+IsRequest result = ⊥
 
 -- who is called, if somebody is, is a component
 abbrev pub AsksComponent : turn.Turn → List Entry → Type 0
-AsksComponent (turn.TheVariants.Ask performer call) history = Contains (components_of history) (node_of performer)
+AsksComponent (turn.TheVariants.Ask hearer call) history = Contains (components_of history) (node_of hearer)
 AsksComponent result history = Unit {0}
 
 -- somebody is called
 abbrev pub IsAsk : Option turn.Turn → Type 0
-IsAsk (Some (turn.TheVariants.Ask performer call)) = Unit {0}
+IsAsk (Some (turn.TheVariants.Ask hearer call)) = Unit {0}
 IsAsk (Some other) = ⊥
 IsAsk None = ⊥
 
@@ -112,13 +137,13 @@ IsAsk None = ⊥
 abbrev pub need_of : Standing → Option Need
 need_of Nothing = None
 need_of (Needed need) = Some need
-need_of (Asked performer call cause) = None
+need_of (Asked hearer call cause) = None
 
 -- the entry of an answer to what was asked
 abbrev pub answer_in : Standing → List Act → Option Entry
 answer_in Nothing acts = None
 answer_in (Needed need) acts = None
-answer_in (Asked performer call cause) acts = Some (Heard performer call cause acts)
+answer_in (Asked hearer call cause) acts = Some (Heard hearer call cause acts)
 
 -- the text of the newest entry, where it is asked for
 abbrev pub last_text : Bool → List Entry → List ℕ

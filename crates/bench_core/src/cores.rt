@@ -5,7 +5,8 @@ ghost use Rattle.std.specs.Bool.{OnTrue, OnFalse};
 ghost use Rattle.std.specs.Option.{option_copied};
 ghost use Rattle.uvm_tree.specs.Nodes.{node_at, number_at};
 ghost use Rattle.uvm_object.specs.declared.acts.Who.TheVariants as who;
-ghost use Rattle.bench_history.specs.History.{is_over, log_limit, nodes_of, now_of, running, stage_of};
+ghost use Rattle.bench_history.specs.Limits.{log_limit};
+ghost use Rattle.bench_history.specs.History.{is_over, nodes_of, now_of, running, stage_of};
 ghost use Rattle.uvm_glob.specs.Paths.{path_text};
 ghost use Rattle.uvm_config.specs.Answers.{config_answer};
 ghost use Rattle.bench_history.specs.Configuration.{settings_of};
@@ -15,7 +16,7 @@ ghost use Rattle.bench_history.specs.Laws.{IsSomething};
 ghost use Rattle.bench_core.specs.Cores.{IsNextTurn, IsTurn, IsUnmade, core_after, failed_from, is_sound, turn_of, need_of, answer_in, IsAsk, AsksComponent, last_text};
 ghost use Rattle.bench_world.specs.Worlds.{MayEnter, broken, world_after};
 ghost use Rattle.bench_core.specs.Choices.{entry_of};
-ghost use Rattle.bench_core.specs.declared.cores.Standing.TheVariants.{Nothing, Needed, Asked};
+ghost use Rattle.bench_core.specs.Cores.{Nothing, IsRequest};
 
 use crate::choices::{Choice, Mark, choose};
 use crate::faults::CoreFault;
@@ -43,19 +44,23 @@ pub enum Turn {
     Over,
 }
 
-/// What was asked, and not answered yet.
+/// A call that somebody was asked to answer, and has not answered yet. It was due for a cause, or is a phase's.
 #[derive(Debug, Drop)]
-pub enum Standing {
-    /// Nothing.
-    Nothing,
-    /// An object.
-    Needed(Need),
-    /// The answer of somebody to a call, which was due for a cause, or is a phase's.
-    Asked {
-        who: Who,
-        call: Call,
-        cause: Option<Cause>,
-    },
+pub(crate) struct Question {
+    who: Who,
+    call: Call,
+    cause: Option<Cause>,
+}
+
+impl Question {
+    fn turn(&self) -> Turn
+        ensures { result ≡ Turn.Ask self.now.who self.now.call }
+    {
+        Turn::Ask {
+            who: self.who,
+            call: self.call,
+        }
+    }
 }
 
 /// How a machine is.
@@ -74,18 +79,18 @@ pub enum Health {
 #[derive(Drop)]
 pub struct Core {
     world: World,
-    standing: Standing,
+    question: Option<Question>,
     health: Health,
 }
 
 impl Model for Core {
-    ghost use Rattle.bench_core.specs.Cores.{CoreValue, IsCore};
+    ghost use Rattle.bench_core.specs.Cores.{CoreValue, IsCore, standing_of};
 
     ghost Value = { CoreValue };
 
-    ghost view = { λ c. record { script = c.world.script; history = c.world.history; standing = c.standing; health = c.health } };
+    ghost view = { λ c. record { script = c.world.script; history = c.world.history; standing = standing_of c.world.waiting c.question; health = c.health } };
 
-    ghost invariant = { λ c. IsCore c.world c.standing c.health };
+    ghost invariant = { λ c. IsCore c.world c.question c.health };
 }
 
 impl Core {
@@ -100,7 +105,7 @@ impl Core {
         match World::new(alloc, script) {
             Ok(world) => Ok(Core {
                 world,
-                standing: Standing::Nothing,
+                question: None,
                 health: Health::Good,
             }),
             Err(_) => Err(CoreFault::Memory),
@@ -114,13 +119,14 @@ impl Core {
         ensures turn { IsNextTurn self.old.standing result self.old self.new }
         ensures asked { IfOk result (λ turn. AsksComponent turn self.old.history) }
         ensures over { IfOk result (λ turn. turn ≡ Turn.Over → is_over self.new.history ≡ true) }
+        ensures room { IfOk result (λ turn. IsRequest turn → length self.new.history < log_limit self.new.script) }
         ensures words { _words.new ≡ _words.old }
     {
         // The log is legal, so whoever is asked is a component, and a run goes on to its end.
         let _log = self.log();
         laws::asked_are_components();
         laws::something_before_over();
-        if let Some(turn) = told(&self.standing) {
+        if let Some(turn) = self.turn() {
             return Ok(turn);
         }
         match self.health {
@@ -133,17 +139,18 @@ impl Core {
     pub fn turn(&self) -> Option<Turn>
         ensures { result ≡ turn_of self.now.standing }
     {
-        told(&self.standing)
+        match (self.world.need(), &self.question) {
+            (Some(_), _) => Some(Turn::Need),
+            (None, Some(question)) => Some(question.turn()),
+            (None, None) => None,
+        }
     }
 
     /// The object that is needed, if one is.
     pub fn need(&self) -> Option<&Need>
         ensures { option_copied result ≡ need_of self.now.standing }
     {
-        match &self.standing {
-            Standing::Needed(need) => Some(need),
-            _ => None,
-        }
+        self.world.need()
     }
 
     /// The needed object was made: the component that it is now. Takes no memory.
@@ -153,15 +160,7 @@ impl Core {
         ensures entry { IfSome (made_in (next_of self.old.script self.old.history)) (λ entry. self.new ≡ core_after entry self.old) }
         ensures one { IsSome (made_in (next_of self.old.script self.old.history)) }
     {
-        let Standing::Needed(need) = &self.standing else {
-            unreachable!()
-        };
-        let type_name = need.type_name;
-        self.standing = Standing::Nothing;
-        let Ok(who) = self.world.made(type_name) else {
-            unreachable!()
-        };
-        who
+        self.world.made()
     }
 
     /// The needed object is declined. Takes no memory.
@@ -170,10 +169,7 @@ impl Core {
         ensures entry { IfSome (declined_in (next_of self.old.script self.old.history)) (λ entry. self.new ≡ core_after entry self.old) }
         ensures one { IsSome (declined_in (next_of self.old.script self.old.history)) }
     {
-        self.standing = Standing::Nothing;
-        let Ok(()) = self.world.declined() else {
-            unreachable!()
-        };
+        self.world.declined();
     }
 
     /// The answer that was asked for. `Memory` where memory is refused, and the machine has failed then.
@@ -182,11 +178,9 @@ impl Core {
         ensures ok { OnOk result (IfSome (answer_in self.old.standing acts) (λ entry. self.new ≡ core_after entry self.old)) }
         ensures err { IfErr result (λ fault. (fault ≡ CoreFault.Memory) × (self.new ≡ failed_from Health.Broken self.old)) }
     {
-        let Standing::Asked { who, call, cause } = &self.standing else {
+        let Some(Question { who, call, cause }) = self.question.take() else {
             unreachable!()
         };
-        let (who, call, cause) = (who.copy(), *call, *cause);
-        self.standing = Standing::Nothing;
         self.health = Health::Broken;
         let heard = match cause {
             None => self.world.heard(who, call, acts),
@@ -325,38 +319,22 @@ impl Core {
                 enter(&mut self.world, mark)?;
                 Turn::Moved
             }
-            Choice::Act => match self.world.did()? {
-                None => Turn::Moved,
-                Some(need) => {
-                    self.world.reserve()?;
-                    self.standing = Standing::Needed(need);
-                    Turn::Need
+            Choice::Act => {
+                self.world.did()?;
+                match self.world.need() {
+                    None => Turn::Moved,
+                    Some(_) => Turn::Need,
                 }
-            },
+            }
             Choice::Ask(who, call, cause) => {
-                self.standing = Standing::Asked { who, call, cause };
-                match told(&self.standing) {
-                    Some(turn) => turn,
-                    None => unreachable!(),
-                }
+                let question = Question { who, call, cause };
+                let turn = question.turn();
+                self.question = Some(question);
+                turn
             }
         };
         self.health = Health::Good;
         Ok(turn)
-    }
-}
-
-// What was asked, as a turn.
-fn told(standing: &Standing) -> Option<Turn>
-    ensures { result ≡ turn_of standing.now }
-{
-    match standing {
-        Standing::Nothing => None,
-        Standing::Needed(_) => Some(Turn::Need),
-        Standing::Asked { who, call, .. } => Some(Turn::Ask {
-            who: *who,
-            call: *call,
-        }),
     }
 }
 

@@ -8,5 +8,5 @@ mod faults;
 mod tests;
 
 pub use bench_history::Need;
-pub use cores::{Core, Health, Standing, Turn};
+pub use cores::{Core, Health, Turn};
 pub use faults::CoreFault;

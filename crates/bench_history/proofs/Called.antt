@@ -120,7 +120,7 @@ module _ (keeps : OrderKeepsAll Who Call) where
   asks-case script history next known (AtEnd ended e) = subst (AsksOne history) (sym e) tt
   asks-case script history next known (ByOwn entry own e) = subst (AsksOne history) (sym e) tt
   asks-case script history next known (ByNeed act need left upshot e) = subst (AsksOne history) (sym e) tt
-  asks-case script history next known (ByDeed act effect left upshot e) = subst (AsksOne history) (sym e) tt
+  asks-case script history next known (ByDeed act outcome left plain comes e) = subst (AsksOne history) (sym e) tt
   asks-case script history next known (ByDue due now e) = subst (AsksOne history) (sym e) (asks-due history due known.owners now)
   asks-case script history next known (ByTurn phase node turn e) = subst (AsksOne history) (sym e) (subst (λ (found : Option ℕ). IfSome found (Contains (components_of history))) turn (turn-one history phase))
   asks-case script history next known (ByEnd phase runs e) = subst (AsksOne history) (sym e) tt
@@ -163,7 +163,7 @@ deed-case : (script : ScriptValue) (history : List Entry) (next : Next) → Case
 deed-case script history next (AtEnd ended e) = subst (DeedIn script history) (sym e) tt
 deed-case script history next (ByOwn entry own e) = subst (DeedIn script history) (sym e) (deed-own script history entry own)
 deed-case script history next (ByNeed act need left upshot e) = subst (DeedIn script history) (sym e) tt
-deed-case script history next (ByDeed act effect left upshot e) = subst (DeedIn script history) (sym e) (record { performer_is = refl; left = left })
+deed-case script history next (ByDeed act outcome left plain comes e) = subst (DeedIn script history) (sym e) (record { performer_is = refl; left = left })
 deed-case script history next (ByDue due now e) = subst (DeedIn script history) (sym e) tt
 deed-case script history next (ByTurn phase node turn e) = subst (DeedIn script history) (sym e) tt
 deed-case script history next (ByEnd phase runs e) = subst (DeedIn script history) (sym e) tt
@@ -190,11 +190,11 @@ deed-next script history performer outcome act (Need need other deed) is (inr de
 deed-next script history performer outcome act Nothing is allows = absurd allows
 
 -- the call that an act causes is its performer's
-due-owner : (P : Who → Type 0) (notice : Option Call) (performer : Who) (phase : Option Phase) (time place : ℕ) → (notice ≡ None) ⊎ P performer → All (λ due. P due.owner) (due_from notice performer phase time place)
-due-owner P None performer phase time place who = All-nil _
-due-owner P (Some notice) performer None time place who = All-nil _
-due-owner P (Some notice) performer (Some phase) time place (inl none) = cc
-due-owner P (Some notice) performer (Some phase) time place (inr holds) = All-cons (λ due. P due.owner) _ [] holds (All-nil (λ due. P due.owner))
+due-owner : (P : Who → Type 0) (notice : Option Call) (performer : Who) (phase : Option Phase) (time : ℕ) (cause : Cause) → (notice ≡ None) ⊎ P performer → All (λ due. P due.owner) (due_from notice performer phase time cause)
+due-owner P None performer phase time cause who = All-nil _
+due-owner P (Some notice) performer None time cause who = All-nil _
+due-owner P (Some notice) performer (Some phase) time cause (inl none) = cc
+due-owner P (Some notice) performer (Some phase) time cause (inr holds) = All-cons (λ due. P due.owner) _ [] holds (All-nil (λ due. P due.owner))
 
 -- the opening of the run is a creation, which causes no call
 opening-tells : (script : ScriptValue) (outcome : Outcome) → told_by outcome (opening script) ≡ None
@@ -239,7 +239,7 @@ module _ (keeps : OrderKeepsAll Who Call) where
       record {
         owners =
             All-append (λ due. Contains (components_of (entry ∷ before)) (node_of due.owner)) (calls_after outcome act performer (running (stage_of before)) (now_of before) (length before)) (caused_of before)
-            (due-owner (λ who. Contains (components_of (entry ∷ before)) (node_of who)) (told_by outcome act) performer (running (stage_of before)) (now_of before) (length before) (deed-owner script before entry performer outcome act deed known.speaker))
+            (due-owner (λ who. Contains (components_of (entry ∷ before)) (node_of who)) (told_by outcome act) performer (running (stage_of before)) (now_of before) (record { place = length before; number = 0 }) (deed-owner script before entry performer outcome act deed known.speaker))
             (owners-more script before entry known);
         speaker = speaker-more script before entry (rest-all (λ one. one ≡ opening script) (left_of script before)) known.speaker;
       }

@@ -7,7 +7,7 @@ use Rattle.bench_history.specs.declared.stages.Stage.TheVariants.{Ended}
 use Rattle.bench_history.specs.History.{stage_of, running, left_of, reason_of, is_over}
 use Rattle.bench_history.specs.Dues.{due_now}
 use Rattle.bench_history.specs.Cases.{Next, Nothing, end_reached, giving_up, long_answer, first_act, call_due, phase_call, phase_end, phase_begin, phase_to_begin, finish}
-use Rattle.bench_history.specs.Next.{first_of, next_of, Allows, IsNext, EachIsNext}
+use Rattle.bench_history.specs.Next.{first_next, next_of, Allows, IsNext, EachIsNext}
 use Rattle.bench_history.specs.Laws.{IsSomething, NothingAfterOver, SomethingBeforeOver}
 use Rattle.bench_history.proofs.Inversion.{Case, AtEnd, ByOwn, ByNeed, ByDeed, ByDue, ByTurn, ByEnd, ByBegin, case-of}
 
@@ -15,7 +15,7 @@ use Rattle.bench_history.proofs.Inversion.{Case, AtEnd, ByOwn, ByNeed, ByDeed, B
 nothing-comes : (script : ScriptValue) (history : List Entry) → stage_of history ≡ Ended → next_of script history ≡ Nothing
 unfolding next_of
 nothing-comes script history e =
-    ap (λ stage. first_of (
+    ap (λ stage. first_next (
     end_reached stage
     ∷ giving_up (reason_of history)
     ∷ long_answer history (left_of script history)
@@ -31,7 +31,7 @@ some-case : (script : ScriptValue) (history : List Entry) (next : Next) → (sta
 some-case script history next on (AtEnd ended e) = absurd (on ended)
 some-case script history next on (ByOwn entry own e) = subst IsSomething (sym e) tt
 some-case script history next on (ByNeed act need left upshot e) = subst IsSomething (sym e) tt
-some-case script history next on (ByDeed act effect left upshot e) = subst IsSomething (sym e) tt
+some-case script history next on (ByDeed act outcome left plain comes e) = subst IsSomething (sym e) tt
 some-case script history next on (ByDue due now e) = subst IsSomething (sym e) tt
 some-case script history next on (ByTurn phase node turn e) = subst IsSomething (sym e) tt
 some-case script history next on (ByEnd phase runs e) = subst IsSomething (sym e) tt

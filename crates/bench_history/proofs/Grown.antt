@@ -18,15 +18,9 @@ use Rattle.bench_script.specs.Scripts.{ScriptValue}
 use Rattle.bench_history.specs.History.{created_name, nodes_of, nodes_after, components_of, components_after}
 use Rattle.bench_history.specs.Cases.{Next, Exactly}
 use Rattle.bench_history.specs.Next.{next_of}
-use Rattle.bench_history.specs.Refusals.{Effect, Does, Finds, Refuses, effect_outcome}
 use Rattle.bench_history.specs.Laws.{MachineEntriesAreSilent, NodesStay, MadeObjectsAreNew}
-use Rattle.bench_history.proofs.Inversion.{IsOwn, Case, AtEnd, ByOwn, ByNeed, ByDeed, ByDue, ByTurn, ByEnd, ByBegin, case-of}
+use Rattle.bench_history.proofs.Inversion.{IsOwn, NotMade, Case, AtEnd, ByOwn, ByNeed, ByDeed, ByDue, ByTurn, ByEnd, ByBegin, case-of}
 use Rattle.bench_history.proofs.Needed.{needed}
-
--- no object was made
-abbrev pub NotMade : Outcome → Type 0
-NotMade (Made type_name) = ⊥
-NotMade outcome = Unit {0}
 
 -- nobody answered, and no object was made
 abbrev pub IsPlain : Entry → Type 0
@@ -39,13 +33,7 @@ abbrev pub IsPlainNext : Next → Type 0
 IsPlainNext (Exactly entry) = IsPlain entry
 IsPlainNext next = Unit {0}
 
--- an act that creates nothing makes no object
-plain-effect : (effect : Effect) → NotMade (effect_outcome effect)
-plain-effect Does = tt
-plain-effect (Finds value) = tt
-plain-effect (Refuses fatal) = tt
-
--- nor does what the machine writes by itself
+-- what the machine writes by itself is plain
 plain-own : (entry : Entry) → IsOwn entry → IsPlain entry
 plain-own (Heard performer call cause acts) own = own
 plain-own (Did performer outcome act) own = absurd own
@@ -56,7 +44,7 @@ plain-case : (script : ScriptValue) (history : List Entry) (next : Next) → Cas
 plain-case script history next (AtEnd ended e) = subst IsPlainNext (sym e) tt
 plain-case script history next (ByOwn entry own e) = subst IsPlainNext (sym e) (plain-own entry own)
 plain-case script history next (ByNeed act need left upshot e) = subst IsPlainNext (sym e) tt
-plain-case script history next (ByDeed act effect left upshot e) = subst IsPlainNext (sym e) (plain-effect effect)
+plain-case script history next (ByDeed act outcome left plain comes e) = subst IsPlainNext (sym e) plain
 plain-case script history next (ByDue due now e) = subst IsPlainNext (sym e) tt
 plain-case script history next (ByTurn phase node turn e) = subst IsPlainNext (sym e) tt
 plain-case script history next (ByEnd phase runs e) = subst IsPlainNext (sym e) tt

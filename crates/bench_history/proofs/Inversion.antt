@@ -1,5 +1,5 @@
 -- Which case of the machine gives what comes next.
-use Rattle.std.proofs.Common.{◌≡◌, ℕ, Bool, true, false, List, [], ◌∷◌, length, nat_lt, Option, Some, None, option_map, refl, if◌then◌else◌}
+use Rattle.std.proofs.Common.{◌≡◌, ℕ, Bool, true, false, List, [], ◌∷◌, length, nat_lt, Option, Some, None, option_map, refl, ap, if◌then◌else◌}
 use Rattle.uvm_phase.specs.declared.phases.Phase.{Phase}
 use Rattle.uvm_phase.specs.declared.agendas.Due.{Due}
 use Rattle.uvm_object.specs.declared.acts.Who.{Who}
@@ -9,6 +9,8 @@ use Rattle.uvm_object.specs.declared.acts.Call.TheVariants as call
 use Rattle.uvm_object.specs.declared.acts.Act.{Act}
 use Rattle.uvm_object.specs.declared.fatals.Fatal.TheVariants.{TooManyActs}
 use Rattle.uvm_object.specs.Acts.{node_of}
+use Rattle.uvm_object.specs.declared.entries.Outcome.{Outcome}
+use Rattle.uvm_object.specs.declared.entries.Outcome.TheVariants.{Done, Made, Value, Refused}
 use Rattle.uvm_object.specs.declared.entries.Reason.{Reason}
 use Rattle.uvm_object.specs.declared.entries.Reason.TheVariants.{Finished}
 use Rattle.uvm_object.specs.declared.entries.Entry.{Entry}
@@ -17,12 +19,12 @@ use Rattle.bench_script.specs.Scripts.{ScriptValue}
 use Rattle.bench_history.specs.declared.needs.Need as declared
 use Rattle.bench_history.specs.declared.stages.Stage.{Stage}
 use Rattle.bench_history.specs.declared.stages.Stage.TheVariants.{Before, During, After, Ended}
-use Rattle.bench_history.specs.History.{most_acts, stage_of, running, next_call, left_of, rest_of, speaker_of, reason_of}
+use Rattle.bench_history.specs.Limits.{most_acts}
+use Rattle.bench_history.specs.History.{stage_of, running, next_call, left_of, rest_of, speaker_of, reason_of}
 use Rattle.bench_history.specs.Dues.{due_now}
-use Rattle.bench_history.specs.Refusals.{Effect, effect_outcome}
-use Rattle.bench_history.specs.Upshots.{Upshot, Needs, Gives, upshot_of}
-use Rattle.bench_history.specs.Cases.{Next, Exactly, Answer, Need, Nothing, end_reached, giving_up, first_act, by_upshot, call_due, phase_call, phase_end, phase_begin, phase_to_begin, finish}
-use Rattle.bench_history.specs.Next.{first_of, next_of}
+use Rattle.bench_history.specs.Upshots.{Upshot, Needs, Does, Finds, Refuses, upshot_of}
+use Rattle.bench_history.specs.Cases.{Next, Exactly, Answer, Need, Nothing, end_reached, giving_up, first_act, by_upshot, by_act, call_due, phase_call, phase_end, phase_begin, phase_to_begin, finish}
+use Rattle.bench_history.specs.Next.{first_next, next_of}
 
 -- what the machine writes by itself, outside a phase's course: neither a mark, nor an answer, nor an act
 abbrev pub IsOwn : Entry → Type 0
@@ -32,6 +34,11 @@ IsOwn (Heard performer call cause acts) = ⊥
 IsOwn (Did performer outcome act) = ⊥
 IsOwn entry = Unit {0}
 
+-- no object was made
+abbrev pub NotMade : Outcome → Type 0
+NotMade (Made type_name) = ⊥
+NotMade outcome = Unit {0}
+
 pub data Case (script : ScriptValue) (history : List Entry) (next : Next) : Type 0 where
   -- the run is over
   AtEnd : stage_of history ≡ Ended → next ≡ Nothing → Case script history next
@@ -39,8 +46,8 @@ pub data Case (script : ScriptValue) (history : List Entry) (next : Next) : Type
   ByOwn : (entry : Entry) → IsOwn entry → next ≡ Exactly entry → Case script history next
   -- or an act that was not performed yet: it needs an object
   ByNeed : (act : Act) (need : declared.Need) → left_of script history ≡ act ∷ rest_of (left_of script history) → upshot_of script history (speaker_of history) act ≡ Needs need → next ≡ Need need (speaker_of history) act → Case script history next
-  -- or comes to something at once
-  ByDeed : (act : Act) (effect : Effect) → left_of script history ≡ act ∷ rest_of (left_of script history) → upshot_of script history (speaker_of history) act ≡ Gives effect → next ≡ Exactly (Did (speaker_of history) (effect_outcome effect) act) → Case script history next
+  -- or comes to something at once, by which no object is made
+  ByDeed : (act : Act) (outcome : Outcome) → left_of script history ≡ act ∷ rest_of (left_of script history) → NotMade outcome → by_act script history (speaker_of history) act ≡ Exactly (Did (speaker_of history) outcome act) → next ≡ Exactly (Did (speaker_of history) outcome act) → Case script history next
   -- or a call is due
   ByDue : (due : Due Who Call) → due_now history ≡ Some due → next ≡ Answer due.owner due.notice (Some due.cause) → Case script history next
   -- or it is somebody's turn in the phase that runs
@@ -58,11 +65,11 @@ phase_cases history phase = phase_call history phase ∷ phase_end phase ∷ pha
 abbrev act_cases : ScriptValue → List Entry → List (Option Next)
 act_cases script history = call_due (due_now history) ∷ phase_cases history (running (stage_of history))
 
-case-begin : (script : ScriptValue) (history : List Entry) (next : Next) (begins : Option Phase) → phase_to_begin (stage_of history) ≡ begins → next ≡ first_of (phase_begin begins ∷ finish ∷ []) → Case script history next
+case-begin : (script : ScriptValue) (history : List Entry) (next : Next) (begins : Option Phase) → phase_to_begin (stage_of history) ≡ begins → next ≡ first_next (phase_begin begins ∷ finish ∷ []) → Case script history next
 case-begin script history next (Some phase) is e = ByBegin phase is e
 case-begin script history next None is e = ByOwn (Over Finished) tt e
 
-case-turn : (script : ScriptValue) (history : List Entry) (next : Next) (phase : Phase) (turn : Option ℕ) → stage_of history ≡ During phase → next_call phase history ≡ turn → next ≡ first_of (option_map (λ node. Answer (who.Node node) (call.Phase phase) None) turn ∷ phase_end (Some phase) ∷ phase_begin (phase_to_begin (stage_of history)) ∷ finish ∷ []) → Case script history next
+case-turn : (script : ScriptValue) (history : List Entry) (next : Next) (phase : Phase) (turn : Option ℕ) → stage_of history ≡ During phase → next_call phase history ≡ turn → next ≡ first_next (option_map (λ node. Answer (who.Node node) (call.Phase phase) None) turn ∷ phase_end (Some phase) ∷ phase_begin (phase_to_begin (stage_of history)) ∷ finish ∷ []) → Case script history next
 case-turn script history next phase (Some node) runs is e = ByTurn phase node is e
 case-turn script history next phase None runs is e = ByEnd phase runs e
 
@@ -73,17 +80,19 @@ runs-during (During other) phase e = let same : other ≡ phase = cc in rw same 
 runs-during (After other) phase e = cc
 runs-during Ended phase e = cc
 
-case-phase : (script : ScriptValue) (history : List Entry) (next : Next) (phase : Option Phase) → running (stage_of history) ≡ phase → next ≡ first_of (phase_cases history phase) → Case script history next
+case-phase : (script : ScriptValue) (history : List Entry) (next : Next) (phase : Option Phase) → running (stage_of history) ≡ phase → next ≡ first_next (phase_cases history phase) → Case script history next
 case-phase script history next (Some phase) runs e = case-turn script history next phase (next_call phase history) (runs-during (stage_of history) phase runs) refl e
 case-phase script history next None runs e = case-begin script history next (phase_to_begin (stage_of history)) refl e
 
-case-due : (script : ScriptValue) (history : List Entry) (next : Next) (due : Option (Due Who Call)) → due_now history ≡ due → next ≡ first_of (call_due due ∷ phase_cases history (running (stage_of history))) → Case script history next
+case-due : (script : ScriptValue) (history : List Entry) (next : Next) (due : Option (Due Who Call)) → due_now history ≡ due → next ≡ first_next (call_due due ∷ phase_cases history (running (stage_of history))) → Case script history next
 case-due script history next (Some due) is e = ByDue due is e
 case-due script history next None is e = case-phase script history next (running (stage_of history)) refl e
 
 case-upshot : (script : ScriptValue) (history : List Entry) (next : Next) (act : Act) (upshot : Upshot) → left_of script history ≡ act ∷ rest_of (left_of script history) → upshot_of script history (speaker_of history) act ≡ upshot → next ≡ by_upshot (speaker_of history) act upshot → Case script history next
 case-upshot script history next act (Needs need) left is e = ByNeed act need left is e
-case-upshot script history next act (Gives effect) left is e = ByDeed act effect left is e
+case-upshot script history next act Does left is e = ByDeed act Done left tt (ap (by_upshot (speaker_of history) act) is) e
+case-upshot script history next act (Finds value) left is e = ByDeed act (Value value) left tt (ap (by_upshot (speaker_of history) act) is) e
+case-upshot script history next act (Refuses fatal) left is e = ByDeed act (Refused fatal) left tt (ap (by_upshot (speaker_of history) act) is) e
 
 -- the note of an answer of too many acts
 abbrev noted : List Entry → Next
@@ -91,13 +100,13 @@ noted history = Exactly (Note TooManyActs (node_of (speaker_of history)))
 
 case-many :
     (script : ScriptValue) (history : List Entry) (next : Next) (act : Act) (acts : List Act) (many : Bool) → left_of script history ≡ act ∷ acts
-    → next ≡ first_of ((if many then Some (noted history) else None) ∷ first_act script history (act ∷ acts) ∷ act_cases script history) → Case script history next
+    → next ≡ first_next ((if many then Some (noted history) else None) ∷ first_act script history (act ∷ acts) ∷ act_cases script history) → Case script history next
 case-many script history next act acts true left e = ByOwn (Note TooManyActs (node_of (speaker_of history))) tt e
 case-many script history next act acts false left e = case-upshot script history next act (upshot_of script history (speaker_of history) act) (rw left refl) refl e
 
 case-left :
     (script : ScriptValue) (history : List Entry) (next : Next) (left : List Act) → left_of script history ≡ left
-    → next ≡ first_of ((if nat_lt most_acts (length left) then Some (noted history) else None) ∷ first_act script history left ∷ act_cases script history) → Case script history next
+    → next ≡ first_next ((if nat_lt most_acts (length left) then Some (noted history) else None) ∷ first_act script history left ∷ act_cases script history) → Case script history next
 case-left script history next [] is e = case-due script history next (due_now history) refl e
 case-left script history next (act ∷ acts) is e = case-many script history next act acts (nat_lt most_acts (length (act ∷ acts))) is e
 
@@ -107,13 +116,13 @@ answer_cases script history left = (if nat_lt most_acts (length left) then Some 
 
 case-reason :
     (script : ScriptValue) (history : List Entry) (next : Next) (reason : Option Reason) → reason_of history ≡ reason
-    → next ≡ first_of (giving_up reason ∷ answer_cases script history (left_of script history)) → Case script history next
+    → next ≡ first_next (giving_up reason ∷ answer_cases script history (left_of script history)) → Case script history next
 case-reason script history next (Some reason) is e = ByOwn (Over reason) tt e
 case-reason script history next None is e = case-left script history next (left_of script history) refl e
 
 case-stage :
     (script : ScriptValue) (history : List Entry) (next : Next) (stage : Stage) → stage_of history ≡ stage
-    → next ≡ first_of (end_reached stage ∷ giving_up (reason_of history) ∷ answer_cases script history (left_of script history)) → Case script history next
+    → next ≡ first_next (end_reached stage ∷ giving_up (reason_of history) ∷ answer_cases script history (left_of script history)) → Case script history next
 case-stage script history next Ended is e = AtEnd is e
 case-stage script history next Before is e = case-reason script history next (reason_of history) refl e
 case-stage script history next (During phase) is e = case-reason script history next (reason_of history) refl e

@@ -1,22 +1,20 @@
 -- Where an object is what comes next.
-use Rattle.std.proofs.Common.{◌≡◌, ℕ, Bool, true, false, List, [], ◌∷◌, ◌++◌, Option, Some, None, Result, Ok, Err, IsSome, is_none, refl, ◌∙◌, sym, subst, if◌then◌else◌}
+use Rattle.std.proofs.Common.{◌≡◌, ℕ, Bool, List, [], ◌∷◌, ◌++◌, Option, Some, None, IsSome, is_none, refl, ◌∙◌, sym, subst}
+use Rattle.uvm_glob.specs.Lists.{first_given}
 use Rattle.uvm_tree.specs.declared.nodes.Node.{Node}
 use Rattle.uvm_tree.specs.Nodes.{path_at, node_at, add_fault, first_fault}
-use Rattle.uvm_factory.specs.declared.types.Kind.TheVariants.{Component}
-use Rattle.uvm_factory.specs.Faults.{Types}
-use Rattle.uvm_factory.specs.declared.overrides.Override.{Override}
 use Rattle.uvm_object.specs.Acts.{node_of}
 use Rattle.uvm_object.specs.declared.acts.Who.{Who}
 use Rattle.uvm_object.specs.declared.acts.Act.{Act}
 use Rattle.uvm_object.specs.declared.acts.Act.TheVariants.{Create}
 use Rattle.uvm_object.specs.declared.fatals.Fatal.{Fatal}
-use Rattle.uvm_object.specs.declared.fatals.Fatal.TheVariants.{CreatedAfterBuild}
+use Rattle.uvm_object.specs.declared.fatals.Fatal.TheVariants.{CreatedAfterBuild, InvalidType, OverrideLoop}
 use Rattle.uvm_object.specs.declared.entries.Entry.{Entry}
 use Rattle.bench_script.specs.Scripts.{ScriptValue}
 use Rattle.bench_history.specs.declared.needs.Need as declared
-use Rattle.bench_history.specs.History.{created_name, nodes_of, left_of, rest_of, speaker_of, is_built, overrides_of}
-use Rattle.bench_history.specs.Refusals.{child_refusal, fatal_of, made_unless, made_of, component_named, creation_of}
-use Rattle.bench_history.specs.Upshots.{Needs, by_creation, creation_now, upshot_of}
+use Rattle.bench_history.specs.History.{created_name, nodes_of, left_of, rest_of, speaker_of}
+use Rattle.bench_history.specs.Refusals.{fault_if, Creation, created_path, type_asked, type_made, child_refusal, fatal_of, creation_refusal}
+use Rattle.bench_history.specs.Upshots.{Upshot, Needs, unless_refused, needed_object, creation_now, upshot_of}
 use Rattle.bench_history.specs.Cases.{Next, Need}
 use Rattle.bench_history.specs.Next.{next_of, need_in}
 use Rattle.bench_history.specs.Laws.{IsCreation, IsWanted, NeedsAreCreations}
@@ -31,48 +29,53 @@ some-node nodes parent name free = from-node (node_at nodes parent) _ _ _ free
     from-node None taken deep full e = cc
     from-node (Some node) taken deep full e = refl
 
+-- where the last of four causes is looked for the third is not there
+third-not : (first second third fourth : Option Fatal) → first_given (first ∷ second ∷ third ∷ fourth ∷ []) ≡ None → third ≡ None
+third-not (Some fatal) second third fourth e = cc
+third-not None (Some fatal) third fourth e = cc
+third-not None None (Some fatal) fourth e = cc
+third-not None None None fourth e = refl
+
 -- what is created has a free name
-free-unless : (types : Types) (overrides : List Override) (asked : List ℕ) (path : List (List ℕ)) (refusal : Option Fatal) (type_id : ℕ) (type_name : List ℕ) → made_unless types overrides asked path refusal type_id ≡ Ok type_name → refusal ≡ None
-free-unless types overrides asked path None type_id type_name e = refl
-free-unless types overrides asked path (Some fatal) type_id type_name e = cc
-
-free-of : (types : Types) (overrides : List Override) (asked : List ℕ) (path : List (List ℕ)) (type_id : Option ℕ) (refusal : Option Fatal) (type_name : List ℕ) → made_of types overrides asked path type_id refusal ≡ Ok type_name → refusal ≡ None
-free-of types overrides asked path None refusal type_name e = cc
-free-of types overrides asked path (Some type_id) refusal type_name e = free-unless types overrides asked path refusal type_id type_name e
-
-free-built : (built : Bool) (types : Types) (overrides : List Override) (asked : List ℕ) (path : List (List ℕ)) (type_id : Option ℕ) (refusal : Option Fatal) (type_name : List ℕ) → (if built then Err CreatedAfterBuild else made_of types overrides asked path type_id refusal) ≡ Ok type_name → refusal ≡ None
-free-built true types overrides asked path type_id refusal type_name e = cc
-free-built false types overrides asked path type_id refusal type_name e = free-of types overrides asked path type_id refusal type_name e
+free-of : (creation : Creation) → creation_refusal creation ≡ None → child_refusal creation.nodes creation.parent creation.name ≡ None
+unfolding creation_refusal
+free-of creation e = third-not (fault_if creation.built CreatedAfterBuild) (fault_if (is_none (type_asked creation)) InvalidType) _ (fault_if (is_none (type_made creation)) OverrideLoop) e
 
 -- an object is needed where a creation is not refused
-record IsMadeAt (path : List (List ℕ)) (need : declared.Need) (made : Result (List ℕ) Fatal) : Type 0 where
-  made_is : made ≡ Ok need.type_name
-  path_is : need.path ≡ path
+record IsUnrefused (creation : Creation) (need : declared.Need) (refusal : Option Fatal) : Type 0 where
+  none : refusal ≡ None
+  path_is : need.path ≡ created_path creation
 
-made-at : (path : List (List ℕ)) (need : declared.Need) (made : Result (List ℕ) Fatal) → by_creation Component path made ≡ Needs need → IsMadeAt path need made
-made-at path need (Ok type_name) e =
-    let same : record { kind = Component; type_name = type_name; path = path } ≡ need = cc in
-    subst (λ (n : declared.Need). IsMadeAt path n (Ok type_name)) same (record { made_is = refl; path_is = refl })
-made-at path need (Err fatal) e = cc
+unrefused : (creation : Creation) (need : declared.Need) (refusal : Option Fatal) → unless_refused refusal (Needs (needed_object creation)) ≡ Needs need → IsUnrefused creation need refusal
+unrefused creation need None e =
+    let same : needed_object creation ≡ need = cc in
+    subst (λ (n : declared.Need). IsUnrefused creation n None) same (record { none = refl; path_is = refl })
+unrefused creation need (Some fatal) e = cc
 
+-- so the act is a creation
 record IsCreating (script : ScriptValue) (history : List Entry) (performer : Who) (act : Act) (need : declared.Need) : Type 0 where
   asked : List ℕ
   creates : IsCreation act
-  made : IsMadeAt (path_at (nodes_of history) (node_of performer) ++ created_name act ∷ []) need (creation_now script history performer asked (created_name act))
+  unrefused : IsUnrefused (creation_now script history performer asked (created_name act)) need (creation_refusal (creation_now script history performer asked (created_name act)))
+
+-- no object is needed by what comes to something else
+abbrev IsAtOnce : Upshot → Type 0
+IsAtOnce (Needs need) = ⊥
+IsAtOnce upshot = Unit {0}
+
+at-once-unless : (refusal : Option Fatal) (upshot : Upshot) → IsAtOnce upshot → IsAtOnce (unless_refused refusal upshot)
+at-once-unless None upshot at_once = at_once
+at-once-unless (Some fatal) upshot at_once = tt
 
 creating-of : (script : ScriptValue) (history : List Entry) (performer : Who) (act : Act) (need : declared.Need) → upshot_of script history performer act ≡ Needs need → IsCreating script history performer act need
-creating-of script history performer (Create asked name) need e = record { asked = asked; creates = tt; made = made-at _ need _ e }
-creating-of script history performer act need e = cc
-
-name-free : (script : ScriptValue) (history : List Entry) (performer : Who) (asked name type_name : List ℕ) → creation_now script history performer asked name ≡ Ok type_name → child_refusal (nodes_of history) (node_of performer) name ≡ None
-unfolding creation_of
-name-free script history performer asked name type_name e = free-built (is_built history) script.types (overrides_of script history) asked (path_at (nodes_of history) (node_of performer) ++ name ∷ []) (component_named script.types asked) _ type_name e
+creating-of script history performer (Create asked name) need e = record { asked = asked; creates = tt; unrefused = unrefused _ need _ e }
+creating-of script history performer act need e = absurd (subst IsAtOnce e (search at-once-unless))
 
 wanted-by : (script : ScriptValue) (history : List Entry) (act : Act) (need : declared.Need) → upshot_of script history (speaker_of history) act ≡ Needs need → next_of script history ≡ Need need (speaker_of history) act → IsWanted script history act
 wanted-by script history act need upshot next =
     let c = creating-of script history (speaker_of history) act need upshot in
-    let free = name-free script history (speaker_of history) c.asked (created_name act) need.type_name c.made.made_is in
-    record { need = need; next = next; creates = c.creates; path_is = c.made.path_is; free = free; speaker = some-node (nodes_of history) (node_of (speaker_of history)) (created_name act) free }
+    let free = free-of (creation_now script history (speaker_of history) c.asked (created_name act)) c.unrefused.none in
+    record { need = need; next = next; creates = c.creates; path_is = c.unrefused.path_is; free = free; speaker = some-node (nodes_of history) (node_of (speaker_of history)) (created_name act) free }
 
 -- no object is needed elsewhere
 not-needed : {A : Type 0} (other next : Next) → next ≡ other → need_in other ≡ None → IsSome (need_in next) → A
@@ -84,7 +87,7 @@ need-case :
 need-case script history next is need (AtEnd ended e) = not-needed _ next e refl need
 need-case script history next is need (ByOwn entry own e) = not-needed _ next e refl need
 need-case script history next is need (ByNeed act wants left upshot e) = (act, left, wanted-by script history act wants upshot (is ∙ e))
-need-case script history next is need (ByDeed act effect left upshot e) = not-needed _ next e refl need
+need-case script history next is need (ByDeed act outcome left plain comes e) = not-needed _ next e refl need
 need-case script history next is need (ByDue due now e) = not-needed _ next e refl need
 need-case script history next is need (ByTurn phase node turn e) = not-needed _ next e refl need
 need-case script history next is need (ByEnd phase runs e) = not-needed _ next e refl need

@@ -24,7 +24,7 @@ act-case : (script : ScriptValue) (history : List Entry) (next : Next) → next_
 act-case script history next is did (AtEnd ended e) = absurd (subst IsAct e did)
 act-case script history next is did (ByOwn entry own e) = absurd (no-own entry own (subst IsAct e did))
 act-case script history next is did (ByNeed act need left upshot e) = (act, record { left = left; next = is ∙ e ∙ ap (by_upshot (speaker_of history) act) (sym upshot) })
-act-case script history next is did (ByDeed act effect left upshot e) = (act, record { left = left; next = is ∙ e ∙ ap (by_upshot (speaker_of history) act) (sym upshot) })
+act-case script history next is did (ByDeed act outcome left plain comes e) = (act, record { left = left; next = is ∙ e ∙ sym comes })
 act-case script history next is did (ByDue due now e) = absurd (subst IsAct e did)
 act-case script history next is did (ByTurn phase node turn e) = absurd (subst IsAct e did)
 act-case script history next is did (ByEnd phase runs e) = absurd (subst IsAct e did)
@@ -37,7 +37,7 @@ due-case : (script : ScriptValue) (history : List Entry) (performer : Who) (call
 due-case script history performer call cause next asks (AtEnd ended e) = cc
 due-case script history performer call cause next asks (ByOwn entry own e) = cc
 due-case script history performer call cause next asks (ByNeed act need left is e) = cc
-due-case script history performer call cause next asks (ByDeed act effect left is e) = cc
+due-case script history performer call cause next asks (ByDeed act outcome left plain comes e) = cc
 due-case script history performer call cause next asks (ByDue due now e) = (due, now, cc, cc, cc)
 due-case script history performer call cause next asks (ByTurn phase node turn e) = cc
 due-case script history performer call cause next asks (ByEnd phase runs e) = cc

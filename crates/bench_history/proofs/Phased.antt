@@ -46,7 +46,7 @@ begin-case : (script : ScriptValue) (history : List Entry) (phase : Phase) (next
 begin-case script history phase next is (AtEnd over e) = cc
 begin-case script history phase next is (ByOwn entry own e) = let same : entry ≡ Begin phase = cc in absurd (subst IsOwn same own)
 begin-case script history phase next is (ByNeed act need left upshot e) = cc
-begin-case script history phase next is (ByDeed act effect left upshot e) = cc
+begin-case script history phase next is (ByDeed act outcome left plain comes e) = cc
 begin-case script history phase next is (ByDue due now e) = cc
 begin-case script history phase next is (ByTurn running node turn e) = cc
 begin-case script history phase next is (ByEnd running runs e) = cc
@@ -57,7 +57,7 @@ end-case : (script : ScriptValue) (history : List Entry) (phase : Phase) (next :
 end-case script history phase next is (AtEnd over e) = cc
 end-case script history phase next is (ByOwn entry own e) = let same : entry ≡ End phase = cc in absurd (subst IsOwn same own)
 end-case script history phase next is (ByNeed act need left upshot e) = cc
-end-case script history phase next is (ByDeed act effect left upshot e) = cc
+end-case script history phase next is (ByDeed act outcome left plain comes e) = cc
 end-case script history phase next is (ByDue due now e) = cc
 end-case script history phase next is (ByTurn running node turn e) = cc
 end-case script history phase next is (ByEnd running runs e) = let same : running ≡ phase = cc in rw (← same) runs

@@ -12,6 +12,7 @@ use Rattle.uvm_object.specs.declared.acts.Call.{Call}
 use Rattle.uvm_object.specs.declared.acts.Call.TheVariants as call
 use Rattle.uvm_object.specs.declared.acts.Act.{Act}
 use Rattle.uvm_object.specs.declared.fatals.Fatal.TheVariants.{TooManyActs}
+use Rattle.uvm_object.specs.declared.entries.Outcome.TheVariants.{Done, Value, Refused}
 use Rattle.uvm_object.specs.declared.entries.Reason.{Reason}
 use Rattle.uvm_object.specs.declared.entries.Reason.TheVariants.{Finished}
 use Rattle.uvm_object.specs.declared.entries.Entry.{Entry}
@@ -20,14 +21,15 @@ use Rattle.bench_script.specs.Scripts.{ScriptValue}
 use Rattle.bench_history.specs.declared.needs.Need as declared
 use Rattle.bench_history.specs.declared.stages.Stage.{Stage}
 use Rattle.bench_history.specs.declared.stages.Stage.TheVariants.{Before, After, Ended}
-use Rattle.bench_history.specs.History.{most_acts, next_call, speaker_of}
-use Rattle.bench_history.specs.Refusals.{effect_outcome}
-use Rattle.bench_history.specs.Upshots.{Upshot, Needs, Gives, upshot_of}
+use Rattle.bench_history.specs.Limits.{most_acts}
+use Rattle.bench_history.specs.History.{next_call, speaker_of}
+use Rattle.bench_history.specs.Upshots.{Upshot, Needs, Does, Finds, Refuses, upshot_of}
 
--- what comes next: this entry; the answer of somebody to a call; an object for an act, made or declined; or nothing
+-- what comes next: this entry; the answer of a hearer to a call, which was caused or is a phase's; an object for the act of a performer, made or
+-- declined; or nothing
 pub data Next : Type 0 where
   Exactly : (entry : Entry) → Next
-  Answer : (performer : Who) → (call : Call) → (cause : Option Cause) → Next
+  Answer : (hearer : Who) → (call : Call) → (cause : Option Cause) → Next
   Need : (need : declared.Need) → (performer : Who) → (act : Act) → Next
   Nothing : Next
 
@@ -44,10 +46,12 @@ giving_up reason = option_map (λ reason. Exactly (Over reason)) reason
 abbrev pub long_answer : List Entry → List Act → Option Next
 long_answer history left = if nat_lt most_acts (length left) then Some (Exactly (Note TooManyActs (node_of (speaker_of history)))) else None
 
--- an act becomes something at once, or needs an object
+-- an act needs an object first, or has its entry at once, with what it came to
 abbrev pub by_upshot : Who → Act → Upshot → Next
 by_upshot performer act (Needs need) = Need need performer act
-by_upshot performer act (Gives effect) = Exactly (Did performer (effect_outcome effect) act)
+by_upshot performer act Does = Exactly (Did performer Done act)
+by_upshot performer act (Finds value) = Exactly (Did performer (Value value) act)
+by_upshot performer act (Refuses fatal) = Exactly (Did performer (Refused fatal) act)
 
 abbrev pub by_act : ScriptValue → List Entry → Who → Act → Next
 by_act script history performer act = by_upshot performer act (upshot_of script history performer act)
@@ -61,7 +65,7 @@ first_act script history (act ∷ acts) = Some (by_act script history (speaker_o
 abbrev pub call_due : Option (Due Who Call) → Option Next
 call_due due = option_map (λ due. Answer due.owner due.notice (Some due.cause)) due
 
--- it is somebody's turn in the phase that runs
+-- it is a node's turn in the phase that runs
 abbrev pub phase_call : List Entry → Option Phase → Option Next
 phase_call history None = None
 phase_call history (Some phase) = option_map (λ node. Answer (who.Node node) (call.Phase phase) None) (next_call phase history)

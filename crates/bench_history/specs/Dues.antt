@@ -22,15 +22,15 @@ abbrev pub told_by : Outcome → Act → Option Call
 told_by (Value value) (Get field) = Some (call.Config field value)
 told_by outcome act = None
 
--- it is due at once, while a phase runs
-abbrev pub due_from : Option Call → Who → Option Phase → ℕ → ℕ → List (Due Who Call)
-due_from (Some notice) performer (Some phase) time place =
-    record { time = time; cause = record { place = place; number = 0 }; phase = phase; owner = performer; notice = notice } ∷ []
-due_from (Some notice) performer None time place = []
-due_from None performer phase time place = []
+-- it is due at once, to the performer, while a phase runs
+abbrev pub due_from : Option Call → Who → Option Phase → ℕ → Cause → List (Due Who Call)
+due_from (Some notice) performer (Some phase) time cause = record { time = time; cause = cause; phase = phase; owner = performer; notice = notice } ∷ []
+due_from (Some notice) performer None time cause = []
+due_from None performer phase time cause = []
 
+-- the calls that the entry of an act causes, which stands at a place
 abbrev pub calls_after : Outcome → Act → Who → Option Phase → ℕ → ℕ → List (Due Who Call)
-calls_after outcome act performer phase time place = due_from (told_by outcome act) performer phase time place
+calls_after outcome act performer phase time place = due_from (told_by outcome act) performer phase time (record { place = place; number = 0 })
 
 -- all calls that were caused; the place of an entry is the number of those before it
 abbrev pub caused_of : List Entry → List (Due Who Call)
@@ -41,7 +41,7 @@ caused_of (entry ∷ before) = caused_of before
 
 -- the causes of those that were heard
 abbrev pub heard_in : Entry → List Cause
-heard_in (Heard performer call (Some cause) acts) = cause ∷ []
+heard_in (Heard hearer call (Some cause) acts) = cause ∷ []
 heard_in entry = []
 
 abbrev pub heard_of : List Entry → List Cause

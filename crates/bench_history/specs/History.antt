@@ -1,4 +1,6 @@
--- What a log says. A history is the list of its entries, the newest first.
+-- What a log says. A history is the list of its entries, the newest first: a phase begins or ends; somebody, the hearer, has heard a call and
+-- answered with acts; an act was done by its performer, and came to an outcome, which may be that it was refused; the kernel notes a fault; the
+-- run is over.
 use Rattle.std.specs.Prelude.{ℕ, Bool, true, false, not, ◌==◌, List, [], ◌∷◌, ◌++◌, length, reverse, filter, slice_get, codes, Option, Some, None, if◌then◌else◌}
 use Rattle.std.specs.List.{list_any}
 use Rattle.std.specs.Option.{option_map_or}
@@ -34,14 +36,6 @@ use Rattle.bench_script.specs.Scripts.{ScriptValue}
 use Rattle.bench_history.specs.declared.stages.Stage.{Stage}
 use Rattle.bench_history.specs.declared.stages.Stage.TheVariants.{Before, During, After, Ended}
 
--- the most entries of a log
-abbrev pub log_limit : ScriptValue → ℕ
-log_limit script = 1000000
-
--- the most acts of an answer
-abbrev pub most_acts : ℕ
-most_acts = 64
-
 -- where the run stands
 abbrev pub stage_of : List Entry → Stage
 stage_of [] = Before
@@ -69,22 +63,24 @@ created_name act = []
 abbrev pub kind_of : What → NodeKind
 kind_of (what.Fifo size) = kind.Fifo
 
--- the nodes of the tree: each object that is made and each accepted addition is one under its performer
+-- each object that is made and each accepted addition is one node more, under its performer
 abbrev pub nodes_after : List Node → Who → Outcome → Act → List Node
 nodes_after nodes performer (Made type_name) act = nodes ++ child nodes (node_of performer) (created_name act) kind.Component ∷ []
 nodes_after nodes performer Done (Add name what) = nodes ++ child nodes (node_of performer) name (kind_of what) ∷ []
 nodes_after nodes performer outcome act = nodes
 
+-- all nodes by their numbers, the top first
 abbrev pub nodes_of : List Entry → List Node
 nodes_of [] = top ∷ []
 nodes_of (Did performer outcome act ∷ before) = nodes_after (nodes_of before) performer outcome act
 nodes_of (entry ∷ before) = nodes_of before
 
--- the nodes that hold an object
+-- an object that is made stands at the node that it makes
 abbrev pub components_after : ℕ → List ℕ → Outcome → List ℕ
 components_after node components (Made type_name) = components ++ node ∷ []
 components_after node components outcome = components
 
+-- the nodes that hold an object, in the order in which they were made
 abbrev pub components_of : List Entry → List ℕ
 components_of [] = []
 components_of (Did performer outcome act ∷ before) = components_after (length (nodes_of before)) (components_of before) outcome
@@ -94,7 +90,7 @@ components_of (entry ∷ before) = components_of before
 abbrev pub called_of : List Entry → List ℕ
 called_of [] = []
 called_of (Begin phase ∷ before) = []
-called_of (Heard performer call None acts ∷ before) = node_of performer ∷ called_of before
+called_of (Heard hearer call None acts ∷ before) = node_of hearer ∷ called_of before
 called_of (entry ∷ before) = called_of before
 
 abbrev pub had_call : List ℕ → ℕ → Bool
@@ -112,12 +108,12 @@ next_call phase history =
     (filter (λ node. not (had_call (called_of history) node)) (components_of history))
 
 -- the name of a type; one that is not there goes by another name
-abbrev pub type_name : Types → ℕ → List ℕ → List ℕ
-type_name types type_id other = option_map_or (λ t. t.0) (slice_get types type_id) other
+abbrev pub type_name_or : Types → ℕ → List ℕ → List ℕ
+type_name_or types type_id other = option_map_or (λ t. t.0) (slice_get types type_id) other
 
 -- the script counts as an answer of the top, whose one act creates the test; without a test its type is the empty name, which is refused
 abbrev pub opening : ScriptValue → Act
-opening script = Create (option_map_or (λ test. type_name script.types test []) script.test []) (codes "uvm_test_top")
+opening script = Create (option_map_or (λ test. type_name_or script.types test []) script.test []) (codes "uvm_test_top")
 
 abbrev pub rest_of : List Act → List Act
 rest_of [] = []
@@ -127,7 +123,7 @@ rest_of (act ∷ acts) = acts
 -- any answer the script's is left
 abbrev pub left_of : ScriptValue → List Entry → List Act
 left_of script [] = opening script ∷ []
-left_of script (Heard performer call cause acts ∷ before) = acts
+left_of script (Heard hearer call cause acts ∷ before) = acts
 left_of script (Did performer outcome act ∷ before) = rest_of (left_of script before)
 left_of script (Note fatal node ∷ before) = []
 left_of script (entry ∷ before) = left_of script before
@@ -136,13 +132,13 @@ abbrev pub head_of : List Act → Option Act
 head_of [] = None
 head_of (act ∷ acts) = Some act
 
--- who gave the last answer
+-- who gave the last answer, and so performs its acts; the top before any
 abbrev pub speaker_of : List Entry → Who
 speaker_of [] = who.Node 0
-speaker_of (Heard performer call cause acts ∷ before) = performer
+speaker_of (Heard hearer call cause acts ∷ before) = hearer
 speaker_of (entry ∷ before) = speaker_of before
 
--- the overrides, the newest first: those of the accepted acts, behind them the script's
+-- an override is there once both its types are known
 abbrev pub with_override : Option ℕ → Option ℕ → (ℕ → ℕ → Override) → List Override → List Override
 with_override (Some original) (Some new) make overrides = make original new ∷ overrides
 with_override (Some original) None make overrides = overrides
@@ -155,6 +151,7 @@ overrides_after types nodes overrides performer Done (OverrideInst original new 
     with_override (type_named types original) (type_named types new) (λ o n. Instance o n (dotted (path_text (path_at nodes (node_of performer))) glob)) overrides
 overrides_after types nodes overrides performer outcome act = overrides
 
+-- the overrides, the newest first: those of the accepted acts, behind them the script's
 abbrev pub overrides_of : ScriptValue → List Entry → List Override
 overrides_of script [] = reverse script.overrides
 overrides_of script (Did performer outcome act ∷ before) = overrides_after script.types (nodes_of before) (overrides_of script before) performer outcome act

@@ -29,7 +29,7 @@ abbrev pub next_number : Stage → ℕ
 next_number Before = 0
 next_number (During phase) = phase_number phase
 next_number (After phase) = phase_number phase + 1
-next_number Ended = 9
+next_number Ended = length phases
 
 -- the phases go in their order: until the end those that have ended are the first of the nine, each once, and so they stand before the one
 -- that runs, or may begin next

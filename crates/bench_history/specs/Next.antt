@@ -1,5 +1,6 @@
 -- What may come next in a log, and what a legal log is.
-use Rattle.std.specs.Prelude.{◌≡◌, ◌≤◌, List, [], ◌∷◌, length, Option, Some, None, ◌⊎◌}
+use Rattle.std.specs.Prelude.{◌≡◌, ◌≤◌, List, [], ◌∷◌, length, Option, Some, None, unwrap_or, ◌⊎◌}
+use Rattle.uvm_glob.specs.Lists.{first_given}
 use Rattle.uvm_object.specs.declared.acts.Act.{Act}
 use Rattle.uvm_object.specs.declared.fatals.Fatal.TheVariants.{NoObject}
 use Rattle.uvm_object.specs.declared.entries.Outcome.TheVariants.{Made, Refused}
@@ -7,20 +8,19 @@ use Rattle.uvm_object.specs.declared.entries.Entry.{Entry}
 use Rattle.uvm_object.specs.declared.entries.Entry.TheVariants.{Heard, Did}
 use Rattle.bench_script.specs.Scripts.{ScriptValue}
 use Rattle.bench_history.specs.declared.needs.Need as declared
-use Rattle.bench_history.specs.History.{log_limit, stage_of, running, left_of, reason_of}
+use Rattle.bench_history.specs.Limits.{log_limit}
+use Rattle.bench_history.specs.History.{stage_of, running, left_of, reason_of}
 use Rattle.bench_history.specs.Dues.{due_now}
 use Rattle.bench_history.specs.Cases.{Next, Exactly, Answer, Need, Nothing, end_reached, giving_up, long_answer, first_act, call_due, phase_call, phase_end, phase_begin, phase_to_begin, finish}
 
 -- of some cases the first that is given
-abbrev pub first_of : List (Option Next) → Next
-first_of [] = Nothing
-first_of (Some next ∷ cases) = next
-first_of (None ∷ cases) = first_of cases
+abbrev pub first_next : List (Option Next) → Next
+first_next cases = unwrap_or (first_given cases) Nothing
 
 -- the machine's cases, in the order in which they are looked at
 unfoldable pub next_of : ScriptValue → List Entry → Next
 next_of script history =
-    first_of (
+    first_next (
     end_reached (stage_of history)
     ∷ giving_up (reason_of history)
     ∷ long_answer history (left_of script history)
@@ -32,10 +32,10 @@ next_of script history =
     ∷ finish
     ∷ [])
 
--- two things are free: the acts of an answer, and whether a needed object is made or declined
+-- whether an entry is what comes next. Two things are free: the acts of an answer, and whether a needed object is made or declined
 abbrev pub Allows : Next → Entry → Type 0
 Allows (Exactly expected) entry = entry ≡ expected
-Allows (Answer performer call cause) entry = (acts : List Act) × (entry ≡ Heard performer call cause acts)
+Allows (Answer hearer call cause) entry = (acts : List Act) × (entry ≡ Heard hearer call cause acts)
 Allows (Need need performer act) entry = (entry ≡ Did performer (Made need.type_name) act) ⊎ (entry ≡ Did performer (Refused NoObject) act)
 Allows Nothing entry = ⊥
 

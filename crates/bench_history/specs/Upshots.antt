@@ -1,8 +1,8 @@
 -- What an act comes to, after a log.
-use Rattle.std.specs.Prelude.{ℕ, List, [], ◌∷◌, ◌++◌, length, Option, Some, None, Result, Ok, Err}
+use Rattle.std.specs.Prelude.{ℕ, ℤ, List, length, Option, Some, None}
+use Rattle.std.specs.Option.{option_map_or}
 use Rattle.uvm_glob.specs.Paths.{path_text}
 use Rattle.uvm_config.specs.Answers.{config_answer}
-use Rattle.uvm_factory.specs.declared.types.Kind.{Kind}
 use Rattle.uvm_factory.specs.declared.types.Kind.TheVariants.{Component}
 use Rattle.uvm_tree.specs.Nodes.{path_at}
 use Rattle.uvm_object.specs.Acts.{node_of}
@@ -13,35 +13,44 @@ use Rattle.uvm_object.specs.declared.fatals.Fatal.{Fatal}
 use Rattle.uvm_object.specs.declared.entries.Entry.{Entry}
 use Rattle.bench_script.specs.Scripts.{ScriptValue}
 use Rattle.bench_history.specs.declared.needs.Need.{Need}
-use Rattle.bench_history.specs.History.{nodes_of, overrides_of, is_built}
+use Rattle.bench_history.specs.History.{nodes_of, overrides_of, is_built, type_name_or}
 use Rattle.bench_history.specs.Configuration.{settings_of}
-use Rattle.bench_history.specs.Refusals.{Effect, Finds, Refuses, creation_of, addition_of, setting_of, overriding_of}
+use Rattle.bench_history.specs.Refusals.{Creation, created_path, type_made, creation_refusal, addition_refusal, setting_refusal, overriding_refusal}
 
--- what an act comes to: an object is needed first, or something becomes of it at once
+-- what an act comes to: an object is needed first; or at once it is performed, or finds a value, or is refused
 pub data Upshot : Type 0 where
   Needs : (need : Need) → Upshot
-  Gives : (effect : Effect) → Upshot
+  Does : Upshot
+  Finds : (value : Option ℤ) → Upshot
+  Refuses : (fatal : Fatal) → Upshot
 
--- a creation needs an object of the type that is made, for its path, unless it is refused
-abbrev pub by_creation : Kind → List (List ℕ) → Result (List ℕ) Fatal → Upshot
-by_creation kind path (Ok type_name) = Needs (record { kind = kind; type_name = type_name; path = path })
-by_creation kind path (Err fatal) = Gives (Refuses fatal)
+-- it is refused, or else it comes to this
+abbrev pub unless_refused : Option Fatal → Upshot → Upshot
+unless_refused None upshot = upshot
+unless_refused (Some fatal) upshot = Refuses fatal
 
--- the type that a creation makes now, or why it is refused
-abbrev pub creation_now : ScriptValue → List Entry → Who → List ℕ → List ℕ → Result (List ℕ) Fatal
-creation_now script history performer type_name name = creation_of (is_built history) script.types (overrides_of script history) (nodes_of history) (node_of performer) type_name name
+-- the object that a creation needs, of the type that is made
+abbrev pub needed_object : Creation → Need
+needed_object creation = record { kind = Component; type_name = option_map_or (λ made. type_name_or creation.types made creation.type_name) (type_made creation) creation.type_name; path = created_path creation }
+
+abbrev pub creation_upshot : Creation → Upshot
+creation_upshot creation = unless_refused (creation_refusal creation) (Needs (needed_object creation))
+
+-- a creation after a log
+abbrev pub creation_now : ScriptValue → List Entry → Who → List ℕ → List ℕ → Creation
+creation_now script history performer type_name name =
+    record { built = is_built history; types = script.types; overrides = overrides_of script history; nodes = nodes_of history; parent = node_of performer; type_name = type_name; name = name }
 
 -- what each act comes to
 abbrev pub upshot_of : ScriptValue → List Entry → Who → Act → Upshot
-upshot_of script history performer (Create type_name name) =
-    by_creation Component (path_at (nodes_of history) (node_of performer) ++ name ∷ []) (creation_now script history performer type_name name)
-upshot_of script history performer (Add name what) = Gives (addition_of (is_built history) (nodes_of history) (node_of performer) name)
-upshot_of script history performer (Set glob field value) = Gives (setting_of (length (settings_of script history)))
-upshot_of script history performer (Get field) = Gives (Finds (config_answer (settings_of script history) (path_text (path_at (nodes_of history) (node_of performer))) field))
-upshot_of script history performer (OverrideType original new replace) = Gives (overriding_of script.types original new)
-upshot_of script history performer (OverrideInst original new glob) = Gives (overriding_of script.types original new)
+upshot_of script history performer (Create type_name name) = creation_upshot (creation_now script history performer type_name name)
+upshot_of script history performer (Add name what) = unless_refused (addition_refusal (is_built history) (nodes_of history) (node_of performer) name) Does
+upshot_of script history performer (Set glob field value) = unless_refused (setting_refusal (length (settings_of script history))) Does
+upshot_of script history performer (Get field) = Finds (config_answer (settings_of script history) (path_text (path_at (nodes_of history) (node_of performer))) field)
+upshot_of script history performer (OverrideType original new replace) = unless_refused (overriding_refusal script.types original new) Does
+upshot_of script history performer (OverrideInst original new glob) = unless_refused (overriding_refusal script.types original new) Does
 
--- why an act is refused at once, if it is
+-- why an act is refused, if it is
 abbrev pub refusal_in : Upshot → Option Fatal
-refusal_in (Gives (Refuses fatal)) = Some fatal
+refusal_in (Refuses fatal) = Some fatal
 refusal_in upshot = None

@@ -24,7 +24,7 @@ use Rattle.bench_history.specs.Cases as next
 use Rattle.bench_history.specs.Next as coming
 use Rattle.bench_history.specs.Cases.{Next, Exactly, Answer}
 use Rattle.bench_history.specs.Next.{next_of, EachIsNext}
-use Rattle.bench_core.specs.declared.cores.Standing.TheVariants.{Needed}
+use Rattle.bench_core.specs.Cores.{Needed}
 use Rattle.bench_history.specs.Laws.{NothingAfterOver, ComponentsAreNodes, NodesStay, IsSomething}
 use Rattle.bench_core.specs.Cores.{CoreValue, core_after}
 use Rattle.bench_kernel.specs.Laws.{LogLaws}

@@ -16,8 +16,7 @@ use Rattle.bench_history.specs.Next as coming
 use Rattle.bench_history.specs.Next.{next_of}
 use Rattle.bench_history.specs.declared.needs.Need.{Need}
 use Rattle.bench_history.specs.Laws.{MachineEntriesAreSilent}
-use Rattle.bench_core.specs.declared.cores.Standing.{Standing}
-use Rattle.bench_core.specs.declared.cores.Standing.TheVariants.{Nothing, Needed, Asked}
+use Rattle.bench_core.specs.Cores.{Standing, Nothing, Needed, Asked}
 use Rattle.bench_core.specs.declared.cores.Turn as turn
 use Rattle.bench_core.specs.declared.cores.Health.{Health}
 use Rattle.bench_core.specs.declared.cores.Health.TheVariants.{Good}

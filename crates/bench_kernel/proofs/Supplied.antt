@@ -16,8 +16,8 @@ use Rattle.bench_history.specs.Next as coming
 use Rattle.bench_history.specs.Next.{next_of, declined_in, made_in}
 use Rattle.bench_history.specs.History.{nodes_of}
 use Rattle.bench_core.specs.Cores.{Comes, CoreValue, core_after, need_of}
-use Rattle.bench_core.specs.declared.cores.Standing.{Standing}
-use Rattle.bench_core.specs.declared.cores.Standing.TheVariants.{Nothing, Needed, Asked}
+use Rattle.bench_core.specs.Cores.{Standing}
+use Rattle.bench_core.specs.Cores.{Nothing, Needed, Asked}
 use Rattle.bench_history.specs.declared.needs.Need.{Need}
 use Rattle.bench_kernel.specs.Kernels.{KernelValue, IsKernel, open_need, object_at, wanted_in}
 use Rattle.bench_kernel.specs.Orders.{stays}

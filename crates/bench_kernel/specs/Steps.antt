@@ -10,11 +10,12 @@ use Rattle.uvm_object.specs.declared.acts.Act.{Act}
 use Rattle.uvm_object.specs.declared.entries.Entry.{Entry}
 use Rattle.uvm_object.specs.declared.entries.Entry.TheVariants.{Heard}
 use Rattle.uvm_phase.specs.declared.agendas.Cause.{Cause}
-use Rattle.bench_history.specs.History.{log_limit, nodes_of, is_over}
+use Rattle.bench_history.specs.Limits.{log_limit}
+use Rattle.bench_history.specs.History.{nodes_of, is_over}
 use Rattle.bench_history.specs.Laws.{IsSomething}
 use Rattle.bench_history.specs.Cases.{Answer}
 use Rattle.bench_history.specs.Next.{next_of, IsNext, made_in}
-use Rattle.bench_core.specs.declared.cores.Standing.TheVariants.{Asked}
+use Rattle.bench_core.specs.Cores.{Asked}
 use Rattle.bench_core.specs.declared.cores.Turn as turn
 use Rattle.bench_core.specs.declared.cores.Health.TheVariants.{Full, Broken}
 use Rattle.bench_core.specs.declared.faults.CoreFault.{CoreFault}

@@ -6,7 +6,7 @@ ghost use Rattle.uvm_object.specs.Acts.{node_of};
 ghost use Rattle.bench_history.specs.History.{nodes_of};
 ghost use Rattle.bench_history.specs.Next.{next_of, declined_in, IsLegal};
 ghost use Rattle.bench_core.specs.Cores.{IsUnmade, core_after};
-ghost use Rattle.bench_core.specs.declared.cores.Standing.TheVariants.{Nothing};
+ghost use Rattle.bench_core.specs.Cores.{Nothing};
 ghost use Rattle.bench_core.specs.declared.cores.Health.TheVariants.{Good};
 ghost use Rattle.bench_kernel.specs.Orders.{IsFirstDown};
 ghost use Rattle.bench_kernel.specs.Kernels.{AreHonest, abandoned, is_done, open_need, wanted_in};

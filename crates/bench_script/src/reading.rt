@@ -59,7 +59,7 @@ fn read_tree(alloc: Global, root: &Table) -> Result<Script, ScriptFault>
         test,
         time_limit: head.time_limit,
         quit_limit: head.quit_limit as u16,
-        types: types.into_rows(),
+        types: types.rows(alloc)?,
         overrides,
         settings,
         probes,

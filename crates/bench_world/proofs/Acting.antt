@@ -3,6 +3,7 @@ use Rattle.std.proofs.Common.{◌≡◌, List, ◌∷◌, Some, None, IsSome, ap
 use Rattle.uvm_object.specs.declared.acts.Act.{Act}
 use Rattle.uvm_object.specs.declared.entries.Entry.{Entry}
 use Rattle.bench_script.specs.Scripts.{ScriptValue}
+use Rattle.bench_history.specs.declared.needs.Need as needs
 use Rattle.bench_history.specs.History.{left_of, head_of, rest_of, speaker_of}
 use Rattle.bench_history.specs.Cases.{by_act}
 use Rattle.bench_history.specs.Next.{next_of, need_in, IsAct}
@@ -30,3 +31,7 @@ pub wanted : NeedsAreCreations → (script : ScriptValue) (history : List Entry)
 wanted creations script history act need left =
     let n = creations script history need in
     subst (IsWanted script history) (same-act (left_of script history) n.0 act n.1 left) n.2
+
+-- and what it needs is what is next
+pub wanted-need : {script : ScriptValue} {history : List Entry} {act : Act} {need : needs.Need} (w : IsWanted script history act) → need_in (next_of script history) ≡ Some need → w.need ≡ need
+wanted-need w needed = let some = sym (ap need_in w.next) ∙ needed in cc

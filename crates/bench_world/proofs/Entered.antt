@@ -7,7 +7,7 @@ use Rattle.uvm_object.specs.declared.entries.Entry.{Entry}
 use Rattle.uvm_object.specs.Logs.{LogValue}
 use Rattle.bench_script.specs.Scripts.{ScriptValue}
 use Rattle.bench_world.specs.declared.services.Services.{Services}
-use Rattle.bench_history.specs.History.{log_limit}
+use Rattle.bench_history.specs.Limits.{log_limit}
 use Rattle.bench_history.specs.Next.{IsNext, IsLegal}
 use Rattle.bench_world.specs.Services.{acts_at, acts_in, ServicesMatch}
 use Rattle.bench_world.specs.Worlds.{IsWorld}
@@ -18,7 +18,7 @@ legal-more entry next room legal = record { each = (next, legal.each); few = ome
 
 -- a world is sound again once its services match
 pub sound-again : {script : ScriptValue} {log : LogValue} {services : Services} (entries : List Entry) → log.entries ≡ entries → log.limit ≡ log_limit script → IsLegal script entries → ServicesMatch script entries services → IsWorld true script log services None
-sound-again {script} {log} {services} entries is limit legal match = record { limit = limit; legal = rw is legal; services_match = λ _. rw is match; ready = λ _ act e. cc }
+sound-again {script} {log} {services} entries is limit legal match = record { limit = limit; legal = rw is legal; services_match = λ _. rw is match; waits = λ _ e. cc; ready = λ _ e. cc }
 
 get-front : {A : Type 0} (xs ys : List A) (k : ℕ) → k < length xs → slice_get (xs ++ ys) k ≡ slice_get xs k
 get-front [] ys k lt = absurd (omega arith)

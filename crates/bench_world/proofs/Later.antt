@@ -9,8 +9,10 @@ use Rattle.uvm_object.specs.declared.fatals.Fatal.{Fatal}
 use Rattle.uvm_object.specs.declared.acts.Who.{Who}
 use Rattle.uvm_object.specs.Logs.{LogValue}
 use Rattle.bench_script.specs.Scripts.{ScriptValue}
+use Rattle.bench_world.specs.declared.making.Waiting.{Waiting}
 use Rattle.bench_world.specs.declared.services.Services.{Services}
-use Rattle.bench_history.specs.History.{log_limit, left_of, rest_of, speaker_of}
+use Rattle.bench_history.specs.Limits.{log_limit}
+use Rattle.bench_history.specs.History.{left_of, rest_of, speaker_of}
 use Rattle.bench_history.specs.Cases.{Exactly, by_act}
 use Rattle.bench_history.specs.Next.{next_of, IsNext}
 use Rattle.bench_history.specs.Laws.{PhasesGoInOrder}
@@ -28,8 +30,8 @@ pub ruleset acted = (answer-next, agenda-later)
 
 -- a world goes on with an entry that is next
 pub entered :
-    {P : Type 0} {sound : Bool} {script : ScriptValue} {log more : LogValue} {old services : Services} {room : Option Act} (entry : Entry)
-    → P × IsWorld sound script log old room → sound ≡ true → length log.entries < log_limit script → IsNext script log.entries entry
+    {P : Type 0} {sound : Bool} {script : ScriptValue} {log more : LogValue} {old services : Services} {waiting : Option Waiting} (entry : Entry)
+    → P × IsWorld sound script log old waiting → sound ≡ true → length log.entries < log_limit script → IsNext script log.entries entry
     → more.entries ≡ entry ∷ log.entries → more.limit ≡ log.limit
     → (ServicesMatch script log.entries old → ServicesMatch script (entry ∷ log.entries) services)
     → P × IsWorld true script more services None
@@ -38,8 +40,8 @@ entered {log} entry p sound room next is limit match =
 
 -- and with the entry of an act
 pub acted-on :
-    {P : Type 0} {sound : Bool} {script : ScriptValue} {log more : LogValue} {old new services : Services} {room : Option Act} (outcome : Outcome) (act : Act)
-    → P × IsWorld sound script log old room → sound ≡ true → length log.entries < log_limit script
+    {P : Type 0} {sound : Bool} {script : ScriptValue} {log more : LogValue} {old new services : Services} {waiting : Option Waiting} (outcome : Outcome) (act : Act)
+    → P × IsWorld sound script log old waiting → sound ≡ true → length log.entries < log_limit script
     → left_of script log.entries ≡ act ∷ rest_of (left_of script log.entries) → IsNext script log.entries (Did (speaker_of log.entries) outcome act)
     → PhasesGoInOrder → TakesIn act outcome (length log.entries) old new
     → more.entries ≡ Did new.answer.speaker outcome act ∷ log.entries → more.limit ≡ log.limit → services ≡ one_done new
@@ -51,8 +53,8 @@ acted-on {script = script} {log} {old = old} {new} outcome act p sound room left
 
 -- what an act comes to by itself is next
 pub performed :
-    {P : Type 0} {sound : Bool} {script : ScriptValue} {log more : LogValue} {old new services : Services} {room : Option Act} (outcome : Outcome) (act : Act)
-    → P × IsWorld sound script log old room → sound ≡ true → length log.entries < log_limit script
+    {P : Type 0} {sound : Bool} {script : ScriptValue} {log more : LogValue} {old new services : Services} {waiting : Option Waiting} (outcome : Outcome) (act : Act)
+    → P × IsWorld sound script log old waiting → sound ≡ true → length log.entries < log_limit script
     → left_of script log.entries ≡ act ∷ rest_of (left_of script log.entries) → next_of script log.entries ≡ by_act script log.entries (speaker_of log.entries) act
     → PhasesGoInOrder → IsPerformed act outcome (length log.entries) old new
     → more.entries ≡ Did new.answer.speaker outcome act ∷ log.entries → more.limit ≡ log.limit → services ≡ one_done new

@@ -9,3 +9,4 @@ pub mod Marks
 pub mod Overriding
 pub mod Told
 pub mod Turns
+pub mod Waits

@@ -1,5 +1,5 @@
 -- What a world keeps beside its log, and that it is what the log says.
-use Rattle.std.specs.Prelude.{◌≡◌, ℕ, ◌<◌, ◌≤◌, ◌+◌, Bool, true, false, ◌==◌, ◌||◌, List, [], ◌∷◌, length, drop, map, filter, reverse, slice_get, Option, Some, None, All, AllPairs, Result, Ok, Err, if◌then◌else◌}
+use Rattle.std.specs.Prelude.{◌≡◌, ℕ, ◌<◌, ◌≤◌, ◌+◌, Bool, true, false, ◌==◌, ◌||◌, List, [], ◌∷◌, length, drop, map, filter, reverse, slice_get, Option, Some, None, All, AllPairs, if◌then◌else◌}
 use Rattle.std.specs.Option.{ForSome}
 use Rattle.std.specs.List.{list_any}
 use Rattle.uvm_glob.specs.Paths.{path_text}
@@ -37,28 +37,28 @@ use Rattle.bench_history.specs.Dues.{caused_of, heard_of, ended_of, is_open}
 use Rattle.bench_history.specs.History.{stage_of, now_of, nodes_of, components_of, called_of, had_call, opening, left_of, rest_of, speaker_of, overrides_of, ends_build, asks_exit, refuses_test}
 use Rattle.bench_history.specs.Cases.{Exactly, Need, by_act}
 use Rattle.bench_history.specs.Laws.{next_number}
+use Rattle.bench_history.specs.Refusals.{Creation}
 
 -- the factory has the types, and gives what the overrides give
 pub record IsFactory (types : Types) (overrides : List Override) (kept : Kept) : Type 0 where
   pub types_are : types_of kept ≡ types
   pub steps : (type_id : ℕ) (path : List (List ℕ)) → step_at kept type_id path ≡ type_step overrides type_id (path_text path)
 
--- nothing but a loop of overrides keeps a creation from being performed
-abbrev pub MayBeCreated : Result (List ℕ) Fatal → Type 0
-MayBeCreated (Ok type_name) = Unit {0}
-MayBeCreated (Err OverrideLoop) = Unit {0}
-MayBeCreated (Err fatal) = ⊥
+-- a creation by somebody, as the services know it
+abbrev pub creation_in : Types → List Override → Services → Who → List ℕ → List ℕ → Creation
+creation_in types overrides services performer type_name name =
+    record { built = services.built; types = types; overrides = overrides; nodes = services.tree.nodes; parent = node_of performer; type_name = type_name; name = name }
 
--- the same of a refusal that is told ahead
+-- memory is wanted for a creation before the overrides are followed, and after all else: nothing but a loop of them is left to refuse it
 abbrev pub MayWantMemory : Option Fatal → Type 0
 MayWantMemory None = Unit {0}
 MayWantMemory (Some OverrideLoop) = Unit {0}
 MayWantMemory (Some fatal) = ⊥
 
--- a creation is refused for this cause; memory is wanted before the overrides are followed, and after all else
-abbrev pub IsRefusedBy : Result (List ℕ) Fatal → Uncreated → Type 0
-IsRefusedBy creation (Refused fatal) = creation ≡ Err fatal
-IsRefusedBy creation Memory = MayBeCreated creation
+-- why nothing is created
+abbrev pub IsUncreated : Option Fatal → Uncreated → Type 0
+IsUncreated refusal (Refused fatal) = refusal ≡ Some fatal
+IsUncreated refusal Memory = MayWantMemory refusal
 
 -- each component, and whether it had its call
 abbrev pub marked : List ℕ → ℕ → Component

@@ -7,42 +7,47 @@ use Rattle.uvm_object.specs.declared.acts.Act.{Act}
 use Rattle.uvm_object.specs.declared.entries.Entry.{Entry}
 use Rattle.uvm_object.specs.Logs.{LogValue}
 use Rattle.bench_script.specs.Scripts.{ScriptValue}
+use Rattle.bench_world.specs.declared.making.Waiting.{Waiting}
 use Rattle.bench_world.specs.declared.services.Services.{Services}
-use Rattle.bench_history.specs.History.{log_limit, left_of, rest_of, speaker_of}
+use Rattle.bench_history.specs.Limits.{log_limit}
+use Rattle.bench_history.specs.History.{left_of, rest_of, speaker_of}
 use Rattle.bench_history.specs.Cases.{Next, Exactly, Need, by_act}
 use Rattle.bench_history.specs.Next.{next_of, need_in, IsAct, IsLegal}
 use Rattle.bench_history.specs.declared.needs.Need as needs
 use Rattle.bench_world.specs.Services.{ServicesMatch}
 
--- the script, the entries with the newest first, whether the services are what they say, and whether there is room for
--- what comes of the next act
+-- the script, the entries with the newest first, whether the services are what they say, and the object for which the next act waits,
+-- once it was found to need one
 pub record WorldValue : Type 0 where
   pub script : ScriptValue
   pub history : List Entry
   pub sound : Bool
-  pub ready : Bool
+  pub waiting : Option needs.Need
 
 -- one more entry
 abbrev pub world_after : Entry → WorldValue → WorldValue
-world_after entry world = record world { history = entry ∷ world.history; ready = false }
+world_after entry world = record world { history = entry ∷ world.history; waiting = None }
 
 -- memory was refused
 abbrev pub broken : WorldValue → WorldValue
-broken world = record world { sound = false; ready = false }
+broken world = record world { sound = false; waiting = None }
 
--- there is room for the entry of an act, and for a node under its performer
-pub record IsReady (act : Act) (left : List Act) (log : LogValue) (services : Services) : Type 0 where
-  pub act_is : left ≡ act ∷ rest_of left
+-- a creation waits: it is the next act, and needs this object; there is room for its entry, and for a node under its performer
+pub record IsReady (waiting : Waiting) (script : ScriptValue) (log : LogValue) (services : Services) : Type 0 where
+  pub left : left_of script log.entries ≡ waiting.deed ∷ rest_of (left_of script log.entries)
+  pub needed : need_in (next_of script log.entries) ≡ Some waiting.need
+  pub room : length log.entries < log_limit script
   pub log_spare : 0 < log.spare
   pub tree_spare : IsSome (node_at services.tree.nodes (node_of services.answer.speaker)) → services.tree.spare ≡ Some (node_of services.answer.speaker)
   pub components : vec_len services.components < vec_capacity services.components
 
 -- the log is legal, and while the world is sound its services are what the log says
-pub record IsWorld (sound : Bool) (script : ScriptValue) (log : LogValue) (services : Services) (room : Option Act) : Type 0 where
+pub record IsWorld (sound : Bool) (script : ScriptValue) (log : LogValue) (services : Services) (waiting : Option Waiting) : Type 0 where
   pub limit : log.limit ≡ log_limit script
   pub legal : IsLegal script log.entries
   pub services_match : sound ≡ true → ServicesMatch script log.entries services
-  pub ready : sound ≡ true → ForSome room (λ act. IsReady act (left_of script log.entries) log services)
+  pub waits : ForSome waiting (λ waiting. sound ≡ true)
+  pub ready : ForSome waiting (λ waiting. IsReady waiting script log services)
 
 -- this may be the next entry
 pub record MayEnter (world : WorldValue) (comes : Next) : Type 0 where
@@ -63,15 +68,8 @@ pub record MayPerform (world : WorldValue) (act : Act) : Type 0 where
   pub left : left_of world.script world.history ≡ act ∷ rest_of (left_of world.script world.history)
   pub next : next_of world.script world.history ≡ by_act world.script world.history (speaker_of world.history) act
 
--- an object is needed next
-pub record MayCreate (world : WorldValue) : Type 0 where
-  pub sound : world.sound ≡ true
-  pub room : length world.history < log_limit world.script
-  pub next : IsSome (need_in (next_of world.script world.history))
-
--- what comes of the next act: its entry; or the object that it needs, and then room that was reserved is given up, and nothing else
--- has changed
-abbrev pub IsActed : Next → Option needs.Need → WorldValue → WorldValue → Type 0
-IsActed (Exactly entry) None old new = new ≡ world_after entry old
-IsActed (Need need performer act) (Some told) old new = (told ≡ need) × (new ≡ record old { ready = false })
-IsActed next told old new = ⊥
+-- what comes of the next act: its entry; or it waits for the object that it needs, and nothing else has changed
+abbrev pub IsActed : Next → WorldValue → WorldValue → Type 0
+IsActed (Exactly entry) old new = new ≡ world_after entry old
+IsActed (Need need performer act) old new = new ≡ record old { waiting = Some need }
+IsActed next old new = ⊥

@@ -29,7 +29,7 @@ use uvm_phase::{Cause, Phase};
 use uvm_tree::{NodeId, Tree};
 
 // A field is set under the performer's path, unless there are too many settings.
-#[tactic(auto, unfolding(bench_history::specs::Refusals::setting_of))]
+#[tactic(auto, unfolding(bench_history::specs::Refusals::setting_refusal))]
 pub(crate) fn set_field(
     services: &mut Services,
     alloc: Global,

@@ -1,17 +1,16 @@
 //! What creations come to.
 
-ghost use Rattle.std.specs.Prelude.{◌≡◌, ◌∷◌, ◌++◌, [], List, None, Some, Ok, Err, IfOk, IfErr, IfSome, length, ok_or};
+ghost use Rattle.std.specs.Prelude.{◌≡◌, ◌∷◌, ◌++◌, [], List, None, Some, IfOk, IfErr, IfSome, length, option_map};
 ghost use Rattle.uvm_factory.specs.declared.overrides.Override.{Override};
 ghost use Rattle.uvm_factory.specs.Faults.{Types};
 ghost use Rattle.uvm_factory.specs.Observed.{types_of};
 ghost use Rattle.uvm_factory.specs.Overrides.{made_type};
 ghost use Rattle.uvm_glob.specs.Paths.{path_text};
 ghost use Rattle.uvm_tree.specs.Nodes.{path_at};
-ghost use Rattle.uvm_object.specs.Acts.{node_of};
-ghost use Rattle.uvm_factory.specs.declared.types.Kind.TheVariants.{Component};
-ghost use Rattle.bench_history.specs.Upshots.{Needs, by_creation};
-ghost use Rattle.bench_history.specs.Refusals.{component_named, child_refusal, name_made, creation_of};
-ghost use Rattle.bench_world.specs.Services.{IsFactory, IsRefusedBy};
+ghost use Rattle.bench_history.specs.History.{type_name_or};
+ghost use Rattle.bench_history.specs.Upshots.{Needs, creation_upshot};
+ghost use Rattle.bench_history.specs.Refusals.{component_named, child_refusal, creation_refusal};
+ghost use Rattle.bench_world.specs.Services.{IsFactory, IsUncreated, creation_in};
 
 use crate::services::Services;
 use bench_history::Need;
@@ -31,7 +30,7 @@ pub(crate) enum Uncreated {
 
 // What the creation of a component by somebody comes to. Memory is wanted for the new path before the overrides are followed, and
 // so refused after every refusal but that of a loop.
-#[tactic(auto, using(crate::proofs::Creating::creating), unfolding(bench_history::specs::Refusals::creation_of))]
+#[tactic(auto, unfolding(bench_history::specs::Refusals::creation_refusal))]
 pub(crate) fn what_is_created(
     services: &Services,
     performer: &Who,
@@ -39,10 +38,9 @@ pub(crate) fn what_is_created(
     name: &Name,
 ) -> Result<Need, Uncreated>
     ensures ok { IfOk result (λ need. (types : Types) (overrides : List Override) → IsFactory types overrides services.now.factory →
-        by_creation Component (path_at services.now.tree.nodes (node_of performer.now) ++ name.now ∷ [])
-        (creation_of services.now.built types overrides services.now.tree.nodes (node_of performer.now) type_name.now name.now) ≡ Needs need) }
+        creation_upshot (creation_in types overrides services.now performer.now type_name.now name.now) ≡ Needs need) }
     ensures err { IfErr result (λ fault. (types : Types) (overrides : List Override) → IsFactory types overrides services.now.factory →
-        IsRefusedBy (creation_of services.now.built types overrides services.now.tree.nodes (node_of performer.now) type_name.now name.now) fault) }
+        IsUncreated (creation_refusal (creation_in types overrides services.now performer.now type_name.now name.now)) fault) }
 {
     if services.built {
         return Err(Uncreated::Refused(Fatal::CreatedAfterBuild));
@@ -103,7 +101,8 @@ fn child_path(tree: &Tree, parent: NodeId, name: &Name) -> Option<Path>
 
 // The name of the type that is made at a path, if the overrides are no loop.
 fn made_name(factory: &Factory, type_id: TypeId, asked: &Name, path: &Path) -> Option<Name>
-    ensures { (types : Types) (overrides : List Override) → IsFactory types overrides factory.now → component_named types asked.now ≡ Some type_id → name_made types asked.now (made_type overrides (length types) (path_text path.now) type_id) ≡ ok_or result Fatal.OverrideLoop }
+    ensures { (types : Types) (overrides : List Override) → IsFactory types overrides factory.now → component_named types asked.now ≡ Some type_id →
+        option_map (λ made. type_name_or types made asked.now) (made_type overrides (length types) (path_text path.now) type_id) ≡ result }
 {
     let made = factory.resolve(type_id, path).ok()?;
     match factory.name_of(made) {

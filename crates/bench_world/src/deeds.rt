@@ -1,6 +1,6 @@
 //! The last answer, and its next act.
 
-ghost use Rattle.std.specs.Prelude.{◌≡◌, length, OnErr, IfOk, Some, slice_get, true};
+ghost use Rattle.std.specs.Prelude.{◌≡◌, length, OnOk, OnErr, IfOk, Some, slice_get, true};
 ghost use Rattle.std.specs.Option.{option_copied};
 ghost use Rattle.uvm_object.specs.declared.acts.Act.{Act};
 ghost use Rattle.bench_history.specs.History.{left_of, head_of, speaker_of};
@@ -12,8 +12,9 @@ ghost use Rattle.bench_world.specs.Worlds.{IsActed, MayAct, MayPerform, broken};
 
 use crate::attempts::{Attempt, enter, perform};
 use crate::creations::{Uncreated, what_is_created};
+use crate::making::{Waiting, make_room};
 use crate::worlds::World;
-use bench_history::{Need, laws};
+use bench_history::laws;
 use std::alloc::AllocError;
 use uvm_object::{Act, Deed, Entry, Fatal, Log, Who};
 
@@ -50,11 +51,11 @@ impl World {
         }
     }
 
-    /// The next act of the last answer. It is performed, or refused, and has its entry then: none is answered. Or it needs an object:
-    /// then the log and the services are as before, room that was reserved is given up, and `made` or `declined` enters it.
-    pub fn did(&mut self) -> Result<Option<Need>, AllocError>
+    /// The next act of the last answer. It is performed, or refused, and has its entry then. Or it needs an object: then the log and
+    /// the services are as before, `need` tells the object, and `made` or `declined`, for which there is room, enters the act.
+    pub fn did(&mut self) -> Result<(), AllocError>
         requires { MayAct self.old }
-        ensures ok { IfOk result (λ need. IsActed (next_of self.old.script self.old.history) need self.old self.new) }
+        ensures ok { OnOk result (IsActed (next_of self.old.script self.old.history) self.old self.new) }
         ensures err { OnErr result (self.new ≡ broken self.old) }
     {
         // An act is left.
@@ -110,25 +111,27 @@ impl World {
     }
 
     // An act of the last answer is performed, or refused, or needs an object.
-    fn perform(&mut self, deed: Deed) -> Result<Option<Need>, AllocError>
+    fn perform(&mut self, deed: Deed) -> Result<(), AllocError>
         requires { MayPerform self.old deed }
-        ensures ok { IfOk result (λ need. IsActed (next_of self.old.script self.old.history) need self.old self.new) }
+        ensures ok { OnOk result (IsActed (next_of self.old.script self.old.history) self.old self.new) }
         ensures err { OnErr result (self.new ≡ broken self.old) }
     {
         // A call that an act causes is due in a phase that has not ended.
         laws::phases_go_in_order();
         self.sound = false;
-        self.room = None;
+        self.waiting = None;
         let place = self.log.len();
         match perform(&mut self.services, self.alloc, place, deed.act())? {
             Attempt::Became(outcome) => {
                 enter(&mut self.log, &mut self.services, outcome, deed)?;
                 self.sound = true;
-                Ok(None)
+                Ok(())
             }
             Attempt::Needed(need) => {
+                make_room(&mut self.log, &mut self.services)?;
+                self.waiting = Some(Waiting::new(self.alloc, need, deed)?);
                 self.sound = true;
-                Ok(Some(need))
+                Ok(())
             }
         }
     }
@@ -138,7 +141,7 @@ impl World {
         ensures { self.new ≡ broken self.old }
     {
         self.sound = false;
-        self.room = None;
+        self.waiting = None;
         AllocError
     }
 }

@@ -26,7 +26,7 @@ impl World {
         ensures err { OnErr result (self.new ≡ broken self.old) }
     {
         self.sound = false;
-        self.room = None;
+        self.waiting = None;
         push(&mut self.log, Entry::Begin(phase))?;
         self.services.stage = Stage::During(phase);
         clear_calls(&mut self.services.components);
@@ -42,7 +42,7 @@ impl World {
     {
         agenda::order_keeps_filters::<Who, Call>();
         self.sound = false;
-        self.room = None;
+        self.waiting = None;
         push(&mut self.log, Entry::End(phase))?;
         self.services.stage = Stage::After(phase);
         self.services.agenda.clear(phase);
@@ -60,7 +60,7 @@ impl World {
         // Who is asked is a component.
         laws::asked_are_components();
         self.sound = false;
-        self.room = None;
+        self.waiting = None;
         let (place, count) = (self.log.len(), acts.len());
         let node = who.node();
         let entry = Entry::heard(self.alloc, who.copy(), call, None, acts)?;
@@ -94,7 +94,7 @@ impl World {
         agenda::order_keeps_all::<Who, Call>();
         agenda::order_loses_first::<Who, Call>();
         self.sound = false;
-        self.room = None;
+        self.waiting = None;
         let (place, count) = (self.log.len(), acts.len());
         let entry = Entry::heard(self.alloc, who.copy(), call, Some(cause), acts)?;
         push(&mut self.log, entry)?;
@@ -117,7 +117,7 @@ impl World {
         ensures err { OnErr result (self.new ≡ broken self.old) }
     {
         self.sound = false;
-        self.room = None;
+        self.waiting = None;
         push(&mut self.log, Entry::Note { fatal, node })?;
         self.services.answer.noted = true;
         self.services.exit_asked = true;
@@ -132,7 +132,7 @@ impl World {
         ensures err { OnErr result (self.new ≡ broken self.old) }
     {
         self.sound = false;
-        self.room = None;
+        self.waiting = None;
         push(&mut self.log, Entry::Over(reason))?;
         self.services.stage = Stage::Ended;
         self.sound = true;

@@ -1,6 +1,6 @@
 //! Acts on the tree and on the factory.
 
-ghost use Rattle.std.specs.Prelude.{◌≡◌, ℕ, ◌∷◌, ◌++◌, [], List, length, None, Some, OnOk, IfOk, IfNone, IsOk, if◌then◌else◌};
+ghost use Rattle.std.specs.Prelude.{◌≡◌, ℕ, ◌∷◌, ◌++◌, [], List, length, None, Some, OnOk, IfOk, IfNone, IsOk};
 ghost use Rattle.uvm_glob.specs.Paths.{path_text, dotted};
 ghost use Rattle.uvm_factory.specs.declared.overrides.Override.{Override};
 ghost use Rattle.uvm_factory.specs.declared.overrides.Override.TheVariants.{Instance, Whole};
@@ -9,9 +9,8 @@ ghost use Rattle.uvm_factory.specs.Observed.{types_of};
 ghost use Rattle.uvm_tree.specs.Nodes.{child, path_at};
 ghost use Rattle.uvm_object.specs.Acts.{node_of};
 ghost use Rattle.uvm_object.specs.declared.acts.Act.TheVariants.{Add, OverrideType, OverrideInst};
-ghost use Rattle.uvm_object.specs.declared.fatals.Fatal.TheVariants.{InvalidType};
 ghost use Rattle.bench_history.specs.History.{kind_of, with_override};
-ghost use Rattle.bench_history.specs.Refusals.{Does, Refuses, addition_of, child_refusal, done_unless, overriding_of};
+ghost use Rattle.bench_history.specs.Refusals.{addition_refusal, child_refusal, overriding_refusal};
 ghost use Rattle.bench_world.specs.Services.{IsAttempt, IsFactory};
 
 use crate::attempts::{Attempt, refused};
@@ -44,8 +43,8 @@ pub(crate) fn override_type(
 ) -> Result<Attempt, AllocError>
     ensures { IfOk result (λ attempt. (place : ℕ) → IsAttempt (OverrideType original.now new.now replace) attempt place services.old services.new) }
 {
-    if !can_override(&services.factory, original, new) {
-        return Ok(Attempt::Became(refused(services, Fatal::InvalidType)));
+    if let Some(fatal) = overriding_refusal(&services.factory, original, new) {
+        return Ok(Attempt::Became(refused(services, fatal)));
     }
     override_everywhere(&mut services.factory, original, new, replace)?;
     Ok(Attempt::Became(LoggedOutcome::done()))
@@ -61,8 +60,8 @@ pub(crate) fn override_inst(
 ) -> Result<Attempt, AllocError>
     ensures { IfOk result (λ attempt. (place : ℕ) → IsAttempt (OverrideInst original.now new.now glob.now) attempt place services.old services.new) }
 {
-    if !can_override(&services.factory, original, new) {
-        return Ok(Attempt::Became(refused(services, Fatal::InvalidType)));
+    if let Some(fatal) = overriding_refusal(&services.factory, original, new) {
+        return Ok(Attempt::Became(refused(services, fatal)));
     }
     let node = services.answer.speaker.node();
     let scope = scope_under(alloc, &services.tree, node, glob)?;
@@ -71,9 +70,9 @@ pub(crate) fn override_inst(
 }
 
 // Why nothing is added under a name, if so.
-#[tactic(auto, unfolding(bench_history::specs::Refusals::addition_of))]
+#[tactic(auto, unfolding(bench_history::specs::Refusals::addition_refusal))]
 fn addition_refusal(services: &Services, name: &Name) -> Option<Fatal>
-    ensures outcome { addition_of services.now.built services.now.tree.nodes (node_of services.now.answer.speaker) name.now ≡ done_unless result }
+    ensures refusal { result ≡ addition_refusal services.now.built services.now.tree.nodes (node_of services.now.answer.speaker) name.now }
     ensures free { IfNone result (child_refusal services.now.tree.nodes (node_of services.now.answer.speaker) name.now ≡ None) }
 {
     if services.built {
@@ -92,14 +91,14 @@ fn kind_of(what: What) -> NodeKind
 }
 
 // Overrides a type, where that is not refused.
-#[tactic(auto, unfolding(bench_history::specs::Refusals::overriding_of))]
+#[tactic(auto, unfolding(bench_history::specs::Refusals::overriding_refusal))]
 fn override_everywhere(
     factory: &mut Factory,
     original: &Name,
     new: &Name,
     replace: bool,
 ) -> Result<(), AllocError>
-    requires { overriding_of (types_of factory.old) original.now new.now ≡ Does }
+    requires { overriding_refusal (types_of factory.old) original.now new.now ≡ None }
     ensures { OnOk result ((types : Types) (overrides : List Override) → IsFactory types overrides factory.old →
         IsFactory types (with_override (type_named types original.now) (type_named types new.now) (λ o n. Whole o n replace) overrides) factory.new) }
 {
@@ -114,14 +113,14 @@ fn override_everywhere(
 }
 
 // Overrides a type at the paths that a glob matches, where that is not refused.
-#[tactic(auto, unfolding(bench_history::specs::Refusals::overriding_of))]
+#[tactic(auto, unfolding(bench_history::specs::Refusals::overriding_refusal))]
 fn override_within(
     factory: &mut Factory,
     original: &Name,
     new: &Name,
     scope: Glob,
 ) -> Result<(), AllocError>
-    requires { overriding_of (types_of factory.old) original.now new.now ≡ Does }
+    requires { overriding_refusal (types_of factory.old) original.now new.now ≡ None }
     ensures { OnOk result ((types : Types) (overrides : List Override) → IsFactory types overrides factory.old →
         IsFactory types (with_override (type_named types original.now) (type_named types new.now) (λ o n. Instance o n scope) overrides) factory.new) }
 {
@@ -135,17 +134,17 @@ fn override_within(
     }
 }
 
-// Whether a type may be overridden by another.
-#[tactic(auto, unfolding(bench_history::specs::Refusals::overriding_of))]
-fn can_override(factory: &Factory, original: &Name, new: &Name) -> bool
-    ensures { overriding_of (types_of factory.now) original.now new.now ≡ (if result then Does else Refuses InvalidType) }
+// Why a type is not overridden by another, if so.
+#[tactic(auto, unfolding(bench_history::specs::Refusals::overriding_refusal))]
+fn overriding_refusal(factory: &Factory, original: &Name, new: &Name) -> Option<Fatal>
+    ensures { result ≡ overriding_refusal (types_of factory.now) original.now new.now }
 {
     let (Some(original), Some(new)) = (factory.find(original), factory.find(new)) else {
-        return false;
+        return Some(Fatal::InvalidType);
     };
     match (factory.kind_of(original), factory.kind_of(new)) {
-        (Some(original), Some(new)) => original == new,
-        _ => false,
+        (Some(original), Some(new)) if original == new => None,
+        _ => Some(Fatal::InvalidType),
     }
 }
 

@@ -2,7 +2,8 @@
 
 ghost use Rattle.std.specs.Prelude.{◌≡◌, [], IfOk, true, false, IsSome, None, length, nat_le};
 ghost use Rattle.bench_script.specs.Factories.{IsFactoryOf};
-ghost use Rattle.bench_history.specs.History.{log_limit, opening, stage_of, running, now_of, nodes_of, overrides_of, asks_exit};
+ghost use Rattle.bench_history.specs.Limits.{log_limit};
+ghost use Rattle.bench_history.specs.History.{opening, stage_of, running, now_of, nodes_of, overrides_of, asks_exit};
 ghost use Rattle.std.specs.List.{list_any};
 ghost use Rattle.std.specs.Option.{option_copied};
 ghost use Rattle.uvm_phase.specs.Dues.{in_order};
@@ -15,7 +16,7 @@ ghost use Rattle.bench_history.specs.Next.{IsLegal};
 ghost use Rattle.bench_world.specs.Worlds.{WorldValue};
 
 use crate::configuring::given_settings;
-use crate::making::Room;
+use crate::making::Waiting;
 use crate::services::Services;
 use bench_history::Stage;
 use bench_script::Script;
@@ -37,22 +38,22 @@ pub struct World {
     pub(crate) services: Services,
     // The creation of the test.
     pub(crate) creation: Deed,
-    // Room for what comes of the next act.
-    pub(crate) room: Option<Room>,
+    // The creation that waits for its object.
+    pub(crate) waiting: Option<Waiting>,
     pub(crate) sound: bool,
 }
 
 impl Model for World {
-    ghost use Rattle.std.specs.Prelude.{◌≡◌, is_some};
+    ghost use Rattle.std.specs.Prelude.{◌≡◌, option_map};
     ghost use Rattle.bench_world.specs.Worlds.{WorldValue, IsWorld};
     ghost use Rattle.bench_script.specs.Factories.{IsFactoryOf};
     ghost use Rattle.bench_history.specs.History.{opening};
 
     ghost Value = { WorldValue };
 
-    ghost view = { λ w. record { script = w.script; history = w.log.entries; sound = w.sound; ready = is_some w.room } };
+    ghost view = { λ w. record { script = w.script; history = w.log.entries; sound = w.sound; waiting = option_map (λ waiting. waiting.need) w.waiting } };
 
-    ghost invariant = { λ w. (w.creation ≡ opening w.script) × IsWorld w.sound w.script w.log w.services w.room };
+    ghost invariant = { λ w. (w.creation ≡ opening w.script) × IsWorld w.sound w.script w.log w.services w.waiting };
 }
 
 impl World {
@@ -65,7 +66,7 @@ impl World {
     /// The world of a script that has a test, before the first entry.
     pub fn new(alloc: Global, script: Script) -> Result<World, AllocError>
         requires { IsSome script.test }
-        ensures { IfOk result (λ world. world ≡ record { script = script; history = []; sound = true; ready = false }) }
+        ensures { IfOk result (λ world. world ≡ record { script = script; history = []; sound = true; waiting = None }) }
     {
         let factory = script.factory(alloc)?;
         let settings = given_settings(alloc, script.settings())?;
@@ -76,7 +77,7 @@ impl World {
             log: Log::new(alloc, World::MAX_ENTRIES),
             services: Services::new(alloc, factory, settings),
             creation,
-            room: None,
+            waiting: None,
             sound: true,
         })
     }

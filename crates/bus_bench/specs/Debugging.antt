@@ -11,23 +11,20 @@ use Rattle.bench_script.specs.declared.faults.ScriptFault.{ScriptFault}
 use Rattle.bench_script.specs.declared.faults.ScriptFault.TheVariants as faults
 use Rattle.bench_script.specs.Documents.{script_of_bytes}
 use Rattle.bench_script.specs.Scripts.{ScriptValue}
+use Rattle.bench_history.specs.History.{type_name_or}
 use Rattle.bus_bench.specs.declared.verdicts.Breakage.{Breakage}
 use Rattle.bus_bench.specs.declared.verdicts.Breakage.TheVariants.{Memory, LogFull, Output, Unread}
 use Rattle.bus_bench.specs.declared.verdicts.Verdict.{Verdict}
 use Rattle.bus_bench.specs.declared.verdicts.Verdict.TheVariants.{Clean, Faulty, Refused, Broken}
 
--- the name of a type
-abbrev pub name_at : Types → ℕ → List ℕ
-name_at types type_id = option_map_or (λ t. t.0) (slice_get types type_id) []
-
 -- which type is made, or that the overrides lead in a loop
 abbrev pub answer_text : Types → Option ℕ → List ℕ
 answer_text types None = codes " loops"
-answer_text types (Some made) = codes " -> " ++ name_at types made
+answer_text types (Some made) = codes " -> " ++ type_name_or types made []
 
 -- `TYPE @ PATH -> MADE` or `TYPE @ PATH loops`
 abbrev pub answer_line : Types → Probe → Option ℕ → List ℕ
-answer_line types probe made = name_at types probe.type_id ++ codes " @ " ++ path_text probe.path ++ answer_text types made ++ 10 ∷ []
+answer_line types probe made = type_name_or types probe.type_id [] ++ codes " @ " ++ path_text probe.path ++ answer_text types made ++ 10 ∷ []
 
 -- the type that the script's factory makes for a probe
 abbrev pub made_for : ScriptValue → Probe → Option ℕ

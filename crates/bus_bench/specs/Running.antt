@@ -12,7 +12,8 @@ use Rattle.bench_script.specs.Reading.{and_then}
 use Rattle.bench_script.specs.Documents.{script_of_bytes, test_among}
 use Rattle.bench_script.specs.Scripts.{ScriptValue}
 use Rattle.bench_history.specs.Next.{IsLegal}
-use Rattle.bench_history.specs.History.{is_over, log_limit}
+use Rattle.bench_history.specs.Limits.{log_limit}
+use Rattle.bench_history.specs.History.{is_over}
 use Rattle.bench_core.specs.Cores.{CoreValue, core_after, last_text}
 use Rattle.bus_bench.specs.declared.verdicts.Breakage.{Breakage}
 use Rattle.bus_bench.specs.declared.verdicts.Breakage.TheVariants.{Memory, LogFull, Output, Unread}

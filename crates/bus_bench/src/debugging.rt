@@ -1,11 +1,12 @@
 //! The command `debug`.
 
-ghost use Rattle.std.specs.Prelude.{◌≡◌, ◌++◌, ◌<◌, length, OnOk, IfOk, IfErr};
+ghost use Rattle.std.specs.Prelude.{[], ◌≡◌, ◌++◌, ◌<◌, length, OnOk, IfOk, IfErr};
 ghost use Rattle.std.specs.List.{concat};
 ghost use Rattle.std.specs.Io.KnownBytes.{Appends};
 ghost use Rattle.uvm_factory.specs.Observed.{types_of, made_at};
 ghost use Rattle.bench_script.specs.Factories.{IsFactoryOf};
-ghost use Rattle.bus_bench.specs.Debugging.{IsDebugRun, BrokeOff, answer_line, answer_text, debug_lines, name_at};
+ghost use Rattle.bus_bench.specs.Debugging.{IsDebugRun, BrokeOff, answer_line, answer_text, debug_lines};
+ghost use Rattle.bench_history.specs.History.{type_name_or};
 
 use crate::verdicts::{Breakage, Verdict};
 use bench_script::{Probe, Script, ScriptFault};
@@ -86,7 +87,7 @@ fn line_of(alloc: Global, factory: &Factory, probe: &Probe) -> Result<Vec<u8>, A
 
 // Appends the name of a type.
 fn push_name(factory: &Factory, type_id: TypeId, line: &mut Vec<u8>) -> Result<(), AllocError>
-    ensures { OnOk result (line.new.items ≡ line.old.items ++ name_at (types_of factory.now) type_id) }
+    ensures { OnOk result (line.new.items ≡ line.old.items ++ type_name_or (types_of factory.now) type_id []) }
 {
     match factory.name_of(type_id) {
         Some(name) => line.extend_from_slice(name.as_bytes()),

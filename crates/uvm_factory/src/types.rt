@@ -38,7 +38,8 @@ impl TypeId {
         TypeId { place }
     }
 
-    pub(crate) fn place(self) -> usize
+    /// The place, from 0.
+    pub fn place(self) -> usize
         ensures { result ≡ self }
     {
         usize::from(self.place)

@@ -7,7 +7,7 @@ newest [] = None
 newest (x ∷ xs) = Some x
 
 -- of some things that may be given the first that is
-abbrev pub first_of : {A : Type 0} → List (Option A) → Option A
-first_of [] = None
-first_of (Some x ∷ others) = Some x
-first_of (None ∷ others) = first_of others
+abbrev pub first_given : {A : Type 0} → List (Option A) → Option A
+first_given [] = None
+first_given (Some x ∷ others) = Some x
+first_given (None ∷ others) = first_given others

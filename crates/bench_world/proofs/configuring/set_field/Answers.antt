@@ -4,18 +4,18 @@ use Rattle.std.proofs.Common.{w64, ◌≡◌, ◌∙◌, true, false, nat_le, le
 use Rattle.uvm_object.specs.declared.acts.Act.TheVariants.{Set}
 use Rattle.uvm_object.specs.declared.fatals.Fatal.TheVariants.{TooManySettings}
 use Rattle.bench_history.specs.Configuration.{settings_of}
-use Rattle.bench_history.specs.Refusals.{setting_of}
+use Rattle.bench_history.specs.Refusals.{setting_refusal}
 use Rattle.bench_world.proofs.Later.{acted, refused-performed}
 use Rattle.bench_world.proofs.configuring.set_field.Goals as goal
 
 pub returns-then-is_full : goal.returns-then-is_full
-unfolding setting_of
+unfolding setting_refusal
 returns-then-is_full c = λ place. refused-performed (Set c.args.glob.now c.args.field c.args.value) TooManySettings c.refused.ensures.outcome c.refused.ensures.services (λ script history m.
     let full : nat_le 65536 (length (settings_of script history)) ≡ true = ap (nat_le 65536) (sym m.settings.count) ∙ sym c.is_full.ensures ∙ c.if-is_full.true in
     rw full refl)
 
 pub returns : goal.returns
-unfolding setting_of
+unfolding setting_refusal
 returns c = λ place. rw c.done.ensures (record {
   comes = λ script history s.
       let few : nat_le 65536 (length (settings_of script history)) ≡ false = ap (nat_le 65536) (sym s.known.settings.count) ∙ sym c.is_full.ensures ∙ c.if-is_full.false in

@@ -1,22 +1,22 @@
-use Rattle.std.proofs.Common.{◌≡◌, ap, ◌∙◌, refl, rules}
+use Rattle.std.proofs.Common.{◌≡◌, Some, None, sym, ◌∙◌, refl, rules}
 use Rattle.uvm_tree.specs.Nodes.{child}
 use Rattle.uvm_object.specs.Acts.{node_of}
 use Rattle.uvm_object.specs.declared.acts.Act.TheVariants.{Add}
 use Rattle.bench_history.specs.History.{nodes_of, kind_of, is_built}
-use Rattle.bench_history.specs.Refusals.{Does, Refuses, done_unless, addition_of}
+use Rattle.bench_history.specs.Refusals.{addition_refusal}
 use Rattle.bench_world.proofs.Answered.{turns-more, one-longer}
 use Rattle.bench_world.proofs.Later.{acted, refused-performed}
 use Rattle.bench_world.proofs.performing.add.Goals as goal
 
 pub returns-in-Some : goal.returns-in-Some
 returns-in-Some c = λ place. refused-performed (Add c.args.name c.args.what) c.in-Some.fatal c.refused.ensures.outcome c.refused.ensures.services (λ script history m.
-    let refuses : addition_of (is_built history) (nodes_of history) (node_of c.args.services.now.answer.speaker) c.args.name ≡ Refuses c.in-Some.fatal = rw (← m.built, ← m.tree) (c.addition_refusal.ensures.outcome ∙ ap done_unless c.in-Some.is) in
+    let refuses : addition_refusal (is_built history) (nodes_of history) (node_of c.args.services.now.answer.speaker) c.args.name ≡ Some c.in-Some.fatal = rw (← m.built, ← m.tree) (sym c.addition_refusal.ensures.refusal ∙ c.in-Some.is) in
     rw refuses refl)
 
 pub returns : goal.returns
 returns c = λ place. rw c.done.ensures (record {
   comes = λ script history s.
-      let does : addition_of (is_built history) (nodes_of history) (node_of c.args.services.now.answer.speaker) c.args.name ≡ Does = rw (← s.known.built, ← s.known.tree) c.in_default.ensures.outcome in
+      let does : addition_refusal (is_built history) (nodes_of history) (node_of c.args.services.now.answer.speaker) c.args.name ≡ None = rw (← s.known.built, ← s.known.tree) (sym c.in_default.ensures.refusal) in
       rw does refl;
   kept = record {
     same_answer = refl;

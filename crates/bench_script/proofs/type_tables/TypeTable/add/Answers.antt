@@ -1,9 +1,15 @@
-use Rattle.std.proofs.Common.{◌≡◌, ◌∙◌, ◌++◌, ◌∷◌, [], ap, rules}
-use Rattle.bench_script.proofs.Register.{register-push}
+use Rattle.bench_script.proofs.Register.{register-push, new-key}
 use Rattle.bench_script.proofs.type_tables.TypeTable.add.Goals as goal
+use Rattle.bench_script.proofs.type_tables.TypeTable.add.Goals.{in-Ok, in-Err}
 
--- both have the type at their end
-pub invariant_of-self-in-Ok : goal.invariant_of-self-in-Ok
-invariant_of-self-in-Ok c =
-    let items : c.push.new.self.items ≡ c.self.inside.rows.items ++ (c.args.name, c.args.kind) ∷ [] = search rules in
-    rw items (c.in-Ok.ensures.types ∙ ap (λ l. l ++ (c.args.name, c.args.kind) ∷ []) c.self.invariant.0, register-push _ _ c.self.invariant.1 (rw (← c.self.view_is) at c.requires))
+pub add_type-requires : goal.add_type-requires
+add_type-requires c = new-key c.self.inside.types.entries c.args.name (rw (← c.self.view_is) at c.requires)
+
+-- a type that was not added changes nothing
+pub invariant_of-self : goal.invariant_of-self
+invariant_of-self c =
+    let fits = rw (← c.self.view_is) at c.requires in
+    elim c.match-add_type.branch [
+      | in-Ok w ↦ rw w.in-Ok.ensures.ok (register-push _ _ c.self.invariant fits)
+      | in-Err w ↦ rw w.in-Err.ensures.err c.self.invariant
+    ]

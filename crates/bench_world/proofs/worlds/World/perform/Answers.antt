@@ -1,4 +1,5 @@
 use Rattle.bench_world.proofs.Later.{performed}
+use Rattle.bench_world.proofs.Waits.{waits}
 use Rattle.bench_world.proofs.worlds.World.perform.Goals as goal
 
 pub invariant_of-self-in-Became : goal.invariant_of-self-in-Became
@@ -7,3 +8,10 @@ invariant_of-self-in-Became c =
     let did = rw (c.in-Became.is, c.act.ensures, c.len-place.ensures) at c.in_ok-outcome.ensures in
     let entered = c.in_ok-enter-in-Became.ensures in
     performed c.in-Became.outcome c.args.deed c.self.invariant r.sound r.room r.left r.next c.phases_go_in_order.ensures did entered.ok entered.limit entered.services
+
+pub invariant_of-self-in-Needed : goal.invariant_of-self-in-Needed
+invariant_of-self-in-Needed c =
+    let r = rw (← c.self.view_is) at c.requires in
+    let kept = c.in_ok-make_room-in-Needed.ensures in
+    let need = rw (c.in-Needed.is, c.act.ensures, c.len-place.ensures, ← c.in_ok-new-in-Needed.ensures.0, ← c.in_ok-new-in-Needed.ensures.1) at c.in_ok-outcome.ensures in
+    waits c.in_ok-new-in-Needed.field-0 c.self.invariant r.sound r.room (rw c.in_ok-new-in-Needed.ensures.1 r.left) (rw c.in_ok-new-in-Needed.ensures.1 r.next) c.phases_go_in_order.ensures need kept.log kept.log_spare kept.services kept.nodes kept.items kept.tree_spare kept.components

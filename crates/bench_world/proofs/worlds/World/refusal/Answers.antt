@@ -1,6 +1,5 @@
-use Rattle.uvm_factory.specs.declared.types.Kind.TheVariants.{Component}
 use Rattle.bench_history.specs.History.{overrides_of}
-use Rattle.bench_world.proofs.Creating.{needed-unrefused, refused-why, wants-memory}
+use Rattle.bench_world.proofs.Creating.{needed-unrefused, refused-why}
 use Rattle.bench_world.proofs.worlds.World.refusal.Goals as goal
 use Rattle.bench_world.proofs.worlds.World.refusal.Goals.{in-Ok, in-Err-Refused, in-Err-Memory}
 
@@ -14,7 +13,7 @@ returns-clause-ok c =
           rw (w.result-is, ← c.self.view_is, c.in-Create.is) (needed-unrefused _ needs)
       | in-Err-Refused w ↦
           let why = rw (w.in-Err-Refused.field-0-is, m.built, m.tree) at (w.in-Err-Refused.ensures.err c.self.inside.script.types (overrides_of c.self.inside.script c.self.inside.log.entries) m.factory) in
-          rw (w.result-is, ← c.self.view_is, c.in-Create.is) (refused-why Component _ _ why)
+          rw (w.result-is, ← c.self.view_is, c.in-Create.is, ← why) (refused-why _ _)
       | in-Err-Memory w ↦ rw w.result-is tt
     ]
 
@@ -27,5 +26,5 @@ returns-clause-err c =
       | in-Err-Refused w ↦ rw w.result-is tt
       | in-Err-Memory w ↦
           let may = rw (w.in-Err-Memory.field-0-is, m.built, m.tree) at (w.in-Err-Memory.ensures.err c.self.inside.script.types (overrides_of c.self.inside.script c.self.inside.log.entries) m.factory) in
-          rw (w.result-is, ← c.self.view_is, c.in-Create.is) (wants-memory Component _ _ may)
+          rw (w.result-is, ← c.self.view_is, c.in-Create.is, ← refused-why _ _) may
     ]

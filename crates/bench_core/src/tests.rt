@@ -116,6 +116,40 @@ fn machine_tells_its_phase_and_its_nodes(rt: HostRuntime) -> Result<(), Fail> {
     Ok(())
 }
 
+// Each Config is answered with a Get, which is answered with a Config: nothing else comes any more.
+#[test]
+fn full_log_fails_the_machine(rt: HostRuntime) -> Result<(), Fail> {
+    let mut core = machine(rt.alloc())?;
+    assert_eq!(rt; fill_log(rt.alloc(), &mut core)?, Some(CoreFault::LogFull));
+    assert_eq!(rt; core.log().len(), 1_000_000);
+    assert_eq!(rt; core.turn(), None);
+    assert!(rt; !core.is_over());
+    // It goes on to tell what the log says.
+    assert_eq!(rt; core.phase(), Some(Phase::Build));
+    let mut words = Pcg32::new(42, 54);
+    assert_eq!(rt; core.next(&mut words), Err(CoreFault::Failed));
+    Ok(())
+}
+
+// Answers each call with a Get until no entry is made any more: the fault, if there was one.
+fn fill_log(alloc: Global, core: &mut Core) -> Result<Option<CoreFault>, Fail> {
+    let mut words = Pcg32::new(42, 54);
+    for _ in 0..1_000_100 {
+        match core.next(&mut words) {
+            Ok(Turn::Over) => return Ok(None),
+            Ok(Turn::Moved) => (),
+            Ok(Turn::Need) => meet(core, Bench::Children),
+            Ok(Turn::Ask { .. }) => {
+                let mut acts = Acts::new(alloc);
+                acts.push(get()?)?;
+                answer(core, acts)?;
+            }
+            Err(fault) => return Ok(Some(fault)),
+        }
+    }
+    Err("no end".into())
+}
+
 // Whether the test is needed, and is needed again.
 fn is_in_need(alloc: Global, core: &mut Core) -> Result<bool, Fail> {
     let test = test_path(alloc)?;

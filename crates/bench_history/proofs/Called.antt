@@ -23,7 +23,7 @@ use Rattle.uvm_object.specs.declared.entries.Entry.TheVariants.{Heard, Did, Note
 use Rattle.bench_script.specs.Scripts.{ScriptValue}
 use Rattle.bench_history.specs.declared.needs.Need as declared
 use Rattle.bench_history.specs.History.{stage_of, now_of, running, nodes_of, components_of, left_of, rest_of, speaker_of, order_of, called_of, had_call, next_call, opening}
-use Rattle.bench_history.specs.Dues.{told_by, due_from, calls_after, caused_of, heard_of, ended_of, is_open, due_calls, first_due, due_at, due_now}
+use Rattle.bench_history.specs.Dues.{told_by, due_from, calls_from, caused_of, heard_of, ended_of, is_open, due_calls, first_due, due_at, due_now}
 use Rattle.bench_history.specs.Cases.{Next, Exactly, Answer, Need, Nothing}
 use Rattle.bench_history.specs.Next.{next_of, Allows, IsNext, EachIsNext}
 use Rattle.bench_history.specs.Laws.{HasGrown, AskedAreComponents, ComponentsAreNodes, NewNodesAreUnasked}
@@ -238,7 +238,7 @@ module _ (keeps : OrderKeepsAll Who Call) where
       let deed = deed-next script before performer outcome act (next_of script before) refl next in
       record {
         owners =
-            All-append (λ due. Contains (components_of (entry ∷ before)) (node_of due.owner)) (calls_after outcome act performer (running (stage_of before)) (now_of before) (length before)) (caused_of before)
+            All-append (λ due. Contains (components_of (entry ∷ before)) (node_of due.owner)) (calls_from outcome act performer (running (stage_of before)) (now_of before) (length before)) (caused_of before)
             (due-owner (λ who. Contains (components_of (entry ∷ before)) (node_of who)) (told_by outcome act) performer (running (stage_of before)) (now_of before) (record { place = length before; number = 0 }) (deed-owner script before entry performer outcome act deed known.speaker))
             (owners-more script before entry known);
         speaker = speaker-more script before entry (rest-all (λ one. one ≡ opening script) (left_of script before)) known.speaker;

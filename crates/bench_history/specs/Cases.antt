@@ -1,4 +1,5 @@
--- The machine's cases: for each what comes next, if the case is given.
+-- The machine's cases: for each what comes next, if the case is given. Each takes for granted that those that stand above it in `next_of` were
+-- not.
 use Rattle.std.specs.Prelude.{List, [], ◌∷◌, length, nat_lt, Option, Some, None, option_map, if◌then◌else◌}
 use Rattle.uvm_phase.specs.declared.phases.Phase.{Phase}
 use Rattle.uvm_phase.specs.declared.phases.Phase.TheVariants.{Build}
@@ -42,7 +43,7 @@ end_reached stage = None
 abbrev pub giving_up : Option Reason → Option Next
 giving_up reason = option_map (λ reason. Exactly (Over reason)) reason
 
--- of an answer of too many acts none is performed: all of them are left, and a note comes in their place
+-- of an answer of too many acts none is performed: a note comes instead, which leaves none of them
 abbrev pub long_answer : List Entry → List Act → Option Next
 long_answer history left = if nat_lt most_acts (length left) then Some (Exactly (Note TooManyActs (node_of (speaker_of history)))) else None
 
@@ -53,24 +54,25 @@ by_upshot performer act Does = Exactly (Did performer Done act)
 by_upshot performer act (Finds value) = Exactly (Did performer (Value value) act)
 by_upshot performer act (Refuses fatal) = Exactly (Did performer (Refused fatal) act)
 
+-- what comes of an act by what it comes to
 abbrev pub by_act : ScriptValue → List Entry → Who → Act → Next
 by_act script history performer act = by_upshot performer act (upshot_of script history performer act)
 
--- of the acts that are left the first is next
+-- of the acts that are left the first is next, done by who gave the answer
 abbrev pub first_act : ScriptValue → List Entry → List Act → Option Next
 first_act script history [] = None
 first_act script history (act ∷ acts) = Some (by_act script history (speaker_of history) act)
 
--- a call is due
+-- the call that is due is heard by its owner
 abbrev pub call_due : Option (Due Who Call) → Option Next
 call_due due = option_map (λ due. Answer due.owner due.notice (Some due.cause)) due
 
--- it is a node's turn in the phase that runs
+-- the phase that runs is heard by the node whose turn it is
 abbrev pub phase_call : List Entry → Option Phase → Option Next
 phase_call history None = None
 phase_call history (Some phase) = option_map (λ node. Answer (who.Node node) (call.Phase phase) None) (next_call phase history)
 
--- the phase that runs ends, once each component had its call
+-- the phase that runs ends: each component had its call
 abbrev pub phase_end : Option Phase → Option Next
 phase_end phase = option_map (λ phase. Exactly (End phase)) phase
 
@@ -83,6 +85,6 @@ phase_to_begin stage = None
 abbrev pub phase_begin : Option Phase → Option Next
 phase_begin phase = option_map (λ phase. Exactly (Begin phase)) phase
 
--- after the last phase the run is over
+-- the last phase has ended: the run is over
 abbrev pub finish : Option Next
 finish = Some (Exactly (Over Finished))

@@ -18,7 +18,7 @@ use Rattle.bench_history.specs.declared.stages.Stage.{Stage}
 use Rattle.bench_history.specs.declared.stages.Stage.TheVariants.{During}
 use Rattle.bench_history.specs.History.{stage_of, nodes_of}
 
--- a setting of the script counts as the top's, set while build does not run
+-- a setting of the script counts as one of the top, whose path is empty and whose depth is 0, made while build does not run
 abbrev pub given_setting : script.Setting → Setting
 given_setting given = record { scope = given.scope; field = given.field; precedence = precedence_of false 0; value = given.value }
 
@@ -27,12 +27,13 @@ abbrev pub is_building : Stage → Bool
 is_building (During Build) = true
 is_building stage = false
 
--- the settings, the newest first: those of the accepted acts, each under its performer's path, behind them the script's
+-- an act that is done sets a field under its performer's path
 abbrev pub settings_after : Bool → List (List ℕ) → List Setting → Outcome → Act → List Setting
 settings_after building path settings Done (Set glob field value) =
     record { scope = dotted (path_text path) glob; field = field; precedence = precedence_of building (length path); value = value } ∷ settings
 settings_after building path settings outcome act = settings
 
+-- the settings, the newest first: those of the acts, behind them the script's
 abbrev pub settings_of : ScriptValue → List Entry → List Setting
 settings_of script [] = reverse (map given_setting script.settings)
 settings_of script (Did performer outcome act ∷ before) =

@@ -1,5 +1,5 @@
 -- What a log says. A history is the list of its entries, the newest first: a phase begins or ends; somebody, the hearer, has heard a call and
--- answered with acts; an act was done by its performer, and came to an outcome, which may be that it was refused; the kernel notes a fault; the
+-- answered with acts; an act was done by its performer, and came to an outcome, which may be that it was refused; the machine notes a fault; the
 -- run is over.
 use Rattle.std.specs.Prelude.{ℕ, Bool, true, false, not, ◌==◌, List, [], ◌∷◌, ◌++◌, length, reverse, filter, slice_get, codes, Option, Some, None, if◌then◌else◌}
 use Rattle.std.specs.List.{list_any}
@@ -44,10 +44,9 @@ stage_of (End phase ∷ before) = After phase
 stage_of (Over reason ∷ before) = Ended
 stage_of (entry ∷ before) = stage_of before
 
--- the present time in ticks: no entry moves it yet
+-- the present time in ticks, which stands still yet
 abbrev pub now_of : List Entry → ℕ
-now_of [] = 0
-now_of (entry ∷ before) = now_of before
+now_of history = 0
 
 -- the phase that runs
 abbrev pub running : Stage → Option Phase
@@ -75,7 +74,7 @@ nodes_of [] = top ∷ []
 nodes_of (Did performer outcome act ∷ before) = nodes_after (nodes_of before) performer outcome act
 nodes_of (entry ∷ before) = nodes_of before
 
--- an object that is made stands at the node that it makes
+-- an object that is made stands at the node that is new with it
 abbrev pub components_after : ℕ → List ℕ → Outcome → List ℕ
 components_after node components (Made type_name) = components ++ node ∷ []
 components_after node components outcome = components
@@ -93,6 +92,7 @@ called_of (Begin phase ∷ before) = []
 called_of (Heard hearer call None acts ∷ before) = node_of hearer ∷ called_of before
 called_of (entry ∷ before) = called_of before
 
+-- whether a node is among those that had their call
 abbrev pub had_call : List ℕ → ℕ → Bool
 had_call called node = list_any (λ other. other == node) called
 
@@ -107,7 +107,7 @@ next_call phase history =
     least (is_before (order_of (walk_of phase)) (nodes_of history))
     (filter (λ node. not (had_call (called_of history) node)) (components_of history))
 
--- the name of a type; one that is not there goes by another name
+-- the name of a type, or another where there is no such type
 abbrev pub type_name_or : Types → ℕ → List ℕ → List ℕ
 type_name_or types type_id other = option_map_or (λ t. t.0) (slice_get types type_id) other
 
@@ -115,6 +115,7 @@ type_name_or types type_id other = option_map_or (λ t. t.0) (slice_get types ty
 abbrev pub opening : ScriptValue → Act
 opening script = Create (option_map_or (λ test. type_name_or script.types test []) script.test []) (codes "uvm_test_top")
 
+-- all acts but the first, and the first
 abbrev pub rest_of : List Act → List Act
 rest_of [] = []
 rest_of (act ∷ acts) = acts
@@ -138,12 +139,13 @@ speaker_of [] = who.Node 0
 speaker_of (Heard hearer call cause acts ∷ before) = hearer
 speaker_of (entry ∷ before) = speaker_of before
 
--- an override is there once both its types are known
+-- the overrides with one more between two types that are known, as those of an accepted act are
 abbrev pub with_override : Option ℕ → Option ℕ → (ℕ → ℕ → Override) → List Override → List Override
 with_override (Some original) (Some new) make overrides = make original new ∷ overrides
 with_override (Some original) None make overrides = overrides
 with_override None new make overrides = overrides
 
+-- an act that is done overrides a type, everywhere or at the paths that a glob matches under its performer's
 abbrev pub overrides_after : Types → List Node → List Override → Who → Outcome → Act → List Override
 overrides_after types nodes overrides performer Done (OverrideType original new replace) =
     with_override (type_named types original) (type_named types new) (λ o n. Whole o n replace) overrides
@@ -157,21 +159,22 @@ overrides_of script [] = reverse script.overrides
 overrides_of script (Did performer outcome act ∷ before) = overrides_after script.types (nodes_of before) (overrides_of script before) performer outcome act
 overrides_of script (entry ∷ before) = overrides_of script before
 
--- build has ended
+-- this entry ends build
 abbrev pub ends_build : Entry → Bool
 ends_build (End Build) = true
 ends_build entry = false
 
+-- build has ended
 abbrev pub is_built : List Entry → Bool
 is_built history = list_any ends_build history
 
--- each fatal report asks for exit
+-- after this entry, a refusal or a note, the run is given up
 abbrev pub asks_exit : Entry → Bool
 asks_exit (Did performer (Refused fatal) act) = true
 asks_exit (Note fatal node) = true
 asks_exit entry = false
 
--- the one act of the top is the creation of the test
+-- this entry refuses the test: the creation of the test is the one act of the top
 abbrev pub refuses_test : Entry → Bool
 refuses_test (Did performer (Refused fatal) act) = node_of performer == 0
 refuses_test entry = false

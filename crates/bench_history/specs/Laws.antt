@@ -1,4 +1,4 @@
--- What holds of all logs in which each entry was next, and of what comes next in them.
+-- What holds of all logs, or of all in which each entry was next, as in each legal one, and of what comes next in them.
 use Rattle.std.specs.Prelude.{◌≡◌, ◌<◌, ◌≤◌, ◌+◌, ℕ, suc, true, false, List, [], ◌∷◌, ◌++◌, length, reverse, take, Option, Some, None, IsSome, All, Contains}
 use Rattle.uvm_phase.specs.declared.agendas.Cause.{Cause}
 use Rattle.uvm_phase.specs.declared.agendas.Due.{Due}
@@ -24,7 +24,7 @@ use Rattle.bench_history.specs.Refusals.{child_refusal}
 use Rattle.bench_history.specs.Cases.{Next, Exactly, Answer, Need, Nothing, by_act}
 use Rattle.bench_history.specs.Next.{next_of, need_in, IsAct, EachIsNext}
 
--- the number of the next phase that may begin, or of the one that runs
+-- the number of the next phase that may begin, or of the one that runs; at the end that of all phases
 abbrev pub next_number : Stage → ℕ
 next_number Before = 0
 next_number (During phase) = phase_number phase
@@ -42,7 +42,7 @@ PhasesGoInOrder = (script : ScriptValue) (history : List Entry) → EachIsNext s
 
 -- whoever is asked is a component
 abbrev pub AskedAreComponents : Type 0
-AskedAreComponents = (script : ScriptValue) (history : List Entry) (performer : Who) (call : Call) (cause : Option Cause) → EachIsNext script history → next_of script history ≡ Answer performer call cause → Contains (components_of history) (node_of performer)
+AskedAreComponents = (script : ScriptValue) (history : List Entry) (hearer : Who) (call : Call) (cause : Option Cause) → EachIsNext script history → next_of script history ≡ Answer hearer call cause → Contains (components_of history) (node_of hearer)
 
 -- and each component is a node of the tree
 abbrev pub ComponentsAreNodes : Type 0
@@ -50,7 +50,7 @@ ComponentsAreNodes = (script : ScriptValue) (history : List Entry) → EachIsNex
 
 -- a call with a cause is the one that is due first
 abbrev pub DueCallsGoInOrder : Type 0
-DueCallsGoInOrder = (script : ScriptValue) (history : List Entry) (performer : Who) (call : Call) (cause : Cause) → next_of script history ≡ Answer performer call (Some cause) → (due : Due Who Call) × (first_due history ≡ Some due) × (due.cause ≡ cause) × (due.owner ≡ performer) × (due.notice ≡ call)
+DueCallsGoInOrder = (script : ScriptValue) (history : List Entry) (hearer : Who) (call : Call) (cause : Cause) → next_of script history ≡ Answer hearer call (Some cause) → (due : Due Who Call) × (first_due history ≡ Some due) × (due.cause ≡ cause) × (due.owner ≡ hearer) × (due.notice ≡ call)
 
 -- where an act is next, it is the first of those that are left
 pub record IsFirstAct (script : ScriptValue) (history : List Entry) (act : Act) : Type 0 where

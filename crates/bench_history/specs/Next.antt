@@ -39,10 +39,21 @@ Allows (Answer hearer call cause) entry = (acts : List Act) × (entry ≡ Heard 
 Allows (Need need performer act) entry = (entry ≡ Did performer (Made need.type_name) act) ⊎ (entry ≡ Did performer (Refused NoObject) act)
 Allows Nothing entry = ⊥
 
+-- an entry may come next after a log
 abbrev pub IsNext : ScriptValue → List Entry → Entry → Type 0
 IsNext script history entry = Allows (next_of script history) entry
 
--- whether an act is what comes next, which becomes something at once or needs an object
+-- each entry was next after those before it
+abbrev pub EachIsNext : ScriptValue → List Entry → Type 0
+EachIsNext script [] = Unit {0}
+EachIsNext script (entry ∷ before) = IsNext script before entry × EachIsNext script before
+
+-- a legal log. The run need not be at its end; what would come next after a log that is full never does
+pub record IsLegal (script : ScriptValue) (history : List Entry) : Type 0 where
+  pub each : EachIsNext script history
+  pub few : length history ≤ log_limit script
+
+-- what comes next is the entry of an act, or the object for one
 abbrev pub IsAct : Next → Type 0
 IsAct (Exactly (Did performer outcome act)) = Unit {0}
 IsAct (Need need performer act) = Unit {0}
@@ -61,13 +72,3 @@ made_in next = None
 abbrev pub declined_in : Next → Option Entry
 declined_in (Need need performer act) = Some (Did performer (Refused NoObject) act)
 declined_in next = None
-
--- each entry was next after those before it
-abbrev pub EachIsNext : ScriptValue → List Entry → Type 0
-EachIsNext script [] = Unit {0}
-EachIsNext script (entry ∷ before) = IsNext script before entry × EachIsNext script before
-
--- a legal log. The run need not be at its end
-pub record IsLegal (script : ScriptValue) (history : List Entry) : Type 0 where
-  pub each : EachIsNext script history
-  pub few : length history ≤ log_limit script

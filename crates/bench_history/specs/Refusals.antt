@@ -1,4 +1,5 @@
--- Why acts are refused: for each sort of act the causes in the order in which they are looked for.
+-- Why acts are refused: for each sort of act the refusals in the order in which they are looked for. What is still refused after these is an
+-- object that nobody supplies (Next, `Allows`).
 use Rattle.std.specs.Prelude.{ℕ, Bool, true, false, not, List, [], ◌∷◌, ◌++◌, length, slice_get, Option, Some, None, option_map, option_and_then, is_none, nat_le}
 use Rattle.uvm_glob.specs.Lists.{first_given}
 use Rattle.uvm_glob.specs.Paths.{path_text}
@@ -14,7 +15,7 @@ use Rattle.uvm_tree.specs.Nodes.{path_at, add_fault}
 use Rattle.uvm_object.specs.declared.fatals.Fatal.{Fatal}
 use Rattle.uvm_object.specs.declared.fatals.Fatal.TheVariants.{CreatedAfterBuild, InvalidType, ChildTaken, TreeLimit, OverrideLoop, TooManySettings}
 
--- a cause, where it is there
+-- a refusal, where there is one
 abbrev pub fault_if : {A : Type 0} → Bool → A → Option A
 fault_if true fault = Some fault
 fault_if false fault = None
@@ -34,14 +35,15 @@ pub record Creation : Type 0 where
 abbrev pub created_path : Creation → List (List ℕ)
 created_path creation = path_at creation.nodes creation.parent ++ creation.name ∷ []
 
--- the number of a type, if it is a component's
+-- the number of a type, if the type is a component's
 abbrev pub component_from : ℕ → Option (List ℕ × Kind) → Option ℕ
-component_from place None = None
-component_from place (Some (name, Component)) = Some place
-component_from place (Some (name, Sequence)) = None
+component_from type_id None = None
+component_from type_id (Some (name, Component)) = Some type_id
+component_from type_id (Some (name, Sequence)) = None
 
+-- the number of the type of a name, if it is a component's
 abbrev pub component_named : Types → List ℕ → Option ℕ
-component_named types name = option_and_then (λ place. component_from place (slice_get types place)) (type_named types name)
+component_named types name = option_and_then (λ type_id. component_from type_id (slice_get types type_id)) (type_named types name)
 
 -- the type that is asked for, if it is a component's
 abbrev pub type_asked : Creation → Option ℕ
@@ -51,18 +53,19 @@ type_asked creation = component_named creation.types creation.type_name
 abbrev pub type_made : Creation → Option ℕ
 type_made creation = option_and_then (made_type creation.overrides (length creation.types) (path_text (created_path creation))) (type_asked creation)
 
--- why there is no new child of that name: it is taken, or there is no place for it, as under a parent that is not there, of a text that is no
--- name, or beyond the limits of the tree
+-- a fault of the tree, as a refusal
 abbrev pub fatal_of : Option TreeFault → Option Fatal
 fatal_of None = None
 fatal_of (Some NameTaken) = Some ChildTaken
 fatal_of (Some fault) = Some TreeLimit
 
+-- why there is no new child of a name: it is taken, or nothing can stand there, as under a parent that is not there, of a text that is no
+-- name, or beyond the limits of the tree
 abbrev pub child_refusal : List Node → ℕ → List ℕ → Option Fatal
 child_refusal nodes parent name = fatal_of (add_fault nodes parent name)
 
--- nothing is created after build; the type that is asked for has to be a component's; the name has to be free and within the limits of the
--- tree; and the overrides no loop
+-- nothing is created after build; the type that is asked for has to be a component's; there has to be a new child of the name; and the overrides
+-- must be no loop
 unfoldable pub creation_refusal : Creation → Option Fatal
 creation_refusal creation =
     first_given (
@@ -72,21 +75,23 @@ creation_refusal creation =
     ∷ fault_if (is_none (type_made creation)) OverrideLoop
     ∷ [])
 
--- nothing is added after build; the name has to be free and within the limits of the tree
+-- nothing is added after build; there has to be a new child of the name
 unfoldable pub addition_refusal : Bool → List Node → ℕ → List ℕ → Option Fatal
 addition_refusal built nodes parent name = first_given (fault_if built CreatedAfterBuild ∷ child_refusal nodes parent name ∷ [])
 
--- so many settings are accepted, the script's among them
+-- more settings than these are not accepted, the script's among them
 unfoldable pub setting_refusal : ℕ → Option Fatal
 setting_refusal count = fault_if (nat_le 65536 count) TooManySettings
 
--- an override goes between known types of one kind
+-- the kind of the type of a name
 abbrev pub kind_named : Types → List ℕ → Option Kind
-kind_named types name = option_and_then (λ place. option_map (λ t. t.1) (slice_get types place)) (type_named types name)
+kind_named types name = option_and_then (λ type_id. option_map (λ t. t.1) (slice_get types type_id)) (type_named types name)
 
+-- both are there, and one
 abbrev pub are_of_one_kind : Option Kind → Option Kind → Bool
 are_of_one_kind (Some original) (Some new) = is_same_kind original new
 are_of_one_kind original new = false
 
+-- an override goes between known types of one kind
 unfoldable pub overriding_refusal : Types → List ℕ → List ℕ → Option Fatal
 overriding_refusal types original new = fault_if (not (are_of_one_kind (kind_named types original) (kind_named types new))) InvalidType

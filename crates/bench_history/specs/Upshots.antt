@@ -1,4 +1,4 @@
--- What an act comes to, after a log.
+-- What an act comes to, after a log: the outcome of its entry, foreseen.
 use Rattle.std.specs.Prelude.{ℕ, ℤ, List, length, Option, Some, None}
 use Rattle.std.specs.Option.{option_map_or}
 use Rattle.uvm_glob.specs.Paths.{path_text}
@@ -29,10 +29,11 @@ abbrev pub unless_refused : Option Fatal → Upshot → Upshot
 unless_refused None upshot = upshot
 unless_refused (Some fatal) upshot = Refuses fatal
 
--- the object that a creation needs, of the type that is made
+-- the object that a creation needs, of the type that is made; where none is made the creation is refused
 abbrev pub needed_object : Creation → Need
 needed_object creation = record { kind = Component; type_name = option_map_or (λ made. type_name_or creation.types made creation.type_name) (type_made creation) creation.type_name; path = created_path creation }
 
+-- a creation needs its object, unless it is refused
 abbrev pub creation_upshot : Creation → Upshot
 creation_upshot creation = unless_refused (creation_refusal creation) (Needs (needed_object creation))
 

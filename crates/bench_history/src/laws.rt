@@ -1,5 +1,5 @@
-//! Laws of legal logs: what holds of each of them, and of what comes next. The functions do nothing; their contracts are the laws, for
-//! all scripts and all logs.
+//! What holds of all logs, or of all in which each entry was next, as in each legal one, and of what comes next in them. The functions do
+//! nothing that shows; their contracts are the laws (`specs/Laws.antt`), for all scripts.
 
 ghost use Rattle.bench_history.specs.Laws.{PhasesGoInOrder, AskedAreComponents, ComponentsAreNodes, DueCallsGoInOrder, ActsGoInOrder, NeedsAreCreations, NothingAfterOver, SomethingBeforeOver, MachineEntriesAreSilent, NodesStay, MadeObjectsAreNew, NewNodesAreUnasked};
 

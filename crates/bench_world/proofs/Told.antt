@@ -20,7 +20,7 @@ use Rattle.uvm_object.specs.declared.entries.Outcome.TheVariants.{Value}
 use Rattle.bench_history.specs.declared.stages.Stage.{Stage}
 use Rattle.bench_history.specs.declared.stages.Stage.TheVariants.{Before, During, After, Ended}
 use Rattle.bench_history.specs.History.{running}
-use Rattle.bench_history.specs.Dues.{calls_after, is_open}
+use Rattle.bench_history.specs.Dues.{calls_from, is_open}
 use Rattle.bench_history.specs.Laws.{next_number}
 use Rattle.bench_world.specs.Services.{IsAgenda}
 
@@ -88,8 +88,8 @@ pub agenda-told :
     (value : Option ℤ) (field : List ℕ) (performer : Who) (time : ℕ) (stage : Stage)
     (caused : List (Due Who Call)) (heard : List Cause) (ended : List Phase) (count : ℕ) (dues more : List (Due Who Call))
     → All (λ phase. phase_number phase < next_number stage) ended → IsAgenda caused heard ended count dues
-    → more ≡ in_order (calls_after (Value value) (Get field) performer (running stage) time count ++ filter (is_open heard ended) caused)
-    → IsAgenda (calls_after (Value value) (Get field) performer (running stage) time count ++ caused) heard ended (suc count) more
+    → more ≡ in_order (calls_from (Value value) (Get field) performer (running stage) time count ++ filter (is_open heard ended) caused)
+    → IsAgenda (calls_from (Value value) (Get field) performer (running stage) time count ++ caused) heard ended (suc count) more
 agenda-told value field performer time (During phase) caused heard ended count dues more phases a is =
     agenda-caused caused heard ended dues more (record { time = time; cause = record { place = count; number = 0 }; phase = phase; owner = performer; notice = call.Config field value }) a phases is
 agenda-told value field performer time Before caused heard ended count dues more phases a is = rw (is, ← a.are) (agenda-later a)

@@ -13,7 +13,7 @@ ghost use Rattle.uvm_object.specs.declared.acts.Who.{Who};
 ghost use Rattle.uvm_object.specs.declared.entries.Outcome.TheVariants.{Value};
 ghost use Rattle.bench_history.specs.History.{running};
 ghost use Rattle.bench_history.specs.Configuration.{given_setting, is_building};
-ghost use Rattle.bench_history.specs.Dues.{calls_after};
+ghost use Rattle.bench_history.specs.Dues.{calls_from};
 ghost use Rattle.bench_world.specs.Services.{IsAttempt, IsSettings};
 
 use crate::attempts::{Attempt, refused};
@@ -148,7 +148,7 @@ fn tell(
     place: usize,
 ) -> Result<(), AllocError>
     ensures dues { OnOk result ((caused : List (Due Who Call)) → services.old.agenda.dues ≡ in_order caused →
-        services.new.agenda.dues ≡ in_order (calls_after (Value value) (Get field) services.old.answer.speaker (running services.old.stage) services.old.time place ++ caused)) }
+        services.new.agenda.dues ≡ in_order (calls_from (Value value) (Get field) services.old.answer.speaker (running services.old.stage) services.old.time place ++ caused)) }
     ensures rest { services.new ≡ record services.old { agenda = services.new.agenda } }
 {
     let Stage::During(phase) = services.stage else {

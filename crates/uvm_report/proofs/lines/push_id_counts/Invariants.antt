@@ -1,0 +1,8 @@
+use Rattle.std.proofs.Common.{◌≡◌, ◌++◌}
+use Rattle.std.specs.List.{flat_map}
+use Rattle.uvm_report.specs.Lines.{id_line}
+use Rattle.uvm_report.proofs.lines.push_id_counts.Given as goal
+
+-- the lines of the ids that are left complete the text
+abbrev pub invariant-loop-id : goal.invariant-loop-id
+invariant-loop-id l = l.text.items ++ flat_map id_line l.id-iterator ≡ l.initial.text.items ++ flat_map id_line l.ids.entries

@@ -1,0 +1,122 @@
+-- What some commands to reports come to, the newest command first.
+use Rattle.std.specs.Prelude.{ℕ, Bool, List, [], ◌∷◌, ◌++◌, length, Option, Some, None, nat_eq, filter, map, unwrap_or, if◌then◌else◌}
+use Rattle.std.specs.List.{filter_map, cons_option, list_any}
+use Rattle.std.specs.Cmp.Lexicographic.{pointwise}
+use Rattle.uvm_glob.specs.Paths.{path_text}
+use Rattle.uvm_glob.specs.Lists.{newest}
+use Rattle.uvm_report.specs.declared.severities.Severity.{Severity}
+use Rattle.uvm_report.specs.declared.severities.Severity.TheVariants.{Info, Warning, Error, Fatal}
+use Rattle.uvm_report.specs.declared.severities.Actions.{Actions}
+use Rattle.uvm_report.specs.declared.settings.Which.{Which}
+use Rattle.uvm_report.specs.declared.settings.Which.TheVariants as which
+use Rattle.uvm_report.specs.declared.messages.Report.{Report}
+use Rattle.uvm_report.specs.declared.messages.Fate.{Fate}
+use Rattle.uvm_report.specs.Severities.{same_severity}
+use Rattle.uvm_report.specs.Choice.{Lookup}
+use Rattle.uvm_report.specs.Settings.{Setting, choice_among}
+use Rattle.uvm_report.specs.Counts.{Counts}
+use Rattle.uvm_report.specs.Fates.{Ruling, ruling_by, is_issued, is_reached, fate_of}
+
+-- what is asked of reports. Scopes match whole paths
+pub data Command : Type 0 where
+  SetVerbosity : (scope : List ℕ) (which : Which) (level : ℕ) → Command
+  SetAction : (scope : List ℕ) (which : Which) (actions : Actions) → Command
+  SetSeverity : (scope : List ℕ) (from : Severity) (id : Option (List ℕ)) (to : Severity) → Command
+  SetQuitLimit : (limit : ℕ) → Command
+  Issue : (path : List (List ℕ)) (report : Report) → Command
+
+-- the reports whose severity is changed: those of a severity, or of it and an id
+abbrev pub which_from : Severity → Option (List ℕ) → Which
+which_from from None = which.Severity from
+which_from from (Some id) = which.Both from id
+
+-- the settings of levels, of actions and of severities, and the quit limits
+abbrev pub level_in : Command → Option (Setting ℕ)
+level_in (SetVerbosity scope which level) = Some (record { scope = scope; which = which; value = level })
+level_in command = None
+
+abbrev pub actions_in : Command → Option (Setting Actions)
+actions_in (SetAction scope which actions) = Some (record { scope = scope; which = which; value = actions })
+actions_in command = None
+
+abbrev pub severity_in : Command → Option (Setting Severity)
+severity_in (SetSeverity scope from id to) = Some (record { scope = scope; which = which_from from id; value = to })
+severity_in command = None
+
+abbrev pub limit_in : Command → Option ℕ
+limit_in (SetQuitLimit limit) = Some limit
+limit_in command = None
+
+-- what is chosen at a path's text
+abbrev pub given_level : List Command → List ℕ → Lookup ℕ
+given_level commands text = choice_among (filter_map level_in commands) text
+
+abbrev pub given_actions : List Command → List ℕ → Lookup Actions
+given_actions commands text = choice_among (filter_map actions_in commands) text
+
+abbrev pub given_severity : List Command → List ℕ → Lookup Severity
+given_severity commands text = choice_among (filter_map severity_in commands) text
+
+-- the quit limit: the last that was set, else 0 for none
+abbrev pub quit_limit : List Command → ℕ
+quit_limit commands = unwrap_or (newest (filter_map limit_in commands)) 0
+
+-- what the commands say of a report at a path
+abbrev pub given_ruling : List Command → List (List ℕ) → Report → Ruling
+given_ruling commands path report =
+    ruling_by (given_severity commands (path_text path)) (given_level commands (path_text path)) (given_actions commands (path_text path)) report
+
+-- a report that was issued: its severity, its id, and whether it has action count
+pub record IssuedReport : Type 0 where
+  pub severity : Severity
+  pub id : List ℕ
+  pub count : Bool
+
+abbrev pub issued_as : Report → Ruling → Option IssuedReport
+issued_as report ruling =
+    if is_issued report ruling then Some (record { severity = ruling.severity; id = report.id; count = ruling.actions.count }) else None
+
+-- the reports that were issued, the newest first, each by what the commands before it say
+abbrev pub issued_in : List Command → Command → Option IssuedReport
+issued_in older (Issue path report) = issued_as report (given_ruling older path report)
+issued_in older command = None
+
+abbrev pub issued_reports : List Command → List IssuedReport
+issued_reports [] = []
+issued_reports (command ∷ older) = cons_option (issued_in older command) (issued_reports older)
+
+-- how many of them are of a severity, and how many have action count
+abbrev pub severity_count : Severity → List IssuedReport → ℕ
+severity_count severity issued = length (filter (λ report. same_severity report.severity severity) issued)
+
+abbrev pub quit_count : List IssuedReport → ℕ
+quit_count issued = length (filter (λ report. report.count) issued)
+
+-- some ids, the newest first: each of them once, in the order in which they first came
+abbrev pub distinct_ids : List (List ℕ) → List (List ℕ)
+distinct_ids [] = []
+distinct_ids (id ∷ older) = if list_any (pointwise nat_eq id) older then distinct_ids older else distinct_ids older ++ id ∷ []
+
+-- each with how often it came
+abbrev pub id_counts : List (List ℕ) → List (List ℕ × ℕ)
+id_counts ids = map (λ id. (id, length (filter (pointwise nat_eq id) ids))) (distinct_ids ids)
+
+-- the counts of some reports that were issued
+abbrev pub counts_in : List IssuedReport → Counts
+counts_in issued = record {
+  info = severity_count Info issued;
+  warning = severity_count Warning issued;
+  error = severity_count Error issued;
+  fatal = severity_count Fatal issued;
+  ids = id_counts (map (λ report. report.id) issued);
+  quit = quit_count issued;
+}
+
+-- the counts after some commands
+unfoldable pub report_counts : List Command → Counts
+report_counts commands = counts_in (issued_reports commands)
+
+-- what becomes of a report after some commands
+abbrev pub report_fate : List Command → List (List ℕ) → Report → Fate
+report_fate commands path report =
+    fate_of report (given_ruling commands path report) (is_reached (quit_limit commands) (report_counts (Issue path report ∷ commands)).quit)

@@ -1,0 +1,56 @@
+-- What the settings say of a report, and what becomes of it.
+use Rattle.std.specs.Prelude.{ℕ, Bool, not, ◌&&◌, ◌||◌, ◌==◌, Option, Some, None, nat_le, nat_lt, if◌then◌else◌}
+use Rattle.uvm_report.specs.declared.severities.Severity.{Severity}
+use Rattle.uvm_report.specs.declared.severities.Severity.TheVariants.{Info}
+use Rattle.uvm_report.specs.declared.severities.Actions.{Actions}
+use Rattle.uvm_report.specs.declared.messages.Report.{Report}
+use Rattle.uvm_report.specs.declared.messages.Fate.{Fate}
+use Rattle.uvm_report.specs.declared.messages.Fate.TheVariants.{Dropped, Silent, Issued}
+use Rattle.uvm_report.specs.Severities.{same_severity, default_actions, is_empty}
+use Rattle.uvm_report.specs.Choice.{Choice, Lookup}
+use Rattle.uvm_report.specs.Counts.{Counts, with_report}
+
+-- the value that was chosen, or the default
+abbrev pub value_or : {A : Type 0} → A → Option (Choice A) → A
+value_or default None = default
+value_or default (Some choice) = choice.value
+
+-- what the settings say of a report: its severity after changes, and the level and the actions for that severity
+pub record Ruling : Type 0 where
+  pub severity : Severity
+  pub level : ℕ
+  pub actions : Actions
+
+-- the severity is changed once, as is chosen for the one that the report was issued with; where no level is chosen, it is 200 (MEDIUM)
+unfoldable pub ruling_by : Lookup Severity → Lookup ℕ → Lookup Actions → Report → Ruling
+ruling_by severity_of level_of actions_of report =
+    let severity = value_or report.severity (severity_of report.severity report.id) in
+    record {
+      severity = severity;
+      level = value_or 200 (level_of severity report.id);
+      actions = value_or (default_actions severity) (actions_of severity report.id);
+    }
+
+-- the verbosity that matters: the report's own where it was issued as INFO, else 0
+abbrev pub effective_verbosity : Report → ℕ
+effective_verbosity report = if same_severity report.severity Info then report.verbosity else 0
+
+-- the report is issued: its verbosity is not above the level, and there is something to do
+abbrev pub is_issued : Report → Ruling → Bool
+is_issued report ruling = nat_le (effective_verbosity report) ruling.level && not (is_empty ruling.actions)
+
+-- the counts after a report, which is counted where it is issued
+unfoldable pub counts_with : Report → Ruling → Counts → Counts
+counts_with report ruling counts =
+    if is_issued report ruling then with_report ruling.severity report.id ruling.actions.count counts else counts
+
+-- the quit count has reached the limit, if there is one
+abbrev pub is_reached : ℕ → ℕ → Bool
+is_reached limit quit = not (limit == 0) && nat_le limit quit
+
+-- what becomes of a report, where the quit count with it has reached the limit or has not
+unfoldable pub fate_of : Report → Ruling → Bool → Fate
+fate_of report ruling reached =
+    if nat_lt ruling.level (effective_verbosity report) then Dropped
+    else if is_empty ruling.actions then Silent
+    else Issued ruling.severity ruling.actions.display (ruling.actions.exit || reached)

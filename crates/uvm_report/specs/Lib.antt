@@ -1,0 +1,15 @@
+pub mod Severities
+pub mod Texts
+pub mod Choice
+pub mod Settings
+pub mod Counts
+pub mod Fates
+pub mod Commands
+pub mod Kept
+pub mod Observed
+pub mod Changes
+pub mod Lines
+pub mod Laws
+pub use Rattle.uvm_glob.specs.Names
+pub use Rattle.uvm_glob.specs.Paths
+pub use Rattle.uvm_glob.specs.Globs

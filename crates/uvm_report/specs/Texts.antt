@@ -1,0 +1,28 @@
+-- Which texts a report may have.
+use Rattle.std.specs.Prelude.{ℕ, Bool, not, ◌&&◌, List, length, nat_le, nat_lt, Option, Some, None, codes, if◌then◌else◌}
+use Rattle.std.specs.List.{list_all}
+use Rattle.uvm_report.specs.declared.faults.TextFault.{TextFault}
+use Rattle.uvm_report.specs.declared.faults.TextFault.TheVariants.{TooLong, BadByte, Memory}
+
+-- a byte that may stand in a text: a blank or a character of ASCII that is printed
+abbrev pub is_text_byte : ℕ → Bool
+is_text_byte b = nat_le 32 b && nat_le b 126
+
+-- the first fault of some bytes as a text
+unfoldable pub text_fault : List ℕ → Option TextFault
+text_fault bytes =
+    if nat_lt 200 (length bytes) then Some TooLong
+    else if not (list_all is_text_byte bytes) then Some BadByte
+    else None
+
+-- what a fault says of the bytes: want of memory says that nothing is wrong with them
+abbrev pub refusal : TextFault → Option TextFault
+refusal TooLong = Some TooLong
+refusal BadByte = Some BadByte
+refusal Memory = None
+
+-- what is told of each fault
+abbrev pub fault_text : TextFault → List ℕ
+fault_text TooLong = codes "more than 200 bytes"
+fault_text BadByte = codes "a byte that may not stand there"
+fault_text Memory = codes "out of memory"

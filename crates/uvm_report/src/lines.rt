@@ -1,0 +1,140 @@
+//! The line of a report, and the summary.
+
+ghost use Rattle.std.specs.Prelude.{◌≡◌, ◌++◌, ◌∷◌, OnOk, OnErr};
+ghost use Rattle.std.specs.List.{flat_map};
+ghost use Rattle.std.specs.Fmt.{decimal};
+ghost use Rattle.uvm_report.specs.Severities.{severity_text};
+ghost use Rattle.uvm_report.specs.Lines.{report_line, severity_line, id_line, limit_line, severities, summary_text};
+
+use crate::messages::Report;
+use crate::severities::Severity;
+use crate::tallies::Tally;
+use indexmap::IndexMap;
+use std::alloc::AllocError;
+use uvm_glob::Name;
+
+impl Report {
+    /// Appends the line of the report, with its newline: `UVM_ERROR @ 30: uvm_test_top [ID] TEXT`, of a severity, after
+    /// changes, a time in ticks, and the text of its source. Where memory is refused nothing is appended.
+    #[tactic(auto, unfolding(crate::specs::Lines::report_line))]
+    pub fn write_line(
+        &self,
+        severity: Severity,
+        time: u64,
+        source: &[u8],
+        out: &mut Vec<u8>,
+    ) -> Result<(), AllocError>
+        ensures ok { OnOk result (out.new.items ≡ out.old.items ++ report_line severity time source.now self.now.id self.now.text) }
+        ensures err { OnErr result (out.new.items ≡ out.old.items) }
+    {
+        let mut line = Vec::new(*out.allocator());
+        push_severity(severity, &mut line)?;
+        line.extend_from_slice(b" @ ")?;
+        push_number(time, &mut line)?;
+        line.extend_from_slice(b": ")?;
+        line.extend_from_slice(source)?;
+        line.extend_from_slice(b" [")?;
+        line.extend_from_slice(self.id.as_bytes())?;
+        line.extend_from_slice(b"] ")?;
+        line.extend_from_slice(self.text.as_bytes())?;
+        line.push(b'\n')?;
+        out.extend_from_slice(line.as_slice())
+    }
+}
+
+// The summary.
+#[tactic(auto, unfolding(crate::specs::Lines::summary_text))]
+pub(crate) fn push_summary(
+    quit_limit: u16,
+    tally: &Tally,
+    text: &mut Vec<u8>,
+) -> Result<(), AllocError>
+    ensures { OnOk result (text.new.items ≡ text.old.items ++ summary_text quit_limit tally.now.counts) }
+{
+    text.extend_from_slice(b"--- UVM Report Summary ---\n")?;
+    push_limit(quit_limit, tally.quit(), text)?;
+    text.extend_from_slice(b"** Report counts by severity\n")?;
+    push_severity_counts(&Severity::ALL, tally, text)?;
+    text.extend_from_slice(b"** Report counts by id\n")?;
+    push_id_counts(tally.ids(), text)?;
+    Ok(())
+}
+
+// The quit count and the limit, if there is one.
+#[tactic(auto, unfolding(crate::specs::Lines::limit_line))]
+fn push_limit(limit: u16, quit: u64, text: &mut Vec<u8>) -> Result<(), AllocError>
+    ensures { OnOk result (text.new.items ≡ text.old.items ++ limit_line limit quit) }
+{
+    if limit == 0 {
+        return Ok(());
+    }
+    text.extend_from_slice(b"Quit count : ")?;
+    push_number(quit, text)?;
+    text.extend_from_slice(b" of ")?;
+    push_number(u64::from(limit), text)?;
+    text.push(b'\n')?;
+    Ok(())
+}
+
+fn push_severity_counts(
+    severities: &[Severity],
+    tally: &Tally,
+    text: &mut Vec<u8>,
+) -> Result<(), AllocError>
+    ensures { OnOk result (text.new.items ≡ text.old.items ++ flat_map (severity_line tally.now.counts) severities.now) }
+{
+    for severity in severities {
+        push_severity_count(*severity, tally, text)?;
+    }
+    Ok(())
+}
+
+#[tactic(auto, unfolding(crate::specs::Lines::severity_line))]
+fn push_severity_count(
+    severity: Severity,
+    tally: &Tally,
+    text: &mut Vec<u8>,
+) -> Result<(), AllocError>
+    ensures { OnOk result (text.new.items ≡ text.old.items ++ severity_line tally.now.counts severity) }
+{
+    push_severity(severity, text)?;
+    text.extend_from_slice(b" : ")?;
+    push_number(tally.of(severity), text)?;
+    text.push(b'\n')?;
+    Ok(())
+}
+
+fn push_id_counts(ids: &IndexMap<Name, u64>, text: &mut Vec<u8>) -> Result<(), AllocError>
+    ensures { OnOk result (text.new.items ≡ text.old.items ++ flat_map id_line ids.now.entries) }
+{
+    for (id, number) in ids.iter() {
+        push_id_count(id, *number, text)?;
+    }
+    Ok(())
+}
+
+#[tactic(auto, unfolding(crate::specs::Lines::id_line))]
+fn push_id_count(id: &Name, number: u64, text: &mut Vec<u8>) -> Result<(), AllocError>
+    ensures { OnOk result (text.new.items ≡ text.old.items ++ id_line (id.now, number)) }
+{
+    text.push(b'[')?;
+    text.extend_from_slice(id.as_bytes())?;
+    text.extend_from_slice(b"] ")?;
+    push_number(number, text)?;
+    text.push(b'\n')?;
+    Ok(())
+}
+
+fn push_severity(severity: Severity, text: &mut Vec<u8>) -> Result<(), AllocError>
+    ensures { OnOk result (text.new.items ≡ text.old.items ++ severity_text severity) }
+{
+    text.extend_from_slice(b"UVM_")?;
+    text.extend_from_slice(severity.name().as_bytes())
+}
+
+fn push_number(n: u64, text: &mut Vec<u8>) -> Result<(), AllocError>
+    ensures { OnOk result (text.new.items ≡ text.old.items ++ decimal n) }
+{
+    let digits = n.to_string(*text.allocator())?;
+    text.extend_from_slice(digits.as_bytes())
+}

@@ -1,0 +1,241 @@
+//! The report server.
+
+ghost use Rattle.std.specs.Prelude.{◌≡◌, ◌≤◌, ◌<◌, ◌^◌, ◌++◌, ℕ, List, true, IsTrue, IsOk, IfOk, OnOk, OnErr, option_map};
+ghost use Rattle.uvm_report.specs.Severities.{default_actions};
+ghost use Rattle.uvm_report.specs.Counts.{number_of, number_of_id, issued_number};
+ghost use Rattle.uvm_report.specs.Fates.{value_or, is_issued, is_reached};
+ghost use Rattle.uvm_report.specs.Commands.{SetVerbosity, SetAction, SetSeverity, SetQuitLimit, Issue};
+ghost use Rattle.uvm_report.specs.Observed.{severity_at, level_at, actions_at, limit_of, counts_of, has_room};
+ghost use Rattle.uvm_report.specs.Changes.{ruling_at, fate_at, IsAfter, IsNew, IsSame};
+ghost use Rattle.uvm_report.specs.Lines.{summary_text};
+
+use crate::lines::push_summary;
+use crate::messages::{Fate, Report};
+use crate::settings::{Scoped, Which, prevailing_setting};
+use crate::severities::{Actions, Severity, verbosity};
+use crate::tallies::Tally;
+use std::alloc::{AllocError, Global};
+use std::marker::Model;
+use uvm_glob::{Glob, Name, Path};
+
+/// The report server: its settings, and how many reports were issued (IEEE 1800.2-2020, Clause 6). Contracts see what
+/// prevails at each path for each severity and id (a severity, a level, actions), the quit limit, and the counts.
+#[derive(Drop)]
+pub struct Reports {
+    // The settings of each sort in the order in which they were set.
+    severities: Vec<Scoped<Severity>>,
+    levels: Vec<Scoped<u16>>,
+    actions: Vec<Scoped<Actions>>,
+    // 0 for none.
+    quit_limit: u16,
+    tally: Tally,
+}
+
+impl Model for Reports {
+    ghost use Rattle.std.specs.Prelude.{reverse};
+    ghost use Rattle.uvm_report.specs.Kept.{Kept};
+
+    ghost Value = { Kept };
+
+    ghost view = { λ r. record {
+      severities = reverse r.severities.items;
+      levels = reverse r.levels.items;
+      actions = reverse r.actions.items;
+      limit = r.quit_limit;
+      counts = r.tally.counts;
+      spare = r.tally.spare;
+    } };
+}
+
+#[tactic(auto, using(crate::proofs::Given::given), unfolding(crate::specs::Kept::severity_at, crate::specs::Kept::level_at, crate::specs::Kept::actions_at, crate::specs::Kept::limit_of, crate::specs::Kept::counts_of, crate::specs::Kept::has_room))]
+impl Reports {
+    /// No setting, no quit limit, and no report issued.
+    pub fn new(alloc: Global) -> Reports
+        ensures { IsNew result }
+    {
+        Reports {
+            severities: Vec::new(alloc),
+            levels: Vec::new(alloc),
+            actions: Vec::new(alloc),
+            quit_limit: 0,
+            tally: Tally::new(alloc),
+        }
+    }
+
+    /// Sets the level for the reports that `which` names at the paths that the scope matches: those of a greater verbosity
+    /// are dropped.
+    pub fn set_verbosity(&mut self, scope: Glob, which: Which, level: u16) -> Result<(), AllocError>
+        ensures ok { OnOk result (IsAfter (SetVerbosity scope which level) self.old self.new) }
+        ensures err { OnErr result (IsSame self.old self.new) }
+        ensures room { (id : List ℕ) → has_room self.new id ≡ has_room self.old id }
+    {
+        self.levels.push(Scoped {
+            scope,
+            which,
+            value: level,
+        })?;
+        Ok(())
+    }
+
+    /// Sets what is done with the reports that `which` names at the paths that the scope matches.
+    pub fn set_action(
+        &mut self,
+        scope: Glob,
+        which: Which,
+        actions: Actions,
+    ) -> Result<(), AllocError>
+        ensures ok { OnOk result (IsAfter (SetAction scope which actions) self.old self.new) }
+        ensures err { OnErr result (IsSame self.old self.new) }
+        ensures room { (id : List ℕ) → has_room self.new id ≡ has_room self.old id }
+    {
+        self.actions.push(Scoped {
+            scope,
+            which,
+            value: actions,
+        })?;
+        Ok(())
+    }
+
+    /// Changes the severity of the reports that are issued with the severity `from`, and with the id if one is given, at the
+    /// paths that the scope matches. A change is not changed again.
+    pub fn set_severity(
+        &mut self,
+        scope: Glob,
+        from: Severity,
+        id: Option<Name>,
+        to: Severity,
+    ) -> Result<(), AllocError>
+        ensures ok { OnOk result (IsAfter (SetSeverity scope from id to) self.old self.new) }
+        ensures err { OnErr result (IsSame self.old self.new) }
+        ensures room { (id : List ℕ) → has_room self.new id ≡ has_room self.old id }
+    {
+        let which = match id {
+            None => Which::Severity(from),
+            Some(id) => Which::Both(from, id),
+        };
+        self.severities.push(Scoped {
+            scope,
+            which,
+            value: to,
+        })?;
+        Ok(())
+    }
+
+    /// Sets how many reports with action count are issued before each report asks for the end of the run; 0 is no limit.
+    /// Takes no memory.
+    pub fn set_quit_limit(&mut self, limit: u16)
+        ensures after { IsAfter (SetQuitLimit limit) self.old self.new }
+        ensures room { (id : List ℕ) → has_room self.new id ≡ has_room self.old id }
+    {
+        self.quit_limit = limit;
+    }
+
+    /// Makes room for a report of an id: the next `issue`, of a report of this id, takes no memory.
+    pub fn reserve_id(&mut self, id: &Name) -> Result<(), AllocError>
+        ensures ok { OnOk result (IsTrue (has_room self.new id.now)) }
+        ensures same { IsSame self.old self.new }
+        ensures room { IsTrue (has_room self.old id.now) → IsOk result }
+    {
+        self.tally.reserve(id)
+    }
+
+    /// Judges a report of the component at a path, and counts it if it is issued. First its severity is changed; the level
+    /// and the actions are those for the changed severity. It is dropped where its verbosity is above the level (a report
+    /// issued as WARNING, ERROR or FATAL has none), and silent where it has no action. Once the quit count has reached the
+    /// limit, each report that is issued asks for the end of the run. Memory is taken for an id that is counted for the
+    /// first time alone.
+    #[tactic(auto, using(crate::proofs::Judged::judged), unfolding(crate::specs::Kept::severity_at, crate::specs::Kept::level_at, crate::specs::Kept::actions_at, crate::specs::Kept::limit_of, crate::specs::Kept::counts_of, crate::specs::Kept::has_room, crate::specs::Fates::ruling_by))]
+    pub fn issue(&mut self, path: &Path, report: &Report) -> Result<Fate, AllocError>
+        requires { issued_number (counts_of self.old) < 10 ^ 18 }
+        ensures fate { IfOk result (λ fate. fate ≡ fate_at self.old path.now report.now) }
+        ensures ok { OnOk result (IsAfter (Issue path.now report.now) self.old self.new) }
+        ensures err { OnErr result (IsSame self.old self.new) }
+        ensures issued { OnErr result (IsTrue (is_issued report.now (ruling_at self.old path.now report.now))) }
+        ensures room { IsTrue (has_room self.old report.now.id) → IsOk result }
+    {
+        let severity = self.severity(path, report.severity, &report.id);
+        if report.effective_verbosity() > self.level(path, severity, &report.id) {
+            return Ok(Fate::Dropped);
+        }
+        let actions = self.actions(path, severity, &report.id);
+        if actions.is_empty() {
+            return Ok(Fate::Silent);
+        }
+        self.tally.add(severity, &report.id, actions.count)?;
+        Ok(Fate::Issued {
+            severity,
+            display: actions.display,
+            exit: actions.exit || self.is_limit_reached(),
+        })
+    }
+
+    /// How many reports of a severity, after changes, were issued. Takes no memory.
+    pub fn count_of(&self, severity: Severity) -> u64
+        ensures value { result ≡ number_of (counts_of self.now) severity }
+        ensures most { result ≤ 10 ^ 18 }
+    {
+        self.tally.of(severity)
+    }
+
+    /// How many reports of an id were issued. Takes no memory.
+    pub fn count_of_id(&self, id: &Name) -> u64
+        ensures { result ≡ number_of_id (counts_of self.now) id.now }
+    {
+        self.tally.of_id(id)
+    }
+
+    /// How many issued reports had action count. Takes no memory.
+    pub fn quit_count(&self) -> u64
+        ensures { result ≡ (counts_of self.now).quit }
+    {
+        self.tally.quit()
+    }
+
+    /// Appends the summary: the quit count where there is a limit, and the counts by severity and by id. Where memory is
+    /// refused nothing is appended.
+    pub fn summary(&self, out: &mut Vec<u8>) -> Result<(), AllocError>
+        ensures ok { OnOk result (out.new.items ≡ out.old.items ++ summary_text (limit_of self.now) (counts_of self.now)) }
+        ensures err { OnErr result (out.new.items ≡ out.old.items) }
+    {
+        let mut text = Vec::new(*out.allocator());
+        push_summary(self.quit_limit, &self.tally, &mut text)?;
+        out.extend_from_slice(text.as_slice())
+    }
+
+    // The severity, after changes, of a report.
+    fn severity(&self, path: &Path, issued: Severity, id: &Name) -> Severity
+        ensures { result ≡ value_or issued (severity_at self.now path.now issued id.now) }
+    {
+        match prevailing_setting(&self.severities, path, issued, id) {
+            Some(change) => change.value,
+            None => issued,
+        }
+    }
+
+    // The greatest verbosity of the reports that are not dropped.
+    fn level(&self, path: &Path, severity: Severity, id: &Name) -> u16
+        ensures { result ≡ value_or 200 (level_at self.now path.now severity id.now) }
+    {
+        match prevailing_setting(&self.levels, path, severity, id) {
+            Some(setting) => setting.value,
+            None => verbosity::MEDIUM,
+        }
+    }
+
+    // What is done with a report.
+    fn actions(&self, path: &Path, severity: Severity, id: &Name) -> Actions
+        ensures { result ≡ value_or (default_actions severity) (actions_at self.now path.now severity id.now) }
+    {
+        match prevailing_setting(&self.actions, path, severity, id) {
+            Some(setting) => setting.value,
+            None => severity.default_actions(),
+        }
+    }
+
+    // Whether there is a quit limit, and the quit count has reached it.
+    fn is_limit_reached(&self) -> bool
+        ensures { result ≡ is_reached (limit_of self.now) (counts_of self.now).quit }
+    {
+        self.quit_limit != 0 && self.tally.quit() >= u64::from(self.quit_limit)
+    }
+}

@@ -8,12 +8,12 @@ ghost use Rattle.std.specs.Ordering.{nat_cmp, as_partial_cmp};
 ghost use Rattle.uvm_glob.specs.Faults.{refusal};
 ghost use Rattle.uvm_glob.specs.Globs.{is_glob_byte};
 ghost use Rattle.uvm_glob.specs.Names.{is_name_byte};
-ghost use Rattle.uvm_glob.specs.Orders.{down_cmp, up_cmp};
+ghost use Rattle.uvm_glob.specs.Orders.{down_cmp, order_of};
 ghost use Rattle.uvm_glob.specs.Paths.{path_text, path_fault, between_dots, names_of, dotted, size_fault};
 
 use crate::faults::PathFault;
 use crate::names::{Name, are_name_bytes};
-use crate::orders::{down_cmp, up_cmp};
+use crate::orders::{Direction, down_cmp, up_cmp};
 use crate::texts::as_text;
 use std::alloc::{AllocError, Global};
 use std::cmp::Ordering;
@@ -23,8 +23,8 @@ use std::marker::Model;
 /// A path: the names from below the top down to a component. It has at most 32 names, and its text, the names with a
 /// dot between each two, at most 1,024 bytes. The top's own path has no name. Contracts see the list of the names.
 ///
-/// Paths are ordered by Down: name by name in byte order, and a parent before its children. `up_cmp` is the order Up, in
-/// which children come before their parent. Top-down and bottom-up phases (IEEE 1800.2-2020, Clause 9) go in these.
+/// Paths are ordered by `Direction::Down`: name by name in byte order, and a parent before its children. `cmp_in` has both
+/// directions.
 #[derive(Debug, Drop)]
 pub struct Path {
     pub(crate) text: Vec<u8>,
@@ -110,12 +110,15 @@ impl Path {
         out.extend_from_slice(self.text())
     }
 
-    /// How the path stands to another in Up: name by name in byte order, and a path after the paths that go on from it,
-    /// so that children come before their parent, and the top last. Takes no memory.
-    pub fn up_cmp(&self, other: &Path) -> Ordering
-        ensures { result ≡ up_cmp self.now other.now }
+    /// How the path stands to another in the order of a direction. Takes no memory.
+    pub fn cmp_in(&self, direction: Direction, other: &Path) -> Ordering
+        ensures { result ≡ order_of direction self.now other.now }
     {
-        up_cmp(self.text.as_slice(), other.text.as_slice())
+        let (mine, other) = (self.text.as_slice(), other.text.as_slice());
+        match direction {
+            Direction::Down => down_cmp(mine, other),
+            Direction::Up => up_cmp(mine, other),
+        }
     }
 
     /// An equal path.

@@ -6,6 +6,7 @@ use Rattle.uvm_factory.specs.declared.types.Kind.TheVariants.{Component, Sequenc
 use Rattle.uvm_factory.specs.declared.overrides.Override.{Override}
 use Rattle.uvm_factory.specs.Faults.{Types, type_named, is_same_kind}
 use Rattle.uvm_factory.specs.Overrides.{made_type}
+use Rattle.uvm_config.specs.Answers.{most_settings}
 use Rattle.uvm_tree.specs.declared.nodes.Node.{Node}
 use Rattle.uvm_tree.specs.declared.faults.TreeFault.{TreeFault}
 use Rattle.uvm_tree.specs.declared.faults.TreeFault.TheVariants.{NameTaken}
@@ -77,7 +78,7 @@ addition_of built nodes parent name = if built then Refuses CreatedAfterBuild el
 
 -- so many settings are accepted, the script's among them
 unfoldable pub setting_of : ℕ → Effect
-setting_of count = if nat_le 65536 count then Refuses TooManySettings else Does
+setting_of count = if nat_le most_settings count then Refuses TooManySettings else Does
 
 -- an override goes between known types of one kind
 abbrev pub kind_named : Types → List ℕ → Option Kind

@@ -174,7 +174,7 @@ fn a_path_of_33_names_is_too_deep(rt: HostRuntime) -> Result<(), Fail> {
     let mut tree = Tree::new(rt.alloc());
     let name = Name::new(b"n")?;
     let mut parent = NodeId::TOP;
-    for _ in 0..32 {
+    for _ in 0..Path::MAX_NAMES {
         parent = tree.add(parent, name, NodeKind::Component)?;
     }
     let added = tree.add(parent, name, NodeKind::Component);

@@ -8,7 +8,6 @@ use Rattle.uvm_phase.specs.declared.phases.Phase.{Phase}
 use Rattle.uvm_phase.specs.declared.agendas.Cause.{Cause}
 use Rattle.uvm_phase.specs.declared.agendas.Due.{Due}
 use Rattle.uvm_phase.specs.Dues.{in_order}
-use Rattle.uvm_phase.specs.Phases.{walk_of}
 use Rattle.uvm_phase.specs.Laws.{OrderKeepsAll}
 use Rattle.uvm_tree.specs.Cursors.{is_before}
 use Rattle.uvm_object.specs.Acts.{node_of}
@@ -22,7 +21,7 @@ use Rattle.uvm_object.specs.declared.entries.Entry.{Entry}
 use Rattle.uvm_object.specs.declared.entries.Entry.TheVariants.{Heard, Did, Note}
 use Rattle.bench_script.specs.Scripts.{ScriptValue}
 use Rattle.bench_history.specs.declared.needs.Need as declared
-use Rattle.bench_history.specs.History.{stage_of, now_of, running, nodes_of, components_of, left_of, rest_of, speaker_of, order_of, called_of, had_call, next_call, opening}
+use Rattle.bench_history.specs.History.{stage_of, now_of, running, nodes_of, components_of, left_of, rest_of, speaker_of, phase_order, called_of, had_call, next_call, opening}
 use Rattle.bench_history.specs.Dues.{told_by, due_from, calls_from, caused_of, heard_of, ended_of, is_open, due_calls, first_due, due_at, due_now}
 use Rattle.bench_history.specs.Cases.{Next, Exactly, Answer, Need, Nothing}
 use Rattle.bench_history.specs.Next.{next_of, Allows, IsNext, EachIsNext}
@@ -83,7 +82,7 @@ turn-one : (history : List Entry) (phase : Phase) → IfSome (next_call phase hi
 unfolding next_call
 turn-one history phase =
     let components = components_of history in
-    least-holds (Contains components) (is_before (order_of (walk_of phase)) (nodes_of history)) _
+    least-holds (Contains components) (is_before (phase_order phase) (nodes_of history)) _
     (All-filter (λ node. not (had_call (called_of history) node)) (Contains components) components (All-contains_itself components))
 
 -- what holds of each call holds of the one that is due

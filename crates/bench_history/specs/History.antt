@@ -5,20 +5,18 @@ use Rattle.std.specs.Prelude.{ℕ, Bool, true, false, not, ◌==◌, List, [], �
 use Rattle.std.specs.List.{list_any}
 use Rattle.std.specs.Option.{option_map_or}
 use Rattle.uvm_glob.specs.Paths.{path_text, dotted}
-use Rattle.uvm_glob.specs.Orders.{down_cmp, up_cmp}
+use Rattle.uvm_glob.specs.Orders.{PathOrder, down_cmp, up_cmp}
 use Rattle.uvm_factory.specs.declared.overrides.Override.{Override}
 use Rattle.uvm_factory.specs.declared.overrides.Override.TheVariants.{Instance, Whole}
 use Rattle.uvm_factory.specs.Faults.{Types, type_named}
 use Rattle.uvm_phase.specs.declared.phases.Phase.{Phase}
 use Rattle.uvm_phase.specs.declared.phases.Phase.TheVariants.{Build}
-use Rattle.uvm_phase.specs.declared.phases.Walk.{Walk}
-use Rattle.uvm_phase.specs.declared.phases.Walk.TheVariants.{Down, Up}
-use Rattle.uvm_phase.specs.Phases.{walk_of}
+use Rattle.uvm_phase.specs.Phases.{is_top_down}
 use Rattle.uvm_tree.specs.declared.nodes.Node.{Node}
 use Rattle.uvm_tree.specs.declared.nodes.NodeKind.{NodeKind}
 use Rattle.uvm_tree.specs.declared.nodes.NodeKind.TheVariants as kind
 use Rattle.uvm_tree.specs.Nodes.{top, child, path_at}
-use Rattle.uvm_tree.specs.Cursors.{PathOrder, is_before, least}
+use Rattle.uvm_tree.specs.Cursors.{is_before, least}
 use Rattle.uvm_object.specs.declared.acts.Who.{Who}
 use Rattle.uvm_object.specs.declared.acts.Who.TheVariants as who
 use Rattle.uvm_object.specs.Acts.{node_of}
@@ -97,14 +95,13 @@ abbrev pub had_call : List ℕ → ℕ → Bool
 had_call called node = list_any (λ other. other == node) called
 
 -- the order in which a phase goes
-abbrev pub order_of : Walk → PathOrder
-order_of Down = down_cmp
-order_of Up = up_cmp
+abbrev pub phase_order : Phase → PathOrder
+phase_order phase = if is_top_down phase then down_cmp else up_cmp
 
 -- the node whose turn it is: of those that hold an object and had no call the least by the phase's order
 unfoldable pub next_call : Phase → List Entry → Option ℕ
 next_call phase history =
-    least (is_before (order_of (walk_of phase)) (nodes_of history))
+    least (is_before (phase_order phase) (nodes_of history))
     (filter (λ node. not (had_call (called_of history) node)) (components_of history))
 
 -- the name of a type, or another where there is no such type

@@ -8,6 +8,7 @@ use Rattle.uvm_factory.specs.declared.types.Kind.TheVariants.{Component, Sequenc
 use Rattle.uvm_factory.specs.declared.overrides.Override.{Override}
 use Rattle.uvm_factory.specs.Faults.{Types, type_named, is_same_kind}
 use Rattle.uvm_factory.specs.Overrides.{made_type}
+use Rattle.uvm_config.specs.Answers.{most_settings}
 use Rattle.uvm_tree.specs.declared.nodes.Node.{Node}
 use Rattle.uvm_tree.specs.declared.faults.TreeFault.{TreeFault}
 use Rattle.uvm_tree.specs.declared.faults.TreeFault.TheVariants.{NameTaken}
@@ -81,7 +82,7 @@ addition_refusal built nodes parent name = first_given (fault_if built CreatedAf
 
 -- more settings than these are not accepted, the script's among them
 unfoldable pub setting_refusal : ℕ → Option Fatal
-setting_refusal count = fault_if (nat_le 65536 count) TooManySettings
+setting_refusal count = fault_if (nat_le most_settings count) TooManySettings
 
 -- the kind of the type of a name
 abbrev pub kind_named : Types → List ℕ → Option Kind

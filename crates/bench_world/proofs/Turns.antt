@@ -3,7 +3,7 @@ use Rattle.std.proofs.lemmas.Bool.Decides.{nat_tests}
 use Rattle.std.proofs.lemmas.List.Folds.{list_any_none}
 use Rattle.std.proofs.Common.{◌≡◌, ℕ, suc, ◌<◌, true, false, not, ◌==◌, List, [], ◌∷◌, ◌++◌, map, filter, refl, ap, ◌∙◌, sym, arith, if◌then◌else◌}
 use Rattle.std.specs.List.{All}
-use Rattle.std.proofs.lemmas.List.Elements.{All-append, All-cons, All-head, All-tail}
+use Rattle.std.proofs.lemmas.List.Elements.{All-append, All-cons}
 use Rattle.bench_world.specs.declared.services.Component.{Component}
 use Rattle.bench_history.specs.History.{had_call}
 use Rattle.bench_world.specs.Services.{cleared, with_call, marked, waiting_in, AreTurns}
@@ -41,11 +41,6 @@ waiting-marked called (node ∷ nodes) =
       | true ↦ rest
       | false ↦ ap (λ (l : List ℕ). node ∷ l) rest
     ]
-
-pub all-marked : (called : List ℕ) (count : ℕ) (nodes : List ℕ) → All (λ node. node < count) nodes → All (λ component. component.node < count) (map (marked called) nodes)
-all-marked called count [] within = λ k d h. omega arith
-all-marked called count (node ∷ nodes) within =
-    All-cons (λ component. component.node < count) (marked called node) (map (marked called) nodes) (All-head (λ n. n < count) node nodes within) (all-marked called count nodes (All-tail (λ n. n < count) node nodes within))
 
 fresh : (called : List ℕ) (node : ℕ) → All (λ other. other < node) called → had_call called node ≡ false
 fresh called node within = list_any_none (λ other. other == node) called (λ k d l. let lt = within k d l in grind (arith, nat_tests))

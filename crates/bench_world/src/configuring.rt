@@ -1,6 +1,7 @@
 //! The settings of a script, and the acts that set a field and ask for one (IEEE 1800.2-2020, Annex C).
 
 ghost use Rattle.std.specs.Prelude.{◌≡◌, ℕ, ◌∷◌, ◌++◌, ◌≤◌, ◌<◌, List, OnOk, IfOk, length, map, reverse};
+ghost use Rattle.uvm_glob.specs.Limits.{most_names};
 ghost use Rattle.uvm_config.specs.Answers as config;
 ghost use Rattle.uvm_config.specs.Choice.{precedence_of};
 ghost use Rattle.uvm_config.specs.Observed.{accepted, value_at};
@@ -67,7 +68,7 @@ pub(crate) fn get_field(
 
 // The settings of a script.
 pub(crate) fn given_settings(alloc: Global, given: &[Setting]) -> Result<Settings, AllocError>
-    requires { length given.now ≤ 65536 }
+    requires { length given.now ≤ config.most_settings }
     ensures { IfOk result (IsSettings (reverse (map given_setting given.now))) }
 {
     laws::none_set_no_answer();
@@ -80,7 +81,7 @@ pub(crate) fn given_settings(alloc: Global, given: &[Setting]) -> Result<Setting
 
 // Sets a field as a script says.
 fn set_given(settings: &mut Settings, setting: &Setting) -> Result<(), AllocError>
-    requires { accepted settings.old < 65536 }
+    requires { accepted settings.old < config.most_settings }
     ensures { OnOk result ((given : List config.Setting) → IsSettings given settings.old → IsSettings (given_setting setting.now ∷ given) settings.new) }
 {
     let value = setting.value;
@@ -97,8 +98,8 @@ fn set(
     field: Name,
     value: i64,
 ) -> Result<(), AllocError>
-    requires depth { depth ≤ 32 }
-    requires few { accepted settings.old < 65536 }
+    requires depth { depth ≤ most_names }
+    requires few { accepted settings.old < config.most_settings }
     ensures { OnOk result ((given : List config.Setting) → IsSettings given settings.old →
         IsSettings (record { scope = scope; field = field; precedence = precedence_of building depth; value = value } ∷ given) settings.new) }
 {
@@ -112,7 +113,7 @@ fn set(
 // How deep a node lies below the top.
 fn depth_of(tree: &Tree, node: NodeId) -> u8
     ensures depth { result ≡ length (path_at tree.now.nodes node) }
-    ensures most { result ≤ 32 }
+    ensures most { result ≤ most_names }
 {
     match tree.path(node) {
         Some(path) => path.depth() as u8,

@@ -1,10 +1,10 @@
 //! The entries of a log that are no act's: one call for each kind.
 
-ghost use Rattle.std.specs.Prelude.{◌≡◌, ◌||◌, ◌∷◌, ◌<◌, length, true, OnOk, OnErr, IsOk, Some, None, All};
+ghost use Rattle.std.specs.Prelude.{◌≡◌, ◌||◌, ◌∷◌, ◌<◌, length, true, OnOk, OnErr, IsOk, Some, None};
 ghost use Rattle.uvm_object.specs.declared.entries.Entry.TheVariants.{Begin, End, Heard, Note, Over};
-ghost use Rattle.bench_history.specs.History.{next_call, order_of, reason_of, ends_build};
+ghost use Rattle.bench_history.specs.History.{next_call, phase_order, reason_of, ends_build};
+ghost use Rattle.uvm_glob.specs.Orders.{order_of};
 ghost use Rattle.uvm_tree.specs.Cursors.{is_before, least, sooner};
-ghost use Rattle.std.specs.Option.{ForSome};
 ghost use Rattle.bench_world.specs.Services.{waiting_in};
 ghost use Rattle.bench_history.specs.Cases.{Exactly, Answer};
 ghost use Rattle.bench_history.specs.Next.{next_of};
@@ -14,8 +14,9 @@ use crate::services::{Component, LastAnswer, clear_calls, mark_call};
 use crate::worlds::World;
 use bench_history::{Stage, laws};
 use std::alloc::AllocError;
+use uvm_glob::Direction;
 use uvm_object::{Acts, Call, Entry, Fatal, Log, Reason, Who};
-use uvm_phase::{Cause, Phase, Walk, laws as agenda};
+use uvm_phase::{Cause, Phase, laws as agenda};
 use uvm_tree::{NodeId, Tree};
 
 impl World {
@@ -163,7 +164,7 @@ impl World {
         first_waiting(
             &self.services.tree,
             self.services.components.as_slice(),
-            phase.walk(),
+            direction_of(phase),
         )
     }
 }
@@ -175,45 +176,37 @@ fn is_built_with(phase: Phase, built: bool) -> bool
     matches!(phase, Phase::Build) || built
 }
 
-// Of the components that had no call the least in an order.
-fn first_waiting(tree: &Tree, components: &[Component], walk: Walk) -> Option<NodeId>
-    requires { All (λ component. component.node < length tree.now.nodes) components.now }
-    ensures { result ≡ least (is_before (order_of walk) tree.now.nodes) (waiting_in components.now) }
+// The direction in which a phase goes.
+fn direction_of(phase: Phase) -> Direction
+    ensures { order_of result ≡ phase_order phase }
+{
+    if phase.is_top_down() {
+        Direction::Down
+    } else {
+        Direction::Up
+    }
+}
+
+// Of the components that had no call the least in a direction.
+fn first_waiting(tree: &Tree, components: &[Component], direction: Direction) -> Option<NodeId>
+    ensures { result ≡ least (is_before (order_of direction) tree.now.nodes) (waiting_in components.now) }
 {
     let mut first = None;
     for component in components {
         if !component.called {
-            first = Some(sooner(tree, walk, first, component.node));
+            first = Some(sooner(tree, direction, first, component.node));
         }
     }
     first
 }
 
 // The one of two nodes that comes before the other.
-fn sooner(tree: &Tree, walk: Walk, first: Option<NodeId>, node: NodeId) -> NodeId
-    requires first { ForSome first (λ first. first < length tree.now.nodes) }
-    requires node { node < length tree.now.nodes }
-    ensures sooner { Some result ≡ sooner (is_before (order_of walk) tree.now.nodes) first node }
-    ensures known { result < length tree.now.nodes }
+fn sooner(tree: &Tree, direction: Direction, first: Option<NodeId>, node: NodeId) -> NodeId
+    ensures { Some result ≡ sooner (is_before (order_of direction) tree.now.nodes) first node }
 {
     match first {
-        Some(first) if !is_before(tree, walk, node, first) => first,
+        Some(first) if !tree.is_before(direction, node, first) => first,
         _ => node,
-    }
-}
-
-// Whether a node comes before another.
-fn is_before(tree: &Tree, walk: Walk, node: NodeId, other: NodeId) -> bool
-    requires node { node < length tree.now.nodes }
-    requires other { other < length tree.now.nodes }
-    ensures { result ≡ is_before (order_of walk) tree.now.nodes node other }
-{
-    let (Some(path), Some(other)) = (tree.path(node), tree.path(other)) else {
-        unreachable!()
-    };
-    match walk {
-        Walk::Down => path.cmp(other).is_lt(),
-        Walk::Up => path.up_cmp(other).is_lt(),
     }
 }
 

@@ -6,6 +6,10 @@ use Rattle.uvm_glob.specs.Globs.{matches}
 use Rattle.uvm_glob.specs.Lists.{newest}
 use Rattle.uvm_config.specs.Choice.{Answer, answer_after}
 
+-- the most settings that are accepted
+abbrev pub most_settings : ℕ
+most_settings = 65536
+
 -- a value of a field, for the paths that the scope matches
 pub record Setting : Type 0 where
   pub scope : List ℕ

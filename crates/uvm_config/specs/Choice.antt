@@ -8,9 +8,13 @@ pub record Answer : Type 0 where
   pub precedence : ℕ
   pub value : ℤ
 
+-- the precedence of a setting that is made outside of phase build
+abbrev pub default_precedence : ℕ
+default_precedence = 1000
+
 -- while phase build runs a setting has one less for each level that its setter lies below the top
 unfoldable pub precedence_of : Bool → ℕ → ℕ
-precedence_of building depth = if building then 1000 - depth else 1000
+precedence_of building depth = if building then default_precedence - depth else default_precedence
 
 -- no answer of greater precedence is there
 abbrev pub gives_way : ℕ → Option Answer → Bool

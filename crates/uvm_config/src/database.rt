@@ -1,8 +1,9 @@
 //! The settings.
 
 ghost use Rattle.std.specs.Prelude.{◌≡◌, ◌+◌, ◌≤◌, ◌↔◌, ℕ, List, None, OnOk, OnErr, nat_le, option_map, option_copied};
+ghost use Rattle.uvm_glob.specs.Limits.{most_names};
 ghost use Rattle.uvm_glob.specs.Paths.{path_text};
-ghost use Rattle.uvm_config.specs.Answers.{answer_of};
+ghost use Rattle.uvm_config.specs.Answers.{most_settings, answer_of};
 ghost use Rattle.uvm_config.specs.Choice.{answer_after, precedence_of};
 ghost use Rattle.uvm_config.specs.Kept.{answer_at, value_at, accepted, IsSame};
 
@@ -30,7 +31,7 @@ impl Model for Settings {
     ghost view = { λ s. record { settings = reverse s.resources.items } };
 }
 
-// The precedence of a setting, unless it is made while phase build runs.
+// The precedence of a setting, unless it is made while phase build runs (`uvm_resource_base::default_precedence`).
 const DEFAULT_PRECEDENCE: u16 = 1000;
 
 impl Settings {
@@ -48,10 +49,10 @@ impl Settings {
         }
     }
 
-    /// Sets a field for the paths that the scope matches. The setter is a component at a depth of at most 32 (0 for the
-    /// top, 1 for its children), and `building` says whether phase build runs: while it does, a setting has precedence
-    /// 1000 less the depth, and 1000 afterwards. The greatest precedence answers, and among equals the last that was set.
-    /// Gives the first of `Full` and `Memory` that holds, if one does.
+    /// Sets a field for the paths that the scope matches. The setter is a component at a depth (0 for the top, 1 for its
+    /// children), and `building` says whether phase build runs: while it does, a setting has the default precedence less
+    /// the depth, and the default precedence afterwards. The greatest precedence answers, and among equals the last that
+    /// was set. Gives the first of `Full` and `Memory` that holds, if one does.
     #[tactic(auto, unfolding(crate::specs::Kept::answer_at, crate::specs::Kept::accepted))]
     pub fn set(
         &mut self,
@@ -61,12 +62,12 @@ impl Settings {
         field: Name,
         value: i64,
     ) -> Result<(), ConfigFault>
-        requires { depth ≤ 32 }
+        requires { depth ≤ most_names }
         ensures answers { OnOk result ((path : List (List ℕ)) (asked : List ℕ) →
             answer_at self.new path asked
             ≡ answer_after scope field (precedence_of building depth) value (path_text path) asked (answer_at self.old path asked)) }
         ensures accepted { OnOk result (accepted self.new ≡ accepted self.old + 1) }
-        ensures full { (result ≡ Err ConfigFault.Full) ↔ (65536 ≤ accepted self.old) }
+        ensures full { (result ≡ Err ConfigFault.Full) ↔ (most_settings ≤ accepted self.old) }
         ensures unchanged { OnErr result (IsSame self.old self.new) }
     {
         if self.is_full() {
@@ -92,7 +93,7 @@ impl Settings {
     /// Whether as many settings were accepted as there can be.
     #[tactic(auto, unfolding(crate::specs::Kept::accepted))]
     pub fn is_full(&self) -> bool
-        ensures { result ≡ nat_le 65536 (accepted self.now) }
+        ensures { result ≡ nat_le most_settings (accepted self.now) }
     {
         self.resources.len() >= Settings::MAX_SETS
     }
@@ -112,7 +113,7 @@ impl Settings {
 // The precedence of a setting of a component at a depth.
 #[tactic(auto, unfolding(crate::specs::Choice::precedence_of))]
 fn precedence_of(building: bool, depth: u8) -> u16
-    requires { depth ≤ 32 }
+    requires { depth ≤ most_names }
     ensures { result ≡ precedence_of building depth }
 {
     if building {

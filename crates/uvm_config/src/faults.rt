@@ -7,7 +7,7 @@ use std::fmt;
 /// Why a setting is not accepted, in the order in which it is looked for. One that is not accepted changes nothing.
 #[derive(Clone, Copy, Debug, PartialEq, Eq)]
 pub enum ConfigFault {
-    /// 65,536 settings were accepted, and one more would be next.
+    /// `Settings::MAX_SETS` settings were accepted, and one more would be next.
     Full,
     /// Memory was refused.
     Memory,

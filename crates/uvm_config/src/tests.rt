@@ -1,6 +1,7 @@
 //! Examples of what the definitions mean, and that each call succeeds where there is memory.
 
 ghost use Rattle.std.specs.Prelude.{◌≤◌};
+ghost use Rattle.uvm_glob.specs.Limits.{most_names};
 
 use crate::{ConfigFault, Settings};
 use std::alloc::Global;
@@ -16,7 +17,7 @@ fn set(
     scope: &str,
     value: i64,
 ) -> Result<(), Fail>
-    requires { depth ≤ 32 }
+    requires { depth ≤ most_names }
 {
     let scope = Glob::new(alloc, scope.as_bytes())?;
     settings.set(depth, building, scope, Name::new(b"f")?, value)?;
@@ -54,16 +55,19 @@ fn after_build_the_last_setting_prevails(rt: HostRuntime) -> Result<(), Fail> {
 }
 
 #[test]
-fn the_65537th_setting_is_refused(rt: HostRuntime) -> Result<(), Fail> {
+fn one_setting_too_many_is_refused(rt: HostRuntime) -> Result<(), Fail> {
     let alloc = rt.alloc();
     let mut settings = Settings::new(alloc);
-    for value in 0..65_536i64 {
+    for value in 0..Settings::MAX_SETS as i64 {
         set(alloc, &mut settings, 0, false, "*", value)?;
     }
     assert!(rt; settings.is_full());
     let given = settings.set(0, false, Glob::new(alloc, b"*")?, Name::new(b"f")?, 7);
     assert_eq!(rt; given, Err(ConfigFault::Full));
-    assert_eq!(rt; get(alloc, &settings, "uvm_test_top", "f")?, Some(65_535));
+    assert_eq!(rt;
+        get(alloc, &settings, "uvm_test_top", "f")?,
+        Some(Settings::MAX_SETS as i64 - 1)
+    );
     Ok(())
 }
 

@@ -12,6 +12,10 @@ use Rattle.uvm_factory.specs.declared.faults.Unmade.TheVariants as unmade
 abbrev pub Types : Type 0
 Types = List (List ℕ × Kind)
 
+-- the most types that are registered
+abbrev pub most_types : ℕ
+most_types = 1024
+
 -- what a fault says of a call: want of memory says that nothing is wrong with it
 abbrev pub refusal : FactoryFault → Option FactoryFault
 refusal Known = Some Known
@@ -28,7 +32,7 @@ type_named types type_name = position (pointwise nat_eq type_name) (map (λ t. t
 abbrev pub register_fault : Types → List ℕ → Option FactoryFault
 register_fault types type_name =
     if is_some (type_named types type_name) then Some Known
-    else if nat_le 1024 (length types) then Some Full
+    else if nat_le most_types (length types) then Some Full
     else None
 
 abbrev pub is_same_kind : Kind → Kind → Bool

@@ -31,13 +31,14 @@ impl Model for Factory {
     ghost use Rattle.std.specs.Prelude.{◌≡◌, ◌≤◌, length, reverse, nat_eq};
     ghost use Rattle.std.specs.Cmp.Lexicographic.{pointwise};
     ghost use Rattle.indexmap.specs.IndexMap.{IsUnique};
+    ghost use Rattle.uvm_factory.specs.Faults.{most_types};
     ghost use Rattle.uvm_factory.specs.Kept.{Kept};
 
     ghost Value = { Kept };
 
     ghost view = { λ f. record { types = f.types.entries; overrides = reverse f.overrides.items } };
 
-    ghost invariant = { λ f. length f.types.entries ≤ 1024 };
+    ghost invariant = { λ f. length f.types.entries ≤ most_types };
 }
 
 impl Factory {

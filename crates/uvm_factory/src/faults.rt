@@ -14,7 +14,7 @@ pub enum FactoryFault {
     NoType,
     /// One of the two types is a component's and the other a sequence's (`override_type`, `override_inst`).
     KindDiffers,
-    /// 1,024 types are registered, and one more would be next (`register`).
+    /// `Factory::MAX_TYPES` types are registered, and one more would be next (`register`).
     Full,
     /// Memory was refused.
     Memory,

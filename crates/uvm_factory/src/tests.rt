@@ -110,7 +110,7 @@ fn overrides_that_lead_back_are_a_loop(rt: HostRuntime) -> Result<(), Fail> {
 #[test]
 fn registering_gives_the_first_fault(rt: HostRuntime) -> Result<(), Fail> {
     let mut factory = Factory::new(rt.alloc());
-    for place in 0..1024 {
+    for place in 0..Factory::MAX_TYPES {
         let text = format!(in rt.alloc(); "type{place}")?;
         factory.register(Name::new(text.as_bytes())?, Kind::Sequence)?;
     }

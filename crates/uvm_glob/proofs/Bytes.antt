@@ -7,6 +7,7 @@ use Rattle.std.proofs.lemmas.Bool.Decides.{nat_tests}
 use Rattle.std.proofs.lemmas.List.Folds.{list_all-append}
 use Rattle.std.proofs.lemmas.Str.{IsUtf8-from_ascii}
 use Rattle.std.proofs.lemmas.Str.Ascii.{IsAscii-nil, IsAscii-cons}
+use Rattle.uvm_glob.specs.Limits.{most_text_bytes}
 use Rattle.uvm_glob.specs.Names.{is_name_byte, name_fault}
 use Rattle.uvm_glob.specs.Globs.{is_glob_byte, glob_fault}
 use Rattle.uvm_glob.specs.Paths.{path_text, path_fault, dotted}
@@ -62,4 +63,4 @@ dotted_bytes (b ∷ front) (d ∷ back) good more = list_all-append is_glob_byte
 -- a glob without a fault has the bytes of one
 pub glob_bytes : (text : List ℕ) → glob_fault text ≡ None → list_all is_glob_byte text ≡ true
 unfolding glob_fault
-glob_bytes text good = not-false (list_all is_glob_byte text) (no_fault false (nat_lt 1024 (length text)) (not (list_all is_glob_byte text)) false good).2
+glob_bytes text good = not-false (list_all is_glob_byte text) (no_fault false (nat_lt most_text_bytes (length text)) (not (list_all is_glob_byte text)) false good).2

@@ -5,4 +5,4 @@ pub mod Parts
 pub mod PathTexts
 pub mod Splits
 pub mod TextOrders
-pub mod UpTotal
+pub mod Totals

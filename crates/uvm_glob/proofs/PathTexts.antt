@@ -7,6 +7,7 @@ use Rattle.std.proofs.lemmas.List.Folds.{list_any-append, list_all-append}
 use Rattle.std.proofs.lemmas.List.Splits.{join_with_byte-slice_split, length-slice_split}
 use Rattle.uvm_glob.specs.declared.faults.PathFault.{PathFault}
 use Rattle.uvm_glob.specs.declared.faults.PathFault.TheVariants.{Empty, TooLong, BadByte, TooDeep}
+use Rattle.uvm_glob.specs.Limits.{most_name_bytes, most_names, most_text_bytes}
 use Rattle.uvm_glob.specs.Faults.{first_fault, refusal}
 use Rattle.uvm_glob.specs.Names.{is_name_byte, name_fault}
 use Rattle.uvm_glob.specs.Globs.{glob_fault, is_glob_byte}
@@ -54,10 +55,10 @@ between_dots-path_text name (next ∷ names) good =
 -- what a path without a fault is
 pub record IsPath (names : List (List ℕ)) : Type 0 where
   pub no_empty : list_any (λ name. length name == 0) names ≡ false
-  pub no_long : list_any (λ name. nat_lt 64 (length name)) names ≡ false
-  pub short : length (path_text names) ≤ 1024
+  pub no_long : list_any (λ name. nat_lt most_name_bytes (length name)) names ≡ false
+  pub short : length (path_text names) ≤ most_text_bytes
   pub good : list_all (list_all is_name_byte) names ≡ true
-  pub shallow : length names ≤ 32
+  pub shallow : length names ≤ most_names
 
 -- no fault of a text is there
 pub no_fault : (empty long bad deep : Bool) → first_fault empty long bad deep ≡ None → (empty ≡ false) × (long ≡ false) × (bad ≡ false) × (deep ≡ false)
@@ -71,13 +72,13 @@ pub path-no_fault : (names : List (List ℕ)) → path_fault names ≡ None → 
 unfolding path_fault
 path-no_fault names h =
     let parts = no_fault _ _ _ _ h in
-    let longs = or_parts (list_any (λ name. nat_lt 64 (length name)) names) (nat_lt 1024 (length (path_text names))) parts.1 in
+    let longs = or_parts (list_any (λ name. nat_lt most_name_bytes (length name)) names) (nat_lt most_text_bytes (length (path_text names))) parts.1 in
     record {
       no_empty = parts.0;
       no_long = longs.0;
-      short = ltb-false 1024 (length (path_text names)) longs.1;
+      short = ltb-false most_text_bytes (length (path_text names)) longs.1;
       good = not-false (list_all (list_all is_name_byte) names) parts.2;
-      shallow = ltb-false 32 (length names) parts.3;
+      shallow = ltb-false most_names (length names) parts.3;
     }
 
 -- the names of a path's text are the path
@@ -122,7 +123,7 @@ fault-append : (names more : List (List ℕ)) → IsPath names → IsPath more �
 unfolding path_fault
 fault-append names more path other =
     let no_empty : list_any (λ name. length name == 0) (names ++ more) ≡ false = rw (list_any-append, path.no_empty, other.no_empty) in
-    let no_long : list_any (λ name. nat_lt 64 (length name)) (names ++ more) ≡ false = rw (list_any-append, path.no_long, other.no_long) in
+    let no_long : list_any (λ name. nat_lt most_name_bytes (length name)) (names ++ more) ≡ false = rw (list_any-append, path.no_long, other.no_long) in
     let good : list_all (list_all is_name_byte) (names ++ more) ≡ true = rw (list_all-append, path.good, other.good) in
     rw (no_empty, no_long, good, length-append)
 
@@ -145,10 +146,10 @@ names_of-dotted front back path other both =
     ap names_of (sym text) ∙ names_of-path_text _ (path-no_fault _ both)
 
 -- the text of a path is short, and it has few names
-pub text-short : (text : List ℕ) → path_fault (names_of text) ≡ None → length text ≤ 1024
-text-short text path = subst (λ t. length t ≤ 1024) (path_text-names_of text) (path-no_fault _ path).short
+pub text-short : (text : List ℕ) → path_fault (names_of text) ≡ None → length text ≤ most_text_bytes
+text-short text path = subst (λ t. length t ≤ most_text_bytes) (path_text-names_of text) (path-no_fault _ path).short
 
-pub names-few : (names : List (List ℕ)) → path_fault names ≡ None → length names ≤ 32
+pub names-few : (names : List (List ℕ)) → path_fault names ≡ None → length names ≤ most_names
 names-few names path = (path-no_fault names path).shallow
 
 -- a name is a path of one name
@@ -161,7 +162,7 @@ pub fault-name : (name : List ℕ) → name_fault name ≡ None → path_fault (
 unfolding name_fault path_fault
 fault-name name good =
     let parts = no_fault _ _ _ _ good in
-    let short : nat_lt 1024 (length name) ≡ false = le-ltb 1024 (length name) (omega (arith, ltb-false 64 (length name) parts.1)) in
+    let short : nat_lt most_text_bytes (length name) ≡ false = le-ltb most_text_bytes (length name) (omega (arith, ltb-false most_name_bytes (length name) parts.1)) in
     let fine = not-false (list_all is_name_byte name) parts.2 in
     rw (parts.0, parts.1, short, fine)
 
@@ -183,13 +184,13 @@ refusal-path names fault e = sym e ∙ refusal-first _ _ _ _ fault e
 
 pub refusal-glob : (text : List ℕ) (fault : PathFault) → Some fault ≡ glob_fault text → glob_fault text ≡ refusal fault
 unfolding glob_fault
-refusal-glob text fault e = sym e ∙ refusal-first false (nat_lt 1024 (length text)) (not (list_all is_glob_byte text)) false fault e
+refusal-glob text fault e = sym e ∙ refusal-first false (nat_lt most_text_bytes (length text)) (not (list_all is_glob_byte text)) false fault e
 
 -- a fault of size of two texts, one after the other, is the first fault of both as a path
 pub fault-refused : (front back : List ℕ) (fault : PathFault) → path_fault (names_of front) ≡ None → path_fault (names_of back) ≡ None → Some fault ≡ size_fault (length (dotted front back)) (length (names_of front) + length (names_of back)) → path_fault (names_of front ++ names_of back) ≡ refusal fault
 fault-refused front back fault path other e =
     fault-dotted front back path other ∙ sym e
-    ∙ refusal-first false (nat_lt 1024 (length (dotted front back))) false (nat_lt 32 (length (names_of front) + length (names_of back))) fault e
+    ∙ refusal-first false (nat_lt most_text_bytes (length (dotted front back))) false (nat_lt most_names (length (names_of front) + length (names_of back))) fault e
 
 -- and where there is none, they are a path
 pub fault-none : (front back : List ℕ) → path_fault (names_of front) ≡ None → path_fault (names_of back) ≡ None → None ≡ size_fault (length (dotted front back)) (length (names_of front) + length (names_of back)) → path_fault (names_of front ++ names_of back) ≡ None

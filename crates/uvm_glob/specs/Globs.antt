@@ -2,6 +2,7 @@
 use Rattle.std.specs.Prelude.{◌≡◌, ◌≢◌, ℕ, Bool, true, false, not, ◌&&◌, ◌==◌, List, [], ◌∷◌, ◌++◌, length, nat_le, nat_lt, Option, if◌then◌else◌, MatchBool}
 use Rattle.std.specs.List.{list_any, list_all}
 use Rattle.uvm_glob.specs.declared.faults.PathFault.{PathFault}
+use Rattle.uvm_glob.specs.Limits.{most_text_bytes}
 use Rattle.uvm_glob.specs.Faults.{first_fault}
 
 -- the text splits into u and v, of which P holds
@@ -43,4 +44,4 @@ is_glob_byte b = nat_le 33 b && nat_le b 126 && not (b == 47)
 
 -- the first fault of a text as a glob
 unfoldable pub glob_fault : List ℕ → Option PathFault
-glob_fault text = first_fault false (nat_lt 1024 (length text)) (not (list_all is_glob_byte text)) false
+glob_fault text = first_fault false (nat_lt most_text_bytes (length text)) (not (list_all is_glob_byte text)) false

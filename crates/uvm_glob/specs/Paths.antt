@@ -2,6 +2,7 @@
 use Rattle.std.specs.Prelude.{ℕ, false, not, ◌||◌, ◌==◌, List, [], ◌∷◌, ◌++◌, length, nat_lt, Option}
 use Rattle.std.specs.List.{list_any, list_all, join_with_byte, slice_split}
 use Rattle.uvm_glob.specs.declared.faults.PathFault.{PathFault}
+use Rattle.uvm_glob.specs.Limits.{most_name_bytes, most_names, most_text_bytes}
 use Rattle.uvm_glob.specs.Faults.{first_fault}
 use Rattle.uvm_glob.specs.Names.{is_name_byte}
 
@@ -22,9 +23,9 @@ names_of (b ∷ text) = between_dots (b ∷ text)
 unfoldable pub path_fault : List (List ℕ) → Option PathFault
 path_fault names =
     first_fault (list_any (λ name. length name == 0) names)
-    (list_any (λ name. nat_lt 64 (length name)) names || nat_lt 1024 (length (path_text names)))
+    (list_any (λ name. nat_lt most_name_bytes (length name)) names || nat_lt most_text_bytes (length (path_text names)))
     (not (list_all (list_all is_name_byte) names))
-    (nat_lt 32 (length names))
+    (nat_lt most_names (length names))
 
 -- two texts with a dot between them, which an empty one does without
 abbrev pub dotted : List ℕ → List ℕ → List ℕ
@@ -34,4 +35,4 @@ dotted (b ∷ front) (d ∷ back) = b ∷ front ++ 46 ∷ d ∷ back
 
 -- the first fault of a path, so far as it lies in the length of its text and the number of its names
 abbrev pub size_fault : ℕ → ℕ → Option PathFault
-size_fault bytes names = first_fault false (nat_lt 1024 bytes) false (nat_lt 32 names)
+size_fault bytes names = first_fault false (nat_lt most_text_bytes bytes) false (nat_lt most_names names)

@@ -10,11 +10,11 @@ use std::fmt;
 pub enum PathFault {
     /// A name has no byte, or the text of a path has none.
     Empty,
-    /// A name has more than 64 bytes, or a path or a glob more than 1,024.
+    /// A name has more than `Name::MAX_LEN` bytes, or a path or a glob more than `Path::MAX_LEN`.
     TooLong,
     /// A byte may not stand there.
     BadByte,
-    /// A path has more than 32 names.
+    /// A path has more than `Path::MAX_NAMES` names.
     TooDeep,
     /// Memory was refused.
     Memory,

@@ -35,7 +35,7 @@ impl Model for Glob {
 
 impl Glob {
     /// The most bytes of a glob that `new` takes. One made by `under` may have more.
-    pub const MAX_LEN: usize = 1024;
+    pub const MAX_LEN: usize = Path::MAX_LEN;
 
     /// The glob with this text, which may be empty: the first of `TooLong`, `BadByte` and `Memory` that holds, if one
     /// does.

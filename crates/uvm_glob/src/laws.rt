@@ -1,10 +1,11 @@
 //! Laws of the definitions. The functions do nothing; their contracts are the laws.
 
 ghost use Rattle.std.specs.Cmp.{IsTotalOrder};
-ghost use Rattle.uvm_glob.specs.Orders.{up_cmp};
+ghost use Rattle.uvm_glob.specs.declared.orders.Direction.{Direction};
+ghost use Rattle.uvm_glob.specs.Orders.{order_of};
 
-/// Up is a total order of paths, as Down is by its `Ord`.
-#[tactic(auto, using(crate::proofs::UpTotal::up_total))]
-pub fn up_is_total()
-    ensures { IsTotalOrder up_cmp }
+/// The order of each direction is total.
+#[tactic(auto, using(crate::proofs::Totals::orders_are_total))]
+pub fn orders_are_total()
+    ensures { (direction : Direction) → IsTotalOrder (order_of direction) }
 {}

@@ -16,5 +16,6 @@ mod texts;
 pub use faults::PathFault;
 pub use globs::Glob;
 pub use names::Name;
+pub use orders::Direction;
 pub use paths::Path;
 pub use rooms::ChildRoom;

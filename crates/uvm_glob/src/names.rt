@@ -9,6 +9,7 @@ ghost use Rattle.std.specs.Hash.{slice, u8};
 ghost use Rattle.std.specs.Ordering.{nat_cmp, as_partial_cmp};
 ghost use Rattle.std.proofs.Common.{rules};
 ghost use Rattle.uvm_glob.specs.Faults.{unless};
+ghost use Rattle.uvm_glob.specs.Limits.{most_name_bytes};
 ghost use Rattle.uvm_glob.specs.Names.{name_fault, is_name_byte};
 
 use crate::faults::PathFault;
@@ -18,26 +19,27 @@ use std::fmt;
 use std::hash::{Hash, Hasher};
 use std::marker::Model;
 
-/// A name: 1 to 64 bytes of 0x21 to 0x7E, none of them `.`, `*`, `+`, `?` or `/`. It is held in place, and contracts
+/// A name: 1 to `MAX_LEN` bytes of 0x21 to 0x7E, none of them `.`, `*`, `+`, `?` or `/`. It is held in place, and contracts
 /// see its bytes. Names are ordered byte by byte.
 #[derive(Clone, Copy)]
 pub struct Name {
     len: u8,
     // The bytes, and zeros after them.
-    bytes: [u8; 64],
+    bytes: [u8; Name::MAX_LEN],
 }
 
 impl Model for Name {
     ghost use Rattle.std.specs.Prelude.{◌≡◌, ◌≤◌, ◌-◌, ◌++◌, List, ℕ, length, take, drop, replicate, None};
+    ghost use Rattle.uvm_glob.specs.Limits.{most_name_bytes};
     ghost use Rattle.uvm_glob.specs.Names.{name_fault};
 
     ghost Value = { List ℕ };
 
     ghost view = { λ n. take n.len n.bytes };
 
-    ghost invariant = { λ n. (n.len ≤ 64) × (length n.bytes ≡ 64) × (name_fault (take n.len n.bytes) ≡ None) × (drop n.len n.bytes ≡ replicate (64 - n.len) 0) };
+    ghost invariant = { λ n. (n.len ≤ most_name_bytes) × (length n.bytes ≡ most_name_bytes) × (name_fault (take n.len n.bytes) ≡ None) × (drop n.len n.bytes ≡ replicate (most_name_bytes - n.len) 0) };
 
-    ghost inverse = { λ text. record { len = length text; bytes = text ++ replicate (64 - length text) 0 } };
+    ghost inverse = { λ text. record { len = length text; bytes = text ++ replicate (most_name_bytes - length text) 0 } };
 
     ghost use Rattle.uvm_glob.specs.Held.{within, held_len, held_bytes};
 
@@ -140,11 +142,11 @@ impl fmt::Debug for Name {
 }
 
 // The bytes, and zeros after them.
-fn padded(bytes: &[u8]) -> [u8; 64]
-    requires { length bytes.now ≤ 64 }
-    ensures { result ≡ bytes.now ++ replicate (64 - length bytes.now) 0 }
+fn padded(bytes: &[u8]) -> [u8; Name::MAX_LEN]
+    requires { length bytes.now ≤ most_name_bytes }
+    ensures { result ≡ bytes.now ++ replicate (most_name_bytes - length bytes.now) 0 }
 {
-    let mut held = [0; 64];
+    let mut held = [0; Name::MAX_LEN];
     held[..bytes.len()].copy_from_slice(bytes);
     held
 }
@@ -153,7 +155,7 @@ fn padded(bytes: &[u8]) -> [u8; 64]
 #[tactic(auto, unfolding(crate::specs::Names::name_fault))]
 fn name_fault(bytes: &[u8]) -> Option<PathFault>
     ensures fault { result ≡ name_fault bytes.now }
-    ensures short { IfNone result (length bytes.now ≤ 64) }
+    ensures short { IfNone result (length bytes.now ≤ most_name_bytes) }
 {
     if bytes.is_empty() {
         Some(PathFault::Empty)

@@ -1,4 +1,4 @@
-//! The two orders of paths, over their texts. What the texts have where they first differ decides both.
+//! The two orders of paths, and how texts stand in them. What the texts have where they first differ decides both.
 
 ghost use Rattle.std.specs.Prelude.{◌≡◌};
 ghost use Rattle.uvm_glob.specs.Differences.{first_difference, rank};
@@ -6,6 +6,16 @@ ghost use Rattle.uvm_glob.specs.Orders.{down_cmp, up_cmp};
 ghost use Rattle.uvm_glob.specs.Paths.{names_of};
 
 use std::cmp::Ordering;
+
+/// The way in which a tree of paths is gone through, and so an order of paths. In both they go name by name in byte order.
+#[derive(Clone, Copy, Debug, PartialEq, Eq)]
+pub enum Direction {
+    /// Parents before their children, and so the top first: the order of a top-down phase (IEEE 1800.2-2020, Clause 9), and
+    /// that of `Ord`.
+    Down,
+    /// Children before their parents, and so the top last: the order of a bottom-up phase.
+    Up,
+}
 
 // How the paths with these texts stand in Down.
 #[tactic(auto, using(crate::proofs::TextOrders::orders))]

@@ -7,24 +7,25 @@ ghost use Rattle.std.specs.List.{list_any, list_all};
 ghost use Rattle.std.specs.Ordering.{nat_cmp, as_partial_cmp};
 ghost use Rattle.uvm_glob.specs.Faults.{refusal};
 ghost use Rattle.uvm_glob.specs.Globs.{is_glob_byte};
+ghost use Rattle.uvm_glob.specs.Limits.{most_name_bytes, most_names, most_text_bytes};
 ghost use Rattle.uvm_glob.specs.Names.{is_name_byte};
-ghost use Rattle.uvm_glob.specs.Orders.{down_cmp, up_cmp};
+ghost use Rattle.uvm_glob.specs.Orders.{down_cmp, up_cmp, order_of};
 ghost use Rattle.uvm_glob.specs.Paths.{path_text, path_fault, between_dots, names_of, dotted, size_fault};
 
 use crate::faults::PathFault;
 use crate::names::{Name, are_name_bytes};
-use crate::orders::{down_cmp, up_cmp};
+use crate::orders::{Direction, down_cmp, up_cmp};
 use crate::texts::as_text;
 use std::alloc::{AllocError, Global};
 use std::cmp::Ordering;
 use std::fmt;
 use std::marker::Model;
 
-/// A path: the names from below the top down to a component. It has at most 32 names, and its text, the names with a
-/// dot between each two, at most 1,024 bytes. The top's own path has no name. Contracts see the list of the names.
+/// A path: the names from below the top down to a component. It has at most `MAX_NAMES` names, and its text, the names
+/// with a dot between each two, at most `MAX_LEN` bytes. The top's own path has no name. Contracts see the list of the names.
 ///
-/// Paths are ordered by Down: name by name in byte order, and a parent before its children. `up_cmp` is the order Up, in
-/// which children come before their parent. Top-down and bottom-up phases (IEEE 1800.2-2020, Clause 9) go in these.
+/// Paths are ordered by `Direction::Down`: name by name in byte order, and a parent before its children. `cmp_in` has both
+/// directions.
 #[derive(Debug, Drop)]
 pub struct Path {
     pub(crate) text: Vec<u8>,
@@ -97,7 +98,7 @@ impl Path {
     /// The number of names, 0 for the top.
     pub fn depth(&self) -> usize
         ensures count { result ≡ length self.now }
-        ensures limit { result ≤ 32 }
+        ensures limit { result ≤ most_names }
     {
         count_names(self.text.as_slice())
     }
@@ -110,12 +111,22 @@ impl Path {
         out.extend_from_slice(self.text())
     }
 
-    /// How the path stands to another in Up: name by name in byte order, and a path after the paths that go on from it,
-    /// so that children come before their parent, and the top last. Takes no memory.
+    /// How the path stands to another in the order of a direction. Takes no memory.
+    pub fn cmp_in(&self, direction: Direction, other: &Path) -> Ordering
+        ensures { result ≡ order_of direction self.now other.now }
+    {
+        let (mine, other) = (self.text.as_slice(), other.text.as_slice());
+        match direction {
+            Direction::Down => down_cmp(mine, other),
+            Direction::Up => up_cmp(mine, other),
+        }
+    }
+
+    /// How the path stands to another in Up, in which children come before their parent. Takes no memory.
     pub fn up_cmp(&self, other: &Path) -> Ordering
         ensures { result ≡ up_cmp self.now other.now }
     {
-        up_cmp(self.text.as_slice(), other.text.as_slice())
+        self.cmp_in(Direction::Up, other)
     }
 
     /// An equal path.
@@ -215,8 +226,8 @@ pub(crate) fn dotted(alloc: Global, front: &[u8], back: &[u8]) -> Result<Vec<u8>
 
 // What keeps the two texts, of a path each, from being a path together.
 pub(crate) fn size_fault(front: &[u8], back: &[u8]) -> Option<PathFault>
-    requires front_short { length front.now ≤ 1024 }
-    requires back_short { length back.now ≤ 1024 }
+    requires front_short { length front.now ≤ most_text_bytes }
+    requires back_short { length back.now ≤ most_text_bytes }
     ensures { result ≡ size_fault (length (dotted front.now back.now)) (length (names_of front.now) + length (names_of back.now)) }
 {
     let dot = usize::from(!front.is_empty() && !back.is_empty());
@@ -254,7 +265,7 @@ fn has_empty_name(text: &[u8]) -> bool
 }
 
 fn has_long_name(text: &[u8]) -> bool
-    ensures { result ≡ list_any (λ name. nat_lt 64 (length name)) (between_dots text.now) }
+    ensures { result ≡ list_any (λ name. nat_lt most_name_bytes (length name)) (between_dots text.now) }
 {
     text.split(|b| *b == b'.')
         .any(|name| name.len() > Name::MAX_LEN)

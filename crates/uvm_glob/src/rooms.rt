@@ -1,6 +1,7 @@
 //! Room for the path of a child, made before the child's name is known.
 
 ghost use Rattle.std.specs.Prelude.{◌≡◌, ◌++◌, ◌∷◌, [], ◌+◌, ◌≤◌, ◌<◌, length, None, Some, IfOk, IfErr, vec_capacity, vec_len};
+ghost use Rattle.uvm_glob.specs.Limits.{most_name_bytes, most_text_bytes};
 ghost use Rattle.uvm_glob.specs.Paths.{path_fault, names_of, dotted};
 
 use crate::faults::PathFault;
@@ -17,13 +18,14 @@ pub struct ChildRoom {
 
 impl Model for ChildRoom {
     ghost use Rattle.std.specs.Prelude.{◌≡◌, ◌+◌, ◌≤◌, List, ℕ, None, length, vec_capacity};
+    ghost use Rattle.uvm_glob.specs.Limits.{most_name_bytes};
     ghost use Rattle.uvm_glob.specs.Paths.{names_of, path_fault};
 
     ghost Value = { List (List ℕ) };
 
     ghost view = { λ r. names_of r.text.items };
 
-    ghost invariant = { λ r. (path_fault (names_of r.text.items) ≡ None) × (length r.text.items + 65 ≤ vec_capacity r.text) };
+    ghost invariant = { λ r. (path_fault (names_of r.text.items) ≡ None) × (length r.text.items + 1 + most_name_bytes ≤ vec_capacity r.text) };
 }
 
 impl ChildRoom {
@@ -55,19 +57,19 @@ impl ChildRoom {
 
 // The text, in a vector with room for a dot and a name.
 fn with_room(alloc: Global, text: &[u8]) -> Result<Vec<u8>, AllocError>
-    requires { length text.now ≤ 1024 }
+    requires { length text.now ≤ most_text_bytes }
     ensures items { IfOk result (λ held. held.items ≡ text.now) }
-    ensures room { IfOk result (λ held. length held.items + 65 ≤ vec_capacity held) }
+    ensures room { IfOk result (λ held. length held.items + 1 + most_name_bytes ≤ vec_capacity held) }
 {
-    let mut held = Vec::with_capacity(alloc, text.len() + 65)?;
+    let mut held = Vec::with_capacity(alloc, text.len() + 1 + Name::MAX_LEN)?;
     held.extend_from_slice(text)?;
     Ok(held)
 }
 
 // The text with a dot and the name, or the name alone after the empty text.
 fn extended(text: Vec<u8>, name: &[u8]) -> Vec<u8>
-    requires room { length text.items + 65 ≤ vec_capacity text }
-    requires name { length name.now ≤ 64 }
+    requires room { length text.items + 1 + most_name_bytes ≤ vec_capacity text }
+    requires name { length name.now ≤ most_name_bytes }
     ensures { result.items ≡ dotted text.items name.now }
 {
     let mut text = text;

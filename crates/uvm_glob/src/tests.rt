@@ -1,6 +1,6 @@
 //! Examples of what the definitions mean, and that each call succeeds where there is memory.
 
-use crate::{ChildRoom, Glob, Name, Path, PathFault};
+use crate::{ChildRoom, Direction, Glob, Name, Path, PathFault};
 use std::alloc::Global;
 use std::cmp::Ordering;
 use std::test::Fail;
@@ -269,6 +269,11 @@ fn parents_stand_first_in_down(rt: HostRuntime) -> Result<(), Fail> {
             "{next:?} and {path:?}"
         );
         assert!(rt; first < second, "{path:?} and {next:?}");
+        assert_eq!(rt;
+            first.cmp_in(Direction::Down, &second),
+            Ordering::Less,
+            "{path:?} and {next:?}"
+        );
         assert_ne!(rt; first, second);
         assert_eq!(rt; first.cmp(&first.copy()?), Ordering::Equal, "{path:?}");
         assert_eq!(rt; first, first.copy()?);
@@ -291,16 +296,20 @@ fn children_stand_first_in_up(rt: HostRuntime) -> Result<(), Fail> {
     ] {
         let (first, second) = (path_at(rt.alloc(), path)?, path_at(rt.alloc(), next)?);
         assert_eq!(rt;
-            first.up_cmp(&second),
+            first.cmp_in(Direction::Up, &second),
             Ordering::Less,
             "{path:?} and {next:?}"
         );
         assert_eq!(rt;
-            second.up_cmp(&first),
+            second.cmp_in(Direction::Up, &first),
             Ordering::Greater,
             "{next:?} and {path:?}"
         );
-        assert_eq!(rt; first.up_cmp(&first.copy()?), Ordering::Equal, "{path:?}");
+        assert_eq!(rt;
+            first.cmp_in(Direction::Up, &first.copy()?),
+            Ordering::Equal,
+            "{path:?}"
+        );
     }
     Ok(())
 }

@@ -1,9 +1,7 @@
 -- The phases in order.
-use Rattle.std.specs.Prelude.{ℕ, Bool, ◌==◌, ◌+◌, List, [], ◌∷◌, Option, slice_get, codes}
+use Rattle.std.specs.Prelude.{ℕ, Bool, true, false, ◌==◌, ◌+◌, List, [], ◌∷◌, Option, slice_get, codes}
 use Rattle.uvm_phase.specs.declared.phases.Phase.{Phase}
 use Rattle.uvm_phase.specs.declared.phases.Phase.TheVariants.{Build, Connect, EndOfElaboration, StartOfSimulation, Run, Extract, Check, Report, Final}
-use Rattle.uvm_phase.specs.declared.phases.Walk.{Walk}
-use Rattle.uvm_phase.specs.declared.phases.Walk.TheVariants.{Down, Up}
 
 -- all phases in the order in which they run
 abbrev pub phases : List Phase
@@ -29,11 +27,11 @@ same_phase a b = phase_number a == phase_number b
 abbrev pub phase_after : Phase → Option Phase
 phase_after phase = slice_get phases (phase_number phase + 1)
 
--- build and final go from parents to children
-abbrev pub walk_of : Phase → Walk
-walk_of Build = Down
-walk_of Final = Down
-walk_of phase = Up
+-- whether a phase comes to parents before their children: build and final do
+abbrev pub is_top_down : Phase → Bool
+is_top_down Build = true
+is_top_down Final = true
+is_top_down phase = false
 
 abbrev pub phase_name : Phase → List ℕ
 phase_name Build = codes "build"

@@ -8,4 +8,4 @@ mod phases;
 mod tests;
 
 pub use agendas::{Agenda, Cause, Due};
-pub use phases::{Phase, Schedule, Walk};
+pub use phases::{Phase, Schedule};

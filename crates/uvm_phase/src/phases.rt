@@ -1,7 +1,7 @@
 //! The phases and their order.
 
 ghost use Rattle.std.specs.Prelude.{◌≡◌, Some};
-ghost use Rattle.uvm_phase.specs.Phases.{phase_number, phase_after, walk_of, phase_name};
+ghost use Rattle.uvm_phase.specs.Phases.{phase_number, phase_after, is_top_down, phase_name};
 
 /// A phase, in the order in which they run (IEEE 1800.2-2020, Clause 9). `Run` alone takes simulated time.
 #[derive(Clone, Copy, Debug, PartialEq, Eq)]
@@ -24,15 +24,6 @@ pub enum Phase {
     Report,
     /// What is open is closed.
     Final,
-}
-
-/// The order in which a phase comes to the components of a tree.
-#[derive(Clone, Copy, Debug, PartialEq, Eq)]
-pub enum Walk {
-    /// Parents before their children.
-    Down,
-    /// Children before their parents.
-    Up,
 }
 
 impl Phase {
@@ -60,15 +51,12 @@ impl Phase {
         }
     }
 
-    /// Build and final go down, the others up (IEEE 1800.2-2020, Clause 9; that run is started up is this project's
-    /// choice).
-    pub fn walk(self) -> Walk
-        ensures { result ≡ walk_of self }
+    /// Whether the phase is top-down: it comes to parents before their children. Build and final are; the others are
+    /// bottom-up (IEEE 1800.2-2020, Clause 9; that run is started bottom-up is this project's choice).
+    pub fn is_top_down(self) -> bool
+        ensures { result ≡ is_top_down self }
     {
-        match self {
-            Phase::Build | Phase::Final => Walk::Down,
-            _ => Walk::Up,
-        }
+        matches!(self, Phase::Build | Phase::Final)
     }
 }
 

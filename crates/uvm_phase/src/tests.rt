@@ -1,6 +1,6 @@
 //! The phases in order, and calls in the order in which they come due.
 
-use crate::{Agenda, Cause, Phase, Schedule, Walk};
+use crate::{Agenda, Cause, Phase, Schedule};
 use std::alloc::Global;
 use std::test::Fail;
 
@@ -24,11 +24,11 @@ fn nine_phases_follow_one_another(rt: HostRuntime) -> Result<(), Fail> {
 }
 
 #[test]
-fn build_and_final_go_down(rt: HostRuntime) {
-    assert_eq!(rt; Phase::Build.walk(), Walk::Down);
-    assert_eq!(rt; Phase::Connect.walk(), Walk::Up);
-    assert_eq!(rt; Phase::Run.walk(), Walk::Up);
-    assert_eq!(rt; Phase::Final.walk(), Walk::Down);
+fn build_and_final_are_top_down(rt: HostRuntime) {
+    assert!(rt; Phase::Build.is_top_down());
+    assert!(rt; !Phase::Connect.is_top_down());
+    assert!(rt; !Phase::Run.is_top_down());
+    assert!(rt; Phase::Final.is_top_down());
     assert_eq!(rt; Phase::Run.number(), 4);
 }
 

@@ -4,12 +4,9 @@ use Rattle.std.specs.declared.cmp.Ordering.{Ordering}
 use Rattle.std.specs.Cmp.{IsTotalOrder}
 use Rattle.std.specs.Ordering.{is_lt}
 use Rattle.std.specs.List.{range_with_len}
+use Rattle.uvm_glob.specs.Orders.{PathOrder}
 use Rattle.uvm_tree.specs.declared.nodes.Node.{Node}
 use Rattle.uvm_tree.specs.Nodes.{node_at, path_at}
-
--- an order of paths
-abbrev pub PathOrder : Type 0
-PathOrder = List (List ℕ) → List (List ℕ) → Ordering
 
 -- whether a node stands before another
 abbrev pub is_before : PathOrder → List Node → ℕ → ℕ → Bool

@@ -1,6 +1,5 @@
 pub mod Children
 pub mod Cursors
-pub mod Directions
 pub mod Faults
 pub mod Nodes
 mod Rooms

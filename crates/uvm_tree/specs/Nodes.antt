@@ -10,6 +10,10 @@ use Rattle.uvm_tree.specs.declared.nodes.NodeKind.TheVariants.{Component}
 use Rattle.uvm_tree.specs.declared.faults.TreeFault.{TreeFault}
 use Rattle.uvm_tree.specs.declared.faults.TreeFault.TheVariants.{NoParent, NameTaken, TooDeep, Full, Memory}
 
+-- the most nodes besides the top
+abbrev pub most_nodes : ℕ
+most_nodes = 4096
+
 -- the nodes by their numbers, the top first, and the parent for whose next child there is room
 pub record TreeValue : Type 0 where
   pub nodes : List Node
@@ -73,4 +77,4 @@ add_fault nodes parent name =
     first_fault (is_none (node_at nodes parent))
     (list_any (is_child parent name) nodes)
     (is_some (path_fault (path_at nodes parent ++ name ∷ [])))
-    (nat_lt 4096 (length nodes))
+    (nat_lt most_nodes (length nodes))

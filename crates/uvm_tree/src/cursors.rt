@@ -1,21 +1,12 @@
 //! Which node of a tree comes next in an order of their paths.
 
 ghost use Rattle.std.specs.Prelude.{◌≡◌};
-ghost use Rattle.uvm_glob.specs.Orders.{down_cmp, up_cmp};
+ghost use Rattle.uvm_glob.specs.Orders.{down_cmp, up_cmp, order_of};
 ghost use Rattle.uvm_tree.specs.Cursors.{is_before, is_after, scanned, sooner, next_in};
-ghost use Rattle.uvm_tree.specs.Directions.{order_of};
 
 use crate::nodes::NodeId;
 use crate::trees::Tree;
-
-// The orders of paths in which a tree is walked.
-#[derive(Clone, Copy)]
-enum Direction {
-    // Parents first.
-    Down,
-    // Children first.
-    Up,
-}
+use uvm_glob::Direction;
 
 impl Tree {
     /// The node that comes next after a given one in Down, or the first where none is given: name by name in byte order, and
@@ -34,6 +25,15 @@ impl Tree {
         ensures { result ≡ next_in up_cmp self.now.nodes after }
     {
         self.walk(Direction::Up, after).next()
+    }
+
+    /// Whether a node comes before another in a direction, by their paths. A number of no node counts as the top's. Takes no
+    /// memory.
+    pub fn is_before(&self, direction: Direction, node: NodeId, other: NodeId) -> bool
+        ensures { result ≡ is_before (order_of direction) self.now.nodes node other }
+    {
+        let (path, other) = (self.path_or_top(node), self.path_or_top(other));
+        path.cmp_in(direction, other).is_lt()
     }
 
     // A walk that goes on after a node.
@@ -104,10 +104,6 @@ impl Walk<'_> {
     fn is_before(&self, id: NodeId, other: NodeId) -> bool
         ensures { result ≡ is_before (order_of self.now.direction) self.now.tree.now.nodes id other }
     {
-        let (path, other) = (self.tree.path_or_top(id), self.tree.path_or_top(other));
-        match self.direction {
-            Direction::Down => path.cmp(other).is_lt(),
-            Direction::Up => path.up_cmp(other).is_lt(),
-        }
+        self.tree.is_before(self.direction, id, other)
     }
 }

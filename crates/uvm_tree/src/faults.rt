@@ -11,9 +11,9 @@ pub enum TreeFault {
     NoParent,
     /// The parent has a child of that name already.
     NameTaken,
-    /// The path would have more than 32 names, or more than 1,024 bytes.
+    /// The path would have more names or bytes than `Path` allows.
     TooDeep,
-    /// There are 4,096 nodes besides the top, and one more would be next.
+    /// There are `Tree::MAX_NODES` nodes besides the top, and one more would be next.
     Full,
     /// Memory was refused.
     Memory,

@@ -3,7 +3,7 @@
 use crate::{NodeId, NodeKind, Tree, TreeFault};
 use std::alloc::Global;
 use std::test::Fail;
-use uvm_glob::{Name, Path};
+use uvm_glob::{Direction, Name, Path};
 
 // The nodes t, t.b, t.a and t.a.x, added in this order.
 fn small(alloc: Global) -> Result<Tree, Fail> {
@@ -38,21 +38,14 @@ fn node_at(alloc: Global, tree: &Tree, text: &str) -> Result<NodeId, Fail> {
     Ok(tree.find(&path).ok_or("a node")?)
 }
 
-// The order of a walk.
-#[derive(Clone, Copy)]
-enum Walk {
-    Down,
-    Up,
-}
-
 // The paths of the nodes that a walk comes to, with a space before each.
-fn walked(alloc: Global, tree: &Tree, walk: Walk) -> Result<Vec<u8>, Fail> {
+fn walked(alloc: Global, tree: &Tree, direction: Direction) -> Result<Vec<u8>, Fail> {
     let mut paths = Vec::new(alloc);
     let mut last = None;
     for _ in 0..10 {
-        last = match walk {
-            Walk::Down => tree.next_down(last),
-            Walk::Up => tree.next_up(last),
+        last = match direction {
+            Direction::Down => tree.next_down(last),
+            Direction::Up => tree.next_up(last),
         };
         let Some(id) = last else {
             return Ok(paths);
@@ -71,9 +64,9 @@ fn write_path(tree: &Tree, id: NodeId, out: &mut Vec<u8>) -> Result<(), Fail> {
 #[test]
 fn walks_come_to_each_node_in_order(rt: HostRuntime) -> Result<(), Fail> {
     let tree = small(rt.alloc())?;
-    let down = walked(rt.alloc(), &tree, Walk::Down)?;
+    let down = walked(rt.alloc(), &tree, Direction::Down)?;
     assert_eq!(rt; down.as_slice(), b" t t.a t.a.x t.b".as_slice());
-    let up = walked(rt.alloc(), &tree, Walk::Up)?;
+    let up = walked(rt.alloc(), &tree, Direction::Up)?;
     assert_eq!(rt; up.as_slice(), b" t.a.x t.a t.b t".as_slice());
     Ok(())
 }
@@ -87,6 +80,18 @@ fn walks_do_not_begin_at_a_missing_node(rt: HostRuntime) -> Result<(), Fail> {
     // The top is first in Down, and last in Up.
     assert_eq!(rt; tree.next_down(Some(NodeId::TOP)), tree.next_down(None));
     assert_eq!(rt; tree.next_up(Some(NodeId::TOP)), None);
+    Ok(())
+}
+
+#[test]
+fn a_parent_comes_before_its_child_in_down_alone(rt: HostRuntime) -> Result<(), Fail> {
+    let tree = small(rt.alloc())?;
+    let a = node_at(rt.alloc(), &tree, "t.a")?;
+    let x = node_at(rt.alloc(), &tree, "t.a.x")?;
+    assert!(rt; tree.is_before(Direction::Down, a, x));
+    assert!(rt; !tree.is_before(Direction::Down, x, a));
+    assert!(rt; tree.is_before(Direction::Up, x, a));
+    assert!(rt; !tree.is_before(Direction::Up, a, a));
     Ok(())
 }
 
@@ -169,7 +174,7 @@ fn a_path_of_33_names_is_too_deep(rt: HostRuntime) -> Result<(), Fail> {
     let mut tree = Tree::new(rt.alloc());
     let name = Name::new(b"n")?;
     let mut parent = NodeId::TOP;
-    for _ in 0..32 {
+    for _ in 0..Path::MAX_NAMES {
         parent = tree.add(parent, name, NodeKind::Component)?;
     }
     let added = tree.add(parent, name, NodeKind::Component);

@@ -5,7 +5,7 @@ ghost use Rattle.std.specs.List.{list_any};
 ghost use Rattle.std.specs.Option.{option_copied, ForSome};
 ghost use Rattle.uvm_glob.specs.Paths.{path_fault};
 ghost use Rattle.uvm_tree.specs.declared.nodes.Node.{Node};
-ghost use Rattle.uvm_tree.specs.Nodes.{top, child, path_at, node_at, is_child, is_path, number_at, parent_of, refusal, add_fault};
+ghost use Rattle.uvm_tree.specs.Nodes.{most_nodes, top, child, path_at, node_at, is_child, is_path, number_at, parent_of, refusal, add_fault};
 
 use crate::faults::TreeFault;
 use crate::nodes::{Node, NodeId, NodeKind};
@@ -182,7 +182,7 @@ impl Tree {
     // The number of nodes besides the top.
     pub(crate) fn number_of_nodes(&self) -> usize
         ensures number { result ≡ length self.now.nodes - 1 }
-        ensures limit { result ≤ 4096 }
+        ensures limit { result ≤ most_nodes }
     {
         self.nodes.len()
     }
@@ -248,7 +248,7 @@ fn has_child(nodes: &[Node], parent: NodeId, name: &Name) -> bool
 
 // Adds a node.
 fn push(nodes: &mut Vec<Node>, node: Node) -> Result<NodeId, TreeFault>
-    requires { length nodes.old.items < 4096 }
+    requires { length nodes.old.items < most_nodes }
     ensures ok { IfOk result (λ id. id ≡ length nodes.old.items + 1) }
     ensures added { OnOk result (nodes.new.items ≡ nodes.old.items ++ node ∷ []) }
     ensures err { IfErr result (λ fault. fault ≡ TreeFault.Memory) }

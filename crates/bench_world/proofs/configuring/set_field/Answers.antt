@@ -1,6 +1,7 @@
 use mir.Val.{SFits}
 use Rattle.std.proofs.lemmas.Int.{to_z-of_z}
 use Rattle.std.proofs.Common.{w64, ◌≡◌, ◌∙◌, true, false, nat_le, length, ap, sym, refl, rules}
+use Rattle.uvm_config.specs.Answers.{most_settings}
 use Rattle.uvm_object.specs.declared.acts.Act.TheVariants.{Set}
 use Rattle.uvm_object.specs.declared.fatals.Fatal.TheVariants.{TooManySettings}
 use Rattle.bench_history.specs.Configuration.{settings_of}
@@ -11,14 +12,14 @@ use Rattle.bench_world.proofs.configuring.set_field.Goals as goal
 pub returns-then-is_full : goal.returns-then-is_full
 unfolding setting_refusal
 returns-then-is_full c = λ place. refused-performed (Set c.args.glob.now c.args.field c.args.value) TooManySettings c.refused.ensures.outcome c.refused.ensures.services (λ script history m.
-    let full : nat_le 65536 (length (settings_of script history)) ≡ true = ap (nat_le 65536) (sym m.settings.count) ∙ sym c.is_full.ensures ∙ c.if-is_full.true in
+    let full : nat_le most_settings (length (settings_of script history)) ≡ true = ap (nat_le most_settings) (sym m.settings.count) ∙ sym c.is_full.ensures ∙ c.if-is_full.true in
     rw full refl)
 
 pub returns : goal.returns
 unfolding setting_refusal
 returns c = λ place. rw c.done.ensures (record {
   comes = λ script history s.
-      let few : nat_le 65536 (length (settings_of script history)) ≡ false = ap (nat_le 65536) (sym s.known.settings.count) ∙ sym c.is_full.ensures ∙ c.if-is_full.false in
+      let few : nat_le most_settings (length (settings_of script history)) ≡ false = ap (nat_le most_settings) (sym s.known.settings.count) ∙ sym c.is_full.ensures ∙ c.if-is_full.false in
       rw few refl;
   kept = record {
     same_answer = refl;

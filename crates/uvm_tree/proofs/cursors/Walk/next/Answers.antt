@@ -1,7 +1,7 @@
 use Rattle.std.proofs.Common.{◌≡◌, ◌∙◌, ◌-◌, ap, arith, filter, length}
 use Rattle.std.specs.List.{range_with_len}
 use Rattle.uvm_tree.specs.Cursors.{is_before, is_after, least, next_in}
-use Rattle.uvm_tree.specs.Directions.{order_of}
+use Rattle.uvm_glob.specs.Orders.{order_of}
 use Rattle.uvm_tree.proofs.Scans.{least_more}
 use Rattle.uvm_tree.proofs.cursors.Walk.next.Goals as goal
 

@@ -1,11 +1,13 @@
--- Up is a total order.
+-- The orders of paths are total.
 use Rattle.std.proofs.Common.{◌≡◌, ℕ, List, [], ◌∷◌, Option, Some, None, refl, ap, subst}
 use Rattle.std.specs.declared.cmp.Ordering.{Ordering}
 use Rattle.std.specs.Ordering.{nat_cmp, ordering_then, flip_args}
 use Rattle.std.specs.Option.{option_cmp}
 use Rattle.std.specs.Cmp.{IsTotalOrder, on_total, back_total}
 use Rattle.std.specs.Cmp.Lexicographic.{slice_cmp, lists_total, options_total, nat_list_cmp_total}
-use Rattle.uvm_glob.specs.Orders.{up_cmp}
+use Rattle.uvm_glob.specs.declared.orders.Direction.{Direction}
+use Rattle.uvm_glob.specs.declared.orders.Direction.TheVariants.{Down, Up}
+use Rattle.uvm_glob.specs.Orders.{up_cmp, order_of}
 
 -- the names of a path, and its end
 abbrev with_end : List (List ℕ) → List (Option (List ℕ))
@@ -23,7 +25,11 @@ by_ends [] (y ∷ ys) = refl
 by_ends (x ∷ xs) [] = refl
 by_ends (x ∷ xs) (y ∷ ys) = ap (ordering_then (slice_cmp nat_cmp x y)) (by_ends xs ys)
 
-pub up_total : IsTotalOrder up_cmp
+up_total : IsTotalOrder up_cmp
 up_total =
     subst IsTotalOrder (λ i xs ys. by_ends xs ys i)
     (on_total with_end (lists_total (back_total (options_total (back_total nat_list_cmp_total)))))
+
+pub orders_are_total : (direction : Direction) → IsTotalOrder (order_of direction)
+orders_are_total Down = lists_total nat_list_cmp_total
+orders_are_total Up = up_total

@@ -1,7 +1,11 @@
 -- Where an object is what comes next.
 use Rattle.std.proofs.Common.{◌≡◌, ℕ, Bool, true, false, List, [], ◌∷◌, ◌++◌, Option, Some, None, Result, Ok, Err, IsSome, is_none, refl, ◌∙◌, sym, subst, if◌then◌else◌}
 use Rattle.uvm_tree.specs.declared.nodes.Node.{Node}
-use Rattle.uvm_tree.specs.Nodes.{path_at, node_at, add_fault, first_fault}
+use Rattle.uvm_glob.specs.Lists.{first_of}
+use Rattle.uvm_glob.specs.Faults.{fault_if}
+use Rattle.uvm_tree.specs.declared.faults.TreeFault.{TreeFault}
+use Rattle.uvm_tree.specs.declared.faults.TreeFault.TheVariants.{NoParent}
+use Rattle.uvm_tree.specs.Nodes.{path_at, node_at, add_fault}
 use Rattle.uvm_factory.specs.declared.types.Kind.TheVariants.{Component}
 use Rattle.uvm_factory.specs.Faults.{Types}
 use Rattle.uvm_factory.specs.declared.overrides.Override.{Override}
@@ -25,11 +29,11 @@ use Rattle.bench_history.proofs.Inversion.{Case, AtEnd, ByOwn, ByNeed, ByDeed, B
 -- a name can be free only under a node that is there
 some-node : (nodes : List Node) (parent : ℕ) (name : List ℕ) → child_refusal nodes parent name ≡ None → IsSome (node_at nodes parent)
 unfolding add_fault
-some-node nodes parent name free = from-node (node_at nodes parent) _ _ _ free
+some-node nodes parent name free = from-node (node_at nodes parent) _ free
   where
-    from-node : (node : Option Node) (taken deep full : Bool) → fatal_of (first_fault (is_none node) taken deep full) ≡ None → IsSome node
-    from-node None taken deep full e = cc
-    from-node (Some node) taken deep full e = refl
+    from-node : (node : Option Node) (others : List (Option TreeFault)) → fatal_of (first_of (fault_if (is_none node) NoParent ∷ others)) ≡ None → IsSome node
+    from-node None others e = cc
+    from-node (Some node) others e = refl
 
 -- what is created has a free name
 free-unless : (types : Types) (overrides : List Override) (asked : List ℕ) (path : List (List ℕ)) (refusal : Option Fatal) (type_id : ℕ) (type_name : List ℕ) → made_unless types overrides asked path refusal type_id ≡ Ok type_name → refusal ≡ None

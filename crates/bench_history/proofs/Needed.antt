@@ -2,7 +2,10 @@
 use Rattle.std.proofs.Common.{◌≡◌, ℕ, Bool, List, [], ◌∷◌, ◌++◌, Option, Some, None, IsSome, is_none, refl, ◌∙◌, sym, subst}
 use Rattle.uvm_glob.specs.Lists.{first_given}
 use Rattle.uvm_tree.specs.declared.nodes.Node.{Node}
-use Rattle.uvm_tree.specs.Nodes.{path_at, node_at, add_fault, first_fault}
+use Rattle.uvm_glob.specs.Faults.{fault_if}
+use Rattle.uvm_tree.specs.declared.faults.TreeFault.{TreeFault}
+use Rattle.uvm_tree.specs.declared.faults.TreeFault.TheVariants.{NoParent}
+use Rattle.uvm_tree.specs.Nodes.{path_at, node_at, add_fault}
 use Rattle.uvm_object.specs.Acts.{node_of}
 use Rattle.uvm_object.specs.declared.acts.Who.{Who}
 use Rattle.uvm_object.specs.declared.acts.Act.{Act}
@@ -13,7 +16,7 @@ use Rattle.uvm_object.specs.declared.entries.Entry.{Entry}
 use Rattle.bench_script.specs.Scripts.{ScriptValue}
 use Rattle.bench_history.specs.declared.needs.Need as declared
 use Rattle.bench_history.specs.History.{created_name, nodes_of, left_of, rest_of, speaker_of}
-use Rattle.bench_history.specs.Refusals.{fault_if, Creation, created_path, type_asked, type_made, child_refusal, fatal_of, creation_refusal}
+use Rattle.bench_history.specs.Refusals.{Creation, created_path, type_asked, type_made, child_refusal, fatal_of, creation_refusal}
 use Rattle.bench_history.specs.Upshots.{Upshot, Needs, unless_refused, needed_object, creation_now, upshot_of}
 use Rattle.bench_history.specs.Cases.{Next, Need}
 use Rattle.bench_history.specs.Next.{next_of, need_in}
@@ -23,11 +26,11 @@ use Rattle.bench_history.proofs.Inversion.{Case, AtEnd, ByOwn, ByNeed, ByDeed, B
 -- a name can be free only under a node that is there
 some-node : (nodes : List Node) (parent : ℕ) (name : List ℕ) → child_refusal nodes parent name ≡ None → IsSome (node_at nodes parent)
 unfolding add_fault
-some-node nodes parent name free = from-node (node_at nodes parent) _ _ _ free
+some-node nodes parent name free = from-node (node_at nodes parent) _ free
   where
-    from-node : (node : Option Node) (taken deep full : Bool) → fatal_of (first_fault (is_none node) taken deep full) ≡ None → IsSome node
-    from-node None taken deep full e = cc
-    from-node (Some node) taken deep full e = refl
+    from-node : (node : Option Node) (others : List (Option TreeFault)) → fatal_of (first_given (fault_if (is_none node) NoParent ∷ others)) ≡ None → IsSome node
+    from-node None others e = cc
+    from-node (Some node) others e = refl
 
 -- where the last of four causes is looked for the third is not there
 third-not : (first second third fourth : Option Fatal) → first_given (first ∷ second ∷ third ∷ fourth ∷ []) ≡ None → third ≡ None

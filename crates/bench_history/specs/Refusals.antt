@@ -1,6 +1,7 @@
 -- Why acts are refused: for each sort of act the refusals in the order in which they are looked for. What is still refused after these is an
 -- object that nobody supplies (Next, `Allows`).
 use Rattle.std.specs.Prelude.{ℕ, Bool, true, false, not, List, [], ◌∷◌, ◌++◌, length, slice_get, Option, Some, None, option_map, option_and_then, is_none, nat_le}
+use Rattle.uvm_glob.specs.Faults.{fault_if}
 use Rattle.uvm_glob.specs.Lists.{first_given}
 use Rattle.uvm_glob.specs.Paths.{path_text}
 use Rattle.uvm_factory.specs.declared.types.Kind.{Kind}
@@ -15,11 +16,6 @@ use Rattle.uvm_tree.specs.declared.faults.TreeFault.TheVariants.{NameTaken}
 use Rattle.uvm_tree.specs.Nodes.{path_at, add_fault}
 use Rattle.uvm_object.specs.declared.fatals.Fatal.{Fatal}
 use Rattle.uvm_object.specs.declared.fatals.Fatal.TheVariants.{CreatedAfterBuild, InvalidType, ChildTaken, TreeLimit, OverrideLoop, TooManySettings}
-
--- a refusal, where there is one
-abbrev pub fault_if : {A : Type 0} → Bool → A → Option A
-fault_if true fault = Some fault
-fault_if false fault = None
 
 -- a creation that is asked for: whether build has ended, the types, the overrides with the newest first and the nodes that are there, the
 -- node below which something is created, the name of the type that is asked for, and the name that it gets

@@ -1,5 +1,5 @@
 -- The bytes of names and paths may stand in a glob, and those of a glob are ASCII.
-use Rattle.std.proofs.Common.{◌≡◌, ℕ, ◌<◌, true, false, not, nat_lt, length, None, List, [], ◌∷◌, refl, ◌∙◌, arith}
+use Rattle.std.proofs.Common.{◌≡◌, ℕ, ◌<◌, true, None, List, [], ◌∷◌, refl, ◌∙◌, arith}
 use Rattle.std.specs.List.{list_all}
 use Rattle.std.specs.Str.{IsAscii, IsUtf8}
 use Rattle.std.proofs.lemmas.Bool.{and_parts, not-false}
@@ -7,11 +7,10 @@ use Rattle.std.proofs.lemmas.Bool.Decides.{nat_tests}
 use Rattle.std.proofs.lemmas.List.Folds.{list_all-append}
 use Rattle.std.proofs.lemmas.Str.{IsUtf8-from_ascii}
 use Rattle.std.proofs.lemmas.Str.Ascii.{IsAscii-nil, IsAscii-cons}
-use Rattle.uvm_glob.specs.Limits.{most_text_bytes}
 use Rattle.uvm_glob.specs.Names.{is_name_byte, name_fault}
 use Rattle.uvm_glob.specs.Globs.{is_glob_byte, glob_fault}
 use Rattle.uvm_glob.specs.Paths.{path_text, path_fault, dotted}
-use Rattle.uvm_glob.proofs.PathTexts.{path-no_fault, fault-name, no_fault}
+use Rattle.uvm_glob.proofs.PathTexts.{path-no_fault, fault-name, no_glob_fault}
 
 -- a byte of a glob is ASCII
 byte-ascii : (b : ℕ) → is_glob_byte b ≡ true → b < 128
@@ -63,4 +62,4 @@ dotted_bytes (b ∷ front) (d ∷ back) good more = list_all-append is_glob_byte
 -- a glob without a fault has the bytes of one
 pub glob_bytes : (text : List ℕ) → glob_fault text ≡ None → list_all is_glob_byte text ≡ true
 unfolding glob_fault
-glob_bytes text good = not-false (list_all is_glob_byte text) (no_fault false (nat_lt most_text_bytes (length text)) (not (list_all is_glob_byte text)) false good).2
+glob_bytes text good = not-false (list_all is_glob_byte text) (no_glob_fault _ _ good).1

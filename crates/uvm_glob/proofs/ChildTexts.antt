@@ -1,23 +1,15 @@
 -- The path of a child, as one text and another.
-use Rattle.std.proofs.Common.{◌≡◌, ℕ, ◌+◌, ◌≤◌, Bool, true, false, List, [], ◌∷◌, ◌++◌, length, None, ◌∙◌, sym, ap}
+use Rattle.std.proofs.Common.{◌≡◌, ℕ, ◌+◌, ◌≤◌, List, [], ◌∷◌, ◌++◌, length, None, ◌∙◌, sym, ap}
 use Rattle.std.proofs.lemmas.Bool.{ltb-false}
 use Rattle.uvm_glob.specs.Limits.{most_name_bytes}
-use Rattle.uvm_glob.specs.Faults.{first_fault}
 use Rattle.uvm_glob.specs.Names.{name_fault}
 use Rattle.uvm_glob.specs.Paths.{names_of, path_fault, dotted, size_fault}
-use Rattle.uvm_glob.proofs.PathTexts.{names_of-name, fault-name, names_of-dotted, fault-dotted}
-
-not_long : (empty long bad deep : Bool) → first_fault empty long bad deep ≡ None → long ≡ false
-not_long true long bad deep h = cc
-not_long false true bad deep h = cc
-not_long false false true deep h = cc
-not_long false false false true h = cc
-not_long false false false false h = cc
+use Rattle.uvm_glob.proofs.PathTexts.{no_name_fault, names_of-name, fault-name, names_of-dotted, fault-dotted}
 
 -- a name is short
 pub name-short : (name : List ℕ) → name_fault name ≡ None → length name ≤ most_name_bytes
 unfolding name_fault
-name-short name good = ltb-false most_name_bytes (length name) (not_long _ _ _ _ good)
+name-short name good = ltb-false most_name_bytes (length name) (no_name_fault _ _ _ good).1
 
 -- the names of a path with one more
 one-more : (front name : List ℕ) → name_fault name ≡ None → names_of front ++ names_of name ≡ names_of front ++ name ∷ []

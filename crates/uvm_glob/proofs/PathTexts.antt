@@ -1,5 +1,5 @@
 -- The names that a text stands for, and the text of names.
-use Rattle.std.proofs.Common.{◌≡◌, ℕ, ◌+◌, ◌≤◌, Bool, true, false, not, ◌==◌, nat_lt, List, [], ◌∷◌, ◌++◌, length, Some, None, refl, sym, ap, subst, ◌∙◌, inl, inr, arith}
+use Rattle.std.proofs.Common.{◌≡◌, ℕ, ◌+◌, ◌≤◌, Bool, true, false, ◌==◌, nat_lt, List, [], ◌∷◌, ◌++◌, length, Some, None, refl, sym, ap, subst, ◌∙◌, inl, inr, arith}
 use Rattle.std.specs.List.{list_any, list_all, count_by}
 use Rattle.std.proofs.lemmas.Bool.{false≢true, cases_Bool, eqb-true, or_parts, and_parts, not-false, ltb-false, le-ltb}
 use Rattle.std.proofs.lemmas.List.{length-append, append_assoc, append-nil}
@@ -8,9 +8,10 @@ use Rattle.std.proofs.lemmas.List.Splits.{join_with_byte-slice_split, length-sli
 use Rattle.uvm_glob.specs.declared.faults.PathFault.{PathFault}
 use Rattle.uvm_glob.specs.declared.faults.PathFault.TheVariants.{Empty, TooLong, BadByte, TooDeep}
 use Rattle.uvm_glob.specs.Limits.{most_name_bytes, most_names, most_text_bytes}
-use Rattle.uvm_glob.specs.Faults.{first_fault, refusal}
+use Rattle.uvm_glob.specs.Lists.{first_given}
+use Rattle.uvm_glob.specs.Faults.{fault_if, refusal}
 use Rattle.uvm_glob.specs.Names.{is_name_byte, name_fault}
-use Rattle.uvm_glob.specs.Globs.{glob_fault, is_glob_byte}
+use Rattle.uvm_glob.specs.Globs.{glob_fault}
 use Rattle.uvm_glob.specs.Paths.{path_text, path_fault, between_dots, names_of, dotted, size_fault}
 
 -- the text of what stands between the dots of a text is that text
@@ -60,18 +61,27 @@ pub record IsPath (names : List (List ℕ)) : Type 0 where
   pub good : list_all (list_all is_name_byte) names ≡ true
   pub shallow : length names ≤ most_names
 
--- no fault of a text is there
-pub no_fault : (empty long bad deep : Bool) → first_fault empty long bad deep ≡ None → (empty ≡ false) × (long ≡ false) × (bad ≡ false) × (deep ≡ false)
-no_fault true long bad deep h = cc
-no_fault false true bad deep h = cc
-no_fault false false true deep h = cc
-no_fault false false false true h = cc
-no_fault false false false false h = (refl, refl, refl, refl)
+-- no fault of a glob, of a name, of a path is there
+pub no_glob_fault : (long bad : Bool) → first_given (fault_if long TooLong ∷ fault_if bad BadByte ∷ []) ≡ None → (long ≡ false) × (bad ≡ false)
+no_glob_fault true bad h = cc
+no_glob_fault false true h = cc
+no_glob_fault false false h = (refl, refl)
+
+pub no_name_fault : (empty long bad : Bool) → first_given (fault_if empty Empty ∷ fault_if long TooLong ∷ fault_if bad BadByte ∷ []) ≡ None → (empty ≡ false) × (long ≡ false) × (bad ≡ false)
+no_name_fault true long bad h = cc
+no_name_fault false long bad h = let rest = no_glob_fault long bad h in (refl, rest.0, rest.1)
+
+no_path_fault : (empty long bad deep : Bool) → first_given (fault_if empty Empty ∷ fault_if long TooLong ∷ fault_if bad BadByte ∷ fault_if deep TooDeep ∷ []) ≡ None → (empty ≡ false) × (long ≡ false) × (bad ≡ false) × (deep ≡ false)
+no_path_fault true long bad deep h = cc
+no_path_fault false true bad deep h = cc
+no_path_fault false false true deep h = cc
+no_path_fault false false false true h = cc
+no_path_fault false false false false h = (refl, refl, refl, refl)
 
 pub path-no_fault : (names : List (List ℕ)) → path_fault names ≡ None → IsPath names
 unfolding path_fault
 path-no_fault names h =
-    let parts = no_fault _ _ _ _ h in
+    let parts = no_path_fault _ _ _ _ h in
     let longs = or_parts (list_any (λ name. nat_lt most_name_bytes (length name)) names) (nat_lt most_text_bytes (length (path_text names))) parts.1 in
     record {
       no_empty = parts.0;
@@ -118,6 +128,11 @@ path_text-dotted (name ∷ names) (next ∷ more) path other =
     let back = some_text more next other in
     path_text-append name names next more ∙ sym (dotted-some _ _ front.0 front.1 back.0 back.1 front.2 back.2)
 
+-- only their size may be a fault of two paths together
+size-alone : (long deep : Bool) → first_given (fault_if long TooLong ∷ None ∷ fault_if deep TooDeep ∷ []) ≡ first_given (fault_if long TooLong ∷ fault_if deep TooDeep ∷ [])
+size-alone true deep = refl
+size-alone false deep = refl
+
 -- two paths together are a path where their size allows it
 fault-append : (names more : List (List ℕ)) → IsPath names → IsPath more → path_fault (names ++ more) ≡ size_fault (length (path_text (names ++ more))) (length names + length more)
 unfolding path_fault
@@ -125,7 +140,7 @@ fault-append names more path other =
     let no_empty : list_any (λ name. length name == 0) (names ++ more) ≡ false = rw (list_any-append, path.no_empty, other.no_empty) in
     let no_long : list_any (λ name. nat_lt most_name_bytes (length name)) (names ++ more) ≡ false = rw (list_any-append, path.no_long, other.no_long) in
     let good : list_all (list_all is_name_byte) (names ++ more) ≡ true = rw (list_all-append, path.good, other.good) in
-    rw (no_empty, no_long, good, length-append)
+    rw (no_empty, no_long, good, length-append) (size-alone _ _)
 
 -- the same for the texts of two paths
 pub fault-dotted : (front back : List ℕ) → path_fault (names_of front) ≡ None → path_fault (names_of back) ≡ None → path_fault (names_of front ++ names_of back) ≡ size_fault (length (dotted front back)) (length (names_of front) + length (names_of back))
@@ -156,12 +171,12 @@ names-few names path = (path-no_fault names path).shallow
 pub names_of-name : (name : List ℕ) → name_fault name ≡ None → names_of name ≡ name ∷ []
 unfolding name_fault
 names_of-name [] good = cc
-names_of-name (b ∷ name) good = between_dots-name (b ∷ name) (not-false (list_all is_name_byte (b ∷ name)) (no_fault _ _ _ _ good).2)
+names_of-name (b ∷ name) good = between_dots-name (b ∷ name) (not-false (list_all is_name_byte (b ∷ name)) (no_name_fault _ _ _ good).2)
 
 pub fault-name : (name : List ℕ) → name_fault name ≡ None → path_fault (name ∷ []) ≡ None
 unfolding name_fault path_fault
 fault-name name good =
-    let parts = no_fault _ _ _ _ good in
+    let parts = no_name_fault _ _ _ good in
     let short : nat_lt most_text_bytes (length name) ≡ false = le-ltb most_text_bytes (length name) (omega (arith, ltb-false most_name_bytes (length name) parts.1)) in
     let fine = not-false (list_all is_name_byte name) parts.2 in
     rw (parts.0, parts.1, short, fine)
@@ -170,27 +185,37 @@ fault-name name good =
 pub length-between_dots : (text : List ℕ) → length (between_dots text) ≡ count_by (λ b. b == 46) text + 1
 length-between_dots text = length-slice_split (λ b. b == 46) text
 
--- a fault of a text is no want of memory
-pub refusal-first : (empty long bad deep : Bool) (fault : PathFault) → Some fault ≡ first_fault empty long bad deep → Some fault ≡ refusal fault
-refusal-first true long bad deep fault e = let known : fault ≡ Empty = cc in rw known
-refusal-first false true bad deep fault e = let known : fault ≡ TooLong = cc in rw known
-refusal-first false false true deep fault e = let known : fault ≡ BadByte = cc in rw known
-refusal-first false false false true fault e = let known : fault ≡ TooDeep = cc in rw known
-refusal-first false false false false fault e = cc
+-- a fault of a text is no want of memory: of a path, of a glob, of its size
+refusal-of_path : (empty long bad deep : Bool) (fault : PathFault) → Some fault ≡ first_given (fault_if empty Empty ∷ fault_if long TooLong ∷ fault_if bad BadByte ∷ fault_if deep TooDeep ∷ []) → Some fault ≡ refusal fault
+refusal-of_path true long bad deep fault e = let known : fault ≡ Empty = cc in rw known
+refusal-of_path false true bad deep fault e = let known : fault ≡ TooLong = cc in rw known
+refusal-of_path false false true deep fault e = let known : fault ≡ BadByte = cc in rw known
+refusal-of_path false false false true fault e = let known : fault ≡ TooDeep = cc in rw known
+refusal-of_path false false false false fault e = cc
+
+refusal-of_glob : (long bad : Bool) (fault : PathFault) → Some fault ≡ first_given (fault_if long TooLong ∷ fault_if bad BadByte ∷ []) → Some fault ≡ refusal fault
+refusal-of_glob true bad fault e = let known : fault ≡ TooLong = cc in rw known
+refusal-of_glob false true fault e = let known : fault ≡ BadByte = cc in rw known
+refusal-of_glob false false fault e = cc
+
+refusal-of_size : (long deep : Bool) (fault : PathFault) → Some fault ≡ first_given (fault_if long TooLong ∷ fault_if deep TooDeep ∷ []) → Some fault ≡ refusal fault
+refusal-of_size true deep fault e = let known : fault ≡ TooLong = cc in rw known
+refusal-of_size false true fault e = let known : fault ≡ TooDeep = cc in rw known
+refusal-of_size false false fault e = cc
 
 pub refusal-path : (names : List (List ℕ)) (fault : PathFault) → Some fault ≡ path_fault names → path_fault names ≡ refusal fault
 unfolding path_fault
-refusal-path names fault e = sym e ∙ refusal-first _ _ _ _ fault e
+refusal-path names fault e = sym e ∙ refusal-of_path _ _ _ _ fault e
 
 pub refusal-glob : (text : List ℕ) (fault : PathFault) → Some fault ≡ glob_fault text → glob_fault text ≡ refusal fault
 unfolding glob_fault
-refusal-glob text fault e = sym e ∙ refusal-first false (nat_lt most_text_bytes (length text)) (not (list_all is_glob_byte text)) false fault e
+refusal-glob text fault e = sym e ∙ refusal-of_glob _ _ fault e
 
 -- a fault of size of two texts, one after the other, is the first fault of both as a path
 pub fault-refused : (front back : List ℕ) (fault : PathFault) → path_fault (names_of front) ≡ None → path_fault (names_of back) ≡ None → Some fault ≡ size_fault (length (dotted front back)) (length (names_of front) + length (names_of back)) → path_fault (names_of front ++ names_of back) ≡ refusal fault
 fault-refused front back fault path other e =
     fault-dotted front back path other ∙ sym e
-    ∙ refusal-first false (nat_lt most_text_bytes (length (dotted front back))) false (nat_lt most_names (length (names_of front) + length (names_of back))) fault e
+    ∙ refusal-of_size _ _ fault e
 
 -- and where there is none, they are a path
 pub fault-none : (front back : List ℕ) → path_fault (names_of front) ≡ None → path_fault (names_of back) ≡ None → None ≡ size_fault (length (dotted front back)) (length (names_of front) + length (names_of back)) → path_fault (names_of front ++ names_of back) ≡ None

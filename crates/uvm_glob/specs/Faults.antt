@@ -11,13 +11,10 @@ refusal BadByte = Some BadByte
 refusal TooDeep = Some TooDeep
 refusal Memory = None
 
--- the first of the four faults of a text that is there
-abbrev pub first_fault : Bool → Bool → Bool → Bool → Option PathFault
-first_fault true too_long bad_byte too_deep = Some Empty
-first_fault false true bad_byte too_deep = Some TooLong
-first_fault false false true too_deep = Some BadByte
-first_fault false false false true = Some TooDeep
-first_fault false false false false = None
+-- a fault, if it is there
+abbrev pub fault_if : {E : Type 0} → Bool → E → Option E
+fault_if true fault = Some fault
+fault_if false fault = None
 
 -- the value, unless there is a fault
 abbrev pub unless : {T E : Type 0} → Option E → T → Result T E

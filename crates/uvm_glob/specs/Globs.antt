@@ -3,7 +3,9 @@ use Rattle.std.specs.Prelude.{◌≡◌, ◌≢◌, ℕ, Bool, true, false, not,
 use Rattle.std.specs.List.{list_any, list_all}
 use Rattle.uvm_glob.specs.declared.faults.PathFault.{PathFault}
 use Rattle.uvm_glob.specs.Limits.{most_text_bytes}
-use Rattle.uvm_glob.specs.Faults.{first_fault}
+use Rattle.uvm_glob.specs.declared.faults.PathFault.TheVariants.{TooLong, BadByte}
+use Rattle.uvm_glob.specs.Lists.{first_given}
+use Rattle.uvm_glob.specs.Faults.{fault_if}
 
 -- the text splits into u and v, of which P holds
 abbrev pub SomeSplit : List ℕ → (List ℕ → List ℕ → Type 0) → Type 0
@@ -44,4 +46,8 @@ is_glob_byte b = nat_le 33 b && nat_le b 126 && not (b == 47)
 
 -- the first fault of a text as a glob
 unfoldable pub glob_fault : List ℕ → Option PathFault
-glob_fault text = first_fault false (nat_lt most_text_bytes (length text)) (not (list_all is_glob_byte text)) false
+glob_fault text =
+    first_given (
+    fault_if (nat_lt most_text_bytes (length text)) TooLong
+    ∷ fault_if (not (list_all is_glob_byte text)) BadByte
+    ∷ [])

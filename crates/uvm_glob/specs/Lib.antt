@@ -1,3 +1,4 @@
+pub mod Lists
 pub mod Limits
 pub mod Faults
 pub mod Names
@@ -7,4 +8,3 @@ pub mod Globs
 pub mod Parts
 pub mod Orders
 pub mod Differences
-pub mod Lists

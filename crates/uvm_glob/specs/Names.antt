@@ -1,9 +1,11 @@
 -- Which texts are names.
-use Rattle.std.specs.Prelude.{ℕ, Bool, false, not, ◌&&◌, ◌||◌, ◌==◌, List, length, nat_le, nat_lt, Option}
+use Rattle.std.specs.Prelude.{ℕ, Bool, not, ◌&&◌, ◌||◌, ◌==◌, List, [], ◌∷◌, length, nat_le, nat_lt, Option}
 use Rattle.std.specs.List.{list_all}
 use Rattle.uvm_glob.specs.declared.faults.PathFault.{PathFault}
 use Rattle.uvm_glob.specs.Limits.{most_name_bytes}
-use Rattle.uvm_glob.specs.Faults.{first_fault}
+use Rattle.uvm_glob.specs.declared.faults.PathFault.TheVariants.{Empty, TooLong, BadByte}
+use Rattle.uvm_glob.specs.Lists.{first_given}
+use Rattle.uvm_glob.specs.Faults.{fault_if}
 
 -- `*`, `+`, `.`, `/` and `?` have a meaning of their own
 abbrev pub is_separator_or_wildcard : ℕ → Bool
@@ -15,4 +17,9 @@ is_name_byte b = nat_le 33 b && nat_le b 126 && not (is_separator_or_wildcard b)
 
 -- the first fault of a text as a name
 unfoldable pub name_fault : List ℕ → Option PathFault
-name_fault text = first_fault (length text == 0) (nat_lt most_name_bytes (length text)) (not (list_all is_name_byte text)) false
+name_fault text =
+    first_given (
+    fault_if (length text == 0) Empty
+    ∷ fault_if (nat_lt most_name_bytes (length text)) TooLong
+    ∷ fault_if (not (list_all is_name_byte text)) BadByte
+    ∷ [])

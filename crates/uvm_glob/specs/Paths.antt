@@ -1,9 +1,11 @@
 -- Paths as lists of names, and their texts.
-use Rattle.std.specs.Prelude.{ℕ, false, not, ◌||◌, ◌==◌, List, [], ◌∷◌, ◌++◌, length, nat_lt, Option}
+use Rattle.std.specs.Prelude.{ℕ, not, ◌||◌, ◌==◌, List, [], ◌∷◌, ◌++◌, length, nat_lt, Option}
 use Rattle.std.specs.List.{list_any, list_all, join_with_byte, slice_split}
 use Rattle.uvm_glob.specs.declared.faults.PathFault.{PathFault}
 use Rattle.uvm_glob.specs.Limits.{most_name_bytes, most_names, most_text_bytes}
-use Rattle.uvm_glob.specs.Faults.{first_fault}
+use Rattle.uvm_glob.specs.declared.faults.PathFault.TheVariants.{Empty, TooLong, BadByte, TooDeep}
+use Rattle.uvm_glob.specs.Lists.{first_given}
+use Rattle.uvm_glob.specs.Faults.{fault_if}
 use Rattle.uvm_glob.specs.Names.{is_name_byte}
 
 -- a path's text: its names, with a dot between each two
@@ -22,10 +24,12 @@ names_of (b ∷ text) = between_dots (b ∷ text)
 -- the first fault of a list of names as a path
 unfoldable pub path_fault : List (List ℕ) → Option PathFault
 path_fault names =
-    first_fault (list_any (λ name. length name == 0) names)
-    (list_any (λ name. nat_lt most_name_bytes (length name)) names || nat_lt most_text_bytes (length (path_text names)))
-    (not (list_all (list_all is_name_byte) names))
-    (nat_lt most_names (length names))
+    first_given (
+    fault_if (list_any (λ name. length name == 0) names) Empty
+    ∷ fault_if (list_any (λ name. nat_lt most_name_bytes (length name)) names || nat_lt most_text_bytes (length (path_text names))) TooLong
+    ∷ fault_if (not (list_all (list_all is_name_byte) names)) BadByte
+    ∷ fault_if (nat_lt most_names (length names)) TooDeep
+    ∷ [])
 
 -- two texts with a dot between them, which an empty one does without
 abbrev pub dotted : List ℕ → List ℕ → List ℕ
@@ -35,4 +39,4 @@ dotted (b ∷ front) (d ∷ back) = b ∷ front ++ 46 ∷ d ∷ back
 
 -- the first fault of a path, so far as it lies in the length of its text and the number of its names
 abbrev pub size_fault : ℕ → ℕ → Option PathFault
-size_fault bytes names = first_fault false (nat_lt most_text_bytes bytes) false (nat_lt most_names names)
+size_fault bytes names = first_given (fault_if (nat_lt most_text_bytes bytes) TooLong ∷ fault_if (nat_lt most_names names) TooDeep ∷ [])

@@ -2,7 +2,7 @@
 use Rattle.std.proofs.Common.{◌≡◌, ℕ, ◌+◌, ◌<◌, ◌++◌, length, take, reverse, get_or, Bool, true, false, List, [], ◌∷◌, Option, Some, None, ◌&&◌, if◌then◌else◌, MatchOption, filter, option_map, refl, ap, ◌∙◌, inl, inr}
 use Rattle.std.proofs.lemmas.Bool.{cases_Bool, eqb-true}
 use Rattle.std.proofs.lemmas.List.{take_more, reverse-append}
-use Rattle.uvm_glob.specs.Lists.{newest, first_of}
+use Rattle.uvm_glob.specs.Lists.{newest, first_given}
 use Rattle.uvm_report.specs.declared.severities.Severity.{Severity}
 use Rattle.uvm_report.specs.declared.settings.Which.{Which}
 use Rattle.uvm_report.specs.declared.settings.Which.TheVariants as which
@@ -28,7 +28,7 @@ module _ {A : Type 0} where
   Prevails setting class before after = after ≡ (if gives_way class (option_map choice_of before) then Some setting else before)
 
   over_all : (s : Setting A) (f0 f1 f2 f3 : Option (Setting A)) → FoundOf 0 f0 → FoundOf 1 f1 → FoundOf 2 f2 → FoundOf 3 f3
-      → Prevails s class.SeverityAndId (first_of (f0 ∷ f1 ∷ f2 ∷ f3 ∷ [])) (first_of (Some s ∷ f1 ∷ f2 ∷ f3 ∷ []))
+      → Prevails s class.SeverityAndId (first_given (f0 ∷ f1 ∷ f2 ∷ f3 ∷ [])) (first_given (Some s ∷ f1 ∷ f2 ∷ f3 ∷ []))
   over_all s (Some b) f1 f2 f3 i0 i1 i2 i3 = rw i0 refl
   over_all s None (Some b) f2 f3 i0 i1 i2 i3 = rw i1 refl
   over_all s None None (Some b) f3 i0 i1 i2 i3 = rw i2 refl
@@ -36,7 +36,7 @@ module _ {A : Type 0} where
   over_all s None None None None i0 i1 i2 i3 = refl
 
   over_severities : (s : Setting A) (f0 f1 f2 f3 : Option (Setting A)) → FoundOf 0 f0 → FoundOf 1 f1 → FoundOf 2 f2 → FoundOf 3 f3
-      → Prevails s class.Id (first_of (f0 ∷ f1 ∷ f2 ∷ f3 ∷ [])) (first_of (f0 ∷ Some s ∷ f2 ∷ f3 ∷ []))
+      → Prevails s class.Id (first_given (f0 ∷ f1 ∷ f2 ∷ f3 ∷ [])) (first_given (f0 ∷ Some s ∷ f2 ∷ f3 ∷ []))
   over_severities s (Some b) f1 f2 f3 i0 i1 i2 i3 = rw i0 refl
   over_severities s None (Some b) f2 f3 i0 i1 i2 i3 = rw i1 refl
   over_severities s None None (Some b) f3 i0 i1 i2 i3 = rw i2 refl
@@ -44,7 +44,7 @@ module _ {A : Type 0} where
   over_severities s None None None None i0 i1 i2 i3 = refl
 
   over_general : (s : Setting A) (f0 f1 f2 f3 : Option (Setting A)) → FoundOf 0 f0 → FoundOf 1 f1 → FoundOf 2 f2 → FoundOf 3 f3
-      → Prevails s class.Severity (first_of (f0 ∷ f1 ∷ f2 ∷ f3 ∷ [])) (first_of (f0 ∷ f1 ∷ Some s ∷ f3 ∷ []))
+      → Prevails s class.Severity (first_given (f0 ∷ f1 ∷ f2 ∷ f3 ∷ [])) (first_given (f0 ∷ f1 ∷ Some s ∷ f3 ∷ []))
   over_general s (Some b) f1 f2 f3 i0 i1 i2 i3 = rw i0 refl
   over_general s None (Some b) f2 f3 i0 i1 i2 i3 = rw i1 refl
   over_general s None None (Some b) f3 i0 i1 i2 i3 = rw i2 refl
@@ -52,7 +52,7 @@ module _ {A : Type 0} where
   over_general s None None None None i0 i1 i2 i3 = refl
 
   over_none : (s : Setting A) (f0 f1 f2 f3 : Option (Setting A)) → FoundOf 0 f0 → FoundOf 1 f1 → FoundOf 2 f2 → FoundOf 3 f3
-      → Prevails s class.All (first_of (f0 ∷ f1 ∷ f2 ∷ f3 ∷ [])) (first_of (f0 ∷ f1 ∷ f2 ∷ Some s ∷ []))
+      → Prevails s class.All (first_given (f0 ∷ f1 ∷ f2 ∷ f3 ∷ [])) (first_given (f0 ∷ f1 ∷ f2 ∷ Some s ∷ []))
   over_none s (Some b) f1 f2 f3 i0 i1 i2 i3 = rw i0 refl
   over_none s None (Some b) f2 f3 i0 i1 i2 i3 = rw i1 refl
   over_none s None None (Some b) f3 i0 i1 i2 i3 = rw i2 refl

@@ -1,7 +1,7 @@
 -- Which setting of a list prevails, the newest setting first.
 use Rattle.std.specs.Prelude.{◌≡◌, ◌<◌, ◌≤◌, ◌↔◌, ℕ, Bool, List, [], ◌∷◌, ◌++◌, Option, None, ◌==◌, ◌&&◌, IsTrue, All, IfSome, filter, map, option_map}
 use Rattle.uvm_glob.specs.Globs.{matches}
-use Rattle.uvm_glob.specs.Lists.{newest, first_of}
+use Rattle.uvm_glob.specs.Lists.{newest, first_given}
 use Rattle.uvm_report.specs.declared.severities.Severity.{Severity}
 use Rattle.uvm_report.specs.declared.settings.Which.{Which}
 use Rattle.uvm_report.specs.declared.settings.Class.{Class}
@@ -32,7 +32,7 @@ is_of class setting = class_number (class_of setting.which) == class_number clas
 
 -- of some settings the last of the first class that has one
 abbrev pub last_of_first_class : {A : Type 0} → List (Setting A) → Option (Setting A)
-last_of_first_class settings = first_of (map (λ class. newest (filter (is_of class) settings)) classes)
+last_of_first_class settings = first_given (map (λ class. newest (filter (is_of class) settings)) classes)
 
 -- the choice of a setting
 abbrev pub choice_of : {A : Type 0} → Setting A → Choice A

@@ -1,8 +1,10 @@
 -- The nodes of a tree by their numbers, the top first.
-use Rattle.std.specs.Prelude.{ℕ, Bool, true, false, ◌&&◌, ◌==◌, List, [], ◌∷◌, ◌++◌, length, nat_lt, nat_eq, Option, Some, None, slice_get, option_map, is_some, is_none, position}
+use Rattle.std.specs.Prelude.{ℕ, Bool, false, ◌&&◌, ◌==◌, List, [], ◌∷◌, ◌++◌, length, nat_lt, nat_eq, Option, Some, None, slice_get, option_map, is_some, is_none, position}
 use Rattle.std.specs.List.{list_any}
 use Rattle.std.specs.Option.{option_map_or}
 use Rattle.std.specs.Cmp.Lexicographic.{pointwise}
+use Rattle.uvm_glob.specs.Lists.{first_given}
+use Rattle.uvm_glob.specs.Faults.{fault_if}
 use Rattle.uvm_glob.specs.Paths.{path_fault}
 use Rattle.uvm_tree.specs.declared.nodes.Node.{Node}
 use Rattle.uvm_tree.specs.declared.nodes.NodeKind.{NodeKind}
@@ -63,18 +65,12 @@ refusal TooDeep = Some TooDeep
 refusal Full = Some Full
 refusal Memory = None
 
--- the first of the four faults of a call that is there
-abbrev pub first_fault : Bool → Bool → Bool → Bool → Option TreeFault
-first_fault true taken deep full = Some NoParent
-first_fault false true deep full = Some NameTaken
-first_fault false false true full = Some TooDeep
-first_fault false false false true = Some Full
-first_fault false false false false = None
-
 -- why no node of a name is added under a parent
 unfoldable pub add_fault : List Node → ℕ → List ℕ → Option TreeFault
 add_fault nodes parent name =
-    first_fault (is_none (node_at nodes parent))
-    (list_any (is_child parent name) nodes)
-    (is_some (path_fault (path_at nodes parent ++ name ∷ [])))
-    (nat_lt most_nodes (length nodes))
+    first_given (
+    fault_if (is_none (node_at nodes parent)) NoParent
+    ∷ fault_if (list_any (is_child parent name) nodes) NameTaken
+    ∷ fault_if (is_some (path_fault (path_at nodes parent ++ name ∷ []))) TooDeep
+    ∷ fault_if (nat_lt most_nodes (length nodes)) Full
+    ∷ [])

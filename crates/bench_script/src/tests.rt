@@ -98,13 +98,15 @@ fn places(alloc: Global) -> Result<[TypeId; 3], Fail> {
     ])
 }
 
-#[test]
-fn reads_the_test_the_limits_and_the_types(rt: HostRuntime) -> Result<(), Fail> {
-    let [_, better, _] = places(rt.alloc())?;
-    let script = read(rt.alloc(), SCRIPT.as_bytes())?;
-    assert_eq!(rt; script.test(), Some(better));
-    assert_eq!(rt; script.time_limit(), 5000);
-    assert_eq!(rt; script.quit_limit(), 7);
+// Asserts that the arrays of a script are those of `SCRIPT`.
+fn assert_arrays(rt: &HostRuntime, script: &Script) -> Result<(), Fail> {
+    assert_types(rt, script)?;
+    assert_overrides(rt, script)?;
+    assert_settings(rt, script);
+    assert_probes(rt, script)
+}
+
+fn assert_types(rt: &HostRuntime, script: &Script) -> Result<(), Fail> {
     assert_eq!(rt;
         script.types(),
         [
@@ -136,13 +138,11 @@ fn is_instance_at(row: &Override, path: &Path) -> bool {
     }
 }
 
-#[test]
-fn reads_the_overrides(rt: HostRuntime) -> Result<(), Fail> {
+fn assert_overrides(rt: &HostRuntime, script: &Script) -> Result<(), Fail> {
     let alloc = rt.alloc();
     let [base, better, _] = places(alloc)?;
     let left = Path::parse(alloc, b"top.left")?;
     let top = Path::parse(alloc, b"top")?;
-    let script = read(alloc, SCRIPT.as_bytes())?;
     let rows = script.overrides();
     assert_eq!(rt; rows.len(), 3);
     for (row, want) in rows.iter().zip([
@@ -157,9 +157,7 @@ fn reads_the_overrides(rt: HostRuntime) -> Result<(), Fail> {
     Ok(())
 }
 
-#[test]
-fn reads_the_settings(rt: HostRuntime) -> Result<(), Fail> {
-    let script = read(rt.alloc(), SCRIPT.as_bytes())?;
+fn assert_settings(rt: &HostRuntime, script: &Script) {
     let settings = script.settings();
     assert_eq!(rt; settings.len(), 2);
     for (setting, scope, field, value) in [
@@ -170,14 +168,11 @@ fn reads_the_settings(rt: HostRuntime) -> Result<(), Fail> {
         assert_eq!(rt; setting.field.as_bytes(), field);
         assert_eq!(rt; setting.value, value);
     }
-    Ok(())
 }
 
-#[test]
-fn reads_the_probes(rt: HostRuntime) -> Result<(), Fail> {
+fn assert_probes(rt: &HostRuntime, script: &Script) -> Result<(), Fail> {
     let alloc = rt.alloc();
     let [base, _, items] = places(alloc)?;
-    let script = read(alloc, SCRIPT.as_bytes())?;
     let probes = script.probes();
     assert_eq!(rt; probes.len(), 2);
     for (probe, type_id, path) in [
@@ -190,6 +185,16 @@ fn reads_the_probes(rt: HostRuntime) -> Result<(), Fail> {
         assert_eq!(rt; text.as_slice(), path);
     }
     Ok(())
+}
+
+#[test]
+fn reads_the_test_the_limits_and_the_arrays(rt: HostRuntime) -> Result<(), Fail> {
+    let [_, better, _] = places(rt.alloc())?;
+    let script = read(rt.alloc(), SCRIPT.as_bytes())?;
+    assert_eq!(rt; script.test(), Some(better));
+    assert_eq!(rt; script.time_limit(), 5000);
+    assert_eq!(rt; script.quit_limit(), 7);
+    assert_arrays(&rt, &script)
 }
 
 #[test]
@@ -236,43 +241,26 @@ fn defaults_of_what_is_not_written(rt: HostRuntime) -> Result<(), Fail> {
     Ok(())
 }
 
-// The arrays of a script, as `Debug` writes them.
-fn arrays(alloc: Global, script: &Script) -> Result<String, Fail> {
-    let (types, overrides) = (script.types(), script.overrides());
-    let (settings, probes) = (script.settings(), script.probes());
-    Ok(format!(in alloc; "{types:?} {overrides:?} {settings:?} {probes:?}")?)
-}
-
 #[test]
 fn a_copy_says_the_same(rt: HostRuntime) -> Result<(), Fail> {
-    let alloc = rt.alloc();
-    let script = read(alloc, SCRIPT.as_bytes())?;
-    let copy = script.copy()?;
-    assert_eq!(rt; copy.test(), script.test());
+    let [_, better, _] = places(rt.alloc())?;
+    let copy = read(rt.alloc(), SCRIPT.as_bytes())?.copy()?;
+    assert_eq!(rt; copy.test(), Some(better));
     assert_eq!(rt; copy.time_limit(), 5000);
     assert_eq!(rt; copy.quit_limit(), 7);
-    assert_eq!(rt;
-        arrays(alloc, &copy)?.as_str(),
-        arrays(alloc, &script)?.as_str()
-    );
-    Ok(())
+    assert_arrays(&rt, &copy)
 }
 
 #[test]
 fn another_test_changes_the_test_alone(rt: HostRuntime) -> Result<(), Fail> {
-    let alloc = rt.alloc();
-    let [base, better, _] = places(alloc)?;
-    let script = read(alloc, SCRIPT.as_bytes())?;
+    let [base, better, _] = places(rt.alloc())?;
+    let script = read(rt.alloc(), SCRIPT.as_bytes())?;
     let other = script.with_test(&Name::new(b"base")?)?;
     assert_eq!(rt; script.test(), Some(better));
     assert_eq!(rt; other.test(), Some(base));
     assert_eq!(rt; other.time_limit(), 5000);
     assert_eq!(rt; other.quit_limit(), 7);
-    assert_eq!(rt;
-        arrays(alloc, &other)?.as_str(),
-        arrays(alloc, &script)?.as_str()
-    );
-    Ok(())
+    assert_arrays(&rt, &other)
 }
 
 #[test]
@@ -286,13 +274,6 @@ fn another_test_is_a_component_of_the_script(rt: HostRuntime) -> Result<(), Fail
         assert_eq!(rt; script.with_test(&name).err(), Some(fault), "of {name}");
     }
     Ok(())
-}
-
-#[test]
-fn memory_is_the_one_fault_of_a_good_script(rt: HostRuntime) {
-    if let Err(fault) = read(rt.alloc(), SCRIPT.as_bytes()) {
-        assert_eq!(rt; fault, ScriptFault::Memory);
-    }
 }
 
 #[test]

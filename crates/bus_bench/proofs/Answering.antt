@@ -1,7 +1,6 @@
 -- The lines of a script's answers, one after another.
 use Rattle.std.proofs.Common.{◌≡◌, ◌≢◌, ℕ, ◌+◌, ◌<◌, ◌≤◌, List, [], ◌∷◌, ◌++◌, length, take, get_or, map, Option, Some, None, refl, sym, ap, ◌∙◌, arith}
 use Rattle.std.specs.List.{concat}
-use Rattle.std.specs.Io.KnownBytes.{Appends, Keeps}
 use Rattle.std.proofs.lemmas.List.{append_assoc, append-nil, take-map, take_more, take_all, map-append, length-map}
 use Rattle.uvm_factory.specs.Steps.{made, next_type}
 use Rattle.uvm_factory.specs.Observed.{Kept, types_of, made_at, next_at}
@@ -9,23 +8,6 @@ use Rattle.bench_script.specs.declared.scripts.Probe.{Probe}
 use Rattle.bench_script.specs.Scripts.{ScriptValue}
 use Rattle.bench_script.specs.Factories.{IsFactoryOf}
 use Rattle.bus_bench.specs.Debugging.{answer_line, made_for, probe_line, debug_lines}
-
--- one write after another
-pub appends-twice : (a b c : Option (List ℕ)) (x y : List ℕ) → Appends a b x → Appends b c y → Appends a c (x ++ y)
-appends-twice None b c x y first second = tt
-appends-twice (Some xs) None c x y first second = absurd first
-appends-twice (Some xs) (Some ys) None x y first second = absurd second
-appends-twice (Some xs) (Some ys) (Some zs) x y first second = second ∙ ap (λ l. l ++ y) first ∙ append_assoc xs x y
-
--- nothing was written
-pub appends-nothing : (a b : Option (List ℕ)) → Keeps a b → Appends a b []
-appends-nothing None b kept = tt
-appends-nothing (Some xs) None kept = absurd kept
-appends-nothing (Some xs) (Some ys) kept = kept ∙ sym (append-nil xs)
-
-pub keeps-same : (a : Option (List ℕ)) → Keeps a a
-keeps-same None = tt
-keeps-same (Some xs) = refl
 
 concat-push : (lines : List (List ℕ)) (line : List ℕ) → concat (lines ++ line ∷ []) ≡ concat lines ++ line
 concat-push [] line = append-nil line

@@ -1,7 +1,3 @@
-pub mod LevelLemmas
-pub mod RowLemmas
-pub mod CommandLemmas
-pub mod PlainLemmas
-pub mod ReadLemmas
 pub mod Answering
-pub mod Goings
+pub mod ReadLemmas
+pub mod Reports

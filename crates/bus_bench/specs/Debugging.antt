@@ -62,10 +62,3 @@ IsDebugRun bytes old new Clean = IsOk (script_of_bytes bytes) × Appends old new
 IsDebugRun bytes old new Faulty = ⊥
 IsDebugRun bytes old new (Refused fault) = (script_of_bytes bytes ≡ Err fault) × (fault ≢ faults.Memory) × Keeps old new
 IsDebugRun bytes old new (Broken breakage) = BrokeOff (lines_of (script_of_bytes bytes)) old new breakage
-
--- what a verdict on a file's bytes says of the script alone
-abbrev pub IsVerdictOn : List ℕ → Verdict → Type 0
-IsVerdictOn bytes Clean = IsOk (script_of_bytes bytes)
-IsVerdictOn bytes Faulty = ⊥
-IsVerdictOn bytes (Refused fault) = (script_of_bytes bytes ≡ Err fault) × (fault ≢ faults.Memory)
-IsVerdictOn bytes (Broken breakage) = (breakage ≢ LogFull) × (breakage ≢ Unread)

@@ -1,6 +1,4 @@
-pub mod Commands
 pub mod Debugging
-pub mod Faults
+pub mod Program
+pub mod Runs
 pub mod Verdicts
-pub mod Objects
-pub mod Running

@@ -1,8 +1,9 @@
 -- How a run of the program ends.
-use Rattle.std.specs.Prelude.{◌≡◌, ◌≢◌, ◌⊎◌, ◌≤◌, ℕ, List, [], ◌∷◌, ◌++◌, Option, Some, None, codes}
+use Rattle.std.specs.Prelude.{◌≡◌, ◌≢◌, ◌⊎◌, ℕ, List, [], ◌∷◌, ◌++◌, Option, codes}
 use Rattle.std.specs.Io.KnownBytes.{Consumes}
-use Rattle.bus_bench.specs.declared.jobs.Job.{Job}
-use Rattle.bus_bench.specs.declared.jobs.Job.TheVariants.{Debug, Run}
+use Rattle.bench_script.specs.FaultTexts.{fault_text}
+use Rattle.bench_run.specs.declared.faults.RunFault.{RunFault}
+use Rattle.bench_run.specs.declared.faults.RunFault.TheVariants as run
 use Rattle.bus_bench.specs.declared.verdicts.Breakage.{Breakage}
 use Rattle.bus_bench.specs.declared.verdicts.Breakage.TheVariants.{Memory, LogFull, Output, Unread}
 use Rattle.bus_bench.specs.declared.verdicts.Verdict.{Verdict}
@@ -15,14 +16,11 @@ status_of Faulty = 1
 status_of (Refused fault) = 2
 status_of (Broken breakage) = 3
 
--- the number is an exit status of the program
-abbrev pub IsStatus : ℕ → Type 0
-IsStatus n = n ≤ 3
-
--- the number is an exit status of a job: only a run can be at fault
-abbrev pub IsStatusOf : Job → ℕ → Type 0
-IsStatusOf (Debug file) n = (n ≡ 0) ⊎ ((n ≡ 2) ⊎ (n ≡ 3))
-IsStatusOf (Run trace seed test file) n = IsStatus n
+-- the breakage of a run that broke off
+abbrev pub breakage_of : RunFault → Breakage
+breakage_of run.Memory = Memory
+breakage_of run.LogFull = LogFull
+breakage_of run.Output = Output
 
 -- what is written to standard error in place of each breakage
 abbrev pub message_of : Breakage → List ℕ
@@ -38,13 +36,20 @@ unflushed Faulty = Broken Output
 unflushed (Refused fault) = Refused fault
 unflushed (Broken breakage) = Broken breakage
 
--- the line that is written to standard error, with its newline (10), or nothing; that of a refused
--- script has the words of the library that reads scripts
-abbrev pub known_line : Verdict → Option (List ℕ)
-known_line Clean = Some []
-known_line Faulty = Some []
-known_line (Refused fault) = None
-known_line (Broken breakage) = Some (codes "bus_bench: " ++ message_of breakage ++ 10 ∷ [])
+-- a line on standard error, with its newline (10)
+abbrev pub error_line : List ℕ → List ℕ
+error_line message = codes "bus_bench: " ++ message ++ 10 ∷ []
+
+-- what is written to standard error: the line of the fault, if there is one
+abbrev pub fault_line : Verdict → List ℕ
+fault_line Clean = []
+fault_line Faulty = []
+fault_line (Refused fault) = error_line (fault_text fault)
+fault_line (Broken breakage) = error_line (message_of breakage)
+
+-- the verdict where a file is not read
+abbrev pub IsUnread : Verdict → Type 0
+IsUnread verdict = (verdict ≡ Broken Memory) ⊎ (verdict ≡ Broken Unread)
 
 -- the reader gave at least one byte
 abbrev pub GaveSome : Option (List ℕ) → Option (List ℕ) → Type 0

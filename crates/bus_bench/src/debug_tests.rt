@@ -1,6 +1,5 @@
 use crate::debugging::debug_bench;
 use crate::verdicts::{Breakage, Verdict, tell};
-use bench_script::ScriptFault;
 use std::io;
 use std::io::{ErrorKind, Write};
 use std::test::Fail;
@@ -79,49 +78,30 @@ override = [{ orig = "A", new = "A" }]
 
 #[test]
 fn a_refused_script_has_status_2_and_writes_nothing(rt: HostRuntime) -> Result<(), Fail> {
-    let mut spaces = Vec::new(rt.alloc());
-    for _ in 0..1_048_577 {
-        spaces.push(b' ')?;
-    }
+    let spaces = vec![in rt.alloc(); b' '; 1_048_577]?;
     let cases = [
-        (b"".as_slice(), ScriptFault::Missing),
-        (b"version = 3".as_slice(), ScriptFault::Version),
-        (
-            b"version = 1\ntest = \"bus".as_slice(),
-            ScriptFault::NotToml,
-        ),
-        (b"version = 1 # \xFF".as_slice(), ScriptFault::NotText),
-        (spaces.as_slice(), ScriptFault::TooLong),
-        (
-            b"version = 1\ntest = \"x\"".as_slice(),
-            ScriptFault::UnknownType,
-        ),
-        (
-            b"version = 1\ntets = \"x\"".as_slice(),
-            ScriptFault::UnknownKey,
-        ),
-        (
-            b"version = 1\nquit_limit = \"2\"".as_slice(),
-            ScriptFault::WrongKind,
-        ),
-        (
-            b"version = 1\nquit_limit = -1".as_slice(),
-            ScriptFault::OutOfRange,
-        ),
+        (b"".as_slice(), "4 Missing"),
+        (b"version = 3".as_slice(), "9 Version"),
+        (b"version = 1\ntest = \"bus".as_slice(), "2 NotToml"),
+        (b"version = 1 # \xFF".as_slice(), "1 NotText"),
+        (spaces.as_slice(), "10 TooLong"),
+        (b"version = 1\ntest = \"x\"".as_slice(), "8 UnknownType"),
+        (b"version = 1\ntets = \"x\"".as_slice(), "3 UnknownKey"),
+        (b"version = 1\nquit_limit = \"2\"".as_slice(), "5 WrongKind"),
+        (b"version = 1\nquit_limit = -1".as_slice(), "6 OutOfRange"),
         (
             b"version = 1\ntype = [{ name = \"a.b\", kind = \"component\" }]".as_slice(),
-            ScriptFault::BadName,
+            "7 BadName",
         ),
     ];
     for (bytes, fault) in cases {
         let mut out = Vec::new(rt.alloc());
         let verdict = debug_bench(rt.alloc(), bytes, &mut out);
-        assert_eq!(rt; verdict, Verdict::Refused(fault));
-        assert!(rt; out.is_empty(), "at {fault:?}");
+        assert!(rt; out.is_empty(), "at {fault}");
         let mut err = Vec::new(rt.alloc());
-        assert_eq!(rt; tell(&verdict, &mut err), 2);
-        let line = format!(in rt.alloc(); "bus_bench: {fault}\n")?;
-        assert_eq!(rt; err.as_slice(), line.as_bytes());
+        assert_eq!(rt; tell(&verdict, &mut err), 2, "at {fault}");
+        let line = format!(in rt.alloc(); "bus_bench: script fault {fault}\n")?;
+        assert_eq!(rt; err.as_slice(), line.as_bytes(), "at {fault}");
     }
     Ok(())
 }

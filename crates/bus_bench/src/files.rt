@@ -1,7 +1,7 @@
 //! The bytes of a file.
 ghost use Rattle.std.specs.Prelude.{◌≡◌, ◌⊎◌, ◌<◌, ◌≤◌, ◌+◌, ◌++◌, ℕ, List, Err, IfErr, IfOk, IfSome, OnOk, length, take, true, vec_len};
 ghost use Rattle.std.specs.Io.KnownBytes.{Consumes, IsAtEnd};
-ghost use Rattle.bus_bench.specs.Verdicts.{IsReadFault};
+ghost use Rattle.bus_bench.specs.Verdicts.{IsReadFault, IsUnread};
 
 use crate::verdicts::{Breakage, Verdict};
 use std::alloc::Global;
@@ -28,8 +28,7 @@ pub fn read_file<R: io::Read>(alloc: Global, reader: &mut R) -> Result<Vec<u8>, 
     ensures left { IfOk result (λ bytes.
         Consumes (R.remaining reader.old) (R.remaining reader.new) bytes.items) }
     ensures fault { IfErr result (IsReadFault (R.remaining reader.old) (R.remaining reader.new)) }
-    ensures err { IfErr result (λ verdict. (verdict ≡ Verdict.Broken Breakage.Memory)
-        ⊎ (verdict ≡ Verdict.Broken Breakage.Unread)) }
+    ensures err { IfErr result IsUnread }
 {
     let mut bytes = Vec::new(alloc);
     let mut piece = [0u8; PIECE];
@@ -57,8 +56,7 @@ fn read_piece<R: io::Read>(
         × Consumes (R.remaining reader.old) (R.remaining reader.new) more) }
     ensures end { IfOk result (λ ended. ended ≡ true → IsAtEnd (R.remaining reader.new)) }
     ensures fault { IfErr result (IsReadFault (R.remaining reader.old) (R.remaining reader.new)) }
-    ensures err { IfErr result (λ verdict. (verdict ≡ Verdict.Broken Breakage.Memory)
-        ⊎ (verdict ≡ Verdict.Broken Breakage.Unread)) }
+    ensures err { IfErr result IsUnread }
 {
     match reader.read(piece) {
         Ok(0) => Ok(true),

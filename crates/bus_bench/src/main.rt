@@ -2,24 +2,26 @@
 //! runs the script.
 #![tactic(auto)]
 
-mod commands;
 #[cfg(test)]
 mod debug_tests;
 mod debugging;
 mod files;
-mod jobs;
-mod objects;
 mod program;
 #[cfg(test)]
 mod run_tests;
-mod running;
+mod runs;
 #[cfg(test)]
 mod tests;
 mod verdicts;
 
+use crate::verdicts::{Breakage, Verdict, tell};
+use std::io::BufWriter;
 use std::process::ExitCode;
 
 fn main(rt: HostRuntime) -> ExitCode {
     let mut err = rt.stderr();
-    ExitCode::from(program::run(&rt, &mut err))
+    ExitCode::from(match BufWriter::new(rt.alloc(), rt.stdout()) {
+        Ok(mut out) => program::run(&rt, &mut out, &mut err),
+        Err(_) => tell(&Verdict::Broken(Breakage::Memory), &mut err),
+    })
 }

@@ -1,5 +1,5 @@
 use crate::debug_tests::Failing;
-use crate::running::run_bench;
+use crate::runs::run_bench;
 use crate::verdicts::{Breakage, Verdict, tell};
 use bench_script::ScriptFault;
 use std::test::Fail;

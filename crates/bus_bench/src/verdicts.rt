@@ -1,10 +1,11 @@
 //! How a run of the program ends.
-ghost use Rattle.std.specs.Prelude.{◌≡◌, [], Some, OnOk, IfSome};
+ghost use Rattle.std.specs.Prelude.{◌≡◌, OnOk};
 ghost use Rattle.std.specs.Io.KnownBytes.{Appends, Keeps};
-ghost use Rattle.bus_bench.specs.Verdicts.{known_line, message_of, status_of};
+ghost use Rattle.bus_bench.specs.Verdicts.{breakage_of, fault_line, message_of, status_of};
 ghost use Rattle.bus_bench.specs.declared.verdicts.Verdict.TheVariants.{Broken as broken};
 ghost use Rattle.bus_bench.specs.declared.verdicts.Breakage.TheVariants.{Memory as memory};
 
+use bench_run::RunFault;
 use bench_script::ScriptFault;
 use std::alloc::AllocError;
 use std::io;
@@ -43,6 +44,18 @@ impl From<AllocError> for Verdict {
     }
 }
 
+impl From<RunFault> for Breakage {
+    ghost from_gives = { λ fault breakage. breakage ≡ breakage_of fault };
+
+    fn from(fault: RunFault) -> Breakage {
+        match fault {
+            RunFault::Memory => Breakage::Memory,
+            RunFault::LogFull => Breakage::LogFull,
+            RunFault::Output => Breakage::Output,
+        }
+    }
+}
+
 /// Writes the fault to `err`, if there is one, and answers the exit status: 0 where the verdict is
 /// `Clean`, 1 where it is `Faulty`, 2 where it is `Refused` and 3 where it is `Broken`.
 ///
@@ -67,8 +80,7 @@ pub fn tell<W: io::Write>(verdict: &Verdict, err: &mut W) -> u8
 pub fn write_line<W: io::Write>(verdict: &Verdict, err: &mut W) -> io::Result<()>
     ensures clean { verdict.now ≡ Verdict.Clean → Keeps (W.contents err.old) (W.contents err.new) }
     ensures faulty { verdict.now ≡ Verdict.Faulty → Keeps (W.contents err.old) (W.contents err.new) }
-    ensures line { OnOk result (IfSome (known_line verdict.now)
-        (Appends (W.contents err.old) (W.contents err.new))) }
+    ensures line { OnOk result (Appends (W.contents err.old) (W.contents err.new) (fault_line verdict.now)) }
 {
     match verdict {
         Verdict::Clean | Verdict::Faulty => Ok(()),

@@ -1,6 +1,7 @@
 use Rattle.std.proofs.Common.{◌≡◌, ◌∙◌, ◌<◌, ◌≤◌, length, get_or}
+use Rattle.std.proofs.KnownBytes.{Appends-trans}
 use Rattle.bus_bench.specs.Debugging.{probe_line}
-use Rattle.bus_bench.proofs.Answering.{appends-twice, lines-more, lines-all, lines-some, line-factory}
+use Rattle.bus_bench.proofs.Answering.{lines-more, lines-all, lines-some, line-factory}
 use Rattle.bus_bench.proofs.debugging.write_answers.Goals as goal
 
 -- the probe's type is one of the script's
@@ -17,7 +18,7 @@ loop-probe-preserved g c =
     let at : c.probe-item.result ≡ get_or c.args.script.now.probes c.loop-probe.probe-index c.probe-item.result = rw (← c.probes-probes.ensures.probes) c.probe-item.is in
     let line : c.as_slice.result.now ≡ probe_line c.args.script.now c.probe-item.result = c.as_slice.ensures.value ∙ c.in-Ok.ensures ∙ line-factory c.args.script.now c.args.factory.now c.probe-item.result c.requires in
     rw (lines-more c.args.script.now c.loop-probe.probe-index c.probe-item.result within at, ← line)
-    (appends-twice (g.W.Write.contents c.args.out.now) (g.W.Write.contents c.loop-probe.out) (g.W.Write.contents c.write_all.new.self) _ _ c.loop-probe.invariant c.in-Ok-write_all.ensures.bytes)
+    (Appends-trans (g.W.Write.contents c.args.out.now) (g.W.Write.contents c.loop-probe.out) (g.W.Write.contents c.write_all.new.self) _ _ c.loop-probe.invariant c.in-Ok-write_all.ensures.bytes)
 
 -- all were
 pub returns-clause-ok : goal.returns-clause-ok

@@ -1,0 +1,21 @@
+//! A whole run of a script over objects of any kind, whose log is written as it grows.
+//!
+//! A user writes an object, which tells its type name and answers calls, and a closure that makes it; the tests run one of
+//! their own so. With a script, a generator `words` and a writer `out` at hand:
+//!
+//! ```text
+//! let make = |type_name: &Name| -> Result<Option<Asker>, AllocError> { Ok(Asker::of_type(type_name)) };
+//! match run_script(alloc, script, &mut words, true, make, &mut out) {
+//!     Ok(Reason::Finished) => ..,
+//! ```
+//!
+//! Objects of several types are the variants of an enum that is an object itself, or boxes.
+#![tactic(auto)]
+
+mod faults;
+mod running;
+#[cfg(test)]
+mod tests;
+
+pub use faults::RunFault;
+pub use running::{run_kernel, run_script};

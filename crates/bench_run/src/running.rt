@@ -1,0 +1,212 @@
+//! The run of a script: the kernel goes on step by step, and what it needs is made.
+
+ghost use Rattle.std.specs.Prelude.{◌≡◌, ◌&&◌, [], OnOk, IfOk, IfErr, IsSome, Some, true, MatchBool};
+ghost use Rattle.std.specs.Io.KnownBytes.{Appends};
+ghost use Rattle.uvm_glob.specs.Lists.{newest};
+ghost use Rattle.uvm_object.specs.declared.entries.Entry.TheVariants.{Over};
+ghost use Rattle.bench_history.specs.Next.{IsLegal};
+ghost use Rattle.bench_core.specs.declared.cores.Health.TheVariants.{Good};
+ghost use Rattle.bench_history.specs.History.{is_over};
+ghost use Rattle.bench_core.specs.Cores.{is_sound, last_text};
+ghost use Rattle.bench_kernel.specs.Kernels.{is_done, open_need};
+ghost use Rattle.bench_run.specs.Running.{Grows, IsHalted, IsRun, IsUnwritten};
+
+use crate::faults::RunFault;
+use bench_core::CoreFault;
+use bench_history::laws;
+use bench_kernel::{Kernel, Misfit, Step, Unfit};
+use bench_script::Script;
+use rand_core::Rng;
+use std::alloc::{AllocError, Global};
+use std::io;
+use uvm_glob::Name;
+use uvm_object::{Entry, Reason, UvmObject};
+
+/// Runs a script to its end, with the words of a generator, over the objects that `make` makes: it is called for each object
+/// that is needed, with the name of its type, and answers none for a type that it does not have. Such an object is declined,
+/// and so is one of another type than its name is asked for. Where `trace` asks for it, the line of each entry of the log is
+/// written as it is made. Each object is given back at the end, whatever that is, and dropped.
+///
+/// Answers why the run is over. The error is `LogFull` where the log has 1,000,000 entries and is not over, `Memory` where
+/// memory was refused, also to `make`, and `Output` where a write failed, after which nothing is said of what was written.
+pub fn run_script<
+    O: UvmObject,
+    R: Rng,
+    F: Fn(&Name) -> Result<Option<O>, AllocError> + Drop,
+    W: io::Write,
+>(
+    alloc: Global,
+    script: Script,
+    words: &mut R,
+    trace: bool,
+    make: F,
+    out: &mut W,
+) -> Result<Reason, RunFault>
+    requires callable { F.IsAlwaysCallable make }
+    requires tested { IsSome script.test }
+    ensures { IsRun script trace (W.contents out.old) (W.contents out.new) result }
+{
+    let mut kernel: Kernel<O> = match Kernel::new(alloc, script) {
+        Ok(kernel) => kernel,
+        Err(_) => return Err(RunFault::Memory),
+    };
+    run_kernel(alloc, &mut kernel, words, trace, &make, out)
+}
+
+/// Runs a kernel that has not begun as `run_script` runs a script, and gives each object back. The kernel then still tells its
+/// log.
+pub fn run_kernel<
+    O: UvmObject,
+    R: Rng,
+    F: Fn(&Name) -> Result<Option<O>, AllocError>,
+    W: io::Write,
+>(
+    alloc: Global,
+    kernel: &mut Kernel<O>,
+    words: &mut R,
+    trace: bool,
+    make: &F,
+    out: &mut W,
+) -> Result<Reason, RunFault>
+    requires callable { F.IsAlwaysCallable make.now }
+    requires good { kernel.old.core.health ≡ Good }
+    requires begun { kernel.old.core.history ≡ [] }
+    ensures run { IsRun kernel.old.core.script trace (W.contents out.old) (W.contents out.new) result }
+    ensures back { kernel.new.held ≡ [] }
+{
+    let ended = run_to_end(alloc, kernel, words, trace, make, out);
+    kernel.abandon();
+    give_all_back(kernel);
+    ended
+}
+
+// Makes entries until the run is over, and answers why it is.
+fn run_to_end<O: UvmObject, R: Rng, F: Fn(&Name) -> Result<Option<O>, AllocError>, W: io::Write>(
+    alloc: Global,
+    kernel: &mut Kernel<O>,
+    words: &mut R,
+    trace: bool,
+    make: &F,
+    out: &mut W,
+) -> Result<Reason, RunFault>
+    requires callable { F.IsAlwaysCallable make.now }
+    requires good { kernel.old.core.health ≡ Good }
+    requires begun { kernel.old.core.history ≡ [] }
+    ensures { IsRun kernel.old.core.script trace (W.contents out.old) (W.contents out.new) result }
+{
+    while make_entry(kernel, words, make)? {
+        write_last(alloc, kernel, trace, out)?;
+    }
+    Ok(why_over(kernel))
+}
+
+// Makes the next entry, or answers that the run is over.
+fn make_entry<O: UvmObject, R: Rng, F: Fn(&Name) -> Result<Option<O>, AllocError>>(
+    kernel: &mut Kernel<O>,
+    words: &mut R,
+    make: &F,
+) -> Result<bool, RunFault>
+    requires { F.IsAlwaysCallable make.now }
+    ensures ok { IfOk result (λ made. MatchBool made (Grows kernel.old.core kernel.new.core) ((is_over kernel.old.core.history ≡ true) × (kernel.new ≡ kernel.old))) }
+    ensures err { IfErr result (λ fault. IsHalted fault kernel.old.core) }
+{
+    // Where something comes the run is not over.
+    laws::nothing_after_over();
+    match kernel.step(words) {
+        Ok(Step::Over) => Ok(false),
+        Ok(Step::Moved) => Ok(true),
+        Ok(Step::Need) => {
+            fill(kernel, make)?;
+            Ok(true)
+        }
+        Err(CoreFault::LogFull) => Err(RunFault::LogFull),
+        Err(_) => Err(RunFault::Memory),
+    }
+}
+
+// Why the run is over.
+fn why_over<O: UvmObject>(kernel: &Kernel<O>) -> Reason
+    requires { is_over kernel.now.core.history ≡ true }
+    ensures { newest kernel.now.core.history ≡ Some (Over result) }
+{
+    match kernel.log().last() {
+        Some(Entry::Over(reason)) => *reason,
+        _ => unreachable!(),
+    }
+}
+
+// Supplies the object that is needed, or declines where there is none of its type.
+fn fill<O: UvmObject, F: Fn(&Name) -> Result<Option<O>, AllocError>>(
+    kernel: &mut Kernel<O>,
+    make: &F,
+) -> Result<(), RunFault>
+    requires callable { F.IsAlwaysCallable make.now }
+    requires needed { IsSome (open_need kernel.old) }
+    ensures ok { OnOk result (Grows kernel.old.core kernel.new.core) }
+    ensures err { IfErr result (λ fault. fault ≡ RunFault.Memory) }
+{
+    let Some(need) = kernel.need() else {
+        unreachable!()
+    };
+    let type_name = need.type_name;
+    match make(&type_name) {
+        Ok(Some(object)) => supply(kernel, object),
+        Ok(None) => {
+            kernel.decline();
+            Ok(())
+        }
+        Err(_) => Err(RunFault::Memory),
+    }
+}
+
+// Supplies the object, or declines where it is of another type than the one that is needed.
+fn supply<O: UvmObject>(kernel: &mut Kernel<O>, object: O) -> Result<(), RunFault>
+    requires { IsSome (open_need kernel.old) }
+    ensures ok { OnOk result (Grows kernel.old.core kernel.new.core) }
+    ensures err { IfErr result (λ fault. fault ≡ RunFault.Memory) }
+{
+    match kernel.supply(object) {
+        Ok(()) => Ok(()),
+        Err(
+            Unfit {
+                why: Misfit::WrongType,
+                ..
+            },
+        ) => {
+            kernel.decline();
+            Ok(())
+        }
+        Err(_) => Err(RunFault::Memory),
+    }
+}
+
+// Writes the line of the newest entry, where lines are asked for.
+fn write_last<O: UvmObject, W: io::Write>(
+    alloc: Global,
+    kernel: &Kernel<O>,
+    trace: bool,
+    out: &mut W,
+) -> Result<(), RunFault>
+    ensures legal { IsLegal kernel.now.core.script kernel.now.core.history }
+    ensures ok { OnOk result (Appends (W.contents out.old) (W.contents out.new) (last_text (trace && is_sound kernel.now.core.health) kernel.now.core.history)) }
+    ensures err { IfErr result (λ fault. IsUnwritten fault (W.contents out.old) (W.contents out.new)) }
+{
+    // It belongs to a legal log.
+    let _log = kernel.log();
+    let mut line = Vec::new(alloc);
+    if kernel.core().last_text(trace, &mut line).is_err() {
+        return Err(RunFault::Memory);
+    }
+    match out.write_all(line.as_slice()) {
+        Ok(()) => Ok(()),
+        Err(_) => Err(RunFault::Output),
+    }
+}
+
+// Gives back each object that is held.
+fn give_all_back<O: UvmObject>(kernel: &mut Kernel<O>)
+    requires { is_done kernel.old ≡ true }
+    ensures { kernel.new.held ≡ [] }
+{
+    while let Some((_, _)) = kernel.give_back() {}
+}

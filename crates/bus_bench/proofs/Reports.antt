@@ -1,0 +1,61 @@
+-- A report whose output was flushed.
+use Rattle.std.proofs.Common.{◌≡◌, ◌⊎◌, ℕ, Bool, List, Option, Some, Result, Ok, Err, OnErr, OnOk, inl, inr}
+use Rattle.std.specs.Io.KnownBytes.{Keeps}
+use Rattle.std.proofs.KnownBytes.{Appends-kept, Keeps-trans}
+use Rattle.uvm_object.specs.declared.entries.Entry.{Entry}
+use Rattle.uvm_object.specs.declared.entries.Reason.{Reason}
+use Rattle.bench_script.specs.declared.faults.ScriptFault.{ScriptFault}
+use Rattle.bench_script.specs.Scripts.{ScriptValue}
+use Rattle.bench_run.specs.Running.{BrokeOffRun, RanTo, WroteLog}
+use Rattle.bench_run.specs.declared.faults.RunFault.{RunFault}
+use Rattle.bench_run.specs.declared.faults.RunFault.TheVariants as ran
+use Rattle.bus_command.specs.Commands.{Asked, debug, run}
+use Rattle.bus_bench.specs.Debugging.{BrokeOff, IsDebugRun}
+use Rattle.bus_bench.specs.Program.{IsReport, IsWork}
+use Rattle.bus_bench.specs.Runs.{IsBenchRun, script_to_run}
+use Rattle.bus_bench.specs.Verdicts.{unflushed}
+use Rattle.bus_bench.specs.declared.verdicts.Breakage.{Breakage}
+use Rattle.bus_bench.specs.declared.verdicts.Breakage.TheVariants.{Memory, LogFull, Output, Unread}
+use Rattle.bus_bench.specs.declared.verdicts.Verdict.{Verdict}
+use Rattle.bus_bench.specs.declared.verdicts.Verdict.TheVariants.{Clean, Faulty, Refused, Broken}
+
+-- what was written stays written
+
+broke_off-kept : (lines : List (List ℕ)) (old mid new : Option (List ℕ)) (breakage : Breakage) → BrokeOff lines old mid breakage → Keeps mid new → BrokeOff lines old new breakage
+broke_off-kept lines old mid new Memory (n, wrote) kept = (n, Appends-kept old mid new _ wrote kept)
+broke_off-kept lines old mid new LogFull broke kept = broke
+broke_off-kept lines old mid new Output broke kept = broke
+broke_off-kept lines old mid new Unread broke kept = broke
+
+debug_run-kept : (bytes : List ℕ) (old mid new : Option (List ℕ)) (verdict : Verdict) → IsDebugRun bytes old mid verdict → Keeps mid new → IsDebugRun bytes old new verdict
+debug_run-kept bytes old mid new Clean done kept = (done.0, Appends-kept old mid new _ done.1 kept)
+debug_run-kept bytes old mid new Faulty done kept = done
+debug_run-kept bytes old mid new (Refused fault) done kept = (done.0, done.1, Keeps-trans old mid new done.2 kept)
+debug_run-kept bytes old mid new (Broken breakage) done kept = broke_off-kept _ old mid new breakage done kept
+
+wrote_log-kept : (script : ScriptValue) (trace : Bool) (old mid new : Option (List ℕ)) (history : List Entry) → WroteLog script trace old mid history → Keeps mid new → WroteLog script trace old new history
+wrote_log-kept script trace old mid new history log kept = record { legal = log.legal; wrote = Appends-kept old mid new _ log.wrote kept }
+
+ran_to-kept : (reason : Reason) (script : ScriptValue) (trace : Bool) (old mid new : Option (List ℕ)) → RanTo reason script trace old mid → Keeps mid new → RanTo reason script trace old new
+ran_to-kept reason script trace old mid new ran kept = (ran.0, ran.1, wrote_log-kept script trace old mid new ran.0 ran.2 kept)
+
+broke_off_run-kept : (fault : RunFault) (script : ScriptValue) (trace : Bool) (old mid new : Option (List ℕ)) → BrokeOffRun fault script trace old mid → Keeps mid new → BrokeOffRun fault script trace old new
+broke_off_run-kept ran.Memory script trace old mid new broke kept = (broke.0, wrote_log-kept script trace old mid new broke.0 broke.1 kept)
+broke_off_run-kept ran.LogFull script trace old mid new broke kept = (broke.0, broke.1, broke.2, wrote_log-kept script trace old mid new broke.0 broke.3 kept)
+broke_off_run-kept ran.Output script trace old mid new broke kept = broke
+
+bench_run-kept : (asked : Result ScriptValue ScriptFault) (trace : Bool) (old mid new : Option (List ℕ)) (verdict : Verdict) → IsBenchRun asked trace old mid verdict → Keeps mid new → IsBenchRun asked trace old new verdict
+bench_run-kept asked trace old mid new Clean done kept = (done.0, done.1, ran_to-kept _ done.0 trace old mid new done.2 kept)
+bench_run-kept asked trace old mid new Faulty done kept = (done.0, done.1, done.2, done.3, ran_to-kept done.2 done.0 trace old mid new done.4 kept)
+bench_run-kept asked trace old mid new (Refused fault) done kept = (done.0, done.1, Keeps-trans old mid new done.2 kept)
+bench_run-kept asked trace old mid new (Broken breakage) (inl none) kept = inl (none.0, Keeps-trans old mid new none.1 kept)
+bench_run-kept asked trace old mid new (Broken breakage) (inr done) kept = inr (done.0, done.1, done.2, done.3, broke_off_run-kept done.2 done.0 trace old mid new done.4 kept)
+
+pub work-kept : (asked : Asked) (bytes : List ℕ) (old mid new : Option (List ℕ)) (verdict : Verdict) → IsWork asked bytes old mid verdict → Keeps mid new → IsWork asked bytes old new verdict
+work-kept (debug file) bytes old mid new verdict done kept = debug_run-kept bytes old mid new verdict done kept
+work-kept (run trace seed test file) bytes old mid new verdict done kept = bench_run-kept (script_to_run bytes test) trace old mid new verdict done kept
+
+-- the verdict is that on the work, or that on output that could not be flushed
+pub flushed_or_not : {E : Type 0} (flush : Result (Unit {0}) E) (done verdict : Verdict) → OnOk flush (verdict ≡ done) → OnErr flush (verdict ≡ unflushed done) → (verdict ≡ done) ⊎ (verdict ≡ unflushed done)
+flushed_or_not (Ok u) done verdict ok err = inl ok
+flushed_or_not (Err e) done verdict ok err = inr err

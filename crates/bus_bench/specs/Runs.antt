@@ -1,0 +1,38 @@
+-- What the command `run` does.
+use Rattle.std.specs.Prelude.{◌≡◌, ◌≢◌, ◌⊎◌, ℕ, Bool, List, is_some, Option, Some, None, Result, Ok, Err, if◌then◌else◌}
+use Rattle.std.specs.Io.KnownBytes.{Keeps}
+use Rattle.uvm_object.specs.declared.entries.Reason.{Reason}
+use Rattle.uvm_object.specs.declared.entries.Reason.TheVariants.{Finished}
+use Rattle.bench_script.specs.declared.faults.ScriptFault.{ScriptFault}
+use Rattle.bench_script.specs.declared.faults.ScriptFault.TheVariants as faults
+use Rattle.bench_script.specs.Reading.{and_then}
+use Rattle.bench_script.specs.Documents.{script_of_bytes, test_among}
+use Rattle.bench_script.specs.Scripts.{ScriptValue}
+use Rattle.bench_run.specs.Running.{BrokeOffRun, RanTo}
+use Rattle.bench_run.specs.declared.faults.RunFault.{RunFault}
+use Rattle.bus_bench.specs.Verdicts.{breakage_of}
+use Rattle.bus_bench.specs.declared.verdicts.Breakage.TheVariants.{Memory}
+use Rattle.bus_bench.specs.declared.verdicts.Verdict.{Verdict}
+use Rattle.bus_bench.specs.declared.verdicts.Verdict.TheVariants.{Clean, Faulty, Refused, Broken}
+
+-- the script with the test that is asked for in place of its own
+abbrev pub with_test : Option (List ℕ) → ScriptValue → Result ScriptValue ScriptFault
+with_test None script = Ok script
+with_test (Some name) script = and_then (test_among script.types (Some name)) (λ test. Ok (record script { test = test }))
+
+-- a script that runs has a test
+abbrev pub tested : ScriptValue → Result ScriptValue ScriptFault
+tested script = if is_some script.test then Ok script else Err faults.Missing
+
+-- the script that is run, or its first fault
+abbrev pub script_to_run : List ℕ → Option (List ℕ) → Result ScriptValue ScriptFault
+script_to_run bytes test = and_then (and_then (script_of_bytes bytes) (with_test test)) tested
+
+-- what the verdict says of the script and of the bytes that the writer holds before and after
+abbrev pub IsBenchRun : Result ScriptValue ScriptFault → Bool → Option (List ℕ) → Option (List ℕ) → Verdict → Type 0
+IsBenchRun asked trace old new Clean = (script : ScriptValue) × (asked ≡ Ok script) × RanTo Finished script trace old new
+IsBenchRun asked trace old new Faulty = (script : ScriptValue) × (asked ≡ Ok script) × (reason : Reason) × (reason ≢ Finished) × RanTo reason script trace old new
+IsBenchRun asked trace old new (Refused fault) = (asked ≡ Err fault) × (fault ≢ faults.Memory) × Keeps old new
+IsBenchRun asked trace old new (Broken breakage) =
+    ((breakage ≡ Memory) × Keeps old new)
+    ⊎ ((script : ScriptValue) × (asked ≡ Ok script) × (fault : RunFault) × (breakage ≡ breakage_of fault) × BrokeOffRun fault script trace old new)

@@ -1,0 +1,93 @@
+//! The command `run`.
+
+ghost use Rattle.std.specs.Prelude.{◌≡◌, ◌≢◌, IfErr, IfOk, IsSome, Ok, Err, option_copied};
+ghost use Rattle.bench_run.specs.Running.{IsRun};
+ghost use Rattle.bus_bench.specs.Runs.{IsBenchRun, script_to_run};
+
+use crate::verdicts::{Breakage, Verdict};
+use bench_run::{RunFault, run_script};
+use bench_script::{Script, ScriptFault};
+use bus_objects::BusObject;
+use rand_core::{Rng, SeedableRng};
+use rand_pcg::Pcg64;
+use std::alloc::{AllocError, Global};
+use std::io;
+use uvm_glob::Name;
+use uvm_object::{Reason, UvmObject};
+
+/// Runs the script in `bytes`, with `test` in place of its own test where it is given, on the words of `Pcg64` from the seed.
+/// Where `trace` asks for it, the line of each entry of the log is written as it is made. Objects of types that the bench
+/// does not have are declined, and each object is given back at the end.
+///
+/// The verdict is `Clean` where the run finished, `Faulty` where it ended otherwise, and `Refused` where the bytes are no script
+/// or it has no such test (`Missing` where it has none at all), with nothing written. It is `Broken` where the log is full,
+/// memory was refused, or a write failed.
+pub fn run_bench<W: io::Write>(
+    alloc: Global,
+    bytes: &[u8],
+    seed: u64,
+    test: Option<&Name>,
+    trace: bool,
+    out: &mut W,
+) -> Verdict
+    ensures { IsBenchRun (script_to_run bytes.now (option_copied test.entry)) trace (W.contents out.old) (W.contents out.new) result }
+{
+    match script_to_run(alloc, bytes, test) {
+        Ok(script) => {
+            let mut words = Pcg64::seed_from_u64(seed);
+            match run_boxed(alloc, script, &mut words, trace, out) {
+                Ok(Reason::Finished) => Verdict::Clean,
+                Ok(Reason::Exit | Reason::NoTest) => Verdict::Faulty,
+                Err(fault) => Verdict::Broken(Breakage::from(fault)),
+            }
+        }
+        Err(ScriptFault::Memory) => Verdict::Broken(Breakage::Memory),
+        Err(fault) => Verdict::Refused(fault),
+    }
+}
+
+// The script to run.
+fn script_to_run(alloc: Global, bytes: &[u8], test: Option<&Name>) -> Result<Script, ScriptFault>
+    ensures ok { IfOk result (λ script. script_to_run bytes.now (option_copied test.entry) ≡ Ok script) }
+    ensures tested { IfOk result (λ script. IsSome script.test) }
+    ensures err { IfErr result (λ fault. fault ≢ ScriptFault.Memory → script_to_run bytes.now (option_copied test.entry) ≡ Err fault) }
+{
+    let script = bench_script::read(alloc, bytes)?;
+    let script = match test {
+        Some(name) => script.with_test(name)?,
+        None => script,
+    };
+    match script.test() {
+        Some(_) => Ok(script),
+        None => Err(ScriptFault::Missing),
+    }
+}
+
+// Runs a script with the objects of the bench, each in a box.
+fn run_boxed<R: Rng, W: io::Write>(
+    alloc: Global,
+    script: Script,
+    words: &mut R,
+    trace: bool,
+    out: &mut W,
+) -> Result<Reason, RunFault>
+    requires { IsSome script.test }
+    ensures { IsRun script trace (W.contents out.old) (W.contents out.new) result }
+{
+    run_script(
+        alloc,
+        script,
+        words,
+        trace,
+        |type_name: &Name| -> Result<Option<Box<dyn UvmObject>>, AllocError> {
+            match BusObject::of_type(type_name) {
+                Some(object) => match Box::new(alloc, object) {
+                    Ok(object) => Ok(Some(object)),
+                    Err(_) => Err(AllocError),
+                },
+                None => Ok(None),
+            }
+        },
+        out,
+    )
+}

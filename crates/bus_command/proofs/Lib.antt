@@ -1,0 +1,4 @@
+pub mod LevelLemmas
+pub mod RowLemmas
+pub mod CommandLemmas
+pub mod PlainLemmas

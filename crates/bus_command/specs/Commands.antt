@@ -1,0 +1,134 @@
+-- The command line: what clap reads of it, and the job that the words name.
+use Rattle.std.specs.Prelude.{◌≡◌, ◌⊎◌, ◌==◌, ◌∷◌, [], ℕ, Bool, true, false, List, Option, None, Some, IfSome, codes, if◌then◌else◌, is_some, option_and_then, option_map, unwrap_or}
+use Rattle.std.specs.Option.{option_map_or}
+use Rattle.std.specs.Str.{bytes_eq}
+use Rattle.std.specs.Str.Parse.{digits_value, without_leading_plus}
+use Rattle.clap.specs.Words.{Accepts, App, Row, Rule, Text, first_of, new_app, new_rule, one_of}
+use Rattle.clap.specs.Words.{subcommand_of, with_rule, with_subcommand}
+use Rattle.clap.specs.Simple.{on_top}
+use Rattle.clap.specs.Takes.{is_given}
+use Rattle.clap.specs.declared.builder.action.ArgAction.TheVariants.{SetTrue}
+use Rattle.clap.specs.declared.builder.value_parser.ValueParser.{ValueParser}
+use Rattle.clap.specs.declared.builder.value_parser.ValueParser.TheVariants as parser
+use Rattle.uvm_glob.specs.Names.{name_fault}
+use Rattle.bus_command.specs.declared.jobs.Job.{Job}
+use Rattle.bus_command.specs.declared.jobs.Job.TheVariants.{Debug, Run}
+
+-- ---- the command line, as clap reads it
+
+-- FILE, which is required
+abbrev pub file_rule : Rule
+file_rule = record (new_rule (codes "file")) { value_names = 1; required = true }
+
+-- --trace
+abbrev pub trace_rule : Rule
+trace_rule = record (new_rule (codes "trace")) { long = Some (codes "trace"); action = Some SetTrue }
+
+-- a number of 64 bits
+abbrev pub seed_parser : ValueParser
+seed_parser = parser.Unsigned 0 18446744073709551615
+
+-- --seed N
+abbrev pub seed_rule : Rule
+seed_rule = record (new_rule (codes "seed")) { long = Some (codes "seed"); value_names = 1; parser = Some seed_parser }
+
+-- --test NAME
+abbrev pub test_rule : Rule
+test_rule = record (new_rule (codes "test")) { long = Some (codes "test"); value_names = 1 }
+
+-- debug FILE
+abbrev pub debug_app : App
+debug_app = with_rule (new_app (codes "debug")) file_rule
+
+-- run [--trace] [--seed N] [--test NAME] FILE
+abbrev pub run_app : App
+run_app = with_rule (with_rule (with_rule (with_rule (new_app (codes "run")) trace_rule) seed_rule) test_rule) file_rule
+
+-- bus_bench, with a subcommand, which is required
+abbrev pub bus_bench_app : App
+bus_bench_app = with_subcommand (with_subcommand
+    (on_top (λ s. record s { subcommand_required = true }) (new_app (codes "bus_bench")))
+    debug_app.top) run_app.top
+
+-- ---- the job that the words name
+
+-- a subcommand, and what is given there
+pub data Asked : Type 0 where
+  debug : (file : Text) → Asked
+  run : (trace : Bool) (seed : ℕ) (test : Option Text) (file : Text) → Asked
+
+-- the number that was given for `--seed`, or 1
+abbrev pub seed_in : List Row → ℕ
+seed_in rows = option_map_or (λ value. digits_value 10 (without_leading_plus value)) (one_of (codes "seed") rows) 1
+
+-- whether `--trace` was given, the seed, what was given for `--test`, and the file
+abbrev pub run_in : List Row → Text → Asked
+run_in rows = run (is_given (codes "trace") rows) (seed_in rows) (first_of (codes "test") rows)
+
+-- what is given to the subcommand of this name
+abbrev pub asked_in : Text → List Row → Option Asked
+asked_in name rows =
+    if bytes_eq name (codes "debug") then option_map debug (first_of (codes "file") rows)
+    else if bytes_eq name (codes "run") then option_map (run_in rows) (first_of (codes "file") rows)
+    else None
+
+abbrev pub job_named : Option (Text × List Row) → Option Asked
+job_named = option_and_then (λ p. asked_in p.0 p.1)
+
+-- what clap's meaning of the command line makes of the words
+abbrev pub named_job : List Text → Option Asked
+named_job words = job_named (subcommand_of bus_bench_app words)
+
+-- a job, as what it was asked by
+abbrev pub words_of : Job → Asked
+words_of (Debug file) = debug file.now
+words_of (Run trace seed test file) = run trace seed test file.now
+
+-- what is given as the test is no name
+abbrev pub is_bad_test : Option Text → Bool
+is_bad_test test = option_map_or (λ text. is_some (name_fault text)) test false
+
+-- a run is asked for, and what is given as its test is no name
+abbrev pub has_bad_name : Option Asked → Bool
+has_bad_name (Some (run trace seed test file)) = is_bad_test test
+has_bad_name _ = false
+
+-- ---- what was found can be read
+
+-- a file was given
+abbrev pub HasFile : List Row → Type 0
+HasFile rows = is_some (first_of (codes "file") rows) ≡ true
+
+-- what is read for `--trace` says whether it was given
+abbrev pub ReadsTrace : List Row → Type 0
+ReadsTrace rows = unwrap_or (one_of (codes "trace") rows) (codes "false")
+    ≡ (if is_given (codes "trace") rows then codes "true" else codes "false")
+
+-- what is read for `--seed` is a number of 64 bits
+abbrev pub ReadsSeed : List Row → Type 0
+ReadsSeed rows = IfSome (one_of (codes "seed") rows) (Accepts false seed_parser)
+
+-- one of the two subcommands was found, with what it needs
+abbrev pub NamesJob : Option (Text × List Row) → Type 0
+NamesJob None = ⊥
+NamesJob (Some p) = HasFile p.1 × ((p.0 ≡ codes "debug") ⊎ ((p.0 ≡ codes "run") × ReadsTrace p.1 × ReadsSeed p.1))
+
+-- ---- the words that a user writes
+
+-- the word begins with a hyphen (45)
+abbrev pub is_flag : Text → Bool
+is_flag [] = false
+is_flag (x ∷ rest) = x == 45
+
+-- the words are `PROGRAM COMMAND FILE`
+abbrev pub AsksFor : Text → List Text → Text → Type 0
+AsksFor command words file =
+    (program : Text) × (words ≡ program ∷ command ∷ file ∷ []) × (is_flag file ≡ false)
+
+-- the job is to debug this file
+abbrev pub IsDebugOf : Text → Job → Type 0
+IsDebugOf file job = words_of job ≡ debug file
+
+-- the job is to run this file with no trace, the seed 1 and the script's own test
+abbrev pub IsRunOf : Text → Job → Type 0
+IsRunOf file job = words_of job ≡ run false 1 None file

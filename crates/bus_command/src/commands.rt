@@ -1,0 +1,207 @@
+//! The command line.
+ghost use Rattle.std.specs.Prelude.{◌≡◌, ◌⊎◌, ℕ, List, Some, Err, IfOk, IfErr, MatchResult, OnOk, OnErr, codes, map, option_map, [], false, true};
+ghost use Rattle.clap.specs.Words.{app_of, fault_of, first_of, found_of, rows_of, rule_of, subcommand_rows_of, takes};
+ghost use Rattle.clap.specs.Takes.{is_given};
+ghost use Rattle.clap.specs.declared.builder.command.Command.TheViews.{out-Command};
+ghost use Rattle.bus_command.specs.Commands.{bus_bench_app, debug_app, file_rule, run_app, seed_rule, test_rule, trace_rule};
+ghost use Rattle.bus_command.specs.Commands.{asked_in, has_bad_name, is_bad_test, job_named, named_job, seed_in, words_of};
+ghost use Rattle.bus_command.specs.Commands.{AsksFor, HasFile, IsDebugOf, IsRunOf, NamesJob, ReadsSeed, ReadsTrace};
+ghost use Rattle.bus_command.specs.Faults.{IsRefusalOf};
+
+use crate::jobs::{Job, JobFault};
+use clap::{Arg, ArgAction, ArgMatches, Command, value_parser};
+use std::alloc::{AllocError, Global};
+use std::convert::AsStr;
+use uvm_glob::Name;
+
+/// Reads the words of the command line, of which the first is the program's name.
+///
+/// The error is `Refused` where the words are none that the program takes, or ask for help,
+/// `BadName` where they are, and what they give as the test is no name, and `Memory` where an
+/// allocation was refused.
+pub fn job<'a, S: AsStr>(alloc: Global, words: &'a [S]) -> Result<Job<'a>, JobFault>
+    // A job is what clap's meaning of the command line makes of the words, which have no fault.
+    ensures named { IfOk result (λ job. named_job (map S.text words.now) ≡ Some (words_of job)) }
+    ensures faultless { OnOk result (fault_of bus_bench_app (map S.text words.now) ≡ []) }
+
+    // A refusal has a kind that clap's meaning gives the words, and words that it takes have none.
+    ensures refused { IfErr result (IsRefusalOf (fault_of bus_bench_app (map S.text words.now))) }
+    ensures taken { takes bus_bench_app (map S.text words.now) ≡ true
+        → OnErr result ((result ≡ Err JobFault.BadName) ⊎ (result ≡ Err JobFault.Memory)) }
+
+    // `BadName` comes only where what is given as the test is no name, and then there is no job.
+    ensures bad_name { result ≡ Err JobFault.BadName
+        → has_bad_name (named_job (map S.text words.now)) ≡ true }
+    ensures good_name { OnOk result (has_bad_name (named_job (map S.text words.now)) ≡ false) }
+
+    // `PROGRAM debug FILE` and `PROGRAM run FILE` are taken, unless FILE begins with `-`. The run is
+    // not traced, has the seed 1 and the script's own test.
+    ensures plain { (file : List ℕ) → AsksFor (codes "debug") (map S.text words.now) file
+        → MatchResult result (IsDebugOf file) (λ fault. fault ≡ JobFault.Memory) }
+    ensures plain_run { (file : List ℕ) → AsksFor (codes "run") (map S.text words.now) file
+        → MatchResult result (IsRunOf file) (λ fault. fault ≡ JobFault.Memory) }
+{
+    let matches = command(alloc)?.try_get_matches_from(words)?;
+    job_of(&matches)
+}
+
+// The job that the matches name.
+fn job_of<'a>(matches: &ArgMatches<'a>) -> Result<Job<'a>, JobFault>
+    requires { NamesJob (subcommand_rows_of matches.now) }
+    ensures named { IfOk result (λ job. job_named (subcommand_rows_of matches.now) ≡ Some (words_of job)) }
+    ensures good_name { OnOk result (has_bad_name (job_named (subcommand_rows_of matches.now)) ≡ false) }
+    ensures bad_name { OnErr result ((result ≡ Err JobFault.BadName)
+        × (has_bad_name (job_named (subcommand_rows_of matches.now)) ≡ true)) }
+{
+    match matches.subcommand() {
+        Some(("debug", debug)) => Ok(Job::Debug {
+            file: file_of(debug),
+        }),
+        Some(("run", run)) => run_job(run),
+        _ => unreachable!(),
+    }
+}
+
+// The job that the matches of `run` name, unless what they give as the test is no name.
+fn run_job<'a>(matches: &ArgMatches<'a>) -> Result<Job<'a>, JobFault>
+    requires file { HasFile (rows_of (found_of matches.now)) }
+    requires trace { ReadsTrace (rows_of (found_of matches.now)) }
+    requires seed { ReadsSeed (rows_of (found_of matches.now)) }
+    ensures named { IfOk result (λ job. asked_in (codes "run") (rows_of (found_of matches.now)) ≡ Some (words_of job)) }
+    ensures good_name { OnOk result (has_bad_name (asked_in (codes "run") (rows_of (found_of matches.now))) ≡ false) }
+    ensures bad_name { OnErr result ((result ≡ Err JobFault.BadName)
+        × (has_bad_name (asked_in (codes "run") (rows_of (found_of matches.now))) ≡ true)) }
+{
+    let file = file_of(matches);
+    let test = test_named(matches.get_str("test"))?;
+    Ok(Job::Run {
+        trace: is_traced(matches),
+        seed: seed_of(matches),
+        test,
+        file,
+    })
+}
+
+// The file.
+fn file_of<'a>(matches: &ArgMatches<'a>) -> &'a str
+    requires { HasFile (rows_of (found_of matches.now)) }
+    ensures { first_of (codes "file") (rows_of (found_of matches.now)) ≡ Some result.now }
+{
+    let Some(file) = matches.get_str("file") else {
+        unreachable!()
+    };
+    file
+}
+
+// Whether the run is to be traced.
+fn is_traced(matches: &ArgMatches<'_>) -> bool
+    requires { ReadsTrace (rows_of (found_of matches.now)) }
+    ensures { result ≡ is_given (codes "trace") (rows_of (found_of matches.now)) }
+{
+    matches.get_flag("trace")
+}
+
+// The seed that is given, or 1.
+fn seed_of(matches: &ArgMatches<'_>) -> u64
+    requires { ReadsSeed (rows_of (found_of matches.now)) }
+    ensures { result ≡ seed_in (rows_of (found_of matches.now)) }
+{
+    matches.get_one("seed").unwrap_or(1)
+}
+
+// The test's name, where one is given.
+fn test_named(text: Option<&str>) -> Result<Option<Name>, JobFault>
+    ensures name { IfOk result (λ test. test ≡ option_map (λ t. t.now) text.entry) }
+    ensures good { OnOk result (is_bad_test (option_map (λ t. t.now) text.entry) ≡ false) }
+    ensures bad { OnErr result ((result ≡ Err JobFault.BadName)
+        × (is_bad_test (option_map (λ t. t.now) text.entry) ≡ true)) }
+{
+    let Some(text) = text else {
+        return Ok(None);
+    };
+    match Name::new(text.as_bytes()) {
+        Ok(name) => Ok(Some(name)),
+        Err(_) => Err(JobFault::BadName),
+    }
+}
+
+// The whole command line.
+fn command<'a>(alloc: Global) -> Result<Command<'a>, AllocError>
+    ensures { IfOk result (λ c. app_of c ≡ bus_bench_app) }
+{
+    let debug = debug_command(alloc)?;
+    let run = run_command(alloc)?;
+    Command::new(alloc, "bus_bench")
+        .about("Runs the script of a bench")
+        .subcommand_required(true)
+        .subcommand(debug)?
+        .subcommand(run)
+}
+
+// `debug FILE`.
+fn debug_command<'a>(alloc: Global) -> Result<Command<'a>, AllocError>
+    ensures app { IfOk result (λ c. app_of c ≡ debug_app) }
+    ensures local { IfOk result (λ c. (out-Command c).has_globals ≡ false) }
+{
+    Command::new(alloc, "debug")
+        .about("Reads a script and prints the answers to its questions")
+        .arg(file_arg(alloc))
+}
+
+// `run [--trace] [--seed N] [--test NAME] FILE`.
+fn run_command<'a>(alloc: Global) -> Result<Command<'a>, AllocError>
+    ensures app { IfOk result (λ c. app_of c ≡ run_app) }
+    ensures local { IfOk result (λ c. (out-Command c).has_globals ≡ false) }
+{
+    Command::new(alloc, "run")
+        .about("Runs a script")
+        .arg(trace_arg(alloc))?
+        .arg(seed_arg(alloc))?
+        .arg(test_arg(alloc))?
+        .arg(file_arg(alloc))
+}
+
+// `FILE`.
+fn file_arg<'a>(alloc: Global) -> Arg<'a>
+    ensures rule { rule_of result ≡ file_rule }
+    ensures local { result.global ≡ false }
+{
+    Arg::new(alloc, "file")
+        .value_name("FILE")
+        .help("The script, in TOML")
+        .required(true)
+}
+
+// `--trace`.
+fn trace_arg<'a>(alloc: Global) -> Arg<'a>
+    ensures rule { rule_of result ≡ trace_rule }
+    ensures local { result.global ≡ false }
+{
+    Arg::new(alloc, "trace")
+        .long("trace")
+        .help("Prints each entry of the log")
+        .action(ArgAction::SetTrue)
+}
+
+// `--seed N`.
+fn seed_arg<'a>(alloc: Global) -> Arg<'a>
+    ensures rule { rule_of result ≡ seed_rule }
+    ensures local { result.global ≡ false }
+{
+    Arg::new(alloc, "seed")
+        .long("seed")
+        .value_name("N")
+        .help("The seed of the random numbers, 1 unless it is given")
+        .value_parser(value_parser!(u64))
+}
+
+// `--test NAME`.
+fn test_arg<'a>(alloc: Global) -> Arg<'a>
+    ensures rule { rule_of result ≡ test_rule }
+    ensures local { result.global ≡ false }
+{
+    Arg::new(alloc, "test")
+        .long("test")
+        .value_name("NAME")
+        .help("The test, in place of the script's own")
+}

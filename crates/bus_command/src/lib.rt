@@ -1,0 +1,10 @@
+//! The command line of `bus_bench`: the job that its words ask for.
+#![tactic(auto)]
+
+mod commands;
+mod jobs;
+#[cfg(test)]
+mod tests;
+
+pub use commands::job;
+pub use jobs::{Job, JobFault};

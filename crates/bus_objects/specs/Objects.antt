@@ -1,0 +1,19 @@
+-- What an object of the bench is, of whichever type.
+use Rattle.std.specs.Prelude.{ℕ, List, Option, option_map}
+use Rattle.uvm_object.specs.Objects.{Says, View}
+use Rattle.bus_objects.specs.Idle.{IdleSays, idle_named, idle_view}
+use Rattle.bus_objects.specs.declared.objects.BusObject.{BusObject}
+use Rattle.bus_objects.specs.declared.objects.BusObject.TheVariants.{Idle}
+
+-- the new object of the type of this name, if the bench has the type
+abbrev pub object_named : List ℕ → Option BusObject
+object_named name = option_map Idle (idle_named name)
+
+abbrev pub view_of : BusObject → View
+view_of (Idle idle) = idle_view idle
+
+abbrev pub name_of : BusObject → List ℕ
+name_of (Idle idle) = idle.type_name
+
+abbrev pub says_of : BusObject → Says
+says_of (Idle idle) = IdleSays

@@ -1,0 +1,10 @@
+//! The objects of the bus bench: each in a file of its own, with what it says in a file of `specs/`.
+#![tactic(auto)]
+
+mod idle;
+mod objects;
+#[cfg(test)]
+mod tests;
+
+pub use idle::Idle;
+pub use objects::BusObject;

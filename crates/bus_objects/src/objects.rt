@@ -1,0 +1,48 @@
+//! The objects of the bench, of whichever type.
+
+ghost use Rattle.std.specs.Prelude.{◌≡◌};
+
+use crate::idle::Idle;
+use std::alloc::{AllocError, Global};
+use uvm_glob::Name;
+use uvm_object::{Acts, Call, UvmObject};
+
+/// An object of one of the bench's types. It shows and says what the object of that type does.
+#[derive(Drop)]
+pub enum BusObject {
+    /// Of the type `idle`.
+    Idle(Idle),
+}
+
+impl BusObject {
+    ghost use Rattle.bus_objects.specs.Objects.{object_named};
+
+    /// A new object of the type of this name, if the bench has the type. Takes no memory.
+    pub fn of_type(type_name: &Name) -> Option<BusObject>
+        ensures { result ≡ object_named type_name.now }
+    {
+        Idle::of_type(type_name).map(BusObject::Idle)
+    }
+}
+
+impl UvmObject for BusObject {
+    ghost use Rattle.bus_objects.specs.Objects.{name_of, says_of, view_of};
+
+    ghost view = { view_of };
+
+    ghost name = { name_of };
+
+    ghost says = { says_of };
+
+    fn type_name(&self) -> &Name {
+        match self {
+            BusObject::Idle(idle) => idle.type_name(),
+        }
+    }
+
+    fn hear(&mut self, alloc: Global, call: &Call) -> Result<Acts, AllocError> {
+        match self {
+            BusObject::Idle(idle) => idle.hear(alloc, call),
+        }
+    }
+}

@@ -1,5 +1,6 @@
 use super::*;
 use std::alloc::Global;
+use std::process::Abort;
 use std::test::Fail;
 use uvm_factory::{Factory, Kind, Override, TypeId};
 use uvm_glob::{Name, Path};
@@ -99,14 +100,14 @@ fn places(alloc: Global) -> Result<[TypeId; 3], Fail> {
 }
 
 // Asserts that the arrays of a script are those of `SCRIPT`.
-fn assert_arrays(rt: &HostRuntime, script: &Script) -> Result<(), Fail> {
+fn assert_arrays<R: Abort + AllocGlobal>(rt: &R, script: &Script) -> Result<(), Fail> {
     assert_types(rt, script)?;
     assert_overrides(rt, script)?;
     assert_settings(rt, script);
     assert_probes(rt, script)
 }
 
-fn assert_types(rt: &HostRuntime, script: &Script) -> Result<(), Fail> {
+fn assert_types<R: Abort>(rt: &R, script: &Script) -> Result<(), Fail> {
     assert_eq!(rt;
         script.types(),
         [
@@ -138,7 +139,7 @@ fn is_instance_at(row: &Override, path: &Path) -> bool {
     }
 }
 
-fn assert_overrides(rt: &HostRuntime, script: &Script) -> Result<(), Fail> {
+fn assert_overrides<R: Abort + AllocGlobal>(rt: &R, script: &Script) -> Result<(), Fail> {
     let alloc = rt.alloc();
     let [base, better, _] = places(alloc)?;
     let left = Path::parse(alloc, b"top.left")?;
@@ -157,7 +158,7 @@ fn assert_overrides(rt: &HostRuntime, script: &Script) -> Result<(), Fail> {
     Ok(())
 }
 
-fn assert_settings(rt: &HostRuntime, script: &Script) {
+fn assert_settings<R: Abort>(rt: &R, script: &Script) {
     let settings = script.settings();
     assert_eq!(rt; settings.len(), 2);
     for (setting, scope, field, value) in [
@@ -170,7 +171,7 @@ fn assert_settings(rt: &HostRuntime, script: &Script) {
     }
 }
 
-fn assert_probes(rt: &HostRuntime, script: &Script) -> Result<(), Fail> {
+fn assert_probes<R: Abort + AllocGlobal>(rt: &R, script: &Script) -> Result<(), Fail> {
     let alloc = rt.alloc();
     let [base, _, items] = places(alloc)?;
     let probes = script.probes();

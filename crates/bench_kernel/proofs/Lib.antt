@@ -1,5 +1,7 @@
-pub mod Kept
+pub mod Lists
+pub mod Places
 pub mod Lives
-pub mod Ranks
+pub mod Held
+pub mod Kept
 pub mod Stepped
 pub mod Supplied

@@ -1,20 +1,35 @@
 -- How the lives of the objects go on.
-use Rattle.std.proofs.Common.{◌≡◌, ◌≢◌, ◌∙◌, ℕ, Bool, true, false, nat_eq, List, [], ◌∷◌, Option, Some, None, Ok, Result, refl, sym, ap, subst, if◌then◌else◌, arith}
+use Rattle.std.proofs.Common.{◌≡◌, ◌≢◌, ◌∙◌, ℕ, Bool, true, false, nat_eq, List, [], ◌∷◌, get_or, map, Option, Some, None, Ok, Result, refl, sym, ap, subst, arith}
 use Rattle.std.proofs.lemmas.Bool.Decides.{nat_tests}
-use Rattle.std.proofs.lemmas.Cmp.{nat_eq_equiv}
-use Rattle.std.proofs.lemmas.Map.{lookup-set_value}
+use Rattle.std.proofs.lemmas.List.Elements.{All-cons, All-head, All-tail, All-weaker}
+use Rattle.std.proofs.lemmas.List.Sorted.{All-permutation, IsPermutation-map, IsPermutation-sym}
+use Rattle.std.proofs.lemmas.Map.Keys.{IsDistinct-head, IsDistinct-IsPermutation}
 use Rattle.std.proofs.lemmas.Option.{same_Some, none-some}
+use Rattle.std.specs.Prelude.{All}
+use Rattle.std.specs.List.{IsDistinct}
+use Rattle.std.specs.List.Sorted.{IsPermutation}
+use Rattle.std.specs.Map.{keys_of}
 use Rattle.std.specs.declared.alloc.AllocError.{AllocError}
 use Rattle.uvm_phase.specs.declared.agendas.Cause.{Cause}
 use Rattle.uvm_object.specs.Acts.{node_of}
 use Rattle.uvm_object.specs.declared.acts.Who.{Who}
+use Rattle.uvm_object.specs.declared.acts.Who.TheVariants.{Node}
 use Rattle.uvm_object.specs.declared.acts.Call.{Call}
 use Rattle.uvm_object.specs.declared.acts.Act.{Act}
 use Rattle.uvm_object.specs.declared.entries.Entry.{Entry}
 use Rattle.uvm_object.specs.declared.entries.Entry.TheVariants.{Heard}
 use Rattle.uvm_object.specs.Objects.{View, Says, SameSays, Exchange, IsHonest, IsHonestNow, exchanged_in, life_of}
-use Rattle.bench_kernel.specs.Kernels.{LiveHonestly, object_at}
-use Rattle.bench_kernel.specs.Steps.{IsAsked}
+use Rattle.bench_kernel.specs.Asked.{IsAsked}
+use Rattle.bench_kernel.specs.Kernels.{LiveHonestly, same_who}
+use Rattle.bench_kernel.proofs.Lists.{All-from_recursion, All-unmap}
+
+-- one and another are no two the other way round
+pub same_who-flips : (who other : Who) → same_who who other ≡ same_who other who
+same_who-flips (Node node) (Node other) = grind (arith, nat_tests)
+
+-- two that are not one stand at two nodes
+nodes-apart : (who other : Who) → same_who who other ≡ false → node_of who ≢ node_of other
+nodes-apart (Node node) (Node other) apart same = grind (arith, nat_tests)
 
 -- views that are honest by a relation are so by the same one
 IsHonest-same : (says others : Says) (views : List View) (life : List Exchange) → SameSays says others → IsHonest others views life → IsHonest says views life
@@ -32,81 +47,73 @@ IsHonestNow-more says others before after call acts life same said honest =
     (before ∷ honest.0, ((same before call acts after).1 said, IsHonest-same says others (before ∷ honest.0) life same honest.1))
 
 -- who was heard has one exchange more, and every other as many as before
-heard-same : (performer : Who) (call : Call) (cause : Option Cause) (acts : List Act) (history : List Entry) (node : ℕ) → node_of performer ≡ node
-    → life_of node (Heard performer call cause acts ∷ history) ≡ (call, acts) ∷ life_of node history
-heard-same performer call cause acts history node e = grind (arith, nat_tests)
+heard-same : (performer : Who) (call : Call) (cause : Option Cause) (acts : List Act) (history : List Entry)
+    → life_of (node_of performer) (Heard performer call cause acts ∷ history) ≡ (call, acts) ∷ life_of (node_of performer) history
+heard-same performer call cause acts history = grind (arith, nat_tests)
 
 heard-other : (performer : Who) (call : Call) (cause : Option Cause) (acts : List Act) (history : List Entry) (node : ℕ) → node_of performer ≢ node
     → life_of node (Heard performer call cause acts ∷ history) ≡ life_of node history
 heard-other performer call cause acts history node apart = grind (arith, nat_tests)
 
 module _ {O : Type 0} (view : O → View) (name : O → List ℕ) (says : O → Says) where
-  -- the object at a node after one of them was asked
-  pub object_at-asked : (node : ℕ) (call : Call) (answer : Result (List Act) AllocError) (old new : List (ℕ × O)) (asked : IsAsked view name says node call answer old new) (other : ℕ)
-      → object_at new other ≡ (if nat_eq node other then Some asked.after else object_at old other)
-  object_at-asked node call answer old new asked other =
-      rw asked.is (lookup-set_value nat_eq_equiv (nat_eq node) (nat_eq_equiv.congr node) other asked.after old (rw asked.was refl))
+  -- an object has lived what the log says, but for one that gave no answer
+  abbrev Lives : Option Who → List Entry → Who × O → Type 0
+  Lives unknown history seat = unknown ≢ Some seat.0 → IsHonestNow (says seat.1) (view seat.1) (life_of (node_of seat.0) history)
+
+  -- who is asked is none of the others
+  pub others-differ : (who : Who) (call : Call) (answer : Result (List Act) AllocError) (old new : List (Who × O)) (asked : IsAsked view name says who call answer old new) → IsDistinct same_who (keys_of old)
+      → All (λ (seat : Who × O). same_who who seat.0 ≡ false) asked.others
+  others-differ who call answer old new asked distinct =
+      All-unmap (λ other. same_who who other ≡ false) (λ (seat : Who × O). seat.0) asked.others
+      (All-from_recursion (λ other. same_who who other ≡ false) (keys_of asked.others)
+      (IsDistinct-head same_who who (keys_of asked.others)
+      (IsDistinct-IsPermutation same_who same_who-flips (keys_of old) (who ∷ keys_of asked.others)
+      (IsPermutation-map (λ (seat : Who × O). seat.0) old ((who, asked.before) ∷ asked.others) (IsPermutation-sym ((who, asked.before) ∷ asked.others) old asked.was)) distinct)))
 
   -- an answer in the log is a step of the life of the object that gave it
-  pub LiveHonestly-heard : (performer : Who) (call : Call) (cause : Option Cause) (acts : List Act) (old new : List (ℕ × O)) (history : List Entry)
-      → IsAsked view name says (node_of performer) call (Ok acts) old new → LiveHonestly view says old None history → LiveHonestly view says new None (Heard performer call cause acts ∷ history)
-  LiveHonestly-heard performer call cause acts old new history asked honest node object at known = go (nat_eq (node_of performer) node) refl
+  pub LiveHonestly-heard : (performer : Who) (call : Call) (cause : Option Cause) (acts : List Act) (old new : List (Who × O)) (history : List Entry)
+      → IsAsked view name says performer call (Ok acts) old new → IsDistinct same_who (keys_of old) → LiveHonestly view says old None history
+      → LiveHonestly view says new None (Heard performer call cause acts ∷ history)
+  LiveHonestly-heard performer call cause acts old new history asked distinct honest =
+      let were : All (Lives None history) ((performer, asked.before) ∷ asked.others) = All-permutation (Lives None history) old ((performer, asked.before) ∷ asked.others) (IsPermutation-sym ((performer, asked.before) ∷ asked.others) old asked.was) honest in
+      let was = All-head (Lives None history) (performer, asked.before) asked.others were (λ n. none-some performer n) in
+      let rest = All-tail (Lives None history) (performer, asked.before) asked.others were in
+      let apart = others-differ performer call (Ok acts) old new asked distinct in
+      All-permutation (Lives None (Heard performer call cause acts ∷ history)) ((performer, asked.after) ∷ asked.others) new asked.is
+      (All-cons (Lives None (Heard performer call cause acts ∷ history)) (performer, asked.after) asked.others
+      (λ known.
+      subst (λ l. IsHonestNow (says asked.after) (view asked.after) l) (sym (heard-same performer call cause acts history))
+      (IsHonestNow-more (says asked.after) (says asked.before) (view asked.before) (view asked.after) call acts (life_of (node_of performer) history) asked.same_says asked.said was))
+      (λ k d h. other (get_or asked.others k d) (apart k d h) (rest k d h)))
     where
-      is : object_at new node ≡ (if nat_eq (node_of performer) node then Some asked.after else object_at old node)
-      is = object_at-asked (node_of performer) call (Ok acts) old new asked node
-
-      go : (b : Bool) → nat_eq (node_of performer) node ≡ b → IsHonestNow (says object) (view object) (life_of node (Heard performer call cause acts ∷ history))
-      go true e =
-          let same_node : node_of performer ≡ node = grind (arith, nat_tests) in
-          let same : asked.after ≡ object = same_Some asked.after object (sym (rw e at is) ∙ at) in
-          let was = honest (node_of performer) asked.before asked.was (λ n. none-some (node_of performer) n) in
-          let life : IsHonestNow (says asked.before) (view asked.before) (life_of node history) =
-          subst (λ n. IsHonestNow (says asked.before) (view asked.before) (life_of n history)) same_node was in
-          subst (λ o. IsHonestNow (says o) (view o) (life_of node (Heard performer call cause acts ∷ history))) same
-          (subst (λ l. IsHonestNow (says asked.after) (view asked.after) l) (sym (heard-same performer call cause acts history node same_node))
-          (IsHonestNow-more (says asked.after) (says asked.before) (view asked.before) (view asked.after) call acts (life_of node history) asked.same_says asked.said life))
-      go false e =
-          let apart : node_of performer ≢ node = λ s. grind (arith, nat_tests) in
-          subst (λ l. IsHonestNow (says object) (view object) l) (sym (heard-other performer call cause acts history node apart))
-          (honest node object (sym (rw e at is) ∙ at) known)
+      other : (seat : Who × O) → same_who performer seat.0 ≡ false → Lives None history seat → Lives None (Heard performer call cause acts ∷ history) seat
+      other seat apart lives known =
+          subst (λ l. IsHonestNow (says seat.1) (view seat.1) l) (sym (heard-other performer call cause acts history (node_of seat.0) (nodes-apart performer seat.0 apart))) (lives known)
 
   -- who gave no answer is left out
-  pub LiveHonestly-unanswered : (performer : Who) (call : Call) (answer : Result (List Act) AllocError) (old new : List (ℕ × O)) (history : List Entry)
-      → IsAsked view name says (node_of performer) call answer old new → LiveHonestly view says old None history → LiveHonestly view says new (Some performer) history
-  LiveHonestly-unanswered performer call answer old new history asked honest node object at known = go (nat_eq (node_of performer) node) refl
-    where
-      is : object_at new node ≡ (if nat_eq (node_of performer) node then Some asked.after else object_at old node)
-      is = object_at-asked (node_of performer) call answer old new asked node
-
-      go : (b : Bool) → nat_eq (node_of performer) node ≡ b → IsHonestNow (says object) (view object) (life_of node history)
-      go true e = absurd (known (ap Some (let same : node_of performer ≡ node = grind (arith, nat_tests) in same)))
-      go false e = honest node object (sym (rw e at is) ∙ at) (λ n. none-some node n)
+  pub LiveHonestly-unanswered : (performer : Who) (call : Call) (answer : Result (List Act) AllocError) (old new : List (Who × O)) (history : List Entry)
+      → IsAsked view name says performer call answer old new → LiveHonestly view says old None history → LiveHonestly view says new (Some performer) history
+  LiveHonestly-unanswered performer call answer old new history asked honest =
+      let were : All (Lives None history) ((performer, asked.before) ∷ asked.others) = All-permutation (Lives None history) old ((performer, asked.before) ∷ asked.others) (IsPermutation-sym ((performer, asked.before) ∷ asked.others) old asked.was) honest in
+      All-permutation (Lives (Some performer) history) ((performer, asked.after) ∷ asked.others) new asked.is
+      (All-cons (Lives (Some performer) history) (performer, asked.after) asked.others (λ known. absurd (known refl))
+      (All-weaker (Lives None history) (Lives (Some performer) history) (λ seat lives known. lives (λ n. none-some seat.0 n)) asked.others (All-tail (Lives None history) (performer, asked.before) asked.others were)))
 
   -- an entry that is nobody's answer leaves each life
-  pub LiveHonestly-silent : (entry : Entry) (history : List Entry) (held : List (ℕ × O)) (unknown : Option Who) → ((node : ℕ) → exchanged_in node entry ≡ [])
+  pub LiveHonestly-silent : (entry : Entry) (history : List Entry) (held : List (Who × O)) (unknown : Option Who) → ((node : ℕ) → exchanged_in node entry ≡ [])
       → LiveHonestly view says held unknown history → LiveHonestly view says held unknown (entry ∷ history)
-  LiveHonestly-silent entry history held unknown silent honest node object at known =
-      rw (silent node) (honest node object at known)
+  LiveHonestly-silent entry history held unknown silent honest =
+      All-weaker (Lives unknown history) (Lives unknown (entry ∷ history)) (λ seat lives known. rw (silent (node_of seat.0)) (lives known)) held honest
 
-  -- one more object, at a node that was not asked
-  pub LiveHonestly-more : (held new : List (ℕ × O)) (history : List Entry) (node : ℕ) (object : O) (unknown : Option Who)
-      → ((other : ℕ) → object_at new other ≡ (if nat_eq node other then Some object else object_at held other)) → life_of node history ≡ []
+  -- one more object, of which nothing was asked
+  pub LiveHonestly-more : (held new : List (Who × O)) (history : List Entry) (who : Who) (object : O) (unknown : Option Who) → IsPermutation ((who, object) ∷ held) new → life_of (node_of who) history ≡ []
       → LiveHonestly view says held unknown history → LiveHonestly view says new unknown history
-  LiveHonestly-more held new history node object unknown is unasked honest other found at known = go (nat_eq node other) refl
-    where
-      go : (b : Bool) → nat_eq node other ≡ b → IsHonestNow (says found) (view found) (life_of other history)
-      go true e =
-          let same_node : node ≡ other = grind (arith, nat_tests) in
-          let none : life_of other history ≡ [] = subst (λ n. life_of n history ≡ []) same_node unasked in
-          subst (λ l. IsHonestNow (says found) (view found) l) (sym none) ([], tt)
-      go false e = honest other found (sym (rw e at (is other)) ∙ at) known
+  LiveHonestly-more held new history who object unknown same unasked honest =
+      All-permutation (Lives unknown history) ((who, object) ∷ held) new same
+      (All-cons (Lives unknown history) (who, object) held (λ known. subst (λ l. IsHonestNow (says object) (view object) l) (sym unasked) ([], tt)) honest)
 
-  -- fewer objects
-  pub LiveHonestly-less : (held new : List (ℕ × O)) (history : List Entry) (node : ℕ) (unknown : Option Who)
-      → ((other : ℕ) → object_at new other ≡ (if nat_eq node other then None else object_at held other))
+  -- one less
+  pub LiveHonestly-less : (held new : List (Who × O)) (back : Who × O) (history : List Entry) (unknown : Option Who) → IsPermutation (back ∷ new) held
       → LiveHonestly view says held unknown history → LiveHonestly view says new unknown history
-  LiveHonestly-less held new history node unknown is honest other found at known = go (nat_eq node other) refl
-    where
-      go : (b : Bool) → nat_eq node other ≡ b → IsHonestNow (says found) (view found) (life_of other history)
-      go true e = absurd (none-some found (sym (rw e at (is other)) ∙ at))
-      go false e = honest other found (sym (rw e at (is other)) ∙ at) known
+  LiveHonestly-less held new back history unknown same honest =
+      All-tail (Lives unknown history) back new (All-permutation (Lives unknown history) held (back ∷ new) (IsPermutation-sym (back ∷ new) held same) honest)

@@ -24,7 +24,8 @@ use Rattle.bench_core.specs.declared.faults.CoreFault.{CoreFault}
 use Rattle.bench_core.specs.declared.faults.CoreFault.TheVariants.{Memory, LogFull, Failed, NoTest}
 use Rattle.bench_core.specs.Cores.{CoreValue, IsTurn, IsNextTurn, IsRefusedTurn, Comes, core_after, answer_in, failed_from, need_of}
 use Rattle.bench_kernel.specs.Kernels.{KernelValue}
-use Rattle.bench_kernel.specs.Steps.{IsAsked, IsMoved, IsRefusedStep, IsSameLog, WasGiven, unanswered_from}
+use Rattle.bench_kernel.specs.Asked.{IsAsked}
+use Rattle.bench_kernel.specs.Steps.{IsInNeed, IsMoved, IsRefusedStep, IsSameLog, WasGiven, unanswered_from}
 
 -- the machine made an entry: what alone could come
 pub record HasMoved (old new : CoreValue) : Type 0 where
@@ -138,15 +139,19 @@ unheard-log performer call old asking new health asks failed =
 
 module _ {O : Type 0} (view : O → View) (name : O → List ℕ) (says : O → Says) where
   -- an entry of the machine is nobody's answer
-  given-exact : MachineEntriesAreSilent → (script : ScriptValue) (history : List Entry) (entry : Entry) (held : List (ℕ × O)) → next_of script history ≡ next.Exactly entry → WasGiven view name says entry held held
+  given-exact : MachineEntriesAreSilent → (script : ScriptValue) (history : List Entry) (entry : Entry) (held : List (Who × O)) → next_of script history ≡ next.Exactly entry → WasGiven view name says entry held held
   given-exact silent script history (Heard performer call cause acts) held exact =
       absurd (let nothing = (silent script history (Heard performer call cause acts) exact).silent (node_of performer) in
       let same : (node_of performer == node_of performer) ≡ true = grind (arith, nat_tests) in
       let bad : (call, acts) ∷ [] ≡ [] = rw same at nothing in cc)
   given-exact silent script history entry held exact = refl
 
+  pub needed-step : (kernel : KernelValue O) (new : CoreValue) → HasNeeded kernel.core new → IsInNeed view name says kernel (record kernel { core = new })
+  needed-step kernel new needed = record { need = needed.need; next = needed.comes; is = rw needed.is refl }
+
   pub moved-step : MachineEntriesAreSilent → (kernel : KernelValue O) (new : CoreValue) (moved : HasMoved kernel.core new) → IsMoved view name says kernel (record kernel { core = new })
   moved-step silent kernel new moved = record {
+    unneeded = rw moved.exact refl;
     entry = moved.entry;
     next = rw moved.exact refl;
     given = given-exact silent kernel.core.script kernel.core.history moved.entry kernel.held moved.exact;
@@ -154,14 +159,15 @@ module _ {O : Type 0} (view : O → View) (name : O → List ℕ) (says : O → 
   }
 
   -- an object was asked, and its answer went into the log
-  pub answered-step : (kernel : KernelValue O) (core : CoreValue) (held : List (ℕ × O)) (performer : Who) (node : ℕ) (call : Call) (cause : Option Cause) (acts : List Act)
+  pub answered-step : (kernel : KernelValue O) (core : CoreValue) (held : List (Who × O)) (performer : Who) (call : Call) (cause : Option Cause) (acts : List Act)
       → next_of kernel.core.script kernel.core.history ≡ next.Answer performer call cause → kernel.failed ≡ false → kernel.unknown ≡ None → core ≡ core_after (Heard performer call cause acts) kernel.core
-      → node ≡ node_of performer → IsAsked view name says node call (Ok acts) kernel.held held
+      → IsAsked view name says performer call (Ok acts) kernel.held held
       → IsMoved view name says kernel (record { core = core; held = held; failed = false; unknown = None })
-  answered-step kernel core held performer node call cause acts answers going known is same_node asked = record {
+  answered-step kernel core held performer call cause acts answers going known is asked = record {
+    unneeded = rw answers refl;
     entry = Heard performer call cause acts;
     next = rw answers (acts, refl);
-    given = subst (λ n. IsAsked view name says n call (Ok acts) kernel.held held) same_node asked;
+    given = asked;
     is = rw (is, going, known) refl;
   }
 
@@ -191,12 +197,12 @@ module _ {O : Type 0} (view : O → View) (name : O → List ℕ) (says : O → 
   refused-step fault kernel new going good t = refused-at kernel.core.standing fault kernel new refl going good t
 
   -- an object was asked, and memory was refused
-  pub unanswered-step : (kernel : KernelValue O) (core : CoreValue) (performer : Who) (node : ℕ) (call : Call) (cause : Option Cause) (answer : Result (List Act) AllocError) (held : List (ℕ × O))
-      → next_of kernel.core.script kernel.core.history ≡ next.Answer performer call cause → need_of kernel.core.standing ≡ None → kernel.failed ≡ false → IsSameLog kernel.core core → core ≡ unanswered_from performer call cause answer kernel.core → node ≡ node_of performer
-      → IsAsked view name says node call answer kernel.held held → IsRefusedStep view name says Memory kernel (record { core = core; held = held; failed = true; unknown = Some performer })
-  unanswered-step kernel core performer node call cause answer held answers none going same left same_node asked = (
+  pub unanswered-step : (kernel : KernelValue O) (core : CoreValue) (performer asking : Who) (call : Call) (cause : Option Cause) (answer : Result (List Act) AllocError) (held : List (Who × O)) → asking ≡ performer
+      → next_of kernel.core.script kernel.core.history ≡ next.Answer performer call cause → need_of kernel.core.standing ≡ None → kernel.failed ≡ false → IsSameLog kernel.core core → core ≡ unanswered_from performer call cause answer kernel.core
+      → IsAsked view name says performer call answer kernel.held held → IsRefusedStep view name says Memory kernel (record { core = core; held = held; failed = true; unknown = Some asking })
+  unanswered-step kernel core performer asking call cause answer held same_who answers none going same left asked = (
     record { going = going; some = rw answers tt; nothing_needed = rw (going, none) refl },
-    inr (record { performer = performer; call = call; cause = cause; next = answers; answer = answer; asked = subst (λ n. IsAsked view name says n call answer kernel.held held) same_node asked; same_log = same; left = left; is = refl }),
+    inr (record { performer = performer; call = call; cause = cause; next = answers; answer = answer; asked = asked; same_log = same; left = left; is = rw same_who refl }),
   )
 
 -- where the machine refuses, the log stays

@@ -1,10 +1,10 @@
 -- What the calls of a kernel change.
-use Rattle.std.specs.Prelude.{◌≡◌, ◌≢◌, ◌<◌, ◌≤◌, ◌⊎◌, ℕ, true, false, nat_eq, List, ◌∷◌, ◌++◌, length, Option, Some, None, Result, Ok, Err, IfOk}
-use Rattle.std.specs.Map.{set_value}
+use Rattle.std.specs.Prelude.{◌≡◌, ◌≢◌, ◌<◌, ◌≤◌, ◌⊎◌, ℕ, true, false, List, ◌∷◌, length, Option, Some, None, Result, Ok, Err}
+use Rattle.std.specs.List.Sorted.{IsPermutation}
 use Rattle.std.specs.declared.alloc.AllocError.{AllocError}
-use Rattle.uvm_object.specs.Acts.{node_of}
-use Rattle.uvm_object.specs.Objects.{View, Says, SameSays}
+use Rattle.uvm_object.specs.Objects.{View, Says}
 use Rattle.uvm_object.specs.declared.acts.Who.{Who}
+use Rattle.uvm_object.specs.declared.acts.Who.TheVariants as who
 use Rattle.uvm_object.specs.declared.acts.Call.{Call}
 use Rattle.uvm_object.specs.declared.acts.Act.{Act}
 use Rattle.uvm_object.specs.declared.entries.Entry.{Entry}
@@ -13,23 +13,20 @@ use Rattle.uvm_phase.specs.declared.agendas.Cause.{Cause}
 use Rattle.bench_history.specs.Limits.{log_limit}
 use Rattle.bench_history.specs.History.{nodes_of, is_over}
 use Rattle.bench_history.specs.Laws.{IsSomething}
+use Rattle.bench_history.specs.declared.needs.Need as declared
 use Rattle.bench_history.specs.Cases.{Answer}
-use Rattle.bench_history.specs.Next.{next_of, IsNext, made_in}
-use Rattle.bench_core.specs.Cores.{Asked}
-use Rattle.bench_core.specs.declared.cores.Turn as turn
+use Rattle.bench_history.specs.Next.{next_of, need_in, IsNext, made_in}
+use Rattle.bench_core.specs.Cores.{Needed, Asked}
 use Rattle.bench_core.specs.declared.cores.Health.TheVariants.{Full, Broken}
 use Rattle.bench_core.specs.declared.faults.CoreFault.{CoreFault}
 use Rattle.bench_core.specs.declared.faults.CoreFault.TheVariants.{Memory, LogFull, Failed, NoTest}
-use Rattle.bench_core.specs.Cores.{CoreValue, core_after, failed_from, IsNextTurn}
+use Rattle.bench_core.specs.Cores.{CoreValue, core_after, failed_from}
 use Rattle.bench_kernel.specs.declared.kernels.Step.{Step}
 use Rattle.bench_kernel.specs.declared.kernels.Step.TheVariants.{Need, Moved, Over}
 use Rattle.bench_kernel.specs.declared.kernels.Misfit.{Misfit}
 use Rattle.bench_kernel.specs.declared.kernels.Misfit.TheVariants as misfit
-use Rattle.bench_kernel.specs.Kernels.{KernelValue, object_at, open_need, wanted_in}
-
--- the objects with another at a node that has one
-abbrev pub with_object : {O : Type 0} → List (ℕ × O) → ℕ → O → List (ℕ × O)
-with_object held node object = set_value (nat_eq node) held object
+use Rattle.bench_kernel.specs.Asked.{IsAsked}
+use Rattle.bench_kernel.specs.Kernels.{KernelValue, open_need, wanted_in}
 
 -- what is left of the machine where memory is refused: it waits on for an object that gave no answer, and has failed where
 -- one answered
@@ -43,24 +40,20 @@ pub record IsSameLog (old new : CoreValue) : Type 0 where
   pub history : new.history ≡ old.history
 
 module _ {O : Type 0} (view : O → View) (name : O → List ℕ) (says : O → Says) where
-  -- the object at a node heard a call: its name and its relation stay, what it answers is in its relation, and every other
-  -- object is what it was
-  pub record IsAsked (node : ℕ) (call : Call) (answer : Result (List Act) AllocError) (old new : List (ℕ × O)) : Type 0 where
-    pub before : O
-    pub after : O
-    pub was : object_at old node ≡ Some before
-    pub is : new ≡ with_object old node after
-    pub same_name : name after ≡ name before
-    pub same_says : SameSays (says after) (says before)
-    pub said : IfOk answer (λ acts. says before (view before) call acts (view after))
-
   -- an answer in the log was given by the object that it names; no other entry changes an object
-  abbrev pub WasGiven : Entry → List (ℕ × O) → List (ℕ × O) → Type 0
-  WasGiven (Heard performer call cause acts) old new = IsAsked (node_of performer) call (Ok acts) old new
+  abbrev pub WasGiven : Entry → List (Who × O) → List (Who × O) → Type 0
+  WasGiven (Heard performer call cause acts) old new = IsAsked view name says performer call (Ok acts) old new
   WasGiven entry old new = new ≡ old
 
-  -- one entry was made, which was next
+  -- an object is needed next, and the machine waits for it
+  pub record IsInNeed (old new : KernelValue O) : Type 0 where
+    pub need : declared.Need
+    pub next : need_in (next_of old.core.script old.core.history) ≡ Some need
+    pub is : new ≡ record old { core = record old.core { standing = Needed need } }
+
+  -- one entry was made, which was next, and needed no object
   pub record IsMoved (old new : KernelValue O) : Type 0 where
+    pub unneeded : need_in (next_of old.core.script old.core.history) ≡ None
     pub entry : Entry
     pub next : IsNext old.core.script old.core.history entry
     pub given : WasGiven entry old.held new.held
@@ -78,7 +71,7 @@ module _ {O : Type 0} (view : O → View) (name : O → List ℕ) (says : O → 
     pub cause : Option Cause
     pub next : next_of old.core.script old.core.history ≡ Answer performer call cause
     pub answer : Result (List Act) AllocError
-    pub asked : IsAsked (node_of performer) call answer old.held new.held
+    pub asked : IsAsked view name says performer call answer old.held new.held
     pub same_log : IsSameLog old.core new.core
     pub left : new.core ≡ unanswered_from performer call cause answer old.core
     pub is : new ≡ record { core = new.core; held = new.held; failed = true; unknown = Some performer }
@@ -98,20 +91,18 @@ module _ {O : Type 0} (view : O → View) (name : O → List ℕ) (says : O → 
 
   -- what a step gives
   abbrev pub IsStep : Result Step CoreFault → KernelValue O → KernelValue O → Type 0
-  IsStep (Ok Need) old new = (old.failed ≡ false) × IsNextTurn old.core.standing (Ok turn.TheVariants.Need) old.core new.core × (new ≡ record old { core = new.core })
+  IsStep (Ok Need) old new = (old.failed ≡ false) × IsInNeed old new
   IsStep (Ok Moved) old new = (old.failed ≡ false) × IsMoved old new
   IsStep (Ok Over) old new = (old.failed ≡ false) × (is_over old.core.history ≡ true) × (new ≡ old)
   IsStep (Err fault) old new = IsRefusedStep fault old new
 
-  -- the needed object was taken, of the type that was wanted, and stands at its new node
+  -- the needed object was taken, of the type that was wanted: it is held for its new node
   pub record IsSupplied (object : O) (old new : KernelValue O) : Type 0 where
     pub entry : Entry
     pub next : made_in (next_of old.core.script old.core.history) ≡ Some entry
     pub fits : name object ≡ wanted_in old
-    pub front : List (ℕ × O)
-    pub back : List (ℕ × O)
-    pub was : old.held ≡ front ++ back
-    pub is : new ≡ record old { core = core_after entry old.core; held = front ++ (length (nodes_of old.core.history), object) ∷ back }
+    pub held : IsPermutation ((who.Node (length (nodes_of old.core.history)), object) ∷ old.held) new.held
+    pub is : new ≡ record old { core = core_after entry old.core; held = new.held }
 
 -- why an object is not taken: its type is another than the wanted one, or it is the wanted one and memory is refused
 abbrev pub IsMisfit : Misfit → List ℕ → List ℕ → Type 0

@@ -1,33 +1,27 @@
 //! The kernel.
 
-ghost use Rattle.std.specs.Prelude.{◌≡◌, ◌++◌, ◌∷◌, [], true, false, OnOk, OnErr, IfOk, IfErr, IfSome, IfNone, OnSome, IsSome, None, length, option_copied};
-ghost use Rattle.std.specs.Map.{keys_of};
+ghost use Rattle.std.specs.Prelude.{◌≡◌, ◌∷◌, [], true, false, All, Contains, OnOk, OnErr, IfOk, IfErr, IfSome, IfNone, IsSome, None, length, option_copied};
+ghost use Rattle.std.specs.List.{IsDistinct};
+ghost use Rattle.std.specs.List.Sorted.{IsPermutation};
 ghost use Rattle.uvm_object.specs.Acts.{node_of};
-ghost use Rattle.bench_history.specs.History.{nodes_of};
+ghost use Rattle.uvm_object.specs.declared.acts.Who.TheVariants.{Node};
+ghost use Rattle.bench_history.specs.History.{components_of, nodes_of};
 ghost use Rattle.bench_history.specs.Next.{next_of, declined_in, IsLegal};
 ghost use Rattle.bench_core.specs.Cores.{IsUnmade, core_after};
 ghost use Rattle.bench_core.specs.Cores.{Nothing};
 ghost use Rattle.bench_core.specs.declared.cores.Health.TheVariants.{Good};
 ghost use Rattle.bench_kernel.specs.Orders.{IsFirstDown};
-ghost use Rattle.bench_kernel.specs.Kernels.{AreHonest, abandoned, is_done, open_need, wanted_in};
+ghost use Rattle.bench_kernel.specs.Kernels.{AreHonest, abandoned, is_done, open_need, same_who, types_of, wanted_in, who_held};
 ghost use Rattle.bench_kernel.specs.Steps.{IsMisfit, IsStep, IsSupplied};
-ghost use Rattle.bench_kernel.specs.Orders.{stays};
-ghost use Rattle.std.specs.List.{position_or_len};
-ghost use Rattle.std.specs.Ordering.{is_lt};
-ghost use Rattle.uvm_glob.specs.Orders.{down_cmp};
-ghost use Rattle.uvm_tree.specs.Nodes.{path_at};
 
-use crate::asking::ask_at;
 use crate::laws;
+use crate::seats::Seats;
 use bench_core::{Core, CoreFault, Need, Turn};
 use bench_script::Script;
-use indexmap::IndexMap;
 use rand_core::Rng;
 use std::alloc::Global;
 use std::marker::Model;
-use uvm_glob::Path;
 use uvm_object::{Log, UvmObject, Who};
-use uvm_tree::NodeId;
 
 /// What a step came to.
 #[derive(Clone, Copy, Debug, PartialEq, Eq)]
@@ -56,26 +50,27 @@ pub struct Unfit<O> {
     pub why: Misfit,
 }
 
-/// A testbench that runs: the machine, and the objects that it asks. Contracts see the machine, the objects that are held,
-/// each by the number of its node and the one that is given back first at the end, whether the kernel has failed, and which
-/// object gave no answer, if one did not.
+/// A testbench that runs: the machine, and the objects that it asks. Contracts see the machine, who is held with which object,
+/// in no order, whether the kernel has failed, and whose object gave no answer, if one did not.
 #[derive(Drop)]
 pub struct Kernel<O: UvmObject> {
     alloc: Global,
     core: Core,
-    held: IndexMap<NodeId, O>,
+    seats: Seats<O>,
     failed: bool,
     unknown: Option<Who>,
 }
 
 impl<O: UvmObject> Model for Kernel<O> {
-    ghost use Rattle.bench_kernel.specs.Kernels.{KernelValue, IsKernel};
+    ghost use Rattle.bench_kernel.specs.Seats.{held_in, paths_in};
+    ghost use Rattle.bench_kernel.specs.Kernels.{KernelValue, IsKernel, ArePlaced};
 
     ghost Value = { KernelValue O };
 
-    ghost view = { λ k. record { core = k.core; held = k.held.entries; failed = k.failed; unknown = k.unknown } };
+    ghost view = { λ k. record { core = k.core; held = held_in k.seats.taken; failed = k.failed; unknown = k.unknown } };
 
-    ghost invariant = { λ k. IsKernel O.view O.says (record { core = k.core; held = k.held.entries; failed = k.failed; unknown = k.unknown }) };
+    ghost invariant = { λ k. IsKernel O.view O.name O.says (record { core = k.core; held = held_in k.seats.taken; failed = k.failed; unknown = k.unknown })
+        × ArePlaced k.core.history (paths_in k.seats.taken) };
 }
 
 impl<O: UvmObject> Kernel<O> {
@@ -93,7 +88,7 @@ impl<O: UvmObject> Kernel<O> {
         Ok(Kernel {
             alloc,
             core: Core::new(alloc, script)?,
-            held: IndexMap::new(alloc),
+            seats: Seats::new(alloc),
             failed: false,
             unknown: None,
         })
@@ -114,10 +109,9 @@ impl<O: UvmObject> Kernel<O> {
         match self.core.next(words) {
             Ok(Turn::Need) => Ok(Step::Need),
             Ok(Turn::Ask { who, call }) => {
-                let node = who.node();
                 self.failed = true;
-                self.unknown = Some(who);
-                let Ok(acts) = ask_at(&mut self.held, node, self.alloc, &call) else {
+                self.unknown = Some(who.copy());
+                let Ok(acts) = self.seats.hear(&who, self.alloc, &call) else {
                     return Err(CoreFault::Memory);
                 };
                 self.core.heard(acts)?;
@@ -164,17 +158,14 @@ impl<O: UvmObject> Kernel<O> {
                 why: Misfit::WrongType,
             });
         }
-        let place = self.place_of(&need.path);
-        if self.held.reserve(1).is_err() {
+        let (Ok(path), Ok(())) = (need.path.copy(), self.seats.reserve()) else {
             return Err(Unfit {
                 object,
                 why: Misfit::Memory,
             });
-        }
-        let who = self.core.made();
-        let Ok(_) = self.held.shift_insert(place, who.node(), object) else {
-            unreachable!()
         };
+        let who = self.core.made();
+        self.seats.insert(who, path, object);
         Ok(())
     }
 
@@ -192,14 +183,13 @@ impl<O: UvmObject> Kernel<O> {
     /// is held. For a run that is over, or a kernel that has failed. Takes no memory.
     pub fn give_back(&mut self) -> Option<(Who, O)>
         requires { is_done self.old ≡ true }
-        ensures some { IfSome result (λ back. self.old.held ≡ self.new.held ++ (node_of back.0, back.1) ∷ []) }
-        ensures first { IfSome result (λ back. IsFirstDown (nodes_of self.old.core.history) (node_of back.0) (keys_of self.new.held)) }
+        ensures some { IfSome result (λ back. IsPermutation (back ∷ self.new.held) self.old.held) }
+        ensures first { IfSome result (λ back. IsFirstDown (nodes_of self.old.core.history) back.0 (who_held self.new)) }
         ensures none { IfNone result (self.old.held ≡ []) }
         ensures rest { self.new ≡ record self.old { held = self.new.held } }
         ensures unchanged { IfNone result (self.new ≡ self.old) }
     {
-        let (node, object) = self.held.pop()?;
-        Some((Who::Node(node), object))
+        self.seats.pop_first()
     }
 
     /// Gives up: from now on the kernel has failed, and only gives back. Nothing changes where the run is over, or the
@@ -228,35 +218,15 @@ impl<O: UvmObject> Kernel<O> {
         &self.core
     }
 
-    /// How many objects are held.
+    /// How many objects are held. Nobody is held twice. Who is held is a component that was made, and the object is of the type
+    /// that was made; while the run goes on each component is held.
     pub fn live(&self) -> usize
-        ensures { result ≡ length self.now.held }
+        ensures count { result ≡ length self.now.held }
+        ensures distinct { IsDistinct same_who (who_held self.now) }
+        ensures made { All (λ who. Contains (components_of self.now.core.history) (node_of who)) (who_held self.now) }
+        ensures named { All (λ seat. Contains (types_of self.now.core.history) (node_of seat.0, O.name seat.1)) self.now.held }
+        ensures whole { is_done self.now ≡ false → All (λ node. Contains (who_held self.now) (Node node)) (components_of self.now.core.history) }
     {
-        self.held.len()
-    }
-
-    // Where an object for a path is put: before the first that does not stand after it Down.
-    fn place_of(&self, path: &Path) -> usize
-        requires { self.now.failed ≡ false }
-        ensures { result ≡ position_or_len (stays (nodes_of self.now.core.history) path.now) (keys_of self.now.held) }
-    {
-        for place in 0..self.live() {
-            match self.held.get_index(place) {
-                Some((node, _)) if self.stands_before(path, *node) => (),
-                _ => return place,
-            }
-        }
-        self.live()
-    }
-
-    // Whether a path stands before a node Down.
-    fn stands_before(&self, path: &Path, node: NodeId) -> bool
-        requires { self.now.failed ≡ false }
-        ensures { result ≡ is_lt (down_cmp path.now (path_at (nodes_of self.now.core.history) node)) }
-    {
-        match self.core.path(node) {
-            Some(other) => path.cmp(other).is_lt(),
-            None => false,
-        }
+        self.seats.len()
     }
 }

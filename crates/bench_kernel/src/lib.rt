@@ -1,9 +1,9 @@
 //! The kernel: it holds the objects of a testbench, asks them, and gives each of them back.
 #![tactic(auto)]
 
-mod asking;
 mod kernels;
 mod laws;
+mod seats;
 #[cfg(test)]
 mod tests;
 

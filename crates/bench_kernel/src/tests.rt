@@ -1,4 +1,6 @@
-//! Whole runs of a kernel over objects, each as boxes, and one as an enum.
+//! Whole runs of a kernel, each over boxes and over an enum of objects.
+
+mod objects;
 
 ghost use Rattle.std.specs.Prelude.{◌≡◌, true};
 ghost use Rattle.std.specs.Bool.{OnTrue};
@@ -6,12 +8,12 @@ ghost use Rattle.bench_kernel.specs.Kernels.{is_done};
 
 use crate::{Kernel, Misfit, Step, Unfit};
 use bench_core::{Core, CoreFault};
+use objects::{AnyObject, Asker, Builder, Builds, Idle, Mute};
 use rand_pcg::Pcg32;
 use std::alloc::{AllocError, Global};
 use std::test::Fail;
 use uvm_glob::{Name, Path};
-use uvm_object::{Act, Acts, Call, UvmObject};
-use uvm_phase::Phase;
+use uvm_object::UvmObject;
 use uvm_tree::NodeId;
 
 const IDLE_SCRIPT: &[u8] =
@@ -20,236 +22,104 @@ const IDLE_SCRIPT: &[u8] =
 const BUS_SCRIPT: &[u8] =
     b"version = 1\ntest = \"bus_test\"\ntype = [{ name = \"bus_test\", kind = \"component\" }, { name = \"bus_env\", kind = \"component\" }]\n";
 
-/// Answers each call with no acts.
-#[derive(Drop)]
-struct Idle {
-    type_name: Name,
-}
-
-impl UvmObject for Idle {
-    ghost use Rattle.std.specs.Prelude.{◌≡◌, []};
-
-    ghost view = { λ _. [] };
-
-    ghost name = { λ idle. idle.type_name };
-
-    ghost says = { λ _ before _ acts after. (acts ≡ []) × (after ≡ before) };
-
-    fn type_name(&self) -> &Name {
-        &self.type_name
-    }
-
-    fn hear(&mut self, alloc: Global, _call: &Call) -> Result<Acts, AllocError> {
-        Ok(Acts::new(alloc))
-    }
-}
-
-/// Creates its children, of one type, when it builds.
-#[derive(Drop)]
-struct Parent {
-    type_name: Name,
-    children: Children,
-}
-
-/// The children of a parent, by their names.
+/// What a run shows.
 #[derive(Clone, Copy)]
-enum Children {
-    Env,
-    BAndAAndC,
+enum Row {
+    /// A test that does nothing runs to the end, and is given back.
+    Idle,
+    /// An object of another type comes back where a child is needed, and the child is declined then.
+    EnvDeclined,
+    /// A run that is abandoned while a third child is needed gives back the others.
+    Abandoned,
+    /// A test that gives no answer fails the kernel, and is given back.
+    NoAnswer,
+    /// An answer of 65 acts is noted, and is no want of memory.
+    LongAnswer,
+    /// A test that asks again and again fills the log, and is given back.
+    FullLog,
 }
 
-impl UvmObject for Parent {
-    ghost use Rattle.std.specs.Prelude.{◌≡◌, []};
-
-    ghost view = { λ _. [] };
-
-    ghost name = { λ parent. parent.type_name };
-
-    ghost says = { λ _ before _ _ after. after ≡ before };
-
-    fn type_name(&self) -> &Name {
-        &self.type_name
-    }
-
-    fn hear(&mut self, alloc: Global, call: &Call) -> Result<Acts, AllocError> {
-        let mut acts = Acts::new(alloc);
-        if let Call::Phase(Phase::Build) = call {
-            self.children.create(&mut acts)?;
-        }
-        Ok(acts)
-    }
-}
-
-impl Children {
-    fn create(self, acts: &mut Acts) -> Result<(), AllocError> {
+impl Row {
+    // The object that is made of a type.
+    fn object(self, type_name: Name) -> AnyObject {
         match self {
-            Children::Env => acts.push(create(b"env")?),
-            Children::BAndAAndC => {
-                acts.push(create(b"b")?)?;
-                acts.push(create(b"a")?)?;
-                acts.push(create(b"c")?)
-            }
-        }
-    }
-}
-
-/// Gives no answer.
-#[derive(Drop)]
-struct Mute {
-    type_name: Name,
-}
-
-impl UvmObject for Mute {
-    ghost use Rattle.std.specs.Prelude.{[]};
-
-    ghost view = { λ _. [] };
-
-    ghost name = { λ mute. mute.type_name };
-
-    ghost says = { λ _ _ _ _ _. ⊥ };
-
-    fn type_name(&self) -> &Name {
-        &self.type_name
-    }
-
-    fn hear(&mut self, _alloc: Global, _call: &Call) -> Result<Acts, AllocError> {
-        Err(AllocError)
-    }
-}
-
-/// An object of one of these types.
-#[derive(Drop)]
-enum AnyObject {
-    Idle(Idle),
-    Parent(Parent),
-}
-
-impl UvmObject for AnyObject {
-    ghost use Rattle.std.specs.Prelude.{◌≡◌, []};
-    ghost use Rattle.bench_kernel.specs.declared.tests.AnyObject.TheVariants as any;
-
-    ghost view = { λ _. [] };
-
-    ghost name = { λ object. elim object [ any.Idle idle ↦ idle.type_name | any.Parent parent ↦ parent.type_name ] };
-
-    ghost says = { λ _ before _ _ after. after ≡ before };
-
-    fn type_name(&self) -> &Name {
-        match self {
-            AnyObject::Idle(idle) => idle.type_name(),
-            AnyObject::Parent(parent) => parent.type_name(),
+            Row::EnvDeclined => AnyObject::builder(type_name, Builds::Env),
+            Row::Abandoned => AnyObject::builder(type_name, Builds::BAndAAndC),
+            Row::LongAnswer => AnyObject::Builder(Builder {
+                type_name,
+                builds: Builds::TooMuch,
+            }),
+            Row::FullLog => AnyObject::Asker(Asker { type_name }),
+            Row::NoAnswer => AnyObject::Mute(Mute { type_name }),
+            Row::Idle => AnyObject::Idle(Idle { type_name }),
         }
     }
 
-    fn hear(&mut self, alloc: Global, call: &Call) -> Result<Acts, AllocError> {
+    fn script(self) -> &'static [u8] {
         match self {
-            AnyObject::Idle(idle) => idle.hear(alloc, call),
-            AnyObject::Parent(parent) => parent.hear(alloc, call),
+            Row::EnvDeclined | Row::Abandoned => BUS_SCRIPT,
+            Row::Idle | Row::NoAnswer | Row::LongAnswer | Row::FullLog => IDLE_SCRIPT,
+        }
+    }
+}
+
+impl AnyObject {
+    // The test builds, and all others are idle.
+    fn builder(type_name: Name, builds: Builds) -> AnyObject {
+        if type_name.as_bytes() == b"bus_test".as_slice() {
+            AnyObject::Builder(Builder { type_name, builds })
+        } else {
+            AnyObject::Idle(Idle { type_name })
         }
     }
 }
 
 #[test]
 fn idle_test_runs_to_the_end(rt: HostRuntime) -> Result<(), Fail> {
-    let alloc = rt.alloc();
-    let passed = idle_runs(
-        alloc,
-        |type_name: Name| -> Result<Box<dyn UvmObject>, AllocError> {
-            match Box::new(alloc, Idle { type_name }) {
-                Ok(object) => Ok(object),
-                Err(_) => Err(AllocError),
-            }
-        },
-    )?;
-    assert!(rt; passed);
+    assert!(rt; runs_in_boxes(rt.alloc(), Row::Idle)?);
+    assert!(rt; runs_in_an_enum(rt.alloc(), Row::Idle)?);
     Ok(())
 }
 
 #[test]
-fn idle_test_of_an_enum_runs_to_the_end(rt: HostRuntime) -> Result<(), Fail> {
-    let passed = idle_runs(
-        rt.alloc(),
-        |type_name: Name| -> Result<AnyObject, AllocError> {
-            Ok(AnyObject::Idle(Idle { type_name }))
-        },
-    )?;
-    assert!(rt; passed);
-    Ok(())
-}
-
-#[test]
-fn box_of_another_type_comes_back_and_the_child_is_declined(rt: HostRuntime) -> Result<(), Fail> {
-    let alloc = rt.alloc();
-    let passed = env_is_declined(
-        alloc,
-        |type_name: Name| -> Result<Box<dyn UvmObject>, AllocError> {
-            if is_bus_test(&type_name) {
-                let children = Children::Env;
-                match Box::new(
-                    alloc,
-                    Parent {
-                        type_name,
-                        children,
-                    },
-                ) {
-                    Ok(object) => Ok(object),
-                    Err(_) => Err(AllocError),
-                }
-            } else {
-                match Box::new(alloc, Idle { type_name }) {
-                    Ok(object) => Ok(object),
-                    Err(_) => Err(AllocError),
-                }
-            }
-        },
-    )?;
-    assert!(rt; passed);
+fn object_of_another_type_comes_back_and_the_child_is_declined(
+    rt: HostRuntime,
+) -> Result<(), Fail> {
+    assert!(rt; runs_in_boxes(rt.alloc(), Row::EnvDeclined)?);
+    assert!(rt; runs_in_an_enum(rt.alloc(), Row::EnvDeclined)?);
     Ok(())
 }
 
 #[test]
 fn abandoned_run_gives_back_each_object_down(rt: HostRuntime) -> Result<(), Fail> {
-    let alloc = rt.alloc();
-    let passed = run_is_abandoned(
-        alloc,
-        |type_name: Name| -> Result<Box<dyn UvmObject>, AllocError> {
-            if is_bus_test(&type_name) {
-                let children = Children::BAndAAndC;
-                match Box::new(
-                    alloc,
-                    Parent {
-                        type_name,
-                        children,
-                    },
-                ) {
-                    Ok(object) => Ok(object),
-                    Err(_) => Err(AllocError),
-                }
-            } else {
-                match Box::new(alloc, Idle { type_name }) {
-                    Ok(object) => Ok(object),
-                    Err(_) => Err(AllocError),
-                }
-            }
-        },
-    )?;
-    assert!(rt; passed);
+    assert!(rt; runs_in_boxes(rt.alloc(), Row::Abandoned)?);
+    assert!(rt; runs_in_an_enum(rt.alloc(), Row::Abandoned)?);
     Ok(())
 }
 
 #[test]
 fn object_that_gives_no_answer_fails_the_kernel(rt: HostRuntime) -> Result<(), Fail> {
-    let alloc = rt.alloc();
-    let passed = mute_fails(
-        alloc,
-        |type_name: Name| -> Result<Box<dyn UvmObject>, AllocError> {
-            match Box::new(alloc, Mute { type_name }) {
-                Ok(object) => Ok(object),
-                Err(_) => Err(AllocError),
-            }
-        },
-    )?;
-    assert!(rt; passed);
+    assert!(rt; runs_in_boxes(rt.alloc(), Row::NoAnswer)?);
+    assert!(rt; runs_in_an_enum(rt.alloc(), Row::NoAnswer)?);
+    Ok(())
+}
+
+#[test]
+fn long_answer_is_noted(rt: HostRuntime) -> Result<(), Fail> {
+    assert!(rt; runs_in_boxes(rt.alloc(), Row::LongAnswer)?);
+    assert!(rt; runs_in_an_enum(rt.alloc(), Row::LongAnswer)?);
+    Ok(())
+}
+
+#[test]
+fn boxed_objects_come_back_after_a_full_log(rt: HostRuntime) -> Result<(), Fail> {
+    assert!(rt; runs_in_boxes(rt.alloc(), Row::FullLog)?);
+    Ok(())
+}
+
+#[test]
+fn objects_of_an_enum_come_back_after_a_full_log(rt: HostRuntime) -> Result<(), Fail> {
+    assert!(rt; runs_in_an_enum(rt.alloc(), Row::FullLog)?);
     Ok(())
 }
 
@@ -261,15 +131,56 @@ fn script_without_a_test_has_no_kernel(rt: HostRuntime) -> Result<(), Fail> {
     Ok(())
 }
 
-// Whether a test that does nothing runs to the end, and is given back.
-fn idle_runs<O: UvmObject, F: Fn(Name) -> Result<O, AllocError> + Drop>(
+// Whether a row comes out over boxes.
+fn runs_in_boxes(alloc: Global, row: Row) -> Result<bool, Fail> {
+    runs(
+        alloc,
+        row,
+        |type_name: Name| -> Result<Box<dyn UvmObject>, AllocError> {
+            match Box::new(alloc, row.object(type_name)) {
+                Ok(object) => Ok(object),
+                Err(_) => Err(AllocError),
+            }
+        },
+    )
+}
+
+// Whether it does over objects of an enum.
+fn runs_in_an_enum(alloc: Global, row: Row) -> Result<bool, Fail> {
+    runs(
+        alloc,
+        row,
+        |type_name: Name| -> Result<AnyObject, AllocError> { Ok(row.object(type_name)) },
+    )
+}
+
+fn runs<O: UvmObject, F: Fn(Name) -> Result<O, AllocError> + Drop>(
     alloc: Global,
+    row: Row,
     make: F,
 ) -> Result<bool, Fail>
     requires { F.IsAlwaysCallable make }
 {
-    let mut kernel: Kernel<O> = made(alloc, IDLE_SCRIPT)?;
-    ends_idle(alloc, &mut kernel, &make)
+    let mut kernel: Kernel<O> = Kernel::new(alloc, bench_script::read(alloc, row.script())?)?;
+    comes_out(alloc, row, &mut kernel, &make)
+}
+
+fn comes_out<O: UvmObject, F: Fn(Name) -> Result<O, AllocError> + Drop>(
+    alloc: Global,
+    row: Row,
+    kernel: &mut Kernel<O>,
+    make: &F,
+) -> Result<bool, Fail>
+    requires { F.IsAlwaysCallable make.now }
+{
+    match row {
+        Row::Idle => ends_idle(alloc, kernel, make),
+        Row::EnvDeclined => ends_declined(alloc, kernel, make),
+        Row::Abandoned => ends_abandoned(alloc, kernel, make),
+        Row::NoAnswer => ends_unanswered(alloc, kernel, make),
+        Row::LongAnswer => ends_noted(alloc, kernel, make),
+        Row::FullLog => ends_full(alloc, kernel, make),
+    }
 }
 
 fn ends_idle<O: UvmObject, F: Fn(Name) -> Result<O, AllocError> + Drop>(
@@ -287,17 +198,6 @@ fn ends_idle<O: UvmObject, F: Fn(Name) -> Result<O, AllocError> + Drop>(
             && gives_back(alloc, kernel, TEST_ALONE)?
             && kernel.live() == 0,
     )
-}
-
-// Whether an object of another type comes back where a child is needed, and the child is declined then.
-fn env_is_declined<O: UvmObject, F: Fn(Name) -> Result<O, AllocError> + Drop>(
-    alloc: Global,
-    make: F,
-) -> Result<bool, Fail>
-    requires { F.IsAlwaysCallable make }
-{
-    let mut kernel: Kernel<O> = made(alloc, BUS_SCRIPT)?;
-    ends_declined(alloc, &mut kernel, &make)
 }
 
 fn ends_declined<O: UvmObject, F: Fn(Name) -> Result<O, AllocError> + Drop>(
@@ -331,17 +231,6 @@ fn declines_after_another<O: UvmObject, F: Fn(Name) -> Result<O, AllocError> + D
     )
 }
 
-// Whether a run that is abandoned while a third child is needed gives back the others.
-fn run_is_abandoned<O: UvmObject, F: Fn(Name) -> Result<O, AllocError> + Drop>(
-    alloc: Global,
-    make: F,
-) -> Result<bool, Fail>
-    requires { F.IsAlwaysCallable make }
-{
-    let mut kernel: Kernel<O> = made(alloc, BUS_SCRIPT)?;
-    ends_abandoned(alloc, &mut kernel, &make)
-}
-
 fn ends_abandoned<O: UvmObject, F: Fn(Name) -> Result<O, AllocError> + Drop>(
     alloc: Global,
     kernel: &mut Kernel<O>,
@@ -360,37 +249,54 @@ fn ends_abandoned<O: UvmObject, F: Fn(Name) -> Result<O, AllocError> + Drop>(
     )
 }
 
-// Whether a test that gives no answer fails the kernel, and is given back.
-fn mute_fails<O: UvmObject, F: Fn(Name) -> Result<O, AllocError> + Drop>(
-    alloc: Global,
-    make: F,
-) -> Result<bool, Fail>
-    requires { F.IsAlwaysCallable make }
-{
-    let mut kernel: Kernel<O> = made(alloc, IDLE_SCRIPT)?;
-    ends_mute(alloc, &mut kernel, &make)
-}
-
-fn ends_mute<O: UvmObject, F: Fn(Name) -> Result<O, AllocError> + Drop>(
+fn ends_unanswered<O: UvmObject, F: Fn(Name) -> Result<O, AllocError> + Drop>(
     alloc: Global,
     kernel: &mut Kernel<O>,
     make: &F,
 ) -> Result<bool, Fail>
     requires { F.IsAlwaysCallable make.now }
 {
-    let never = Path::parse(alloc, b"never")?;
-    let mut text = Vec::new(alloc);
     Ok(
-        go(kernel, make, &never, &mut text)?
-            && go(kernel, make, &never, &mut text)?
-            && gets_no_answer(kernel)
+        refusal(kernel, make)? == Some(CoreFault::Memory)
+            && kernel.log().len() == 2
+            && fails(kernel)
             && gives_back(alloc, kernel, TEST_ALONE)?,
     )
 }
 
-// The kernel of a script.
-fn made<O: UvmObject>(alloc: Global, script: &[u8]) -> Result<Kernel<O>, Fail> {
-    Ok(Kernel::new(alloc, bench_script::read(alloc, script)?)?)
+fn ends_noted<O: UvmObject, F: Fn(Name) -> Result<O, AllocError> + Drop>(
+    alloc: Global,
+    kernel: &mut Kernel<O>,
+    make: &F,
+) -> Result<bool, Fail>
+    requires { F.IsAlwaysCallable make.now }
+{
+    Ok(
+        writes(alloc, kernel, make, b"never", LONG_ANSWER)?
+            && gives_back(alloc, kernel, TEST_ALONE)?,
+    )
+}
+
+fn ends_full<O: UvmObject, F: Fn(Name) -> Result<O, AllocError> + Drop>(
+    alloc: Global,
+    kernel: &mut Kernel<O>,
+    make: &F,
+) -> Result<bool, Fail>
+    requires { F.IsAlwaysCallable make.now }
+{
+    Ok(
+        refusal(kernel, make)? == Some(CoreFault::LogFull)
+            && kernel.log().len() == 1_000_000
+            && writes_last(
+                alloc,
+                kernel.core(),
+                b"did uvm_test_top get f: value none\n",
+            )?
+            && fails(kernel)
+            && kernel.live() == 1
+            && gives_back(alloc, kernel, TEST_ALONE)?
+            && kernel.live() == 0,
+    )
 }
 
 // Whether these entries are made until the object at a path is needed, or the run is over.
@@ -506,17 +412,33 @@ fn declines<O: UvmObject>(kernel: &mut Kernel<O>, path: &Path) -> bool {
 
 // Abandons the run: whether it has failed then, with nothing needed.
 fn fails_abandoned<O: UvmObject>(kernel: &mut Kernel<O>) -> bool {
-    let mut words = Pcg32::new(42, 54);
     kernel.abandon();
-    kernel.need().is_none() && matches!(kernel.step(&mut words), Err(CoreFault::Failed))
+    kernel.need().is_none() && fails(kernel)
 }
 
-// Whether memory is refused to the object that is asked, with no third entry, and the kernel has failed then.
-fn gets_no_answer<O: UvmObject>(kernel: &mut Kernel<O>) -> bool {
+// Whether the kernel has failed.
+fn fails<O: UvmObject>(kernel: &mut Kernel<O>) -> bool {
     let mut words = Pcg32::new(42, 54);
-    matches!(kernel.step(&mut words), Err(CoreFault::Memory))
-        && kernel.log().len() == 2
-        && matches!(kernel.step(&mut words), Err(CoreFault::Failed))
+    matches!(kernel.step(&mut words), Err(CoreFault::Failed))
+}
+
+// Makes entries until a step is refused: the fault, if one comes.
+fn refusal<O: UvmObject, F: Fn(Name) -> Result<O, AllocError> + Drop>(
+    kernel: &mut Kernel<O>,
+    make: &F,
+) -> Result<Option<CoreFault>, Fail>
+    requires { F.IsAlwaysCallable make.now }
+{
+    let mut words = Pcg32::new(42, 54);
+    for _ in 0..1_000_002 {
+        match kernel.step(&mut words) {
+            Ok(Step::Need) => meet(kernel, make)?,
+            Ok(Step::Moved) => (),
+            Ok(Step::Over) => return Ok(None),
+            Err(fault) => return Ok(Some(fault)),
+        }
+    }
+    Ok(None)
 }
 
 // Whether the objects at these paths are given back, in this order, and then none.
@@ -578,17 +500,6 @@ fn write_path(core: &Core, node: NodeId, paths: &mut Vec<u8>) -> Result<(), Fail
     Ok(())
 }
 
-fn is_bus_test(type_name: &Name) -> bool {
-    type_name.as_bytes() == b"bus_test".as_slice()
-}
-
-fn create(name: &[u8]) -> Result<Act, AllocError> {
-    match (Name::new(b"bus_env"), Name::new(name)) {
-        (Ok(type_name), Ok(name)) => Ok(Act::Create { type_name, name }),
-        _ => Err(AllocError),
-    }
-}
-
 const ENV: &[u8] = b"uvm_test_top.env";
 
 const IDLE_RUN: &[u8] = b"did uvm_top create idle uvm_test_top: made idle
@@ -628,6 +539,13 @@ heard uvm_test_top build: 1
 ";
 
 const DECLINED: &[u8] = b"did uvm_test_top create bus_env env: refused FCTTYP\n";
+
+const LONG_ANSWER: &[u8] = b"did uvm_top create idle uvm_test_top: made idle
+begin build
+heard uvm_test_top build: 65
+note ACTLIM uvm_test_top
+over exit
+";
 
 const C_NEEDED: &[u8] = b"did uvm_top create bus_test uvm_test_top: made bus_test
 begin build

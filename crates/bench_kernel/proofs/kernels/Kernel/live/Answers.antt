@@ -1,0 +1,10 @@
+use Rattle.bench_kernel.proofs.kernels.Kernel.live.Goals as goal
+
+pub returns-clause-made : goal.returns-clause-made
+returns-clause-made g c = rw (← c.self.view_is) c.self.invariant.0.custody.made
+
+pub returns-clause-named : goal.returns-clause-named
+returns-clause-named g c = rw (← c.self.view_is) c.self.invariant.0.custody.named
+
+pub returns-clause-whole : goal.returns-clause-whole
+returns-clause-whole g c = rw (← c.self.view_is) c.self.invariant.0.custody.whole

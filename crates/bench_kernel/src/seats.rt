@@ -1,0 +1,122 @@
+//! The seats of the objects.
+
+ghost use Rattle.std.specs.Prelude.{◌≡◌, ◌≢◌, ◌<◌, ◌∷◌, [], All, Contains, length, OnOk, IfSome, IfNone};
+ghost use Rattle.std.specs.List.Sorted.{IsPermutation};
+ghost use Rattle.std.specs.Map.{keys_of};
+ghost use Rattle.bench_kernel.specs.Asked.{IsAsked};
+ghost use Rattle.bench_kernel.specs.Seats.{IsTakenOut, held_in, paths_in};
+
+use slab::Slab;
+use std::alloc::{AllocError, Global};
+use std::cmp::Reverse;
+use std::collections::{BinaryHeap, HashMap};
+use std::marker::Model;
+use uvm_glob::Path;
+use uvm_object::{Acts, Call, UvmObject, Who};
+use uvm_tree::NodeId;
+
+/// The seats of the objects that are held. Contracts see who sits at which path, with the object, in no order, and for how many
+/// more there is room.
+#[derive(Drop)]
+pub(crate) struct Seats<O> {
+    taken: Slab<Seat<O>>,
+    // The keys of the components' seats, by their nodes.
+    components: HashMap<NodeId, usize>,
+    // And by their paths: the first Down is on top.
+    down: BinaryHeap<(Reverse<Path>, usize)>,
+}
+
+// A seat that is taken.
+#[derive(Drop)]
+struct Seat<O> {
+    who: Who,
+    object: O,
+}
+
+impl<O> Model for Seats<O> {
+    ghost use Rattle.bench_kernel.specs.Seats.{SeatsValue};
+
+    ghost Value = { SeatsValue O };
+
+    ghost use Rattle.std.specs.BinaryHeap.{heap_items};
+    ghost use Rattle.bench_kernel.specs.Places.{AreSeats, room_in, taken_in};
+
+    ghost view = { λ s. record { taken = taken_in s.taken (heap_items s.down); spare = room_in s.taken s.components s.down } };
+
+    ghost invariant = { λ s. AreSeats s.taken s.components.entries (heap_items s.down) };
+}
+
+impl<O> Seats<O> {
+    /// None is taken.
+    pub(crate) fn new(alloc: Global) -> Seats<O>
+        ensures { result.taken ≡ [] }
+    {
+        Seats {
+            taken: Slab::new(alloc),
+            components: HashMap::new(alloc),
+            down: BinaryHeap::new(alloc),
+        }
+    }
+
+    /// Makes room for one more.
+    pub(crate) fn reserve(&mut self) -> Result<(), AllocError>
+        ensures taken { self.new.taken ≡ self.old.taken }
+        ensures room { OnOk result (0 < self.new.spare) }
+    {
+        self.taken.reserve(1)?;
+        self.components.reserve(1)?;
+        self.down.reserve(1)
+    }
+
+    /// Seats an object at a path. Takes no memory.
+    pub(crate) fn insert(&mut self, who: Who, path: Path, object: O)
+        requires room { 0 < self.old.spare }
+        requires apart { All (λ other. other ≢ who) (keys_of (held_in self.old.taken)) }
+        ensures { IsPermutation (record { path = path; who = who; object = object } ∷ self.old.taken) self.new.taken }
+    {
+        let node = who.node();
+        let key = self.taken.insert_reserved(Seat { who, object });
+        let Ok(_) = self.components.insert(node, key) else {
+            unreachable!()
+        };
+        let Ok(()) = self.down.push((Reverse(path), key)) else {
+            unreachable!()
+        };
+    }
+
+    /// Takes the first Down from its seat. None where no seat is taken. Takes no memory.
+    pub(crate) fn pop_first(&mut self) -> Option<(Who, O)>
+        ensures some { IfSome result (λ back. IsTakenOut back self.old.taken self.new.taken) }
+        ensures none { IfNone result (self.old.taken ≡ []) }
+        ensures unchanged { IfNone result (self.new.taken ≡ self.old.taken) }
+    {
+        let (_, key) = self.down.pop()?;
+        let Seat { who, object } = self.taken.remove(key);
+        self.components.remove(&who.node());
+        Some((who, object))
+    }
+
+    /// How many are taken.
+    pub(crate) fn len(&self) -> usize
+        ensures { result ≡ length self.now.taken }
+    {
+        self.down.len()
+    }
+}
+
+impl<O: UvmObject> Seats<O> {
+    /// Somebody hears a call.
+    pub(crate) fn hear(&mut self, who: &Who, alloc: Global, call: &Call) -> Result<Acts, AllocError>
+        requires { Contains (keys_of (held_in self.old.taken)) who.now }
+        ensures asked { IsAsked O.view O.name O.says who.now call.now result (held_in self.old.taken) (held_in self.new.taken) }
+        ensures paths { IsPermutation (paths_in self.old.taken) (paths_in self.new.taken) }
+    {
+        let Some(key) = self.components.get(&who.node()).copied() else {
+            unreachable!()
+        };
+        match self.taken.get_mut(key) {
+            Some(seat) => seat.object.hear(alloc, call),
+            None => unreachable!(),
+        }
+    }
+}

@@ -1,0 +1,214 @@
+//! The objects that the tests run with.
+
+use std::alloc::{AllocError, Global};
+use uvm_glob::Name;
+use uvm_object::{Act, Acts, Call, UvmObject, What};
+use uvm_phase::Phase;
+
+/// Answers each call with no acts.
+#[derive(Drop)]
+pub(crate) struct Idle {
+    pub(crate) type_name: Name,
+}
+
+impl UvmObject for Idle {
+    ghost use Rattle.std.specs.Prelude.{◌≡◌, []};
+
+    ghost view = { λ _. [] };
+
+    ghost name = { λ idle. idle.type_name };
+
+    ghost says = { λ _ before _ acts after. (acts ≡ []) × (after ≡ before) };
+
+    fn type_name(&self) -> &Name {
+        &self.type_name
+    }
+
+    fn hear(&mut self, alloc: Global, _call: &Call) -> Result<Acts, AllocError> {
+        Ok(Acts::new(alloc))
+    }
+}
+
+/// Answers when it builds.
+#[derive(Drop)]
+pub(crate) struct Builder {
+    pub(crate) type_name: Name,
+    pub(crate) builds: Builds,
+}
+
+/// What a builder answers.
+#[derive(Clone, Copy)]
+pub(crate) enum Builds {
+    /// It creates an environment.
+    Env,
+    /// It creates three children.
+    BAndAAndC,
+    /// It adds a FIFO, 65 times.
+    TooMuch,
+}
+
+impl UvmObject for Builder {
+    ghost use Rattle.std.specs.Prelude.{◌≡◌, []};
+
+    ghost view = { λ _. [] };
+
+    ghost name = { λ builder. builder.type_name };
+
+    ghost says = { λ _ before _ _ after. after ≡ before };
+
+    fn type_name(&self) -> &Name {
+        &self.type_name
+    }
+
+    fn hear(&mut self, alloc: Global, call: &Call) -> Result<Acts, AllocError> {
+        let mut acts = Acts::new(alloc);
+        if let Call::Phase(Phase::Build) = call {
+            self.builds.push_to(&mut acts)?;
+        }
+        Ok(acts)
+    }
+}
+
+impl Builds {
+    fn push_to(self, acts: &mut Acts) -> Result<(), AllocError> {
+        match self {
+            Builds::Env => acts.push(create(b"env")?),
+            Builds::BAndAAndC => {
+                acts.push(create(b"b")?)?;
+                acts.push(create(b"a")?)?;
+                acts.push(create(b"c")?)
+            }
+            Builds::TooMuch => {
+                for _ in 0..65 {
+                    acts.push(add(b"f")?)?;
+                }
+                Ok(())
+            }
+        }
+    }
+}
+
+/// Asks for a field when it builds, and again whenever it is told the value.
+#[derive(Drop)]
+pub(crate) struct Asker {
+    pub(crate) type_name: Name,
+}
+
+impl UvmObject for Asker {
+    ghost use Rattle.std.specs.Prelude.{◌≡◌, []};
+
+    ghost view = { λ _. [] };
+
+    ghost name = { λ asker. asker.type_name };
+
+    ghost says = { λ _ before _ _ after. after ≡ before };
+
+    fn type_name(&self) -> &Name {
+        &self.type_name
+    }
+
+    fn hear(&mut self, alloc: Global, call: &Call) -> Result<Acts, AllocError> {
+        let mut acts = Acts::new(alloc);
+        match call {
+            Call::Phase(Phase::Build) => acts.push(get(b"f")?)?,
+            Call::Config { .. } => acts.push(get(b"f")?)?,
+            Call::Phase(_) => (),
+        }
+        Ok(acts)
+    }
+}
+
+/// Gives no answer.
+#[derive(Drop)]
+pub(crate) struct Mute {
+    pub(crate) type_name: Name,
+}
+
+impl UvmObject for Mute {
+    ghost use Rattle.std.specs.Prelude.{[]};
+
+    ghost view = { λ _. [] };
+
+    ghost name = { λ mute. mute.type_name };
+
+    ghost says = { λ _ _ _ _ _. ⊥ };
+
+    fn type_name(&self) -> &Name {
+        &self.type_name
+    }
+
+    fn hear(&mut self, _alloc: Global, _call: &Call) -> Result<Acts, AllocError> {
+        Err(AllocError)
+    }
+}
+
+/// An object of one of these types.
+#[derive(Drop)]
+pub(crate) enum AnyObject {
+    Idle(Idle),
+    Builder(Builder),
+    Asker(Asker),
+    Mute(Mute),
+}
+
+impl UvmObject for AnyObject {
+    ghost use Rattle.std.specs.Prelude.{◌≡◌, []};
+    ghost use Rattle.bench_kernel.specs.declared.tests.objects.AnyObject.TheVariants as any;
+
+    ghost view = { λ _. [] };
+
+    ghost name = { λ object. elim object [
+      | any.Idle idle ↦ idle.type_name
+      | any.Builder builder ↦ builder.type_name
+      | any.Asker asker ↦ asker.type_name
+      | any.Mute mute ↦ mute.type_name
+    ] };
+
+    ghost says = { λ _ before _ _ after. after ≡ before };
+
+    fn type_name(&self) -> &Name {
+        match self {
+            AnyObject::Idle(idle) => idle.type_name(),
+            AnyObject::Builder(builder) => builder.type_name(),
+            AnyObject::Asker(asker) => asker.type_name(),
+            AnyObject::Mute(mute) => mute.type_name(),
+        }
+    }
+
+    fn hear(&mut self, alloc: Global, call: &Call) -> Result<Acts, AllocError> {
+        match self {
+            AnyObject::Idle(idle) => idle.hear(alloc, call),
+            AnyObject::Builder(builder) => builder.hear(alloc, call),
+            AnyObject::Asker(asker) => asker.hear(alloc, call),
+            AnyObject::Mute(mute) => mute.hear(alloc, call),
+        }
+    }
+}
+
+fn create(name: &[u8]) -> Result<Act, AllocError> {
+    Ok(Act::Create {
+        type_name: known(b"bus_env")?,
+        name: known(name)?,
+    })
+}
+
+fn add(name: &[u8]) -> Result<Act, AllocError> {
+    Ok(Act::Add {
+        name: known(name)?,
+        what: What::Fifo { size: 1 },
+    })
+}
+
+fn get(field: &[u8]) -> Result<Act, AllocError> {
+    Ok(Act::Get {
+        field: known(field)?,
+    })
+}
+
+// The name of a text that is one.
+fn known(text: &[u8]) -> Result<Name, AllocError> {
+    match Name::new(text) {
+        Ok(name) => Ok(name),
+        Err(_) => Err(AllocError),
+    }
+}

@@ -1,5 +1,5 @@
 -- What is due, in the order in which it comes due.
-use Rattle.std.specs.Prelude.{◌≡◌, ℕ, Bool, true, false, ◌&&◌, ◌||◌, ◌==◌, nat_lt, List, [], ◌∷◌, ◌++◌, length, All, AllPairs, IsPermutation, if◌then◌else◌}
+use Rattle.std.specs.Prelude.{◌≡◌, ◌+◌, ℕ, Bool, true, false, ◌&&◌, ◌||◌, ◌==◌, nat_lt, List, [], ◌∷◌, ◌++◌, length, All, AllPairs, IsPermutation, if◌then◌else◌}
 use Rattle.uvm_phase.specs.declared.agendas.Cause.{Cause}
 use Rattle.uvm_phase.specs.declared.agendas.Due.{Due}
 
@@ -31,6 +31,10 @@ IsInOrder dues = AllPairs (λ due later. is_due_before later due ≡ false) dues
 pub record AgendaValue (O N : Type 0) : Type 0 where
   pub dues : List (Due O N)
   pub spare : ℕ
+
+-- how many calls fit before memory is taken
+abbrev pub capacity_of : {O N : Type 0} → AgendaValue O N → ℕ
+capacity_of agenda = length agenda.dues + agenda.spare
 
 -- the place of the one that comes due first in a list, of equal ones the first: it comes before each in front of it, and
 -- none behind it comes before it

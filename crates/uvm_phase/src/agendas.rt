@@ -1,8 +1,8 @@
 //! The calls that are due, each at its time.
 
-ghost use Rattle.std.specs.Prelude.{◌≡◌, ◌==◌, ◌<◌, ◌↔◌, [], not, length, filter, drop, slice_get, All, OnOk, OnErr, IsOk, IsNone, IfSome, option_copied, false};
+ghost use Rattle.std.specs.Prelude.{◌≡◌, ◌==◌, ◌<◌, ◌≤◌, ◌↔◌, [], not, length, filter, drop, slice_get, All, OnOk, OnErr, IsOk, IsNone, IfSome, option_copied, false, vec_capacity};
 ghost use Rattle.uvm_phase.specs.Phases.{same_phase};
-ghost use Rattle.uvm_phase.specs.Dues.{is_due_before, insert_due, IsFirstPlace};
+ghost use Rattle.uvm_phase.specs.Dues.{is_due_before, insert_due, capacity_of, IsFirstPlace};
 
 use crate::phases::Phase;
 use std::alloc::{AllocError, Global};
@@ -74,10 +74,11 @@ impl<O: Drop, N: Drop> Agenda<O, N> {
         }
     }
 
-    /// Makes room for a call: the next `due` then takes no memory.
+    /// Makes room for a call: the next `due` then takes no memory. No room is given up, here or below.
     pub fn reserve(&mut self) -> Result<(), AllocError>
         ensures dues { self.new.dues ≡ self.old.dues }
         ensures spare { OnOk result (0 < self.new.spare) }
+        ensures capacity { capacity_of self.old ≤ capacity_of self.new }
     {
         self.dues.reserve(1)
     }
@@ -95,6 +96,7 @@ impl<O: Drop, N: Drop> Agenda<O, N> {
         ensures ok { OnOk result (self.new.dues ≡ insert_due (record { time = time; cause = cause; phase = phase; owner = owner; notice = notice }) self.old.dues) }
         ensures err { OnErr result (self.new.dues ≡ self.old.dues) }
         ensures room { 0 < self.old.spare → IsOk result }
+        ensures capacity { capacity_of self.old ≤ capacity_of self.new }
     {
         self.dues.push(Due {
             time,
@@ -115,18 +117,20 @@ impl<O: Drop, N: Drop> Agenda<O, N> {
         self.dues.get(place)
     }
 
-    /// Takes out the call that comes due first, if one is due. Takes no memory.
+    /// Takes out the call that comes due first, if one is due. Takes no memory, and leaves room for another.
     pub fn take_first(&mut self) -> Option<Due<O, N>>
         ensures value { result ≡ slice_get self.old.dues 0 }
         ensures rest { self.new.dues ≡ drop 1 self.old.dues }
+        ensures capacity { capacity_of self.new ≡ capacity_of self.old }
     {
         let place = first_place(self.dues.as_slice())?;
         Some(self.dues.remove(place))
     }
 
-    /// Takes out the calls of a phase. Takes no memory.
+    /// Takes out the calls of a phase. Takes no memory, and leaves room for as many.
     pub fn clear(&mut self, phase: Phase)
-        ensures { self.new.dues ≡ filter (λ due. not (same_phase due.phase phase)) self.old.dues }
+        ensures dues { self.new.dues ≡ filter (λ due. not (same_phase due.phase phase)) self.old.dues }
+        ensures capacity { capacity_of self.new ≡ capacity_of self.old }
     {
         take_out_phase(&mut self.dues, phase);
     }
@@ -147,9 +151,10 @@ impl<O: Drop, N: Drop> Agenda<O, N> {
 }
 
 impl<O: PartialEq + Drop, N: Drop> Agenda<O, N> {
-    /// Takes out the calls of an owner. Takes no memory.
+    /// Takes out the calls of an owner. Takes no memory, and leaves room for as many.
     pub fn cancel(&mut self, owner: &O)
-        ensures { self.new.dues ≡ filter (λ due. not (O.eq due.owner owner.now)) self.old.dues }
+        ensures dues { self.new.dues ≡ filter (λ due. not (O.eq due.owner owner.now)) self.old.dues }
+        ensures capacity { capacity_of self.new ≡ capacity_of self.old }
     {
         take_out_owner(&mut self.dues, owner);
     }
@@ -173,13 +178,15 @@ fn first_place<O, N>(dues: &[Due<O, N>]) -> Option<usize>
 }
 
 fn take_out_phase<O: Drop, N: Drop>(dues: &mut Vec<Due<O, N>>, phase: Phase)
-    ensures { dues.new.items ≡ filter (λ due. not (same_phase due.phase phase)) dues.old.items }
+    ensures left { dues.new.items ≡ filter (λ due. not (same_phase due.phase phase)) dues.old.items }
+    ensures capacity { vec_capacity dues.new ≡ vec_capacity dues.old }
 {
     dues.retain(|due| due.phase != phase);
 }
 
 fn take_out_owner<O: PartialEq + Drop, N: Drop>(dues: &mut Vec<Due<O, N>>, owner: &O)
-    ensures { dues.new.items ≡ filter (λ due. not (O.eq due.owner owner.now)) dues.old.items }
+    ensures left { dues.new.items ≡ filter (λ due. not (O.eq due.owner owner.now)) dues.old.items }
+    ensures capacity { vec_capacity dues.new ≡ vec_capacity dues.old }
 {
     dues.retain(|due| due.owner != *owner);
 }

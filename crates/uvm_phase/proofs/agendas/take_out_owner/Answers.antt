@@ -2,5 +2,5 @@ use Rattle.std.proofs.Common.{rules}
 use Rattle.std.proofs.lemmas.Fn.{filter_same}
 use Rattle.uvm_phase.proofs.agendas.take_out_owner.Goals as goal
 
-pub returns : goal.returns
-returns g c = filter_same _ _ _ (λ x b f' k. search rules) _ _ c.retain.ensures.filtered
+pub returns-clause-left : goal.returns-clause-left
+returns-clause-left g c = filter_same _ _ _ (λ x b f' k. search rules) _ _ c.retain.ensures.filtered

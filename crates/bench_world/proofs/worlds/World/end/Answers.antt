@@ -12,5 +12,5 @@ invariant_of-self-2 c =
     let before = c.self.inside.log.entries in
     entered (End c.args.phase) c.self.invariant r.sound r.room (rw r.next refl) c.in_ok-push.ensures.ok c.in_ok-push.ensures.limit (λ m.
     let built = c.is_built_with-self-inside.ensures ∙ ap (λ built. ends_build (End c.args.phase) || built) m.built in
-    let agenda = agenda-ended (caused_of before) (heard_of before) (ended_of before) _ _ _ c.args.phase c.order_keeps_filters.ensures m.agenda c.clear.ensures in
+    let agenda = agenda-ended (caused_of before) (heard_of before) (ended_of before) _ _ _ c.args.phase c.order_keeps_filters.ensures m.agenda c.clear.ensures.dues in
     search (rules, later))

@@ -26,8 +26,7 @@ use Rattle.bench_history.specs.Limits.{most_acts}
 use Rattle.bench_history.specs.History.{next_call, speaker_of}
 use Rattle.bench_history.specs.Upshots.{Upshot, Needs, Does, Finds, Refuses, upshot_of}
 
--- what comes next: this entry; the answer of a hearer to a call, which was caused or is a phase's; an object for the act of a performer, made or
--- declined; or nothing
+-- what comes next: this entry; the answer of a hearer to a call, caused or a phase's; an object for a performer's act, made or declined; or nothing
 pub data Next : Type 0 where
   Exactly : (entry : Entry) → Next
   Answer : (hearer : Who) → (call : Call) → (cause : Option Cause) → Next
@@ -54,7 +53,6 @@ by_upshot performer act Does = Exactly (Did performer Done act)
 by_upshot performer act (Finds value) = Exactly (Did performer (Value value) act)
 by_upshot performer act (Refuses fatal) = Exactly (Did performer (Refused fatal) act)
 
--- what comes of an act by what it comes to
 abbrev pub by_act : ScriptValue → List Entry → Who → Act → Next
 by_act script history performer act = by_upshot performer act (upshot_of script history performer act)
 

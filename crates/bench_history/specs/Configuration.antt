@@ -27,13 +27,12 @@ abbrev pub is_building : Stage → Bool
 is_building (During Build) = true
 is_building stage = false
 
--- an act that is done sets a field under its performer's path
 abbrev pub settings_after : Bool → List (List ℕ) → List Setting → Outcome → Act → List Setting
 settings_after building path settings Done (Set glob field value) =
     record { scope = dotted (path_text path) glob; field = field; precedence = precedence_of building (length path); value = value } ∷ settings
 settings_after building path settings outcome act = settings
 
--- the settings, the newest first: those of the acts, behind them the script's
+-- the settings, the newest first: those of the accepted acts, each under its performer's path, behind them the script's
 abbrev pub settings_of : ScriptValue → List Entry → List Setting
 settings_of script [] = reverse (map given_setting script.settings)
 settings_of script (Did performer outcome act ∷ before) =

@@ -39,7 +39,6 @@ caused_of (Did performer outcome act ∷ before) =
     calls_from outcome act performer (running (stage_of before)) (now_of before) (length before) ++ caused_of before
 caused_of (entry ∷ before) = caused_of before
 
--- an entry in which a call was heard that was caused
 abbrev pub heard_in : Entry → List Cause
 heard_in (Heard hearer call (Some cause) acts) = cause ∷ []
 heard_in entry = []
@@ -48,7 +47,6 @@ heard_in entry = []
 abbrev pub heard_of : List Entry → List Cause
 heard_of history = flat_map heard_in history
 
--- an entry that ends a phase
 abbrev pub ended_in : Entry → List Phase
 ended_in (End phase) = phase ∷ []
 ended_in entry = []

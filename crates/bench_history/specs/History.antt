@@ -60,19 +60,17 @@ created_name act = []
 abbrev pub kind_of : What → NodeKind
 kind_of (what.Fifo size) = kind.Fifo
 
--- each object that is made and each accepted addition is one node more, under its performer
 abbrev pub nodes_after : List Node → Who → Outcome → Act → List Node
 nodes_after nodes performer (Made type_name) act = nodes ++ child nodes (node_of performer) (created_name act) kind.Component ∷ []
 nodes_after nodes performer Done (Add name what) = nodes ++ child nodes (node_of performer) name (kind_of what) ∷ []
 nodes_after nodes performer outcome act = nodes
 
--- all nodes by their numbers, the top first
+-- all nodes by their numbers: the top, and under its performer each object that was made and each accepted addition
 abbrev pub nodes_of : List Entry → List Node
 nodes_of [] = top ∷ []
 nodes_of (Did performer outcome act ∷ before) = nodes_after (nodes_of before) performer outcome act
 nodes_of (entry ∷ before) = nodes_of before
 
--- an object that is made stands at the node that is new with it
 abbrev pub components_after : ℕ → List ℕ → Outcome → List ℕ
 components_after node components (Made type_name) = components ++ node ∷ []
 components_after node components outcome = components
@@ -90,7 +88,6 @@ called_of (Begin phase ∷ before) = []
 called_of (Heard hearer call None acts ∷ before) = node_of hearer ∷ called_of before
 called_of (entry ∷ before) = called_of before
 
--- whether a node is among those that had their call
 abbrev pub had_call : List ℕ → ℕ → Bool
 had_call called node = list_any (λ other. other == node) called
 
@@ -136,13 +133,11 @@ speaker_of [] = who.Node 0
 speaker_of (Heard hearer call cause acts ∷ before) = hearer
 speaker_of (entry ∷ before) = speaker_of before
 
--- the overrides with one more between two types that are known, as those of an accepted act are
 abbrev pub with_override : Option ℕ → Option ℕ → (ℕ → ℕ → Override) → List Override → List Override
 with_override (Some original) (Some new) make overrides = make original new ∷ overrides
 with_override (Some original) None make overrides = overrides
 with_override None new make overrides = overrides
 
--- an act that is done overrides a type, everywhere or at the paths that a glob matches under its performer's
 abbrev pub overrides_after : Types → List Node → List Override → Who → Outcome → Act → List Override
 overrides_after types nodes overrides performer Done (OverrideType original new replace) =
     with_override (type_named types original) (type_named types new) (λ o n. Whole o n replace) overrides
@@ -150,13 +145,12 @@ overrides_after types nodes overrides performer Done (OverrideInst original new 
     with_override (type_named types original) (type_named types new) (λ o n. Instance o n (dotted (path_text (path_at nodes (node_of performer))) glob)) overrides
 overrides_after types nodes overrides performer outcome act = overrides
 
--- the overrides, the newest first: those of the accepted acts, behind them the script's
+-- the overrides, the newest first: those of the accepted acts, globs under their performers' paths, behind them the script's
 abbrev pub overrides_of : ScriptValue → List Entry → List Override
 overrides_of script [] = reverse script.overrides
 overrides_of script (Did performer outcome act ∷ before) = overrides_after script.types (nodes_of before) (overrides_of script before) performer outcome act
 overrides_of script (entry ∷ before) = overrides_of script before
 
--- this entry ends build
 abbrev pub ends_build : Entry → Bool
 ends_build (End Build) = true
 ends_build entry = false

@@ -13,7 +13,6 @@ use Rattle.bench_history.specs.History.{stage_of, running, left_of, reason_of}
 use Rattle.bench_history.specs.Dues.{due_now}
 use Rattle.bench_history.specs.Cases.{Next, Exactly, Answer, Need, Nothing, end_reached, giving_up, long_answer, first_act, call_due, phase_call, phase_end, phase_begin, phase_to_begin, finish}
 
--- of some cases the first that is given
 abbrev pub first_next : List (Option Next) → Next
 first_next cases = unwrap_or (first_given cases) Nothing
 
@@ -39,7 +38,6 @@ Allows (Answer hearer call cause) entry = (acts : List Act) × (entry ≡ Heard 
 Allows (Need need performer act) entry = (entry ≡ Did performer (Made need.type_name) act) ⊎ (entry ≡ Did performer (Refused NoObject) act)
 Allows Nothing entry = ⊥
 
--- an entry may come next after a log
 abbrev pub IsNext : ScriptValue → List Entry → Entry → Type 0
 IsNext script history entry = Allows (next_of script history) entry
 

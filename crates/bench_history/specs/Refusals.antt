@@ -17,8 +17,7 @@ use Rattle.uvm_tree.specs.Nodes.{path_at, add_fault}
 use Rattle.uvm_object.specs.declared.fatals.Fatal.{Fatal}
 use Rattle.uvm_object.specs.declared.fatals.Fatal.TheVariants.{CreatedAfterBuild, InvalidType, ChildTaken, TreeLimit, OverrideLoop, TooManySettings}
 
--- a creation that is asked for: whether build has ended, the types, the overrides with the newest first and the nodes that are there, the
--- node below which something is created, the name of the type that is asked for, and the name that it gets
+-- a creation that is asked for below a node: of which type by name, under which name, and what it depends on, the overrides with the newest first
 pub record Creation : Type 0 where
   pub built : Bool
   pub types : Types
@@ -32,7 +31,6 @@ pub record Creation : Type 0 where
 abbrev pub created_path : Creation → List (List ℕ)
 created_path creation = path_at creation.nodes creation.parent ++ creation.name ∷ []
 
--- the number of a type, if the type is a component's
 abbrev pub component_from : ℕ → Option (List ℕ × Kind) → Option ℕ
 component_from type_id None = None
 component_from type_id (Some (name, Component)) = Some type_id
@@ -50,19 +48,16 @@ type_asked creation = component_named creation.types creation.type_name
 abbrev pub type_made : Creation → Option ℕ
 type_made creation = option_and_then (made_type creation.overrides (length creation.types) (path_text (created_path creation))) (type_asked creation)
 
--- a fault of the tree, as a refusal
 abbrev pub fatal_of : Option TreeFault → Option Fatal
 fatal_of None = None
 fatal_of (Some NameTaken) = Some ChildTaken
 fatal_of (Some fault) = Some TreeLimit
 
--- why there is no new child of a name: it is taken, or nothing can stand there, as under a parent that is not there, of a text that is no
--- name, or beyond the limits of the tree
+-- why there is no new child of a name: it is taken, or nothing can stand there (no parent, no name, or beyond the limits of the tree)
 abbrev pub child_refusal : List Node → ℕ → List ℕ → Option Fatal
 child_refusal nodes parent name = fatal_of (add_fault nodes parent name)
 
--- nothing is created after build; the type that is asked for has to be a component's; there has to be a new child of the name; and the overrides
--- must be no loop
+-- nothing is created after build; the type has to be a component's; there has to be a new child of the name; the overrides must be no loop
 unfoldable pub creation_refusal : Creation → Option Fatal
 creation_refusal creation =
     first_given (
@@ -80,11 +75,9 @@ addition_refusal built nodes parent name = first_given (fault_if built CreatedAf
 unfoldable pub setting_refusal : ℕ → Option Fatal
 setting_refusal count = fault_if (nat_le most_settings count) TooManySettings
 
--- the kind of the type of a name
 abbrev pub kind_named : Types → List ℕ → Option Kind
 kind_named types name = option_and_then (λ type_id. option_map (λ t. t.1) (slice_get types type_id)) (type_named types name)
 
--- both are there, and one
 abbrev pub are_of_one_kind : Option Kind → Option Kind → Bool
 are_of_one_kind (Some original) (Some new) = is_same_kind original new
 are_of_one_kind original new = false

@@ -33,7 +33,6 @@ unless_refused (Some fatal) upshot = Refuses fatal
 abbrev pub needed_object : Creation → Need
 needed_object creation = record { kind = Component; type_name = option_map_or (λ made. type_name_or creation.types made creation.type_name) (type_made creation) creation.type_name; path = created_path creation }
 
--- a creation needs its object, unless it is refused
 abbrev pub creation_upshot : Creation → Upshot
 creation_upshot creation = unless_refused (creation_refusal creation) (Needs (needed_object creation))
 

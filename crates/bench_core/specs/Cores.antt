@@ -66,16 +66,16 @@ Comes (Needed need) comes = need_in comes ≡ Some need
 Comes (Asked hearer call cause) comes = comes ≡ next.Answer hearer call cause
 
 -- something was asked
-abbrev pub IsAsked : Standing → Type 0
-IsAsked Nothing = ⊥
-IsAsked standing = Unit {0}
+abbrev pub AsksSomething : Standing → Type 0
+AsksSomething Nothing = ⊥
+AsksSomething standing = Unit {0}
 
 -- while memory was not refused the world is sound; what was asked comes next, and is asked of a machine that goes on
 pub record IsCore (world : WorldValue) (question : Option Question) (health : Health) : Type 0 where
   pub sound : is_sound health ≡ true → world.sound ≡ true
   pub comes : Comes (standing_of world.waiting question) (next_of world.script world.history)
   pub one : IsSome world.waiting → question ≡ None
-  pub room : IsAsked (standing_of world.waiting question) → length world.history < log_limit world.script
+  pub room : AsksSomething (standing_of world.waiting question) → length world.history < log_limit world.script
   pub none : is_good health ≡ false → standing_of world.waiting question ≡ Nothing
 
 -- what a turn is, by what comes next

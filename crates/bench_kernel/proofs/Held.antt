@@ -29,13 +29,13 @@ use Rattle.bench_history.specs.Next.{EachIsNext}
 use Rattle.bench_history.specs.Laws.{ComponentsAreNodes, NodesStay}
 use Rattle.bench_kernel.specs.Asked.{IsAsked}
 use Rattle.bench_kernel.specs.Seats.{IsTakenOut, Taken, held_in, paths_in}
-use Rattle.bench_kernel.specs.Kernels.{AreHeld, ArePlaced, same_who, types_of}
+use Rattle.bench_kernel.specs.Kernels.{AreHeld, ArePlaced, same_who, types_made}
 use Rattle.bench_kernel.specs.Orders.{IsFirstDown}
 use Rattle.bench_kernel.proofs.Lists.{All-unmap, recursion-from_All}
 use Rattle.bench_kernel.proofs.Lives.{same_who-flips}
 
 -- an entry that makes no component leaves their types
-pub types-same : (entry : Entry) (history : List Entry) → components_of (entry ∷ history) ≡ components_of history → types_of (entry ∷ history) ≡ types_of history
+pub types-same : (entry : Entry) (history : List Entry) → components_of (entry ∷ history) ≡ components_of history → types_made (entry ∷ history) ≡ types_made history
 types-same (Did performer (Made type_name) act) history same =
     let counts : length (components_of history) + length (length (nodes_of history) ∷ []) ≡ length (components_of history) = sym (length-append (components_of history) (length (nodes_of history) ∷ [])) ∙ ap length same in
     absurd (omega (arith, counts))
@@ -61,10 +61,10 @@ keys-asked {O} view name says who call answer old new asked =
 module _ {O : Type 0} (name : O → List ℕ) where
   -- the types that a log says
   abbrev HasType : List Entry → Who × O → Type 0
-  HasType history seat = Contains (types_of history) (node_of seat.0, name seat.1)
+  HasType history seat = Contains (types_made history) (node_of seat.0, name seat.1)
 
   -- no component was made
-  pub AreHeld-later : (done more : Bool) (history later : List Entry) (held : List (Who × O)) → components_of later ≡ components_of history → types_of later ≡ types_of history → (more ≡ false → done ≡ false)
+  pub AreHeld-later : (done more : Bool) (history later : List Entry) (held : List (Who × O)) → components_of later ≡ components_of history → types_made later ≡ types_made history → (more ≡ false → done ≡ false)
       → AreHeld name done history held → AreHeld name more later held
   AreHeld-later done more history later held components types going were = record {
     distinct = were.distinct;
@@ -91,7 +91,7 @@ module _ {O : Type 0} (name : O → List ℕ) where
 
   -- a component was made, and its object was supplied
   pub AreHeld-more : (history later : List Entry) (held new : List (Who × O)) (done : Bool) (node : ℕ) (object : O) → IsPermutation ((Node node, object) ∷ held) new
-      → components_of later ≡ components_of history ++ node ∷ [] → types_of later ≡ (node, name object) ∷ types_of history → All (λ who. node_of who < node) (keys_of held)
+      → components_of later ≡ components_of history ++ node ∷ [] → types_made later ≡ (node, name object) ∷ types_made history → All (λ who. node_of who < node) (keys_of held)
       → AreHeld name false history held → AreHeld name done later new
   AreHeld-more history later held new done node object same components types below were =
       let keys : IsPermutation (Node node ∷ keys_of held) (keys_of new) = IsPermutation-map (λ (seat : Who × O). seat.0) ((Node node, object) ∷ held) new same in
@@ -110,9 +110,9 @@ module _ {O : Type 0} (name : O → List ℕ) where
             (keys_of held) were.made)));
         named =
             rw types
-            (All-permutation (λ (seat : Who × O). Contains ((node, name object) ∷ types_of history) (node_of seat.0, name seat.1)) ((Node node, object) ∷ held) new same
-            (All-cons (λ (seat : Who × O). Contains ((node, name object) ∷ types_of history) (node_of seat.0, name seat.1)) (Node node, object) held (0, omega arith, refl)
-            (All-weaker (HasType history) (λ (seat : Who × O). Contains ((node, name object) ∷ types_of history) (node_of seat.0, name seat.1)) (λ seat there. (suc there.0, omega (arith, there.1), there.2)) held were.named)));
+            (All-permutation (λ (seat : Who × O). Contains ((node, name object) ∷ types_made history) (node_of seat.0, name seat.1)) ((Node node, object) ∷ held) new same
+            (All-cons (λ (seat : Who × O). Contains ((node, name object) ∷ types_made history) (node_of seat.0, name seat.1)) (Node node, object) held (0, omega arith, refl)
+            (All-weaker (HasType history) (λ (seat : Who × O). Contains ((node, name object) ∷ types_made history) (node_of seat.0, name seat.1)) (λ seat there. (suc there.0, omega (arith, there.1), there.2)) held were.named)));
         whole = λ on.
             rw components
             (All-push (λ other. Contains (keys_of new) (Node other)) (components_of history) node

@@ -34,7 +34,7 @@ use Rattle.bench_kernel.specs.Asked.{IsAsked}
 use Rattle.bench_kernel.specs.Laws.{LogLaws}
 use Rattle.bench_kernel.specs.Seats.{IsTakenOut, Taken, held_in, paths_in}
 use Rattle.bench_kernel.specs.Orders.{IsFirstDown}
-use Rattle.bench_kernel.specs.Kernels.{KernelValue, IsKernel, ArePlaced, is_done, same_who, types_of, who_held}
+use Rattle.bench_kernel.specs.Kernels.{KernelValue, IsKernel, ArePlaced, is_done, same_who, types_made, who_held}
 use Rattle.bench_kernel.specs.Steps.{IsSameLog}
 use Rattle.bench_kernel.proofs.Held.{AreHeld-asked, AreHeld-later, AreHeld-less, AreHeld-more, ArePlaced-later, first-taken_out, held-below, types-same}
 use Rattle.bench_kernel.proofs.Lives.{LiveHonestly-heard, LiveHonestly-unanswered, LiveHonestly-silent, LiveHonestly-more, LiveHonestly-less}
@@ -231,7 +231,7 @@ module _ {O : Type 0} (view : O → View) (name : O → List ℕ) (says : O → 
           custody = record {
             distinct = IsDistinct-nil;
             made = All-nil (λ (who : Who). Contains (components_of []) (node_of who));
-            named = All-nil (λ (seat : Who × O). Contains (types_of []) (node_of seat.0, name seat.1));
+            named = All-nil (λ (seat : Who × O). Contains (types_made []) (node_of seat.0, name seat.1));
             whole = λ on. All-nil (λ node. Contains (keys_of (held_in {O = O} [])) (Node node));
           };
           good = λ going. refl;

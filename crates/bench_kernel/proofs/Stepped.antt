@@ -25,7 +25,7 @@ use Rattle.bench_core.specs.declared.faults.CoreFault.TheVariants.{Memory, LogFu
 use Rattle.bench_core.specs.Cores.{CoreValue, IsTurn, IsNextTurn, IsRefusedTurn, Comes, core_after, answer_in, failed_from, need_of}
 use Rattle.bench_kernel.specs.Kernels.{KernelValue}
 use Rattle.bench_kernel.specs.Asked.{IsAsked}
-use Rattle.bench_kernel.specs.Steps.{IsInNeed, IsMoved, IsRefusedStep, IsSameLog, WasGiven, unanswered_from}
+use Rattle.bench_kernel.specs.Steps.{IsWaiting, IsMoved, IsRefusedStep, IsSameLog, WasGiven, unanswered_from}
 
 -- the machine made an entry: what alone could come
 pub record HasMoved (old new : CoreValue) : Type 0 where
@@ -146,7 +146,7 @@ module _ {O : Type 0} (view : O → View) (name : O → List ℕ) (says : O → 
       let bad : (call, acts) ∷ [] ≡ [] = rw same at nothing in cc)
   given-exact silent script history entry held exact = refl
 
-  pub needed-step : (kernel : KernelValue O) (new : CoreValue) → HasNeeded kernel.core new → IsInNeed view name says kernel (record kernel { core = new })
+  pub needed-step : (kernel : KernelValue O) (new : CoreValue) → HasNeeded kernel.core new → IsWaiting view name says kernel (record kernel { core = new })
   needed-step kernel new needed = record { need = needed.need; next = needed.comes; is = rw needed.is refl }
 
   pub moved-step : MachineEntriesAreSilent → (kernel : KernelValue O) (new : CoreValue) (moved : HasMoved kernel.core new) → IsMoved view name says kernel (record kernel { core = new })

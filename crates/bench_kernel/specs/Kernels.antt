@@ -54,10 +54,10 @@ abbrev pub types_after : ℕ → List (ℕ × List ℕ) → Outcome → List (�
 types_after node types (Made type_name) = (node, type_name) ∷ types
 types_after node types outcome = types
 
-abbrev pub types_of : List Entry → List (ℕ × List ℕ)
-types_of [] = []
-types_of (Did performer outcome act ∷ before) = types_after (length (nodes_of before)) (types_of before) outcome
-types_of (entry ∷ before) = types_of before
+abbrev pub types_made : List Entry → List (ℕ × List ℕ)
+types_made [] = []
+types_made (Did performer outcome act ∷ before) = types_after (length (nodes_of before)) (types_made before) outcome
+types_made (entry ∷ before) = types_made before
 
 module _ {O : Type 0} (view : O → View) (says : O → Says) where
   -- each object that is held has lived the life that the log says, but for one that gave no answer
@@ -72,7 +72,7 @@ module _ {O : Type 0} (view : O → View) (says : O → Says) where
 pub record AreHeld {O : Type 0} (name : O → List ℕ) (done : Bool) (history : List Entry) (held : List (Who × O)) : Type 0 where
   pub distinct : IsDistinct same_who (keys_of held)
   pub made : All (λ who. Contains (components_of history) (node_of who)) (keys_of held)
-  pub named : All (λ seat. Contains (types_of history) (node_of seat.0, name seat.1)) held
+  pub named : All (λ seat. Contains (types_made history) (node_of seat.0, name seat.1)) held
   pub whole : done ≡ false → All (λ node. Contains (keys_of held) (Node node)) (components_of history)
 
 -- each sits at the path of its node

@@ -46,7 +46,7 @@ module _ {O : Type 0} (view : O → View) (name : O → List ℕ) (says : O → 
   WasGiven entry old new = new ≡ old
 
   -- an object is needed next, and the machine waits for it
-  pub record IsInNeed (old new : KernelValue O) : Type 0 where
+  pub record IsWaiting (old new : KernelValue O) : Type 0 where
     pub need : declared.Need
     pub next : need_in (next_of old.core.script old.core.history) ≡ Some need
     pub is : new ≡ record old { core = record old.core { standing = Needed need } }
@@ -91,7 +91,7 @@ module _ {O : Type 0} (view : O → View) (name : O → List ℕ) (says : O → 
 
   -- what a step gives
   abbrev pub IsStep : Result Step CoreFault → KernelValue O → KernelValue O → Type 0
-  IsStep (Ok Need) old new = (old.failed ≡ false) × IsInNeed old new
+  IsStep (Ok Need) old new = (old.failed ≡ false) × IsWaiting old new
   IsStep (Ok Moved) old new = (old.failed ≡ false) × IsMoved old new
   IsStep (Ok Over) old new = (old.failed ≡ false) × (is_over old.core.history ≡ true) × (new ≡ old)
   IsStep (Err fault) old new = IsRefusedStep fault old new

@@ -11,7 +11,7 @@ ghost use Rattle.bench_core.specs.Cores.{IsUnmade, core_after};
 ghost use Rattle.bench_core.specs.Cores.{Nothing};
 ghost use Rattle.bench_core.specs.declared.cores.Health.TheVariants.{Good};
 ghost use Rattle.bench_kernel.specs.Orders.{IsFirstDown};
-ghost use Rattle.bench_kernel.specs.Kernels.{AreHonest, abandoned, is_done, open_need, same_who, types_of, wanted_in, who_held};
+ghost use Rattle.bench_kernel.specs.Kernels.{AreHonest, abandoned, is_done, open_need, same_who, types_made, wanted_in, who_held};
 ghost use Rattle.bench_kernel.specs.Steps.{IsMisfit, IsStep, IsSupplied};
 
 use crate::laws;
@@ -224,7 +224,7 @@ impl<O: UvmObject> Kernel<O> {
         ensures count { result ≡ length self.now.held }
         ensures distinct { IsDistinct same_who (who_held self.now) }
         ensures made { All (λ who. Contains (components_of self.now.core.history) (node_of who)) (who_held self.now) }
-        ensures named { All (λ seat. Contains (types_of self.now.core.history) (node_of seat.0, O.name seat.1)) self.now.held }
+        ensures named { All (λ seat. Contains (types_made self.now.core.history) (node_of seat.0, O.name seat.1)) self.now.held }
         ensures whole { is_done self.now ≡ false → All (λ node. Contains (who_held self.now) (Node node)) (components_of self.now.core.history) }
     {
         self.seats.len()

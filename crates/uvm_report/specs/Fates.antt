@@ -11,9 +11,9 @@ use Rattle.uvm_report.specs.Choice.{Choice, Lookup}
 use Rattle.uvm_report.specs.Counts.{Counts, with_report}
 
 -- the value that was chosen, or the default
-abbrev pub value_or : {A : Type 0} → A → Option (Choice A) → A
-value_or default None = default
-value_or default (Some choice) = choice.value
+abbrev pub chosen_or : {A : Type 0} → A → Option (Choice A) → A
+chosen_or default None = default
+chosen_or default (Some choice) = choice.value
 
 -- what the settings say of a report: its severity after changes, and the level and the actions for that severity
 pub record Ruling : Type 0 where
@@ -24,11 +24,11 @@ pub record Ruling : Type 0 where
 -- the severity is changed once, as is chosen for the one that the report was issued with; where no level is chosen, it is 200 (MEDIUM)
 unfoldable pub ruling_by : Lookup Severity → Lookup ℕ → Lookup Actions → Report → Ruling
 ruling_by severity_of level_of actions_of report =
-    let severity = value_or report.severity (severity_of report.severity report.id) in
+    let severity = chosen_or report.severity (severity_of report.severity report.id) in
     record {
       severity = severity;
-      level = value_or 200 (level_of severity report.id);
-      actions = value_or (default_actions severity) (actions_of severity report.id);
+      level = chosen_or 200 (level_of severity report.id);
+      actions = chosen_or (default_actions severity) (actions_of severity report.id);
     }
 
 -- the verbosity that matters: the report's own where it was issued as INFO, else 0

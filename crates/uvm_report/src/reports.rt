@@ -3,7 +3,7 @@
 ghost use Rattle.std.specs.Prelude.{◌≡◌, ◌≤◌, ◌<◌, ◌^◌, ◌++◌, ℕ, List, true, IsTrue, IsOk, IfOk, OnOk, OnErr, option_map};
 ghost use Rattle.uvm_report.specs.Severities.{default_actions};
 ghost use Rattle.uvm_report.specs.Counts.{number_of, number_of_id, issued_number};
-ghost use Rattle.uvm_report.specs.Fates.{value_or, is_issued, is_reached};
+ghost use Rattle.uvm_report.specs.Fates.{chosen_or, is_issued, is_reached};
 ghost use Rattle.uvm_report.specs.Commands.{SetVerbosity, SetAction, SetSeverity, SetQuitLimit, Issue};
 ghost use Rattle.uvm_report.specs.Observed.{severity_at, level_at, actions_at, limit_of, counts_of, has_room};
 ghost use Rattle.uvm_report.specs.Changes.{ruling_at, fate_at, IsAfter, IsNew, IsSame};
@@ -204,7 +204,7 @@ impl Reports {
 
     // The severity, after changes, of a report.
     fn severity(&self, path: &Path, issued: Severity, id: &Name) -> Severity
-        ensures { result ≡ value_or issued (severity_at self.now path.now issued id.now) }
+        ensures { result ≡ chosen_or issued (severity_at self.now path.now issued id.now) }
     {
         match prevailing_setting(&self.severities, path, issued, id) {
             Some(change) => change.value,
@@ -214,7 +214,7 @@ impl Reports {
 
     // The greatest verbosity of the reports that are not dropped.
     fn level(&self, path: &Path, severity: Severity, id: &Name) -> u16
-        ensures { result ≡ value_or 200 (level_at self.now path.now severity id.now) }
+        ensures { result ≡ chosen_or 200 (level_at self.now path.now severity id.now) }
     {
         match prevailing_setting(&self.levels, path, severity, id) {
             Some(setting) => setting.value,
@@ -224,7 +224,7 @@ impl Reports {
 
     // What is done with a report.
     fn actions(&self, path: &Path, severity: Severity, id: &Name) -> Actions
-        ensures { result ≡ value_or (default_actions severity) (actions_at self.now path.now severity id.now) }
+        ensures { result ≡ chosen_or (default_actions severity) (actions_at self.now path.now severity id.now) }
     {
         match prevailing_setting(&self.actions, path, severity, id) {
             Some(setting) => setting.value,

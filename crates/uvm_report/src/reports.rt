@@ -1,8 +1,8 @@
 //! The report server.
 
-ghost use Rattle.std.specs.Prelude.{◌≡◌, ◌≤◌, ◌<◌, ◌^◌, ◌++◌, ℕ, List, true, IsTrue, IsOk, IfOk, OnOk, OnErr, option_map};
+ghost use Rattle.std.specs.Prelude.{◌≡◌, ◌≤◌, ◌<◌, ◌^◌, ◌++◌, ℕ, List, IsTrue, IsFalse, IsOk, IfOk, OnOk, OnErr};
 ghost use Rattle.uvm_report.specs.Severities.{default_actions};
-ghost use Rattle.uvm_report.specs.Counts.{number_of, number_of_id, issued_number};
+ghost use Rattle.uvm_report.specs.Counts.{number_of, number_of_id, issued_number, is_counted};
 ghost use Rattle.uvm_report.specs.Fates.{chosen_or, is_issued, is_reached};
 ghost use Rattle.uvm_report.specs.Commands.{SetVerbosity, SetAction, SetSeverity, SetQuitLimit, Issue};
 ghost use Rattle.uvm_report.specs.Observed.{severity_at, level_at, actions_at, limit_of, counts_of, has_room};
@@ -67,7 +67,7 @@ impl Reports {
     pub fn set_verbosity(&mut self, scope: Glob, which: Which, level: u16) -> Result<(), AllocError>
         ensures ok { OnOk result (IsAfter (SetVerbosity scope which level) self.old self.new) }
         ensures err { OnErr result (IsSame self.old self.new) }
-        ensures room { (id : List ℕ) → has_room self.new id ≡ has_room self.old id }
+        ensures room { (asked : List ℕ) → has_room self.new asked ≡ has_room self.old asked }
     {
         self.levels.push(Scoped {
             scope,
@@ -86,7 +86,7 @@ impl Reports {
     ) -> Result<(), AllocError>
         ensures ok { OnOk result (IsAfter (SetAction scope which actions) self.old self.new) }
         ensures err { OnErr result (IsSame self.old self.new) }
-        ensures room { (id : List ℕ) → has_room self.new id ≡ has_room self.old id }
+        ensures room { (asked : List ℕ) → has_room self.new asked ≡ has_room self.old asked }
     {
         self.actions.push(Scoped {
             scope,
@@ -107,7 +107,7 @@ impl Reports {
     ) -> Result<(), AllocError>
         ensures ok { OnOk result (IsAfter (SetSeverity scope from id to) self.old self.new) }
         ensures err { OnErr result (IsSame self.old self.new) }
-        ensures room { (id : List ℕ) → has_room self.new id ≡ has_room self.old id }
+        ensures room { (asked : List ℕ) → has_room self.new asked ≡ has_room self.old asked }
     {
         let which = match id {
             None => Which::Severity(from),
@@ -125,7 +125,7 @@ impl Reports {
     /// Takes no memory.
     pub fn set_quit_limit(&mut self, limit: u16)
         ensures after { IsAfter (SetQuitLimit limit) self.old self.new }
-        ensures room { (id : List ℕ) → has_room self.new id ≡ has_room self.old id }
+        ensures room { (asked : List ℕ) → has_room self.new asked ≡ has_room self.old asked }
     {
         self.quit_limit = limit;
     }
@@ -142,8 +142,8 @@ impl Reports {
     /// Judges a report of the component at a path, and counts it if it is issued. First its severity is changed; the level
     /// and the actions are those for the changed severity. It is dropped where its verbosity is above the level (a report
     /// issued as WARNING, ERROR or FATAL has none), and silent where it has no action. Once the quit count has reached the
-    /// limit, each report that is issued asks for the end of the run. Memory is taken for an id that is counted for the
-    /// first time alone.
+    /// limit, each report that is issued asks for the end of the run. Memory is taken only where an id is counted for the
+    /// first time.
     #[tactic(auto, using(crate::proofs::Judged::judged), unfolding(crate::specs::Kept::severity_at, crate::specs::Kept::level_at, crate::specs::Kept::actions_at, crate::specs::Kept::limit_of, crate::specs::Kept::counts_of, crate::specs::Kept::has_room, crate::specs::Fates::ruling_by))]
     pub fn issue(&mut self, path: &Path, report: &Report) -> Result<Fate, AllocError>
         requires { issued_number (counts_of self.old) < 10 ^ 18 }
@@ -151,6 +151,7 @@ impl Reports {
         ensures ok { OnOk result (IsAfter (Issue path.now report.now) self.old self.new) }
         ensures err { OnErr result (IsSame self.old self.new) }
         ensures issued { OnErr result (IsTrue (is_issued report.now (ruling_at self.old path.now report.now))) }
+        ensures first { OnErr result (IsFalse (is_counted (counts_of self.old) report.now.id)) }
         ensures room { IsTrue (has_room self.old report.now.id) → IsOk result }
     {
         let severity = self.severity(path, report.severity, &report.id);

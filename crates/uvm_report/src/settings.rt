@@ -32,11 +32,14 @@ pub(crate) enum Class {
     All,
 }
 
-// A value, for the reports that are named, at the paths that a scope matches. Contracts see it as a `Setting`.
+// A setting as it is kept. Contracts see it as a `Setting`.
 #[derive(Drop)]
 pub(crate) struct Scoped<T> {
+    /// Matches the whole paths at which it holds.
     pub scope: Glob,
+    /// The reports that it is for.
     pub which: Which,
+    /// What is set.
     pub value: T,
 }
 

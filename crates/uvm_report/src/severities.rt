@@ -29,19 +29,20 @@ pub struct Actions {
     pub exit: bool,
 }
 
-/// The levels of verbosity that have a name (IEEE 1800.2-2020, Clause 6).
+/// The verbosities of reports, and levels, that have a name (IEEE 1800.2-2020, Clause 6). A report whose verbosity is above
+/// the level is dropped.
 pub mod verbosity {
-    /// Reports of this verbosity are never dropped.
+    /// Issued at every level.
     pub const NONE: u16 = 0;
-    /// Issued at most levels.
+    /// Issued at the level LOW or above.
     pub const LOW: u16 = 100;
-    /// The level where no setting says otherwise.
+    /// Issued at the level MEDIUM or above, which is the level where no setting says otherwise.
     pub const MEDIUM: u16 = 200;
-    /// Dropped where no setting says otherwise.
+    /// Issued at the level HIGH or above.
     pub const HIGH: u16 = 300;
-    /// For much detail.
+    /// Issued at the level FULL or above.
     pub const FULL: u16 = 400;
-    /// For whoever looks for a bug.
+    /// Issued at the level DEBUG or above.
     pub const DEBUG: u16 = 500;
 }
 

@@ -1,9 +1,9 @@
 //! How many reports were issued.
 
-ghost use Rattle.std.specs.Prelude.{◌≡◌, ◌≤◌, ◌<◌, ◌^◌, IsTrue, IsOk, OnOk, OnErr, [], nat_eq, unwrap_or, sum_by};
+ghost use Rattle.std.specs.Prelude.{◌≡◌, ◌≤◌, ◌<◌, ◌^◌, IsTrue, IsFalse, IsOk, OnOk, OnErr, [], nat_eq, unwrap_or, sum_by};
 ghost use Rattle.std.specs.Cmp.Lexicographic.{pointwise};
 ghost use Rattle.indexmap.specs.IndexMap.{get, spare, ContainsKey};
-ghost use Rattle.uvm_report.specs.Counts.{no_counts, number_of, number_of_id, issued_number, can_count, with_id, with_report};
+ghost use Rattle.uvm_report.specs.Counts.{no_counts, number_of, number_of_id, issued_number, is_counted, can_count, with_id, with_report};
 
 use crate::severities::Severity;
 use indexmap::IndexMap;
@@ -61,6 +61,7 @@ impl Tally {
         requires { issued_number self.old.counts < 10 ^ 18 }
         ensures ok { OnOk result (self.new.counts ≡ with_report severity id.now count self.old.counts) }
         ensures err { OnErr result (self.new.counts ≡ self.old.counts) }
+        ensures first { OnErr result (IsFalse (is_counted self.old.counts id.now)) }
         ensures room { IsTrue (can_count self.old.counts self.old.spare id.now) → IsOk result }
     {
         add_id(&mut self.ids, id)?;

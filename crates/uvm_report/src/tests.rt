@@ -87,10 +87,9 @@ fn issue(
     issue_at(alloc, reports, "uvm_test_top", severity, id_text, verbosity)
 }
 
-#[test]
-fn a_setting_of_a_severity_with_an_id_prevails(rt: HostRuntime) -> Result<(), Fail> {
-    let alloc = rt.alloc();
-    let (e, f) = (id("E")?, id("F")?);
+// Displays reports of the severity ERROR, does nothing with those of the id E, and displays and counts those of both.
+fn with_actions(alloc: Global) -> Result<Reports, Fail> {
+    let e = id("E")?;
     let mut reports = Reports::new(alloc);
     for (which, actions) in [
         (Which::Severity(Severity::Error), DISPLAY),
@@ -99,6 +98,13 @@ fn a_setting_of_a_severity_with_an_id_prevails(rt: HostRuntime) -> Result<(), Fa
     ] {
         reports.set_action(everywhere(alloc)?, which, actions)?;
     }
+    Ok(reports)
+}
+
+#[test]
+fn a_setting_of_a_severity_with_an_id_prevails(rt: HostRuntime) -> Result<(), Fail> {
+    let alloc = rt.alloc();
+    let mut reports = with_actions(alloc)?;
     for (severity, id_text, verbosity, want, quit) in [
         (Severity::Error, "E", 0, displayed(Severity::Error), 1),
         (Severity::Warning, "E", 0, Fate::Silent, 1),
@@ -110,19 +116,20 @@ fn a_setting_of_a_severity_with_an_id_prevails(rt: HostRuntime) -> Result<(), Fa
         assert_eq!(rt; fate, want, "{severity} {id_text} at {verbosity}");
         assert_eq!(rt; reports.quit_count(), quit, "{severity} {id_text}");
     }
-    assert_eq!(rt; reports.count_of(Severity::Error), 2);
-    assert_eq!(rt; reports.count_of(Severity::Warning), 0);
-    assert_eq!(rt; reports.count_of(Severity::Info), 1);
-    assert_eq!(rt; reports.count_of_id(&e), 1);
-    assert_eq!(rt; reports.count_of_id(&f), 2);
-    reports.set_severity(
-        everywhere(alloc)?,
-        Severity::Error,
-        Some(f),
-        Severity::Warning,
-    )?;
-    let fate = issue(alloc, &mut reports, Severity::Error, "F", 0)?;
-    assert_eq!(rt; fate, displayed(Severity::Warning));
+    for (severity, want) in [
+        (Severity::Error, 2),
+        (Severity::Warning, 0),
+        (Severity::Info, 1),
+    ] {
+        assert_eq!(rt; reports.count_of(severity), want, "{severity}");
+    }
+    for (id_text, want) in [("E", 1), ("F", 2)] {
+        assert_eq!(rt; reports.count_of_id(&id(id_text)?), want, "{id_text}");
+    }
+    let (scope, from, to) = (everywhere(alloc)?, Severity::Error, Severity::Warning);
+    reports.set_severity(scope, from, Some(id("F")?), to)?;
+    let fate = issue(alloc, &mut reports, from, "F", 0)?;
+    assert_eq!(rt; fate, displayed(to));
     Ok(())
 }
 

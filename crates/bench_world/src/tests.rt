@@ -42,10 +42,11 @@ fn a_new_world_is_to_create_the_test(rt: HostRuntime) -> Result<(), Fail> {
 
 #[test]
 fn a_new_world_lends_its_services(rt: HostRuntime) -> Result<(), Fail> {
+    let type_name = Name::new(b"t")?;
     let script = read(rt.alloc(), SCRIPT)?;
     assert!(rt; script.test().is_some());
     let world = World::new(rt.alloc(), script)?;
-    assert!(rt; world.factory().find(&Name::new(b"t")?).is_some());
+    assert!(rt; world.factory().find(&type_name).is_some());
     assert!(rt; !world.settings().is_full());
     assert!(rt; world.agenda().first().is_none());
     assert_eq!(rt; world.phase(), None);
@@ -55,15 +56,14 @@ fn a_new_world_lends_its_services(rt: HostRuntime) -> Result<(), Fail> {
 
 #[test]
 fn a_creation_of_an_unknown_type_would_be_refused(rt: HostRuntime) -> Result<(), Fail> {
+    let name = Name::new(b"uvm_test_top")?;
+    let (known, unknown) = (create(b"t", name)?, create(b"u", name)?);
     let script = read(rt.alloc(), SCRIPT)?;
     assert!(rt; script.test().is_some());
     let world = World::new(rt.alloc(), script)?;
-    let name = Name::new(b"uvm_test_top")?;
     let top = world.speaker();
-    let known = create(b"t", name)?;
-    assert_eq!(rt; world.refusal(&top, &known)?, None);
-    let unknown = create(b"u", name)?;
-    assert_eq!(rt; world.refusal(&top, &unknown)?, Some(Fatal::InvalidType));
+    assert_eq!(rt; world.refusal(&top, &known), Ok(None));
+    assert_eq!(rt; world.refusal(&top, &unknown), Ok(Some(Fatal::InvalidType)));
     Ok(())
 }
 

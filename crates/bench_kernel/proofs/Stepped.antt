@@ -1,5 +1,5 @@
 -- What a turn of the machine makes of a step.
-use Rattle.std.proofs.Common.{◌≡◌, ◌∙◌, ℕ, true, false, ◌==◌, List, [], ◌∷◌, Option, Some, None, IfSome, Result, Ok, Err, inl, inr, refl, ap, subst, arith}
+use Rattle.std.proofs.Common.{◌≡◌, ◌∙◌, ℕ, true, false, ◌==◌, List, [], ◌∷◌, ◌<◌, length, Option, Some, None, IfSome, Result, Ok, Err, inl, inr, refl, ap, subst, arith}
 use Rattle.std.proofs.lemmas.Bool.Decides.{nat_tests}
 use Rattle.std.specs.declared.alloc.AllocError.{AllocError}
 use Rattle.uvm_phase.specs.declared.agendas.Cause.{Cause}
@@ -11,6 +11,7 @@ use Rattle.uvm_object.specs.declared.acts.Act.{Act}
 use Rattle.uvm_object.specs.declared.entries.Entry.{Entry}
 use Rattle.uvm_object.specs.declared.entries.Entry.TheVariants.{Heard}
 use Rattle.bench_script.specs.Scripts.{ScriptValue}
+use Rattle.bench_history.specs.Limits.{log_limit}
 use Rattle.bench_history.specs.Cases as next
 use Rattle.bench_history.specs.Next as coming
 use Rattle.bench_history.specs.Next.{next_of}
@@ -124,6 +125,10 @@ pub ask-turn : (performer : Who) (call : Call) (old new : CoreValue) → Comes o
     → IsNextTurn old.standing (Ok (turn.TheVariants.Ask performer call)) old new → HasAsked performer call old new
 ask-turn performer call old new comes t = ask-at old.standing performer call old new refl comes t
 
+-- for which there is room
+pub asked-room : (performer : Who) (call : Call) (old asking : CoreValue) → HasAsked performer call old asking → length asking.history < log_limit asking.script → length old.history < log_limit old.script
+asked-room performer call old asking asks room = rw asks.is at room
+
 -- its answer goes into the log, or the log stays
 pub heard-is : (performer : Who) (call : Call) (acts : List Act) (old asking new : CoreValue) (asks : HasAsked performer call old asking)
     → IfSome (answer_in asking.standing acts) (λ entry. new ≡ core_after entry asking) → new ≡ core_after (Heard performer call asks.cause acts) old
@@ -146,8 +151,8 @@ module _ {O : Type 0} (view : O → View) (name : O → List ℕ) (says : O → 
       let bad : (call, acts) ∷ [] ≡ [] = rw same at nothing in cc)
   given-exact silent script history entry held exact = refl
 
-  pub needed-step : (kernel : KernelValue O) (new : CoreValue) → HasNeeded kernel.core new → IsWaiting view name says kernel (record kernel { core = new })
-  needed-step kernel new needed = record { need = needed.need; next = needed.comes; is = rw needed.is refl }
+  pub needed-step : (kernel : KernelValue O) (new : CoreValue) → length new.history < log_limit new.script → HasNeeded kernel.core new → IsWaiting view name says kernel (record kernel { core = new })
+  needed-step kernel new room needed = record { room = rw needed.is at room; need = needed.need; next = needed.comes; is = rw needed.is refl }
 
   pub moved-step : MachineEntriesAreSilent → (kernel : KernelValue O) (new : CoreValue) (moved : HasMoved kernel.core new) → IsMoved view name says kernel (record kernel { core = new })
   moved-step silent kernel new moved = record {
@@ -199,10 +204,10 @@ module _ {O : Type 0} (view : O → View) (name : O → List ℕ) (says : O → 
   -- an object was asked, and memory was refused
   pub unanswered-step : (kernel : KernelValue O) (core : CoreValue) (performer asking : Who) (call : Call) (cause : Option Cause) (answer : Result (List Act) AllocError) (held : List (Who × O)) → asking ≡ performer
       → next_of kernel.core.script kernel.core.history ≡ next.Answer performer call cause → need_of kernel.core.standing ≡ None → kernel.failed ≡ false → IsSameLog kernel.core core → core ≡ unanswered_from performer call cause answer kernel.core
-      → IsAsked view name says performer call answer kernel.held held → IsRefusedStep view name says Memory kernel (record { core = core; held = held; failed = true; unknown = Some asking })
-  unanswered-step kernel core performer asking call cause answer held same_who answers none going same left asked = (
+      → length kernel.core.history < log_limit kernel.core.script → IsAsked view name says performer call answer kernel.held held → IsRefusedStep view name says Memory kernel (record { core = core; held = held; failed = true; unknown = Some asking })
+  unanswered-step kernel core performer asking call cause answer held same_who answers none going same left room asked = (
     record { going = going; some = rw answers tt; nothing_needed = rw (going, none) refl },
-    inr (record { performer = performer; call = call; cause = cause; next = answers; answer = answer; asked = asked; same_log = same; left = left; is = rw same_who refl }),
+    inr (record { room = room; performer = performer; call = call; cause = cause; next = answers; answer = answer; asked = asked; same_log = same; left = left; is = rw same_who refl }),
   )
 
 -- where the machine refuses, the log stays

@@ -45,8 +45,9 @@ module _ {O : Type 0} (view : O → View) (name : O → List ℕ) (says : O → 
   WasGiven (Heard performer call cause acts) old new = IsAsked view name says performer call (Ok acts) old new
   WasGiven entry old new = new ≡ old
 
-  -- an object is needed next, and the machine waits for it
+  -- an object is needed next, for whose entry there is room, and the machine waits for it
   pub record IsWaiting (old new : KernelValue O) : Type 0 where
+    pub room : length old.core.history < log_limit old.core.script
     pub need : declared.Need
     pub next : need_in (next_of old.core.script old.core.history) ≡ Some need
     pub is : new ≡ record old { core = record old.core { standing = Needed need } }
@@ -66,6 +67,7 @@ module _ {O : Type 0} (view : O → View) (name : O → List ℕ) (says : O → 
 
   -- or to the object whose turn it was, or to the log after it answered: the log stays, and its view is unknown
   pub record IsUnanswered (old new : KernelValue O) : Type 0 where
+    pub room : length old.core.history < log_limit old.core.script
     pub performer : Who
     pub call : Call
     pub cause : Option Cause

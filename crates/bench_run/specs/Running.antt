@@ -1,5 +1,5 @@
 -- What a run of a script does.
-use Rattle.std.specs.Prelude.{◌≡◌, ◌≤◌, ℕ, Bool, false, List, [], ◌∷◌, ◌++◌, length, Option, Some, Result, Ok, Err}
+use Rattle.std.specs.Prelude.{◌≡◌, ◌<◌, ◌≤◌, ℕ, Bool, false, List, [], ◌∷◌, ◌++◌, length, Option, Some, Result, Ok, Err}
 use Rattle.std.specs.Io.KnownBytes.{Appends, Keeps}
 use Rattle.uvm_glob.specs.Lists.{newest}
 use Rattle.uvm_object.specs.declared.entries.Reason.{Reason}
@@ -31,9 +31,10 @@ pub record WroteLog (script : ScriptValue) (trace : Bool) (old new : Option (Lis
 abbrev pub RanTo : Reason → ScriptValue → Bool → Option (List ℕ) → Option (List ℕ) → Type 0
 RanTo reason script trace old new = (history : List Entry) × (newest history ≡ Some (Over reason)) × WroteLog script trace old new history
 
--- where a run broke off: so far as memory was there; with a full log that is not over; or where a write failed
+-- where a run broke off: so far as memory was there, where the log is not full; with a full log that is not over; or where a
+-- write failed
 abbrev pub BrokeOffRun : RunFault → ScriptValue → Bool → Option (List ℕ) → Option (List ℕ) → Type 0
-BrokeOffRun Memory script trace old new = (history : List Entry) × WroteLog script trace old new history
+BrokeOffRun Memory script trace old new = (history : List Entry) × (length history < log_limit script) × WroteLog script trace old new history
 BrokeOffRun LogFull script trace old new = (history : List Entry) × (log_limit script ≤ length history) × (is_over history ≡ false) × WroteLog script trace old new history
 BrokeOffRun Output script trace old new = Unit {0}
 
@@ -47,11 +48,11 @@ pub record Grows (old new : CoreValue) : Type 0 where
   pub entry : Entry
   pub is : new ≡ core_after entry old
 
--- why no entry was made: want of memory, or a full log that is not over
-abbrev pub IsHalted : RunFault → CoreValue → Type 0
-IsHalted Memory core = Unit {0}
-IsHalted LogFull core = (log_limit core.script ≤ length core.history) × (is_over core.history ≡ false)
-IsHalted Output core = ⊥
+-- why a kernel that has not failed made no entry: want of memory where the log has room, or a full log that is not over
+abbrev pub IsHalted : RunFault → Bool → CoreValue → Type 0
+IsHalted Memory failed core = failed ≡ false → length core.history < log_limit core.script
+IsHalted LogFull failed core = (log_limit core.script ≤ length core.history) × (is_over core.history ≡ false)
+IsHalted Output failed core = ⊥
 
 -- why a line was not written, and that nothing was where memory was refused
 abbrev pub IsUnwritten : RunFault → Option (List ℕ) → Option (List ℕ) → Type 0

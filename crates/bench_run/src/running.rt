@@ -1,6 +1,6 @@
 //! The run of a script: the kernel goes on step by step, and what it needs is made.
 
-ghost use Rattle.std.specs.Prelude.{◌≡◌, ◌&&◌, [], OnOk, IfOk, IfErr, IsSome, Some, true, MatchBool};
+ghost use Rattle.std.specs.Prelude.{◌≡◌, ◌&&◌, [], OnOk, IfOk, IfErr, IsSome, Some, true, false, MatchBool};
 ghost use Rattle.std.specs.Io.KnownBytes.{Appends};
 ghost use Rattle.uvm_glob.specs.Lists.{newest};
 ghost use Rattle.uvm_object.specs.declared.entries.Entry.TheVariants.{Over};
@@ -108,7 +108,8 @@ fn make_entry<O: UvmObject, R: Rng, F: Fn(&Name) -> Result<Option<O>, AllocError
 ) -> Result<bool, RunFault>
     requires { F.IsAlwaysCallable make.now }
     ensures ok { IfOk result (λ made. MatchBool made (Grows kernel.old.core kernel.new.core) ((is_over kernel.old.core.history ≡ true) × (kernel.new ≡ kernel.old))) }
-    ensures err { IfErr result (λ fault. IsHalted fault kernel.old.core) }
+    ensures going { IfOk result (λ made. made ≡ true → kernel.new.failed ≡ false) }
+    ensures err { IfErr result (λ fault. IsHalted fault kernel.old.failed kernel.old.core) }
 {
     // Where something comes the run is not over.
     laws::nothing_after_over();
@@ -143,6 +144,7 @@ fn fill<O: UvmObject, F: Fn(&Name) -> Result<Option<O>, AllocError>>(
     requires callable { F.IsAlwaysCallable make.now }
     requires needed { IsSome (open_need kernel.old) }
     ensures ok { OnOk result (Grows kernel.old.core kernel.new.core) }
+    ensures going { OnOk result (kernel.new.failed ≡ kernel.old.failed) }
     ensures err { IfErr result (λ fault. fault ≡ RunFault.Memory) }
 {
     let Some(need) = kernel.need() else {
@@ -163,6 +165,7 @@ fn fill<O: UvmObject, F: Fn(&Name) -> Result<Option<O>, AllocError>>(
 fn supply<O: UvmObject>(kernel: &mut Kernel<O>, object: O) -> Result<(), RunFault>
     requires { IsSome (open_need kernel.old) }
     ensures ok { OnOk result (Grows kernel.old.core kernel.new.core) }
+    ensures going { OnOk result (kernel.new.failed ≡ kernel.old.failed) }
     ensures err { IfErr result (λ fault. fault ≡ RunFault.Memory) }
 {
     match kernel.supply(object) {

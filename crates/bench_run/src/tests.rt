@@ -151,6 +151,53 @@ fn object_of_another_type_is_declined(rt: HostRuntime) -> Result<(), Fail> {
     Ok(())
 }
 
+/// Asks for its width when it builds, and again whenever it is told.
+#[derive(Drop)]
+struct Filler {
+    type_name: Name,
+}
+
+impl UvmObject for Filler {
+    ghost use Rattle.std.specs.Prelude.{◌≡◌, []};
+
+    ghost view = { λ _. [] };
+
+    ghost name = { λ filler. filler.type_name };
+
+    ghost says = { λ _ before _ _ after. after ≡ before };
+
+    fn type_name(&self) -> &Name {
+        &self.type_name
+    }
+
+    fn hear(&mut self, alloc: Global, call: &Call) -> Result<Acts, AllocError> {
+        let mut acts = Acts::new(alloc);
+        let asks = matches!(call, Call::Phase(Phase::Build) | Call::Config { .. });
+        if let (true, Ok(field)) = (asks, Name::new(b"width")) {
+            acts.push(Act::Get { field })?;
+        }
+        Ok(acts)
+    }
+}
+
+#[test]
+fn run_that_fills_its_log_is_broken_off_and_no_object_is_held(rt: HostRuntime) -> Result<(), Fail> {
+    let alloc = rt.alloc();
+    let script = bench_script::read(alloc, SCRIPT)?;
+    let mut kernel = Kernel::new(alloc, script)?;
+    let mut out = Vec::new(alloc);
+    let make = |type_name: &Name| -> Result<Option<Filler>, AllocError> {
+        let type_name = *type_name;
+        Ok(Some(Filler { type_name }))
+    };
+    let words = &mut Pcg32::new(1, 1);
+    let ended = run_kernel(alloc, &mut kernel, words, false, &make, &mut out);
+    assert_eq!(rt; ended, Err(RunFault::LogFull));
+    assert_eq!(rt; kernel.log().len(), 1_000_000);
+    assert_eq!(rt; kernel.live(), 0);
+    Ok(())
+}
+
 // A writer that takes so many writes and fails at the next.
 #[derive(Drop)]
 struct Failing {

@@ -40,7 +40,7 @@ ran_to-kept : (reason : Reason) (script : ScriptValue) (trace : Bool) (old mid n
 ran_to-kept reason script trace old mid new ran kept = (ran.0, ran.1, wrote_log-kept script trace old mid new ran.0 ran.2 kept)
 
 broke_off_run-kept : (fault : RunFault) (script : ScriptValue) (trace : Bool) (old mid new : Option (List ℕ)) → BrokeOffRun fault script trace old mid → Keeps mid new → BrokeOffRun fault script trace old new
-broke_off_run-kept ran.Memory script trace old mid new broke kept = (broke.0, wrote_log-kept script trace old mid new broke.0 broke.1 kept)
+broke_off_run-kept ran.Memory script trace old mid new broke kept = (broke.0, broke.1, wrote_log-kept script trace old mid new broke.0 broke.2 kept)
 broke_off_run-kept ran.LogFull script trace old mid new broke kept = (broke.0, broke.1, broke.2, wrote_log-kept script trace old mid new broke.0 broke.3 kept)
 broke_off_run-kept ran.Output script trace old mid new broke kept = broke
 

@@ -6,7 +6,7 @@ use Rattle.bench_kernel.specs.Seats.{held_in, paths_in}
 use Rattle.bench_kernel.specs.Kernels.{KernelValue}
 use Rattle.bench_kernel.proofs.Held.{All-places_held}
 use Rattle.bench_kernel.proofs.Kept.{asked-held, below, kept-failed, kept-heard, kept-moved, kept-needed, kept-unanswered, placed-asked, placed-later}
-use Rattle.bench_kernel.proofs.Stepped.{answered-step, ask-turn, asked-log, heard-is, moved-step, moved-turn, need-turn, needed-step, refused-log, unanswered-step, unheard-log}
+use Rattle.bench_kernel.proofs.Stepped.{answered-step, ask-turn, asked-log, asked-room, heard-is, moved-step, moved-turn, need-turn, needed-step, refused-log, unanswered-step, unheard-log}
 use Rattle.bench_kernel.proofs.kernels.Kernel.step.Goals as goal
 
 pub invariant_of-self : goal.invariant_of-self
@@ -46,9 +46,10 @@ returns-in_default-clause-step g c =
     let taken = c.self.inside.seats.taken in
     let kept = c.self.invariant.0 in
     let asks = ask-turn c.in-Ok-Ask.who c.in-Ok-Ask.call kernel.core c.next.new.self (kept.comes c.if-self.false) (rw c.in-Ok-Ask.field-0-is at (c.in-Ok-Ask.ensures.turn)) in
+    let room = asked-room c.in-Ok-Ask.who c.in-Ok-Ask.call kernel.core c.next.new.self asks ((rw c.in-Ok-Ask.field-0-is at (c.in-Ok-Ask.ensures.room)) tt) in
     rw (← c.self.view_is)
     (unanswered-step m.view m.name m.says kernel c.next.new.self c.in-Ok-Ask.who c.copy.result c.in-Ok-Ask.call asks.cause c.hear.result (held_in c.hear.new.self.taken) c.copy.ensures
-    asks.answers asks.nothing_needed c.if-self.false (asked-log c.in-Ok-Ask.who c.in-Ok-Ask.call kernel.core c.next.new.self asks) (rw c.in_default.is asks.is) c.hear.ensures.asked)
+    asks.answers asks.nothing_needed c.if-self.false (asked-log c.in-Ok-Ask.who c.in-Ok-Ask.call kernel.core c.next.new.self asks) (rw c.in_default.is asks.is) room c.hear.ensures.asked)
 
 pub invariant_of-self-in_err-heard-in-Ok-Ask : goal.invariant_of-self-in_err-heard-in-Ok-Ask
 invariant_of-self-in_err-heard-in-Ok-Ask g c =
@@ -125,7 +126,8 @@ returns-in-Ok-Need-clause-step g c =
     let m = g.O.UvmObject in
     let kernel : KernelValue g.row.O.Denot = record { core = c.self.inside.core; held = held_in c.self.inside.seats.taken; failed = c.self.inside.failed; unknown = c.self.inside.unknown } in
     let needed = need-turn kernel.core c.next.new.self (c.self.invariant.0.comes c.if-self.false) (rw c.in-Ok-Need.field-0-is at (c.in-Ok-Need.ensures.turn)) in
-    rw (← c.self.view_is) (c.if-self.false, needed-step m.view m.name m.says kernel c.next.new.self needed)
+    let room = (rw c.in-Ok-Need.field-0-is at (c.in-Ok-Need.ensures.room)) tt in
+    rw (← c.self.view_is) (c.if-self.false, needed-step m.view m.name m.says kernel c.next.new.self room needed)
 
 pub returns-in-Ok-Need-clause-needed : goal.returns-in-Ok-Need-clause-needed
 returns-in-Ok-Need-clause-needed g c =

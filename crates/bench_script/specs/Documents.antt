@@ -11,6 +11,7 @@ use Rattle.bench_script.specs.declared.faults.ScriptFault.{ScriptFault}
 use Rattle.bench_script.specs.declared.faults.ScriptFault.TheVariants.{NotText, NotToml, WrongKind, UnknownType, Version, TooLong}
 use Rattle.bench_script.specs.Reading.{and_then}
 use Rattle.bench_script.specs.Values.{integer_in, number_in, name_in}
+use Rattle.bench_script.specs.Limits.{most_time, most_quit_limit, most_script_bytes}
 use Rattle.bench_script.specs.Keys.{only_keys, required, optional, some_of}
 use Rattle.bench_script.specs.Scripts.{ScriptValue}
 use Rattle.bench_script.specs.Tables.{types_in, overrides_in, settings_in, probes_in}
@@ -43,8 +44,8 @@ head_in root =
     and_then (required (codes "version") version_in root) (λ _.
     and_then (only_keys root_keys root) (λ _.
     and_then (optional (codes "test") None (some_of name_in) root) (λ test.
-    and_then (optional (codes "time_limit") 1000000000000000000 (number_in 1000000000000000000) root) (λ time_limit.
-    and_then (optional (codes "quit_limit") 0 (number_in 65535) root) (λ quit_limit.
+    and_then (optional (codes "time_limit") most_time (number_in most_time) root) (λ time_limit.
+    and_then (optional (codes "quit_limit") 0 (number_in most_quit_limit) root) (λ quit_limit.
     Ok (record { test = test; time_limit = time_limit; quit_limit = quit_limit }))))))
 
 unfoldable pub script_of : Members → Result ScriptValue ScriptFault
@@ -73,6 +74,6 @@ script_in (Some root) = script_of root
 -- the script that the bytes of a file stand for
 abbrev pub script_of_bytes : List ℕ → Result ScriptValue ScriptFault
 script_of_bytes bytes =
-    if nat_lt 1048576 (length bytes) then Err TooLong
+    if nat_lt most_script_bytes (length bytes) then Err TooLong
     else if not (is_utf8 bytes) then Err NotText
     else script_in (parse_document bytes)

@@ -2,11 +2,13 @@ pub mod Documents
 pub mod Factories
 pub mod FaultTexts
 pub mod Keys
+pub mod Limits
 pub mod Reading
 pub mod Scripts
 pub mod Sound
 pub mod Tables
 pub mod Values
+pub use Rattle.uvm_config.specs.Answers
 pub use Rattle.uvm_factory.specs.Faults
 pub use Rattle.uvm_factory.specs.Overrides
 pub use Rattle.uvm_factory.specs.Steps

@@ -4,7 +4,9 @@ use Rattle.uvm_factory.specs.declared.types.Kind.TheVariants.{Component}
 use Rattle.uvm_factory.specs.declared.overrides.Override.{Override}
 use Rattle.uvm_factory.specs.Faults.{Types, register_fault, override_fault}
 use Rattle.uvm_factory.specs.Steps.{original_of, new_of}
+use Rattle.uvm_config.specs.Answers.{most_settings}
 use Rattle.bench_script.specs.declared.scripts.Probe.{Probe}
+use Rattle.bench_script.specs.Limits.{most_time, most_quit_limit}
 use Rattle.bench_script.specs.Scripts.{ScriptValue}
 
 -- each of the types may be registered after those before it
@@ -27,9 +29,9 @@ IsComponentAt types (Some place) = option_map (λ t. t.1) (slice_get types place
 
 pub record IsSound (script : ScriptValue) : Type 0 where
   pub test : IsComponentAt script.types script.test
-  pub time_limit : script.time_limit ≤ 1000000000000000000
-  pub quit_limit : script.quit_limit ≤ 65535
+  pub time_limit : script.time_limit ≤ most_time
+  pub quit_limit : script.quit_limit ≤ most_quit_limit
   pub types : CanRegister [] script.types
   pub overrides : All (CanOverride script.types) script.overrides
-  pub settings : length script.settings ≤ 65536
+  pub settings : length script.settings ≤ most_settings
   pub probes : All (CanProbe script.types) script.probes

@@ -1,6 +1,8 @@
 //! What a script says.
 
 ghost use Rattle.std.specs.Prelude.{◌≡◌, ◌≤◌, [], All, IfOk, length};
+ghost use Rattle.uvm_config.specs.Answers.{most_settings};
+ghost use Rattle.bench_script.specs.Limits.{most_time};
 ghost use Rattle.bench_script.specs.Sound.{IsComponentAt, CanRegister, CanOverride, CanProbe};
 
 use std::alloc::AllocError;
@@ -105,7 +107,7 @@ impl Script {
     /// The limit that the script sets to time, in ticks, at most 10^18.
     pub fn time_limit(&self) -> u64
         ensures limit { result ≡ self.now.time_limit }
-        ensures most { result ≤ 1000000000000000000 }
+        ensures most { result ≤ most_time }
     {
         self.time_limit
     }
@@ -136,7 +138,7 @@ impl Script {
     /// The settings in the order in which they are given, at most 65,536.
     pub fn settings(&self) -> &[Setting]
         ensures settings { result.now ≡ self.now.settings }
-        ensures few { length result.now ≤ 65536 }
+        ensures few { length result.now ≤ most_settings }
     {
         self.settings.as_slice()
     }

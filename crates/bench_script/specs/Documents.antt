@@ -15,6 +15,7 @@ use Rattle.bench_script.specs.Limits.{most_time, most_quit_limit, most_script_by
 use Rattle.bench_script.specs.Keys.{only_keys, required, optional, some_of}
 use Rattle.bench_script.specs.Scripts.{ScriptValue}
 use Rattle.bench_script.specs.Tables.{types_in, overrides_in, settings_in, probes_in}
+use Rattle.bench_script.specs.ReportTables.{verbosities_in, actions_in, severities_in}
 
 -- the version is 1
 abbrev pub version_one : ℤ → Result (Unit {0}) ScriptFault
@@ -25,7 +26,7 @@ abbrev pub version_in : Data → Result (Unit {0}) ScriptFault
 version_in value = and_then (integer_in value) version_one
 
 abbrev pub root_keys : List (List ℕ)
-root_keys = codes "version" ∷ codes "test" ∷ codes "time_limit" ∷ codes "quit_limit" ∷ codes "type" ∷ codes "override" ∷ codes "set" ∷ codes "probe" ∷ []
+root_keys = codes "version" ∷ codes "test" ∷ codes "time_limit" ∷ codes "quit_limit" ∷ codes "type" ∷ codes "override" ∷ codes "set" ∷ codes "verbosity" ∷ codes "action" ∷ codes "severity" ∷ codes "probe" ∷ []
 
 -- the test is a component
 abbrev pub component_at : ℕ → Option (List ℕ × Kind) → Result (Option ℕ) ScriptFault
@@ -54,6 +55,9 @@ script_of root =
     and_then (types_in root) (λ types.
     and_then (overrides_in types root) (λ overrides.
     and_then (settings_in root) (λ settings.
+    and_then (verbosities_in root) (λ verbosities.
+    and_then (actions_in root) (λ actions.
+    and_then (severities_in root) (λ severities.
     and_then (probes_in types root) (λ probes.
     and_then (test_among types head.test) (λ test.
     Ok (record {
@@ -63,8 +67,11 @@ script_of root =
       types = types;
       overrides = overrides;
       settings = settings;
+      verbosities = verbosities;
+      actions = actions;
+      severities = severities;
       probes = probes;
-    })))))))
+    }))))))))))
 
 -- the script of a document that `toml` took, or refused
 abbrev pub script_in : Option Members → Result ScriptValue ScriptFault

@@ -4,6 +4,7 @@ pub mod FaultTexts
 pub mod Keys
 pub mod Limits
 pub mod Reading
+pub mod ReportTables
 pub mod Scripts
 pub mod Sound
 pub mod Tables
@@ -15,3 +16,4 @@ pub use Rattle.uvm_factory.specs.Steps
 pub use Rattle.uvm_glob.specs.Globs
 pub use Rattle.uvm_glob.specs.Names
 pub use Rattle.uvm_glob.specs.Paths
+pub use Rattle.uvm_report.specs.Severities

@@ -16,7 +16,7 @@ const MAX_TIME: u64 = 1_000_000_000_000_000_000;
 
 const MAX_QUIT_LIMIT: u64 = u16::MAX as u64;
 
-const ROOT_KEYS: [&str; 8] = [
+const ROOT_KEYS: [&str; 11] = [
     "version",
     "test",
     "time_limit",
@@ -24,6 +24,9 @@ const ROOT_KEYS: [&str; 8] = [
     "type",
     "override",
     "set",
+    "verbosity",
+    "action",
+    "severity",
     "probe",
 ];
 

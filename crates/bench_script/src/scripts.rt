@@ -3,8 +3,9 @@
 ghost use Rattle.std.specs.Prelude.{◌≡◌, ◌≤◌, [], All, IfOk, length};
 ghost use Rattle.uvm_config.specs.Answers.{most_settings};
 ghost use Rattle.bench_script.specs.Limits.{most_time};
-ghost use Rattle.bench_script.specs.Sound.{IsComponentAt, CanRegister, CanOverride, CanProbe};
+ghost use Rattle.bench_script.specs.Sound.{IsComponentAt, CanRegister, CanOverride, CanProbe, HasLevelInRange};
 
+use crate::report_settings::{ActionSetting, SeverityChange, VerbositySetting};
 use std::alloc::AllocError;
 use std::marker::Model;
 use uvm_factory::{Kind, Override, TypeId};
@@ -64,6 +65,9 @@ pub struct Script {
     pub(crate) types: Vec<(Name, Kind)>,
     pub(crate) overrides: Vec<Override>,
     pub(crate) settings: Vec<Setting>,
+    pub(crate) verbosities: Vec<VerbositySetting>,
+    pub(crate) actions: Vec<ActionSetting>,
+    pub(crate) severities: Vec<SeverityChange>,
     pub(crate) probes: Vec<Probe>,
 }
 
@@ -79,6 +83,9 @@ impl Model for Script {
       types = s.types.items;
       overrides = s.overrides.items;
       settings = s.settings.items;
+      verbosities = s.verbosities.items;
+      actions = s.actions.items;
+      severities = s.severities.items;
       probes = s.probes.items;
     } };
 
@@ -91,6 +98,9 @@ impl Model for Script {
       types = s.types.items;
       overrides = s.overrides.items;
       settings = s.settings.items;
+      verbosities = s.verbosities.items;
+      actions = s.actions.items;
+      severities = s.severities.items;
       probes = s.probes.items;
     }) };
 }
@@ -141,6 +151,28 @@ impl Script {
         ensures few { length result.now ≤ most_settings }
     {
         self.settings.as_slice()
+    }
+
+    /// The levels of verbosity in the order in which they are given, each at most 10,000.
+    pub fn verbosities(&self) -> &[VerbositySetting]
+        ensures verbosities { result.now ≡ self.now.verbosities }
+        ensures sound { All HasLevelInRange self.now.verbosities }
+    {
+        self.verbosities.as_slice()
+    }
+
+    /// The settings of actions in the order in which they are given.
+    pub fn actions(&self) -> &[ActionSetting]
+        ensures { result.now ≡ self.now.actions }
+    {
+        self.actions.as_slice()
+    }
+
+    /// The changes of severities in the order in which they are given.
+    pub fn severities(&self) -> &[SeverityChange]
+        ensures { result.now ≡ self.now.severities }
+    {
+        self.severities.as_slice()
     }
 
     /// The probes in order, each of a type of the script.

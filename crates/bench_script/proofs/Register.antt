@@ -8,7 +8,7 @@ use Rattle.std.specs.List.{position_or_len}
 use Rattle.std.specs.Map.{lookup}
 use Rattle.uvm_factory.specs.declared.types.Kind.{Kind}
 use Rattle.uvm_factory.specs.declared.faults.FactoryFault.TheVariants.{Known, Full}
-use Rattle.uvm_factory.specs.Faults.{Types, register_fault, type_named}
+use Rattle.uvm_factory.specs.Faults.{Types, most_types, register_fault, type_named}
 use Rattle.bench_script.specs.Sound.{CanRegister}
 
 register-after : (before types : Types) (t : List ℕ × Kind) → CanRegister before types → register_fault (before ++ types) t.0 ≡ None → CanRegister before (types ++ t ∷ [])
@@ -26,21 +26,21 @@ known-place types name place found =
     subst (λ n. place < n) (length-map types (λ t. t.0)) bound
 
 -- a type that may be registered finds room
-new-room : (known : Bool) (n : ℕ) → (if known then Some Known else if nat_le 1024 n then Some Full else None) ≡ None → n < 1024
+new-room : (known : Bool) (n : ℕ) → (if known then Some Known else if nat_le most_types n then Some Full else None) ≡ None → n < most_types
 new-room true n new = absurd (grind (arith, new))
-new-room false n new = leb-false 1024 n (grind (arith, new))
+new-room false n new = leb-false most_types n (grind (arith, new))
 
 -- no more types can be registered than a factory takes
-few-after : (before types : Types) → CanRegister before types → length before ≤ 1024 → length (before ++ types) ≤ 1024
+few-after : (before types : Types) → CanRegister before types → length before ≤ most_types → length (before ++ types) ≤ most_types
 few-after before [] can few = rw (append-nil before) few
 few-after before (t ∷ types) can few =
-    let left : length before < 1024 = new-room (is_some (type_named before t.0)) (length before) can.0 in
+    let left : length before < most_types = new-room (is_some (type_named before t.0)) (length before) can.0 in
     rw (← append_assoc before (t ∷ []) types) (few-after (before ++ t ∷ []) types can.1 (rw (length-append before (t ∷ [])) (omega (arith, left))))
 
 -- so the place of a type is below that number
-pub place-few : (types : Types) (name : List ℕ) (place : ℕ) → CanRegister [] types → type_named types name ≡ Some place → place < 1024
+pub place-few : (types : Types) (name : List ℕ) (place : ℕ) → CanRegister [] types → type_named types name ≡ Some place → place < most_types
 place-few types name place can found =
-    let few : length types ≤ 1024 = few-after [] types can (omega arith) in
+    let few : length types ≤ most_types = few-after [] types can (omega arith) in
     let known : place < length types = known-place types name place found in
     omega arith
 
@@ -57,7 +57,7 @@ past-end : (place len : ℕ) (b : Bool) → nat_lt place len ≡ b → (if b the
 past-end place len true is e = cc
 past-end place len false is e = ltb-false place len is
 
-unknown : (known : Option ℕ) (n : ℕ) → (if is_some known then Some Known else if nat_le 1024 n then Some Full else None) ≡ None → known ≡ None
+unknown : (known : Option ℕ) (n : ℕ) → (if is_some known then Some Known else if nat_le most_types n then Some Full else None) ≡ None → known ≡ None
 unknown None n new = refl
 unknown (Some place) n new = cc
 

@@ -8,7 +8,7 @@ use Rattle.bench_script.specs.Keys.{keys_of}
 use Rattle.bench_script.specs.Values.{is_same_text}
 
 -- a key among those that are listed
-listed-map : (key : List ℕ) (listed : List (Bor (List ℕ))) → list_any (λ other. is_same_text key other.now) listed ≡ list_any (is_same_text key) (map (λ other. other.now) listed)
+pub listed-map : (key : List ℕ) (listed : List (Bor (List ℕ))) → list_any (λ other. is_same_text key other.now) listed ≡ list_any (is_same_text key) (map (λ other. other.now) listed)
 listed-map key [] = refl
 listed-map key (other ∷ listed) = ap (λ rest. is_same_text key other.now || rest) (listed-map key listed)
 

@@ -11,9 +11,11 @@ use Rattle.bench_script.specs.declared.faults.ScriptFault.{ScriptFault}
 use Rattle.bench_script.specs.declared.faults.ScriptFault.TheVariants.{NotText, NotToml, WrongKind, UnknownType, Version, TooLong}
 use Rattle.bench_script.specs.Reading.{and_then}
 use Rattle.bench_script.specs.Values.{integer_in, number_in, name_in}
+use Rattle.bench_script.specs.Limits.{most_time, most_quit_limit, most_script_bytes}
 use Rattle.bench_script.specs.Keys.{only_keys, required, optional, some_of}
 use Rattle.bench_script.specs.Scripts.{ScriptValue}
 use Rattle.bench_script.specs.Tables.{types_in, overrides_in, settings_in, probes_in}
+use Rattle.bench_script.specs.ReportTables.{verbosities_in, actions_in, severities_in}
 
 -- the version is 1
 abbrev pub version_one : ℤ → Result (Unit {0}) ScriptFault
@@ -24,7 +26,7 @@ abbrev pub version_in : Data → Result (Unit {0}) ScriptFault
 version_in value = and_then (integer_in value) version_one
 
 abbrev pub root_keys : List (List ℕ)
-root_keys = codes "version" ∷ codes "test" ∷ codes "time_limit" ∷ codes "quit_limit" ∷ codes "type" ∷ codes "override" ∷ codes "set" ∷ codes "probe" ∷ []
+root_keys = codes "version" ∷ codes "test" ∷ codes "time_limit" ∷ codes "quit_limit" ∷ codes "type" ∷ codes "override" ∷ codes "set" ∷ codes "verbosity" ∷ codes "action" ∷ codes "severity" ∷ codes "probe" ∷ []
 
 -- the test is a component
 abbrev pub component_at : ℕ → Option (List ℕ × Kind) → Result (Option ℕ) ScriptFault
@@ -43,8 +45,8 @@ head_in root =
     and_then (required (codes "version") version_in root) (λ _.
     and_then (only_keys root_keys root) (λ _.
     and_then (optional (codes "test") None (some_of name_in) root) (λ test.
-    and_then (optional (codes "time_limit") 1000000000000000000 (number_in 1000000000000000000) root) (λ time_limit.
-    and_then (optional (codes "quit_limit") 0 (number_in 65535) root) (λ quit_limit.
+    and_then (optional (codes "time_limit") most_time (number_in most_time) root) (λ time_limit.
+    and_then (optional (codes "quit_limit") 0 (number_in most_quit_limit) root) (λ quit_limit.
     Ok (record { test = test; time_limit = time_limit; quit_limit = quit_limit }))))))
 
 unfoldable pub script_of : Members → Result ScriptValue ScriptFault
@@ -53,6 +55,9 @@ script_of root =
     and_then (types_in root) (λ types.
     and_then (overrides_in types root) (λ overrides.
     and_then (settings_in root) (λ settings.
+    and_then (verbosities_in root) (λ verbosities.
+    and_then (actions_in root) (λ actions.
+    and_then (severities_in root) (λ severities.
     and_then (probes_in types root) (λ probes.
     and_then (test_among types head.test) (λ test.
     Ok (record {
@@ -62,8 +67,11 @@ script_of root =
       types = types;
       overrides = overrides;
       settings = settings;
+      verbosities = verbosities;
+      actions = actions;
+      severities = severities;
       probes = probes;
-    })))))))
+    }))))))))))
 
 -- the script of a document that `toml` took, or refused
 abbrev pub script_in : Option Members → Result ScriptValue ScriptFault
@@ -73,6 +81,6 @@ script_in (Some root) = script_of root
 -- the script that the bytes of a file stand for
 abbrev pub script_of_bytes : List ℕ → Result ScriptValue ScriptFault
 script_of_bytes bytes =
-    if nat_lt 1048576 (length bytes) then Err TooLong
+    if nat_lt most_script_bytes (length bytes) then Err TooLong
     else if not (is_utf8 bytes) then Err NotText
     else script_in (parse_document bytes)

@@ -4,8 +4,12 @@ use Rattle.uvm_factory.specs.declared.overrides.Override.{Override}
 use Rattle.uvm_factory.specs.Faults.{Types}
 use Rattle.bench_script.specs.declared.scripts.Probe.{Probe}
 use Rattle.bench_script.specs.declared.scripts.Setting.{Setting}
+use Rattle.bench_script.specs.declared.report_settings.VerbositySetting.{VerbositySetting}
+use Rattle.bench_script.specs.declared.report_settings.ActionSetting.{ActionSetting}
+use Rattle.bench_script.specs.declared.report_settings.SeverityChange.{SeverityChange}
 
--- the test, a type's place, where there is one; the limits of a run; the types in order, what replaces them, what is set, and the questions to the factory
+-- the test, a type's place, where there is one; the limits of a run; the types in order, what replaces them, what is set, also for reports, and the questions
+-- to the factory
 pub record ScriptValue : Type 0 where
   pub test : Option ℕ
   pub time_limit : ℕ
@@ -13,4 +17,7 @@ pub record ScriptValue : Type 0 where
   pub types : Types
   pub overrides : List Override
   pub settings : List Setting
+  pub verbosities : List VerbositySetting
+  pub actions : List ActionSetting
+  pub severities : List SeverityChange
   pub probes : List Probe

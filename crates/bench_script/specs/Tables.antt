@@ -4,7 +4,8 @@ use Rattle.toml.specs.Data.{Data, Items, no_items, item, Members}
 use Rattle.uvm_factory.specs.declared.types.Kind.{Kind}
 use Rattle.uvm_factory.specs.declared.overrides.Override.{Override}
 use Rattle.uvm_factory.specs.declared.overrides.Override.TheVariants.{Instance, Whole}
-use Rattle.uvm_factory.specs.Faults.{Types, type_named, override_fault}
+use Rattle.uvm_factory.specs.Faults.{Types, most_types, type_named, override_fault}
+use Rattle.uvm_config.specs.Answers.{most_settings}
 use Rattle.bench_script.specs.declared.scripts.Probe.{Probe}
 use Rattle.bench_script.specs.declared.scripts.Setting.{Setting}
 use Rattle.bench_script.specs.declared.faults.ScriptFault.{ScriptFault}
@@ -88,13 +89,13 @@ probe_row types element =
 
 -- the arrays themselves
 abbrev pub types_in : Members → Result Types ScriptFault
-types_in root = and_then (few_elements_at 1024 (codes "type") root) (rows_from type_row [])
+types_in root = and_then (few_elements_at most_types (codes "type") root) (rows_from type_row [])
 
 abbrev pub overrides_in : Types → Members → Result (List Override) ScriptFault
 overrides_in types root = and_then (elements_at (codes "override") root) (rows_from (λ _. override_row types) [])
 
 abbrev pub settings_in : Members → Result (List Setting) ScriptFault
-settings_in root = and_then (few_elements_at 65536 (codes "set") root) (rows_from (λ _. setting_row) [])
+settings_in root = and_then (few_elements_at most_settings (codes "set") root) (rows_from (λ _. setting_row) [])
 
 abbrev pub probes_in : Types → Members → Result (List Probe) ScriptFault
 probes_in types root = and_then (elements_at (codes "probe") root) (rows_from (λ _. probe_row types) [])

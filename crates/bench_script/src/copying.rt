@@ -7,6 +7,7 @@ ghost use Rattle.bench_script.specs.Documents.{test_among};
 ghost use Rattle.bench_script.specs.Sound.{IsComponentAt};
 
 use crate::faults::ScriptFault;
+use crate::report_settings::{ActionSetting, SeverityChange, VerbositySetting};
 use crate::scripts::{Probe, Script, Setting};
 use std::alloc::{AllocError, Global};
 use uvm_factory::{Kind, Override, TypeId};
@@ -25,6 +26,9 @@ impl Script {
             types: Vec::from_slice(alloc, self.types.as_slice())?,
             overrides: copied_overrides(alloc, self.overrides.as_slice())?,
             settings: copied_settings(alloc, self.settings.as_slice())?,
+            verbosities: copied_verbosities(alloc, self.verbosities.as_slice())?,
+            actions: copied_actions(alloc, self.actions.as_slice())?,
+            severities: copied_severities(alloc, self.severities.as_slice())?,
             probes: copied_probes(alloc, self.probes.as_slice())?,
         })
     }
@@ -83,6 +87,45 @@ fn copied_settings(alloc: Global, settings: &[Setting]) -> Result<Vec<Setting>, 
     let mut copied = Vec::new(alloc);
     for setting in settings {
         copied.push(setting.copy()?)?;
+    }
+    Ok(copied)
+}
+
+fn copied_verbosities(
+    alloc: Global,
+    settings: &[VerbositySetting],
+) -> Result<Vec<VerbositySetting>, AllocError>
+    ensures { IfOk result (λ copied. copied.items ≡ settings.now) }
+{
+    let mut copied = Vec::new(alloc);
+    for setting in settings {
+        copied.push(setting.copy()?)?;
+    }
+    Ok(copied)
+}
+
+fn copied_actions(
+    alloc: Global,
+    settings: &[ActionSetting],
+) -> Result<Vec<ActionSetting>, AllocError>
+    ensures { IfOk result (λ copied. copied.items ≡ settings.now) }
+{
+    let mut copied = Vec::new(alloc);
+    for setting in settings {
+        copied.push(setting.copy()?)?;
+    }
+    Ok(copied)
+}
+
+fn copied_severities(
+    alloc: Global,
+    changes: &[SeverityChange],
+) -> Result<Vec<SeverityChange>, AllocError>
+    ensures { IfOk result (λ copied. copied.items ≡ changes.now) }
+{
+    let mut copied = Vec::new(alloc);
+    for change in changes {
+        copied.push(change.copy()?)?;
     }
     Ok(copied)
 }

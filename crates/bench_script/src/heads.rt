@@ -2,6 +2,7 @@
 
 ghost use Rattle.std.specs.Prelude.{◌≡◌, ◌≤◌, IfOk};
 ghost use Rattle.toml.specs.View.{view, table_view};
+ghost use Rattle.bench_script.specs.Limits.{most_time, most_quit_limit};
 ghost use Rattle.bench_script.specs.Documents.{version_in, head_in};
 
 use crate::faults::ScriptFault;
@@ -15,7 +16,7 @@ const MAX_TIME: u64 = 1_000_000_000_000_000_000;
 
 const MAX_QUIT_LIMIT: u64 = u16::MAX as u64;
 
-const ROOT_KEYS: [&str; 8] = [
+const ROOT_KEYS: [&str; 11] = [
     "version",
     "test",
     "time_limit",
@@ -23,6 +24,9 @@ const ROOT_KEYS: [&str; 8] = [
     "type",
     "override",
     "set",
+    "verbosity",
+    "action",
+    "severity",
     "probe",
 ];
 
@@ -36,8 +40,8 @@ pub(crate) struct Head {
 
 pub(crate) fn read_head(root: &Table) -> Result<Head, ScriptFault>
     ensures head { result ≡ head_in (table_view root.now) }
-    ensures time_limit { IfOk result (λ head. head.time_limit ≤ 1000000000000000000) }
-    ensures quit_limit { IfOk result (λ head. head.quit_limit ≤ 65535) }
+    ensures time_limit { IfOk result (λ head. head.time_limit ≤ most_time) }
+    ensures quit_limit { IfOk result (λ head. head.quit_limit ≤ most_quit_limit) }
 {
     version(required(root, "version")?)?;
     only_keys(root, &ROOT_KEYS)?;

@@ -42,7 +42,7 @@ fn are_listed(table: &Table, listed: &[&str]) -> bool
     table.keys().all(|key| is_listed(key.as_str(), listed))
 }
 
-fn is_listed(key: &str, listed: &[&str]) -> bool
+pub(crate) fn is_listed(key: &str, listed: &[&str]) -> bool
     ensures { result ≡ list_any (λ other. is_same_text key.now other.now) listed.now }
 {
     listed.iter().any(|other| key == *other)

@@ -1,4 +1,4 @@
-//! The scripts of the bench: TOML documents that name types, overrides, settings and probes.
+//! The scripts of the bench: TOML documents that name types, overrides, settings, what is set for reports, and probes.
 #![tactic(auto)]
 
 mod copying;
@@ -7,6 +7,8 @@ mod faults;
 mod heads;
 mod keys;
 mod reading;
+mod report_settings;
+mod report_tables;
 mod scripts;
 mod tables;
 mod type_tables;
@@ -14,6 +16,7 @@ mod values;
 
 pub use faults::ScriptFault;
 pub use reading::read;
+pub use report_settings::{ActionSetting, SeverityChange, VerbositySetting};
 pub use scripts::{Probe, Script, Setting};
 
 #[cfg(test)]

@@ -9,6 +9,7 @@ ghost use Rattle.bench_script.specs.Documents.{script_of, script_in, script_of_b
 
 use crate::faults::ScriptFault;
 use crate::heads::read_head;
+use crate::report_tables::{read_actions, read_severities, read_verbosities};
 use crate::scripts::Script;
 use crate::tables::{read_overrides, read_probes, read_settings, read_types};
 use crate::type_tables::TypeTable;
@@ -53,6 +54,9 @@ fn read_tree(alloc: Global, root: &Table) -> Result<Script, ScriptFault>
     let types = read_types(alloc, root)?;
     let overrides = read_overrides(alloc, &types, root)?;
     let settings = read_settings(alloc, root)?;
+    let verbosities = read_verbosities(alloc, root)?;
+    let actions = read_actions(alloc, root)?;
+    let severities = read_severities(alloc, root)?;
     let probes = read_probes(alloc, &types, root)?;
     let test = test_among(&types, head.test)?;
     Ok(Script {
@@ -62,6 +66,9 @@ fn read_tree(alloc: Global, root: &Table) -> Result<Script, ScriptFault>
         types: types.rows(alloc)?,
         overrides,
         settings,
+        verbosities,
+        actions,
+        severities,
         probes,
     })
 }

@@ -1,8 +1,11 @@
 //! What a script says.
 
 ghost use Rattle.std.specs.Prelude.{◌≡◌, ◌≤◌, [], All, IfOk, length};
-ghost use Rattle.bench_script.specs.Sound.{IsComponentAt, CanRegister, CanOverride, CanProbe};
+ghost use Rattle.uvm_config.specs.Answers.{most_settings};
+ghost use Rattle.bench_script.specs.Limits.{most_time};
+ghost use Rattle.bench_script.specs.Sound.{IsComponentAt, CanRegister, CanOverride, CanProbe, HasLevelInRange};
 
+use crate::report_settings::{ActionSetting, SeverityChange, VerbositySetting};
 use std::alloc::AllocError;
 use std::marker::Model;
 use uvm_factory::{Kind, Override, TypeId};
@@ -62,6 +65,9 @@ pub struct Script {
     pub(crate) types: Vec<(Name, Kind)>,
     pub(crate) overrides: Vec<Override>,
     pub(crate) settings: Vec<Setting>,
+    pub(crate) verbosities: Vec<VerbositySetting>,
+    pub(crate) actions: Vec<ActionSetting>,
+    pub(crate) severities: Vec<SeverityChange>,
     pub(crate) probes: Vec<Probe>,
 }
 
@@ -77,6 +83,9 @@ impl Model for Script {
       types = s.types.items;
       overrides = s.overrides.items;
       settings = s.settings.items;
+      verbosities = s.verbosities.items;
+      actions = s.actions.items;
+      severities = s.severities.items;
       probes = s.probes.items;
     } };
 
@@ -89,6 +98,9 @@ impl Model for Script {
       types = s.types.items;
       overrides = s.overrides.items;
       settings = s.settings.items;
+      verbosities = s.verbosities.items;
+      actions = s.actions.items;
+      severities = s.severities.items;
       probes = s.probes.items;
     }) };
 }
@@ -105,7 +117,7 @@ impl Script {
     /// The limit that the script sets to time, in ticks, at most 10^18.
     pub fn time_limit(&self) -> u64
         ensures limit { result ≡ self.now.time_limit }
-        ensures most { result ≤ 1000000000000000000 }
+        ensures most { result ≤ most_time }
     {
         self.time_limit
     }
@@ -136,9 +148,31 @@ impl Script {
     /// The settings in the order in which they are given, at most 65,536.
     pub fn settings(&self) -> &[Setting]
         ensures settings { result.now ≡ self.now.settings }
-        ensures few { length result.now ≤ 65536 }
+        ensures few { length result.now ≤ most_settings }
     {
         self.settings.as_slice()
+    }
+
+    /// The levels of verbosity in the order in which they are given, each at most 10,000.
+    pub fn verbosities(&self) -> &[VerbositySetting]
+        ensures verbosities { result.now ≡ self.now.verbosities }
+        ensures sound { All HasLevelInRange self.now.verbosities }
+    {
+        self.verbosities.as_slice()
+    }
+
+    /// The settings of actions in the order in which they are given.
+    pub fn actions(&self) -> &[ActionSetting]
+        ensures { result.now ≡ self.now.actions }
+    {
+        self.actions.as_slice()
+    }
+
+    /// The changes of severities in the order in which they are given.
+    pub fn severities(&self) -> &[SeverityChange]
+        ensures { result.now ≡ self.now.severities }
+    {
+        self.severities.as_slice()
     }
 
     /// The probes in order, each of a type of the script.

@@ -3,6 +3,7 @@
 ghost use Rattle.std.specs.Prelude.{◌≡◌, ◌≢◌, ◌<◌, ◌≤◌, MatchResult, IfOk, None, All, length};
 ghost use Rattle.toml.specs.View.{view, table_view};
 ghost use Rattle.uvm_factory.specs.Faults.{type_named};
+ghost use Rattle.uvm_config.specs.Answers.{most_settings};
 ghost use Rattle.bench_script.specs.Reading.{IsReading};
 ghost use Rattle.bench_script.specs.Sound.{CanOverride, CanProbe};
 ghost use Rattle.bench_script.specs.Tables.{new_name_in, type_id_in, type_row, override_row, setting_row, probe_row, types_in, overrides_in, settings_in, probes_in};
@@ -14,19 +15,16 @@ use crate::type_tables::TypeTable;
 use crate::values::{flag, glob, integer, kind, name, path};
 use std::alloc::Global;
 use toml::{Table, Value};
-use uvm_factory::{Kind, Override, TypeId};
+use uvm_config::Settings;
+use uvm_factory::{Factory, Kind, Override, TypeId};
 use uvm_glob::Name;
-
-const MAX_TYPES: usize = 1024;
-
-const MAX_SETTINGS: usize = 65_536;
 
 // Reads the types.
 pub(crate) fn read_types(alloc: Global, root: &Table) -> Result<TypeTable, ScriptFault>
     ensures { IsReading (types_in (table_view root.now)) result }
 {
     let mut types = TypeTable::new(alloc);
-    for element in few_elements(root, "type", MAX_TYPES)? {
+    for element in few_elements(root, "type", Factory::MAX_TYPES)? {
         let (name, kind) = type_row(&types, element)?;
         types.add(name, kind)?;
     }
@@ -53,13 +51,13 @@ pub(crate) fn read_overrides(
 
 // Reads the settings.
 pub(crate) fn read_settings(alloc: Global, root: &Table) -> Result<Vec<Setting>, ScriptFault>
-    ensures few { IfOk result (λ rows. length rows.items ≤ 65536) }
+    ensures few { IfOk result (λ rows. length rows.items ≤ most_settings) }
     ensures rows { MatchResult result
         (λ rows. settings_in (table_view root.now) ≡ Ok rows.items)
         (λ fault. fault ≢ ScriptFault.Memory → settings_in (table_view root.now) ≡ Err fault) }
 {
     let mut rows = Vec::new(alloc);
-    for element in few_elements(root, "set", MAX_SETTINGS)? {
+    for element in few_elements(root, "set", Settings::MAX_SETS)? {
         rows.push(setting_row(alloc, element)?)?;
     }
     Ok(rows)

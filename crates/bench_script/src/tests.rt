@@ -1,3 +1,5 @@
+mod reports;
+
 use super::*;
 use std::alloc::Global;
 use std::process::Abort;
@@ -238,6 +240,9 @@ fn defaults_of_what_is_not_written(rt: HostRuntime) -> Result<(), Fail> {
     assert!(rt; script.types().is_empty());
     assert!(rt; script.overrides().is_empty());
     assert!(rt; script.settings().is_empty());
+    assert!(rt; script.verbosities().is_empty());
+    assert!(rt; script.actions().is_empty());
+    assert!(rt; script.severities().is_empty());
     assert!(rt; script.probes().is_empty());
     Ok(())
 }

@@ -2,18 +2,19 @@ use Rattle.std.proofs.Common.{◌≡◌, length, nat_lt, true, false, refl}
 use Rattle.std.specs.Str.{is_utf8}
 use Rattle.std.proofs.lemmas.Bool.{le-ltb, false_from_ne_true}
 use Rattle.std.proofs.lemmas.Str.{is_utf8-from_IsUtf8, IsUtf8-from_is_utf8}
+use Rattle.bench_script.specs.Limits.{most_script_bytes}
 use Rattle.bench_script.proofs.reading.read.Goals as goal
 
 -- bytes that are no text
 pub returns-in_default : goal.returns-in_default
 returns-in_default c = λ _.
-    let short : nat_lt 1048576 (length c.args.bytes.now) ≡ false = le-ltb _ _ c.if-bytes-gt-MAX_LEN.false in
+    let short : nat_lt most_script_bytes (length c.args.bytes.now) ≡ false = le-ltb _ _ c.if-bytes-gt-MAX_LEN.false in
     let no : is_utf8 c.args.bytes.now ≡ false = false_from_ne_true _ (λ yes. c.in_default.ensures.cases.0 (IsUtf8-from_is_utf8 _ yes)) in
     rw (short, no) refl
 
 -- bytes that are a text
 pub returns : goal.returns
 returns c =
-    let short : nat_lt 1048576 (length c.args.bytes.now) ≡ false = le-ltb _ _ c.if-bytes-gt-MAX_LEN.false in
+    let short : nat_lt most_script_bytes (length c.args.bytes.now) ≡ false = le-ltb _ _ c.if-bytes-gt-MAX_LEN.false in
     let yes : is_utf8 c.args.bytes.now ≡ true = is_utf8-from_IsUtf8 _ c.in-Ok.ensures.cases.1 in
     rw (short, yes) (rw (c.in-Ok.ensures.cases.0) at c.read_text.ensures)

@@ -1,5 +1,6 @@
 use Rattle.std.proofs.Common.{◌≡◌, ◌≤◌, length, drop}
 use Rattle.toml.specs.View.{table_view, items_view}
+use Rattle.uvm_config.specs.Answers.{most_settings}
 use Rattle.bench_script.specs.Tables.{rows_from, setting_row, settings_in}
 use Rattle.bench_script.proofs.tables.read_settings.Given as goal
 
@@ -8,4 +9,4 @@ abbrev pub invariant-loop-element : goal.invariant-loop-element
 invariant-loop-element l =
     (settings_in (table_view l.root) ≡ rows_from (λ _. setting_row) l.rows.items (items_view (drop l.element-index l.element-items)))
     × (length l.rows.items ≡ l.element-index)
-    × (length l.element-items ≤ 65536)
+    × (length l.element-items ≤ most_settings)

@@ -1,5 +1,6 @@
 use Rattle.std.proofs.Common.{◌≡◌, ◌≤◌, length, drop}
 use Rattle.toml.specs.View.{table_view, items_view}
+use Rattle.uvm_factory.specs.Faults.{most_types}
 use Rattle.bench_script.specs.Tables.{rows_from, type_row, types_in}
 use Rattle.bench_script.proofs.tables.read_types.Given as goal
 
@@ -8,4 +9,4 @@ abbrev pub invariant-loop-element : goal.invariant-loop-element
 invariant-loop-element l =
     (types_in (table_view l.root) ≡ rows_from type_row l.types (items_view (drop l.element-index l.element-items)))
     × (length l.types ≡ l.element-index)
-    × (length l.element-items ≤ 1024)
+    × (length l.element-items ≤ most_types)

@@ -1,4 +1,4 @@
-use Rattle.std.proofs.Common.{◌∙◌, sym, ap, arith}
+use Rattle.std.proofs.Common.{◌∙◌, sym, arith}
 use Rattle.bench_script.proofs.Register.{place-few}
 use Rattle.bench_script.proofs.type_tables.TypeTable.find.Goals as goal
 

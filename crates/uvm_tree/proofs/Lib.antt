@@ -1,3 +1,4 @@
+pub mod Grown
 pub mod Leasts
 pub mod Left
 pub mod Places

@@ -1,5 +1,5 @@
 -- One more node.
-use Rattle.std.proofs.Common.{◌≡◌, ◌<◌, ◌≤◌, ℕ, zero, suc, ◌+◌, Bool, true, false, ◌||◌, ◌&&◌, List, [], ◌∷◌, ◌++◌, Option, Some, None, IsSome, Result, Ok, Err, OnOk, OnErr, is_none, length, refl, subst, ap, ◌∙◌, sym, inl, inr, arith, nat_eq, eq-eqb, slice_get, option_and_then, ◌⊎◌}
+use Rattle.std.proofs.Common.{◌≡◌, ◌<◌, ◌≤◌, ℕ, zero, suc, ◌+◌, Bool, true, false, ◌||◌, List, [], ◌∷◌, ◌++◌, Option, Some, None, IsSome, Result, Ok, Err, OnOk, OnErr, is_none, length, refl, subst, ap, ◌∙◌, sym, inl, inr, arith, eq-eqb, option_and_then, ◌⊎◌}
 use borrow.Author.Tests.{ltb-false}
 use Rattle.std.proofs.lemmas.Bool.{cases_lt}
 use Rattle.std.proofs.lemmas.Cmp.{nat_list_eq_equiv}
@@ -26,7 +26,7 @@ last : (nodes : List Node) (x : Node) → node_at (nodes ++ x ∷ []) (length no
 last [] x = refl
 last (y ∷ ys) x = last ys x
 
-within : (nodes : List Node) (id : ℕ) (under : ℕ × List ℕ) → under_at nodes id ≡ Some under → id < length nodes
+pub within : (nodes : List Node) (id : ℕ) (under : ℕ × List ℕ) → under_at nodes id ≡ Some under → id < length nodes
 within [] id under e = cc
 within (x ∷ xs) zero under e = omega arith
 within (x ∷ xs) (suc id) under e = let h = within xs id under e in omega arith
@@ -179,3 +179,8 @@ added nodes new parent name kind (Err fault) are free is same =
     let none = none_of _ _ _ _ free in
     let room : length nodes ≤ most_nodes = ltb-false most_nodes (length nodes) none.2 in
     (subst AreNodes (sym same) are, omega (arith, ap length same))
+
+-- two nodes of one name under one parent are one
+pub siblings : (nodes : List Node) → AreNodes nodes → (m n : ℕ) (under : ℕ × List ℕ) → under_at nodes m ≡ Some under → under_at nodes n ≡ Some under → m ≡ n
+siblings nodes are m n under e f =
+    are.apart m n (within nodes m under e) (within nodes n under f) (are.paths m under e ∙ sym (are.paths n under f))

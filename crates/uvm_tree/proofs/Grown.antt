@@ -13,7 +13,7 @@ use Rattle.uvm_tree.specs.declared.faults.TreeFault.{TreeFault}
 use Rattle.uvm_tree.specs.declared.faults.TreeFault.TheVariants.{NoParent, NameTaken, TooDeep, Full}
 use Rattle.uvm_tree.specs.declared.nodes.Node.{Node}
 use Rattle.uvm_tree.specs.declared.nodes.NodeKind.{NodeKind}
-use Rattle.uvm_tree.specs.Nodes.{AreNodes, add_fault, child, is_child, is_named, most_nodes, node_at, path_at, top, under_at}
+use Rattle.uvm_tree.specs.Nodes.{AreNodes, AreSiblingsApart, add_fault, child, is_child, is_named, most_nodes, node_at, path_at, top, under_at}
 
 -- the nodes before one more are what they were
 before : (nodes : List Node) (x : Node) (id : ℕ) → id < length nodes → node_at (nodes ++ x ∷ []) id ≡ node_at nodes id
@@ -181,6 +181,6 @@ added nodes new parent name kind (Err fault) are free is same =
     (subst AreNodes (sym same) are, omega (arith, ap length same))
 
 -- two nodes of one name under one parent are one
-pub siblings : (nodes : List Node) → AreNodes nodes → (m n : ℕ) (under : ℕ × List ℕ) → under_at nodes m ≡ Some under → under_at nodes n ≡ Some under → m ≡ n
+pub siblings : AreSiblingsApart
 siblings nodes are m n under e f =
     are.apart m n (within nodes m under e) (within nodes n under f) (are.paths m under e ∙ sym (are.paths n under f))

@@ -58,6 +58,10 @@ pub record AreNodes (nodes : List Node) : Type 0 where
   pub paths : (id : ℕ) → ForSome (under_at nodes id) (λ under. path_at nodes id ≡ path_at nodes under.0 ++ under.1 ∷ [])
   pub apart : (m n : ℕ) → m < length nodes → n < length nodes → path_at nodes m ≡ path_at nodes n → m ≡ n
 
+-- no two children of one parent have one name
+abbrev pub AreSiblingsApart : Type 0
+AreSiblingsApart = (nodes : List Node) → AreNodes nodes → (m n : ℕ) → ForSome (under_at nodes m) (λ under. under_at nodes n ≡ Some under → m ≡ n)
+
 -- the node is the child of a name
 abbrev pub is_named : ℕ → List ℕ → Option (ℕ × List ℕ) → Bool
 is_named parent name None = false

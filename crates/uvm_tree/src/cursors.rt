@@ -65,7 +65,7 @@ struct Walk<'a> {
 impl Walk<'_> {
     // The node that comes next.
     fn next(&self) -> Option<NodeId>
-        ensures next { let order = order_of self.now.direction in IsLeast (is_before order self.now.tree.now.nodes) (nodes_after order self.now.tree.now.nodes self.now.after) result }
+        ensures next { IsLeast (is_before (order_of self.now.direction) self.now.tree.now.nodes) (nodes_after (order_of self.now.direction) self.now.tree.now.nodes self.now.after) result }
         ensures nodes { AreNodes self.now.tree.now.nodes }
     {
         laws::least_is_least();

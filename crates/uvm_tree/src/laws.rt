@@ -1,6 +1,7 @@
 //! Laws of the definitions. The functions do nothing; their contracts are the laws.
 
 ghost use Rattle.uvm_tree.specs.Cursors.{AreNodesOrdered, LeastIsLeast, OneIsLeast};
+ghost use Rattle.uvm_tree.specs.Nodes.{AreSiblingsApart};
 
 use uvm_glob::laws::orders_are_total;
 
@@ -8,6 +9,12 @@ use uvm_glob::laws::orders_are_total;
 /// other stands.
 pub fn least_is_least()
     ensures { LeastIsLeast }
+{}
+
+/// No two children of one parent have one name.
+#[tactic(auto, using(crate::proofs::Grown::siblings))]
+pub fn siblings_are_apart()
+    ensures { AreSiblingsApart }
 {}
 
 /// The paths of the nodes of a tree order its nodes, in each direction: the order is total, and no two nodes are equal in it.

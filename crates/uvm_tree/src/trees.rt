@@ -14,7 +14,8 @@ use std::marker::Model;
 use uvm_glob::{ChildRoom, Name, Path};
 
 /// A tree of nodes under a top. Contracts see the nodes by their numbers, the top first, and beside them the parent for
-/// whose next child there is room.
+/// whose next child there is room. `parent`, `next_down` and `next_up` tell them that parents stand before their children,
+/// that a path is the parent's with the name, and that no two nodes have one path.
 #[derive(Drop)]
 pub struct Tree {
     top: Node,

@@ -1,4 +1,6 @@
+pub mod Grown
 pub mod Leasts
 pub mod Left
+pub mod Ordered
 pub mod Places
 pub mod Scans

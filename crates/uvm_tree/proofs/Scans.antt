@@ -2,7 +2,8 @@
 use Rattle.std.proofs.Common.{◌≡◌, ℕ, zero, suc, ◌+◌, Bool, true, false, List, [], ◌∷◌, ◌++◌, Option, None, filter, refl, ap, ◌∙◌, sym, arith, add-one, if◌then◌else◌}
 use Rattle.std.proofs.lemmas.List.Elements.{filter-append}
 use Rattle.std.specs.List.{range_with_len, fold}
-use Rattle.uvm_tree.specs.Cursors.{least, sooner, scanned}
+use Rattle.uvm_tree.specs.Cursors.{least, sooner}
+use Rattle.uvm_tree.specs.Scans.{scanned}
 
 -- one more number
 range-more : (a n : ℕ) → range_with_len a (suc n) ≡ range_with_len a n ++ (a + n) ∷ []

@@ -1,11 +1,11 @@
 -- The children of a node in the order of their names.
-use Rattle.std.specs.Prelude.{◌≡◌, ℕ, Bool, true, false, ◌&&◌, ◌==◌, List, filter, Option, Some, None, option_map, option_and_then}
-use Rattle.std.specs.Option.{option_map_or, option_or, option_cmp}
+use Rattle.std.specs.Prelude.{◌≡◌, ℕ, Bool, true, false, ◌&&◌, ◌==◌, List, ◌++◌, filter, IsPermutation, Option, Some, None, option_map, option_and_then}
+use Rattle.std.specs.Option.{option_map_or, option_or, option_cmp, option_to_list}
 use Rattle.std.specs.Ordering.{is_lt, nat_cmp}
 use Rattle.std.specs.Cmp.Lexicographic.{slice_cmp}
 use Rattle.uvm_tree.specs.declared.nodes.Node.{Node}
 use Rattle.uvm_tree.specs.Nodes.{node_at, parent_of}
-use Rattle.uvm_tree.specs.Cursors.{least, numbers_of}
+use Rattle.uvm_tree.specs.Cursors.{IsLeast, numbers_of}
 
 -- the nodes of a tree, the node whose children are given, and the last that was given, if one was
 pub record ChildrenValue : Type 0 where
@@ -34,6 +34,10 @@ is_named_after nodes (Some m) n = is_named_before nodes m n
 abbrev pub is_under : List Node → ℕ → ℕ → Bool
 is_under nodes parent n = option_map_or (λ above. above == parent) (option_and_then parent_of (node_at nodes n)) false
 
+-- the children of a node
+abbrev pub children_of : List Node → ℕ → List ℕ
+children_of nodes parent = filter (is_under nodes parent) (numbers_of nodes)
+
 -- whether a node is a child that is left
 abbrev pub is_left : ChildrenValue → ℕ → Bool
 is_left s n = is_under s.nodes s.parent n && is_named_after s.nodes s.last n
@@ -42,10 +46,9 @@ is_left s n = is_under s.nodes s.parent n && is_named_after s.nodes s.last n
 abbrev pub children_left : ChildrenValue → List ℕ
 children_left s = filter (is_left s) (numbers_of s.nodes)
 
--- of the children that are left, that of the least name
-unfoldable pub next_child : ChildrenValue → Option ℕ
-next_child s = least (is_named_before s.nodes) (children_left s)
-
--- a call gives the next child, which is then the last that was given; nothing changes where none is left
-abbrev pub GivesNextChild : ChildrenValue → Option ℕ → ChildrenValue → Type 0
-GivesNextChild s given t = (given ≡ next_child s) × (t ≡ record { nodes = s.nodes; parent = s.parent; last = option_or given s.last })
+-- a call gives the child of the least name of those that are left, and none where none is left; the others are then left,
+-- and what was given is the last
+pub record GivesNextChild (s : ChildrenValue) (given : Option ℕ) (t : ChildrenValue) : Type 0 where
+  pub least : IsLeast (is_named_before s.nodes) (children_left s) given
+  pub others : IsPermutation (children_left s) (option_to_list given ++ children_left t)
+  pub last : t ≡ record { nodes = s.nodes; parent = s.parent; last = option_or given s.last }

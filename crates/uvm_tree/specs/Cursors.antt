@@ -1,12 +1,14 @@
 -- The nodes of a tree in an order of their paths.
-use Rattle.std.specs.Prelude.{◌≡◌, ◌↔◌, ℕ, Bool, true, false, ◌&&◌, ◌-◌, List, [], length, filter, fold, All, Contains, Option, Some, None, IsNone, IfSome, is_some, if◌then◌else◌}
+use Rattle.std.specs.Prelude.{◌≡◌, ◌↔◌, ◌<◌, ℕ, Bool, true, false, ◌&&◌, ◌-◌, List, [], length, filter, fold, All, Contains, Option, Some, None, IsNone, IfSome, is_some, if◌then◌else◌}
 use Rattle.std.specs.declared.cmp.Ordering.{Ordering}
+use Rattle.std.specs.declared.cmp.Ordering.TheVariants.{Equal}
 use Rattle.std.specs.Cmp.{IsTotalOrder}
 use Rattle.std.specs.Ordering.{is_lt}
 use Rattle.std.specs.List.{range_with_len}
-use Rattle.uvm_glob.specs.Orders.{PathOrder}
+use Rattle.uvm_glob.specs.declared.orders.Direction.{Direction}
+use Rattle.uvm_glob.specs.Orders.{PathOrder, order_of}
 use Rattle.uvm_tree.specs.declared.nodes.Node.{Node}
-use Rattle.uvm_tree.specs.Nodes.{node_at, path_at}
+use Rattle.uvm_tree.specs.Nodes.{AreNodes, node_at, path_at}
 
 -- whether a node stands before another
 abbrev pub is_before : PathOrder → List Node → ℕ → ℕ → Bool
@@ -32,10 +34,6 @@ pub record IsLeast (before : ℕ → ℕ → Bool) (numbers : List ℕ) (found :
 abbrev pub LeastIsLeast : Type 0
 LeastIsLeast = (cmp : ℕ → ℕ → Ordering) → IsTotalOrder cmp → (numbers : List ℕ) → IsLeast (λ m n. is_lt (cmp m n)) numbers (least (λ m n. is_lt (cmp m n)) numbers)
 
--- the least so far, after one more number, which counts if it passes
-abbrev pub scanned : (ℕ → ℕ → Bool) → (ℕ → Bool) → Option ℕ → ℕ → Option ℕ
-scanned before passes best n = if passes n then sooner before best n else best
-
 -- the nodes besides the top
 abbrev pub numbers_of : List Node → List ℕ
 numbers_of nodes = range_with_len 1 (length nodes - 1)
@@ -45,6 +43,23 @@ abbrev pub is_after : PathOrder → List Node → Option ℕ → ℕ → Bool
 is_after order nodes None n = true
 is_after order nodes (Some m) n = is_some (node_at nodes m) && is_before order nodes m n
 
--- the next node after a given one, or the first, besides the top
-unfoldable pub next_in : PathOrder → List Node → Option ℕ → Option ℕ
-next_in order nodes after = least (is_before order nodes) (filter (is_after order nodes after) (numbers_of nodes))
+-- the nodes besides the top that stand after a given one, or all of them
+abbrev pub nodes_after : PathOrder → List Node → Option ℕ → List ℕ
+nodes_after order nodes after = filter (is_after order nodes after) (numbers_of nodes)
+
+-- how two nodes compare by their paths
+abbrev pub node_cmp : PathOrder → List Node → ℕ → ℕ → Ordering
+node_cmp order nodes m n = order (path_at nodes m) (path_at nodes n)
+
+-- a comparison orders the nodes: it is total, and no two of them are equal in it
+pub record OrdersNodes (nodes : List Node) (cmp : ℕ → ℕ → Ordering) : Type 0 where
+  pub total : IsTotalOrder cmp
+  pub apart : (m n : ℕ) → m < length nodes → n < length nodes → cmp m n ≡ Equal → m ≡ n
+
+-- the nodes of a tree are ordered by their paths, in each direction
+abbrev pub AreNodesOrdered : Type 0
+AreNodesOrdered = (nodes : List Node) → AreNodes nodes → (direction : Direction) → OrdersNodes nodes (node_cmp (order_of direction) nodes)
+
+-- where the nodes are ordered, one alone of some of them is the least
+abbrev pub OneIsLeast : Type 0
+OneIsLeast = (nodes : List Node) (cmp : ℕ → ℕ → Ordering) → OrdersNodes nodes cmp → (numbers : List ℕ) → All (λ n. n < length nodes) numbers → (found other : Option ℕ) → IsLeast (λ m n. is_lt (cmp m n)) numbers found → IsLeast (λ m n. is_lt (cmp m n)) numbers other → found ≡ other

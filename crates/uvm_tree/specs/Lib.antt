@@ -3,3 +3,4 @@ pub mod Cursors
 pub mod Faults
 pub mod Nodes
 mod Rooms
+pub mod Scans

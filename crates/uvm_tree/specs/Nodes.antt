@@ -1,7 +1,7 @@
 -- The nodes of a tree by their numbers, the top first.
-use Rattle.std.specs.Prelude.{ℕ, Bool, false, ◌&&◌, ◌==◌, List, [], ◌∷◌, ◌++◌, length, nat_lt, nat_eq, Option, Some, None, slice_get, option_map, is_some, is_none, position}
+use Rattle.std.specs.Prelude.{◌≡◌, ◌<◌, ℕ, Bool, false, ◌&&◌, ◌==◌, List, [], ◌∷◌, ◌++◌, length, nat_lt, nat_eq, Option, Some, None, IsSome, slice_get, option_map, option_and_then, is_some, is_none, position}
 use Rattle.std.specs.List.{list_any}
-use Rattle.std.specs.Option.{option_map_or}
+use Rattle.std.specs.Option.{ForSome, option_map_or}
 use Rattle.std.specs.Cmp.Lexicographic.{pointwise}
 use Rattle.uvm_glob.specs.Lists.{first_given}
 use Rattle.uvm_glob.specs.Faults.{fault_if}
@@ -44,6 +44,23 @@ number_at nodes path = position (λ node. is_path node.path path) nodes
 -- the parent of a node
 abbrev pub parent_of : Node → Option ℕ
 parent_of node = option_map (λ under. under.0) node.under
+
+-- the parent of the node of a number, and its name under it, which the top has not
+abbrev pub under_at : List Node → ℕ → Option (ℕ × List ℕ)
+under_at nodes id = option_and_then (λ node. node.under) (node_at nodes id)
+
+-- these are the nodes of a tree: the top stands first, each other node has a parent, which stands before it, the path of
+-- a node is its parent's with its name, and no two nodes have one path
+pub record AreNodes (nodes : List Node) : Type 0 where
+  pub top_first : node_at nodes 0 ≡ Some top
+  pub others : (id : ℕ) → 0 < id → id < length nodes → IsSome (under_at nodes id)
+  pub parents : (id : ℕ) → ForSome (under_at nodes id) (λ under. under.0 < id)
+  pub paths : (id : ℕ) → ForSome (under_at nodes id) (λ under. path_at nodes id ≡ path_at nodes under.0 ++ under.1 ∷ [])
+  pub apart : (m n : ℕ) → m < length nodes → n < length nodes → path_at nodes m ≡ path_at nodes n → m ≡ n
+
+-- no two children of one parent have one name
+abbrev pub AreSiblingsApart : Type 0
+AreSiblingsApart = (nodes : List Node) → AreNodes nodes → (m n : ℕ) → ForSome (under_at nodes m) (λ under. under_at nodes n ≡ Some under → m ≡ n)
 
 -- the node is the child of a name
 abbrev pub is_named : ℕ → List ℕ → Option (ℕ × List ℕ) → Bool

@@ -2,9 +2,12 @@
 
 ghost use Rattle.std.specs.Prelude.{◌≡◌, None};
 ghost use Rattle.std.specs.Option.{option_copied};
-ghost use Rattle.uvm_tree.specs.Children.{name_at, is_named_before, is_under, is_left, next_child};
-ghost use Rattle.uvm_tree.specs.Cursors.{scanned, sooner};
+ghost use Rattle.uvm_tree.specs.Children.{name_at, is_named_before, is_under, is_left, children_left, children_of};
+ghost use Rattle.uvm_tree.specs.Cursors.{IsLeast, sooner};
+ghost use Rattle.uvm_tree.specs.Nodes.{AreNodes};
+ghost use Rattle.uvm_tree.specs.Scans.{scanned};
 
+use crate::laws;
 use crate::nodes::NodeId;
 use crate::trees::Tree;
 use std::marker::Model;
@@ -29,9 +32,11 @@ impl<'a> Model for Children<'a> {
 }
 
 impl Tree {
-    /// The children of a node, in byte order of their names: from the first on, and none where there is no such node.
+    /// The children of a node, in byte order of their names: all of them, each once, and none where there is no such node.
+    #[tactic(auto, using(crate::proofs::Left::all_left))]
     pub fn children(&self, parent: NodeId) -> Children<'_>
-        ensures { result ≡ record { nodes = self.now.nodes; parent = parent; last = None } }
+        ensures children { result ≡ record { nodes = self.now.nodes; parent = parent; last = None } }
+        ensures all { children_left result ≡ children_of self.now.nodes parent }
     {
         Children {
             tree: self,
@@ -62,8 +67,10 @@ impl Iterator for Children<'_> {
 impl Children<'_> {
     // The child that comes next.
     fn next_child(&self) -> Option<NodeId>
-        ensures { result ≡ next_child self.now }
+        ensures next { IsLeast (is_named_before self.now.nodes) (children_left self.now) result }
+        ensures nodes { AreNodes self.now.nodes }
     {
+        laws::least_is_least();
         let mut next = None;
         for place in 0..self.tree.number_of_nodes() {
             next = self.scanned(next, NodeId::new(place as u16 + 1));

@@ -2,8 +2,11 @@
 
 ghost use Rattle.std.specs.Prelude.{◌≡◌};
 ghost use Rattle.uvm_glob.specs.Orders.{down_cmp, up_cmp, order_of};
-ghost use Rattle.uvm_tree.specs.Cursors.{is_before, is_after, scanned, sooner, next_in};
+ghost use Rattle.uvm_tree.specs.Cursors.{IsLeast, is_before, is_after, nodes_after, sooner};
+ghost use Rattle.uvm_tree.specs.Nodes.{AreNodes};
+ghost use Rattle.uvm_tree.specs.Scans.{scanned};
 
+use crate::laws;
 use crate::nodes::NodeId;
 use crate::trees::Tree;
 use uvm_glob::Direction;
@@ -14,7 +17,8 @@ impl Tree {
     /// given one. Top-down phases go in this order (IEEE 1800.2-2020, Clause 9). Takes no memory; the time is that of two
     /// comparisons of paths for each node.
     pub fn next_down(&self, after: Option<NodeId>) -> Option<NodeId>
-        ensures { result ≡ next_in down_cmp self.now.nodes after }
+        ensures next { IsLeast (is_before down_cmp self.now.nodes) (nodes_after down_cmp self.now.nodes after) result }
+        ensures nodes { AreNodes self.now.nodes }
     {
         self.walk(Direction::Down, after).next()
     }
@@ -22,7 +26,8 @@ impl Tree {
     /// The node that comes next after a given one in Up, as `next_down` does in Down: children come before their parent.
     /// Bottom-up phases go in this order (IEEE 1800.2-2020, Clause 9).
     pub fn next_up(&self, after: Option<NodeId>) -> Option<NodeId>
-        ensures { result ≡ next_in up_cmp self.now.nodes after }
+        ensures next { IsLeast (is_before up_cmp self.now.nodes) (nodes_after up_cmp self.now.nodes after) result }
+        ensures nodes { AreNodes self.now.nodes }
     {
         self.walk(Direction::Up, after).next()
     }
@@ -60,8 +65,11 @@ struct Walk<'a> {
 impl Walk<'_> {
     // The node that comes next.
     fn next(&self) -> Option<NodeId>
-        ensures { result ≡ next_in (order_of self.now.direction) self.now.tree.now.nodes self.now.after }
+        ensures next { IsLeast (is_before (order_of self.now.direction) self.now.tree.now.nodes) (nodes_after (order_of self.now.direction) self.now.tree.now.nodes self.now.after) result }
+        ensures nodes { AreNodes self.now.tree.now.nodes }
     {
+        laws::least_is_least();
+        laws::nodes_are_ordered();
         let mut next = None;
         for place in 0..self.tree.number_of_nodes() {
             next = self.scanned(next, NodeId::new(place as u16 + 1));

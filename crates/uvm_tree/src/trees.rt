@@ -5,7 +5,7 @@ ghost use Rattle.std.specs.List.{list_any};
 ghost use Rattle.std.specs.Option.{option_copied, ForSome};
 ghost use Rattle.uvm_glob.specs.Paths.{path_fault};
 ghost use Rattle.uvm_tree.specs.declared.nodes.Node.{Node};
-ghost use Rattle.uvm_tree.specs.Nodes.{most_nodes, top, child, path_at, node_at, is_child, is_path, number_at, parent_of, refusal, add_fault};
+ghost use Rattle.uvm_tree.specs.Nodes.{AreNodes, most_nodes, top, child, path_at, node_at, is_child, is_path, number_at, parent_of, refusal, add_fault};
 
 use crate::faults::TreeFault;
 use crate::nodes::{Node, NodeId, NodeKind};
@@ -14,7 +14,8 @@ use std::marker::Model;
 use uvm_glob::{ChildRoom, Name, Path};
 
 /// A tree of nodes under a top. Contracts see the nodes by their numbers, the top first, and beside them the parent for
-/// whose next child there is room.
+/// whose next child there is room. `parent`, `next_down` and `next_up` tell them that parents stand before their children,
+/// that a path is the parent's with the name, and that no two nodes have one path.
 #[derive(Drop)]
 pub struct Tree {
     top: Node,
@@ -158,7 +159,8 @@ impl Tree {
 
     /// The parent of a node; none for the top, and where there is no such node.
     pub fn parent(&self, id: NodeId) -> Option<NodeId>
-        ensures { result ≡ option_and_then parent_of (node_at self.now.nodes id) }
+        ensures parent { result ≡ option_and_then parent_of (node_at self.now.nodes id) }
+        ensures nodes { AreNodes self.now.nodes }
     {
         match self.node(id) {
             Some(node) => match node.under {
@@ -183,13 +185,15 @@ impl Tree {
     pub(crate) fn number_of_nodes(&self) -> usize
         ensures number { result ≡ length self.now.nodes - 1 }
         ensures limit { result ≤ most_nodes }
+        ensures nodes { AreNodes self.now.nodes }
     {
         self.nodes.len()
     }
 
     // The node of a number.
     pub(crate) fn node(&self, id: NodeId) -> Option<&Node>
-        ensures { option_copied result ≡ node_at self.now.nodes id }
+        ensures node { option_copied result ≡ node_at self.now.nodes id }
+        ensures nodes { AreNodes self.now.nodes }
     {
         match id.number() {
             0 => Some(&self.top),

@@ -1,5 +1,5 @@
 -- What contracts see of the machine.
-use Rattle.std.specs.Prelude.{◌≡◌, ◌<◌, ◌≤◌, ℕ, Bool, true, false, List, ◌∷◌, length, [], Option, Some, None, Result, Ok, Err, IsSome, Contains}
+use Rattle.std.specs.Prelude.{◌≡◌, ◌<◌, ◌≤◌, ℕ, Bool, true, false, List, ◌∷◌, ◌++◌, length, [], Option, Some, None, Result, Ok, Err, IsSome, Contains}
 use Rattle.uvm_phase.specs.declared.agendas.Cause.{Cause}
 use Rattle.uvm_object.specs.Acts.{node_of}
 use Rattle.uvm_object.specs.declared.acts.Who.{Who}
@@ -11,6 +11,7 @@ use Rattle.uvm_object.specs.Lines.{entry_line}
 use Rattle.bench_script.specs.Scripts.{ScriptValue}
 use Rattle.bench_history.specs.Limits.{log_limit}
 use Rattle.bench_history.specs.History.{nodes_of, components_of}
+use Rattle.bench_history.specs.Reports.{report_text}
 use Rattle.bench_history.specs.Laws.{IsSomething}
 use Rattle.bench_history.specs.declared.needs.Need.{Need}
 use Rattle.bench_core.specs.declared.cores.Health.{Health}
@@ -145,8 +146,12 @@ answer_in Nothing acts = None
 answer_in (Needed need) acts = None
 answer_in (Asked hearer call cause) acts = Some (Heard hearer call cause acts)
 
--- the text of the newest entry, where it is asked for
-abbrev pub last_text : Bool → List Entry → List ℕ
-last_text false history = []
-last_text true [] = []
-last_text true (entry ∷ before) = entry_line (nodes_of (entry ∷ before)) entry
+-- the line of the newest entry, where it is asked for
+abbrev pub last_line : Bool → List Entry → List ℕ
+last_line false history = []
+last_line true [] = []
+last_line true (entry ∷ before) = entry_line (nodes_of (entry ∷ before)) entry
+
+-- its text: this line, and that of its report, where it has one that is displayed
+abbrev pub last_text : Bool → ScriptValue → List Entry → List ℕ
+last_text trace script history = last_line trace history ++ report_text script history

@@ -1,6 +1,6 @@
 //! The machine.
 
-ghost use Rattle.std.specs.Prelude.{◌≡◌, ◌<◌, [], true, false, OnOk, OnErr, IfOk, IfErr, IfSome, IsSome, Some, None, ◌&&◌, length, ◌++◌, if◌then◌else◌, option_map};
+ghost use Rattle.std.specs.Prelude.{◌≡◌, ◌<◌, [], true, false, OnOk, OnErr, IfOk, IfErr, IfSome, IsSome, is_some, Some, None, ◌&&◌, length, ◌++◌, if◌then◌else◌, option_map};
 ghost use Rattle.std.specs.Bool.{OnTrue, OnFalse};
 ghost use Rattle.std.specs.Option.{option_copied};
 ghost use Rattle.uvm_tree.specs.Nodes.{node_at, number_at};
@@ -10,10 +10,12 @@ ghost use Rattle.bench_history.specs.History.{is_over, nodes_of, now_of, running
 ghost use Rattle.uvm_glob.specs.Paths.{path_text};
 ghost use Rattle.uvm_config.specs.Answers.{config_answer};
 ghost use Rattle.bench_history.specs.Configuration.{settings_of};
+ghost use Rattle.bench_history.specs.Reports.{report_commands};
+ghost use Rattle.uvm_report.specs.Changes.{Gives};
 ghost use Rattle.bench_history.specs.Next.{next_of, made_in, declined_in, IsLegal};
 ghost use Rattle.bench_history.specs.Cases as comes;
 ghost use Rattle.bench_history.specs.Laws.{IsSomething};
-ghost use Rattle.bench_core.specs.Cores.{IsNextTurn, IsTurn, IsUnmade, core_after, failed_from, is_sound, turn_of, need_of, answer_in, IsAsk, AsksComponent, last_text};
+ghost use Rattle.bench_core.specs.Cores.{IsNextTurn, IsTurn, IsUnmade, core_after, failed_from, is_sound, turn_of, need_of, answer_in, IsAsk, AsksComponent, last_line, last_text};
 ghost use Rattle.bench_world.specs.Worlds.{MayEnter, broken, world_after};
 ghost use Rattle.bench_core.specs.Choices.{entry_of};
 ghost use Rattle.bench_core.specs.Cores.{Nothing, IsRequest};
@@ -29,6 +31,7 @@ use std::marker::Model;
 use uvm_glob::{Name, Path};
 use uvm_object::{Acts, Call, Entry, Log, Who, line_of};
 use uvm_phase::{Cause, Phase};
+use uvm_report::Reports;
 use uvm_tree::NodeId;
 
 /// What a call of `next` came to.
@@ -260,18 +263,40 @@ impl Core {
         self.world.config(path, field)
     }
 
-    /// Appends the line of the newest entry, where `trace` asks for it and there is one; nothing where memory is refused,
-    /// or was.
+    /// The report server (Clause 6). None once memory was refused.
+    pub fn reports(&self) -> Option<&Reports>
+        ensures given { IfSome result (λ reports. Gives reports.now (report_commands self.now.script self.now.history)) }
+        ensures variant { is_some result ≡ is_sound self.now.health }
+    {
+        if !self.is_sound() {
+            return None;
+        }
+        Some(self.world.reports())
+    }
+
+    /// Appends the text of the newest entry: its line, where `trace` asks for it and there is one, and the line of its report,
+    /// where it has one that is displayed; nothing where memory is refused, or was.
     pub fn last_text(&self, trace: bool, out: &mut Vec<u8>) -> Result<(), AllocError>
-        ensures ok { OnOk result (out.new.items ≡ out.old.items ++ last_text (trace && is_sound self.now.health) self.now.history) }
+        ensures ok { OnOk result (out.new.items ≡ out.old.items ++ (if is_sound self.now.health then last_text trace self.now.script self.now.history else [])) }
         ensures err { OnErr result (out.new.items ≡ out.old.items) }
     {
-        if !trace || !self.is_sound() {
+        if !self.is_sound() {
             return Ok(());
         }
+        let mut text = Vec::new(*out.allocator());
+        self.push_last_line(trace, &mut text)?;
+        self.world.push_report(&mut text)?;
+        out.extend_from_slice(text.as_slice())
+    }
+
+    // The line of the newest entry, where it is asked for and there is one.
+    fn push_last_line(&self, trace: bool, text: &mut Vec<u8>) -> Result<(), AllocError>
+        requires { is_sound self.now.health ≡ true }
+        ensures { OnOk result (text.new.items ≡ text.old.items ++ last_line trace self.now.history) }
+    {
         match self.world.log().last() {
-            Some(entry) => line_of(entry, self.world.tree(), out),
-            None => Ok(()),
+            Some(entry) if trace => line_of(entry, self.world.tree(), text),
+            _ => Ok(()),
         }
     }
 

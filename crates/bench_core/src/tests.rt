@@ -8,10 +8,16 @@ use uvm_factory::Kind;
 use uvm_glob::{Glob, Name, Path};
 use uvm_object::{Act, Acts, Call, What};
 use uvm_phase::Phase;
+use uvm_report::{Actions, Report, Severity, Text, Which, verbosity};
 
 const SCRIPT: &[u8] =
     b"version = 1\ntest = \"t\"\ntype = [{ name = \"t\", kind = \"component\" }, { name = \"c\", kind = \"component\" }]
 set = [{ scope = \"*\", field = \"f\", value = 7 }]\n";
+
+// Nothing is done with fatal reports.
+const SILENCED_SCRIPT: &[u8] =
+    b"version = 1\ntest = \"t\"\ntype = [{ name = \"t\", kind = \"component\" }]
+action = [{ scope = \"*\", severity = \"FATAL\", actions = [] }]\n";
 
 /// What the test answers, in a run of which all other calls get no acts.
 #[derive(Clone, Copy, PartialEq, Eq)]
@@ -30,6 +36,10 @@ enum Bench {
     AskingParent,
     /// Each needed object is declined.
     Declined,
+    /// To build: fatal reports are silenced, and a FIFO is added twice under one name.
+    Silent,
+    /// To build: reports, and settings of reports.
+    Reporting,
 }
 
 #[test]
@@ -68,6 +78,35 @@ fn more_than_64_acts_are_noted_and_none_performed(rt: HostRuntime) -> Result<(),
 fn creation_after_build_is_refused(rt: HostRuntime) -> Result<(), Fail> {
     let text = transcript(rt.alloc(), Bench::LateChild)?;
     assert!(rt; text.as_slice().ends_with(LATE_CHILD_END));
+    Ok(())
+}
+
+#[test]
+fn reports_are_shown_as_the_settings_of_their_component_say(rt: HostRuntime) -> Result<(), Fail> {
+    let mut core = machine(rt.alloc())?;
+    let text = play(rt.alloc(), &mut core, Bench::Reporting)?;
+    assert!(rt; text.as_slice().starts_with(REPORTING));
+    assert!(rt; text.as_slice().ends_with(b"over finished\n"));
+    assert_eq!(rt; counts(&core), Some((2, 0, 1, 0)));
+    Ok(())
+}
+
+#[test]
+fn silenced_refusal_lets_the_run_go_on(rt: HostRuntime) -> Result<(), Fail> {
+    let mut core = machine(rt.alloc())?;
+    let text = play(rt.alloc(), &mut core, Bench::Silent)?;
+    assert!(rt; text.as_slice().starts_with(SILENT));
+    assert!(rt; text.as_slice().ends_with(b"over finished\n"));
+    assert_eq!(rt; counts(&core), Some((0, 0, 0, 0)));
+    Ok(())
+}
+
+#[test]
+fn silenced_refusal_of_the_test_ends_the_run_nevertheless(rt: HostRuntime) -> Result<(), Fail> {
+    let script = bench_script::read(rt.alloc(), SILENCED_SCRIPT)?;
+    let mut core = Core::new(rt.alloc(), script)?;
+    let text = play(rt.alloc(), &mut core, Bench::Declined)?;
+    assert_eq!(rt; text.as_slice(), SILENCED);
     Ok(())
 }
 
@@ -184,6 +223,17 @@ fn begins_to_build(alloc: Global, core: &mut Core) -> Result<bool, Fail> {
     )
 }
 
+// How many reports were issued of each severity.
+fn counts(core: &Core) -> Option<(u64, u64, u64, u64)> {
+    let reports = core.reports()?;
+    Some((
+        reports.count_of(Severity::Info),
+        reports.count_of(Severity::Warning),
+        reports.count_of(Severity::Error),
+        reports.count_of(Severity::Fatal),
+    ))
+}
+
 // The text of a run.
 fn transcript(alloc: Global, bench: Bench) -> Result<Vec<u8>, Fail> {
     let mut core = machine(alloc)?;
@@ -281,6 +331,27 @@ fn acts_of(alloc: Global, bench: Bench, is_test: bool, call: Call) -> Result<Act
             acts.push(get()?)?;
         }
         (Bench::LateChild, Phase::Connect) => acts.push(create(b"b")?)?,
+        (Bench::Silent, Phase::Build) => {
+            acts.push(silence())?;
+            acts.push(add(b"x")?)?;
+            acts.push(add(b"x")?)?;
+        }
+        (Bench::Reporting, Phase::Build) => {
+            let level = verbosity::LOW;
+            acts.push(report(alloc, Severity::Info, b"I", b"now")?)?;
+            acts.push(Act::Verbosity {
+                which: Which::All,
+                level,
+            })?;
+            acts.push(report(alloc, Severity::Info, b"I", b"never")?)?;
+            acts.push(Act::Severity {
+                from: Severity::Warning,
+                id: None,
+                to: Severity::Info,
+            })?;
+            acts.push(report(alloc, Severity::Warning, b"W", b"changed")?)?;
+            acts.push(report(alloc, Severity::Error, b"E", b"")?)?;
+        }
         _ => (),
     }
     Ok(acts)
@@ -305,6 +376,30 @@ fn set(alloc: Global) -> Result<Act, Fail> {
         glob: Glob::new(alloc, b"")?,
         field: Name::new(b"f")?,
         value: 9,
+    })
+}
+
+// Nothing is done with fatal reports.
+fn silence() -> Act {
+    Act::Actions {
+        which: Which::Severity(Severity::Fatal),
+        actions: Actions {
+            display: false,
+            count: false,
+            exit: false,
+        },
+    }
+}
+
+// A report of the verbosity MEDIUM.
+fn report(alloc: Global, severity: Severity, id: &[u8], text: &[u8]) -> Result<Act, Fail> {
+    Ok(Act::Report {
+        report: Report {
+            severity,
+            id: Name::new(id)?,
+            text: Text::new(alloc, text)?,
+            verbosity: verbosity::MEDIUM,
+        },
     })
 }
 
@@ -339,6 +434,7 @@ over finished
 ";
 
 const DECLINED: &[u8] = b"did uvm_top create t uvm_test_top: refused FCTTYP
+UVM_FATAL @ 0: uvm_top [FCTTYP] no object supplied
 over no_test
 ";
 
@@ -347,6 +443,7 @@ begin build
 heard uvm_test_top build: 2
 did uvm_test_top add x fifo 1: done
 did uvm_test_top add x fifo 1: refused CLDEXT
+UVM_FATAL @ 0: uvm_test_top [CLDEXT] child name taken
 over exit
 ";
 
@@ -354,12 +451,41 @@ const MANY_ACTS: &[u8] = b"did uvm_top create t uvm_test_top: made t
 begin build
 heard uvm_test_top build: 65
 note ACTLIM uvm_test_top
+UVM_FATAL @ 0: uvm_test_top [ACTLIM] more than 64 acts
 over exit
 ";
 
 const LATE_CHILD_END: &[u8] = b"heard uvm_test_top connect: 1
 did uvm_test_top create c b: refused ILLCRT
+UVM_FATAL @ 0: uvm_test_top [ILLCRT] created after build
 over exit
+";
+
+const REPORTING: &[u8] = b"did uvm_top create t uvm_test_top: made t
+begin build
+heard uvm_test_top build: 6
+did uvm_test_top report INFO I: done
+UVM_INFO @ 0: uvm_test_top [I] now
+did uvm_test_top verbosity all 100: done
+did uvm_test_top report INFO I: done
+did uvm_test_top severity WARNING none INFO: done
+did uvm_test_top report WARNING W: done
+UVM_INFO @ 0: uvm_test_top [W] changed
+did uvm_test_top report ERROR E: done
+UVM_ERROR @ 0: uvm_test_top [E] \nend build
+";
+
+const SILENT: &[u8] = b"did uvm_top create t uvm_test_top: made t
+begin build
+heard uvm_test_top build: 3
+did uvm_test_top actions FATAL none: done
+did uvm_test_top add x fifo 1: done
+did uvm_test_top add x fifo 1: refused CLDEXT
+end build
+";
+
+const SILENCED: &[u8] = b"did uvm_top create t uvm_test_top: refused FCTTYP
+over no_test
 ";
 
 const SETTING_IN_BUILD: &[u8] = b"did uvm_top create t uvm_test_top: made t

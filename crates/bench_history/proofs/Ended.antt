@@ -4,7 +4,8 @@ use Rattle.uvm_object.specs.declared.entries.Entry.{Entry}
 use Rattle.uvm_object.specs.declared.entries.Entry.TheVariants.{Begin, End, Over}
 use Rattle.bench_script.specs.Scripts.{ScriptValue}
 use Rattle.bench_history.specs.declared.stages.Stage.TheVariants.{Ended}
-use Rattle.bench_history.specs.History.{stage_of, running, left_of, reason_of, is_over}
+use Rattle.bench_history.specs.History.{stage_of, running, left_of, is_over}
+use Rattle.bench_history.specs.Reports.{reason_of}
 use Rattle.bench_history.specs.Dues.{due_now}
 use Rattle.bench_history.specs.Cases.{Next, Nothing, end_reached, giving_up, long_answer, first_act, call_due, phase_call, phase_end, phase_begin, phase_to_begin, finish}
 use Rattle.bench_history.specs.Next.{first_next, next_of, Allows, IsNext, EachIsNext}
@@ -17,7 +18,7 @@ unfolding next_of
 nothing-comes script history e =
     ap (λ stage. first_next (
     end_reached stage
-    ∷ giving_up (reason_of history)
+    ∷ giving_up (reason_of script history)
     ∷ long_answer history (left_of script history)
     ∷ first_act script history (left_of script history)
     ∷ call_due (due_now history)

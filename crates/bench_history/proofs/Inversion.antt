@@ -20,7 +20,8 @@ use Rattle.bench_history.specs.declared.needs.Need as declared
 use Rattle.bench_history.specs.declared.stages.Stage.{Stage}
 use Rattle.bench_history.specs.declared.stages.Stage.TheVariants.{Before, During, After, Ended}
 use Rattle.bench_history.specs.Limits.{most_acts}
-use Rattle.bench_history.specs.History.{stage_of, running, next_call, left_of, rest_of, speaker_of, reason_of}
+use Rattle.bench_history.specs.History.{stage_of, running, next_call, left_of, rest_of, speaker_of}
+use Rattle.bench_history.specs.Reports.{reason_of}
 use Rattle.bench_history.specs.Dues.{due_now}
 use Rattle.bench_history.specs.Upshots.{Upshot, Needs, Does, Finds, Refuses, upshot_of}
 use Rattle.bench_history.specs.Cases.{Next, Exactly, Answer, Need, Nothing, end_reached, giving_up, first_act, by_upshot, by_act, call_due, phase_call, phase_end, phase_begin, phase_to_begin, finish}
@@ -115,18 +116,18 @@ abbrev answer_cases : ScriptValue → List Entry → List Act → List (Option N
 answer_cases script history left = (if nat_lt most_acts (length left) then Some (noted history) else None) ∷ first_act script history left ∷ act_cases script history
 
 case-reason :
-    (script : ScriptValue) (history : List Entry) (next : Next) (reason : Option Reason) → reason_of history ≡ reason
+    (script : ScriptValue) (history : List Entry) (next : Next) (reason : Option Reason) → reason_of script history ≡ reason
     → next ≡ first_next (giving_up reason ∷ answer_cases script history (left_of script history)) → Case script history next
 case-reason script history next (Some reason) is e = ByOwn (Over reason) tt e
 case-reason script history next None is e = case-left script history next (left_of script history) refl e
 
 case-stage :
     (script : ScriptValue) (history : List Entry) (next : Next) (stage : Stage) → stage_of history ≡ stage
-    → next ≡ first_next (end_reached stage ∷ giving_up (reason_of history) ∷ answer_cases script history (left_of script history)) → Case script history next
+    → next ≡ first_next (end_reached stage ∷ giving_up (reason_of script history) ∷ answer_cases script history (left_of script history)) → Case script history next
 case-stage script history next Ended is e = AtEnd is e
-case-stage script history next Before is e = case-reason script history next (reason_of history) refl e
-case-stage script history next (During phase) is e = case-reason script history next (reason_of history) refl e
-case-stage script history next (After phase) is e = case-reason script history next (reason_of history) refl e
+case-stage script history next Before is e = case-reason script history next (reason_of script history) refl e
+case-stage script history next (During phase) is e = case-reason script history next (reason_of script history) refl e
+case-stage script history next (After phase) is e = case-reason script history next (reason_of script history) refl e
 
 pub case-of : (script : ScriptValue) (history : List Entry) → Case script history (next_of script history)
 unfolding next_of

@@ -6,3 +6,4 @@ mod Grown
 mod Leasts
 mod Called
 mod Ended
+mod Reported

@@ -1,5 +1,5 @@
 -- Where an object is what comes next.
-use Rattle.std.proofs.Common.{◌≡◌, ℕ, Bool, List, [], ◌∷◌, ◌++◌, Option, Some, None, IsSome, is_none, refl, ◌∙◌, sym, subst}
+use Rattle.std.proofs.Common.{◌≡◌, ℕ, List, [], ◌∷◌, ◌++◌, Option, Some, None, IsSome, is_none, refl, ◌∙◌, sym, subst}
 use Rattle.uvm_glob.specs.Lists.{first_given}
 use Rattle.uvm_tree.specs.declared.nodes.Node.{Node}
 use Rattle.uvm_glob.specs.Faults.{fault_if}

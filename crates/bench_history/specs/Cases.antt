@@ -38,7 +38,7 @@ abbrev pub end_reached : Stage → Option Next
 end_reached Ended = Some Nothing
 end_reached stage = None
 
--- the run is given up: after a refusal, or a note, nothing but its end comes
+-- the run is given up: the test was refused, or a report asked for exit, and nothing but its end comes
 abbrev pub giving_up : Option Reason → Option Next
 giving_up reason = option_map (λ reason. Exactly (Over reason)) reason
 

@@ -25,9 +25,7 @@ use Rattle.uvm_object.specs.declared.acts.What.TheVariants as what
 use Rattle.uvm_object.specs.declared.acts.Act.{Act}
 use Rattle.uvm_object.specs.declared.acts.Act.TheVariants.{Create, Add, OverrideType, OverrideInst}
 use Rattle.uvm_object.specs.declared.entries.Outcome.{Outcome}
-use Rattle.uvm_object.specs.declared.entries.Outcome.TheVariants.{Done, Made, Refused}
-use Rattle.uvm_object.specs.declared.entries.Reason.{Reason}
-use Rattle.uvm_object.specs.declared.entries.Reason.TheVariants.{Exit, NoTest}
+use Rattle.uvm_object.specs.declared.entries.Outcome.TheVariants.{Done, Made}
 use Rattle.uvm_object.specs.declared.entries.Entry.{Entry}
 use Rattle.uvm_object.specs.declared.entries.Entry.TheVariants.{Begin, End, Heard, Did, Note, Over}
 use Rattle.bench_script.specs.Scripts.{ScriptValue}
@@ -158,24 +156,6 @@ ends_build entry = false
 -- build has ended
 abbrev pub is_built : List Entry → Bool
 is_built history = list_any ends_build history
-
--- after this entry, a refusal or a note, the run is given up
-abbrev pub asks_exit : Entry → Bool
-asks_exit (Did performer (Refused fatal) act) = true
-asks_exit (Note fatal node) = true
-asks_exit entry = false
-
--- this entry refuses the test: the creation of the test is the one act of the top
-abbrev pub refuses_test : Entry → Bool
-refuses_test (Did performer (Refused fatal) act) = node_of performer == 0
-refuses_test entry = false
-
--- why the run is given up, if it is
-abbrev pub reason_of : List Entry → Option Reason
-reason_of history =
-    if list_any refuses_test history then Some NoTest
-    else if list_any asks_exit history then Some Exit
-    else None
 
 -- the newest entry is the end of the run
 abbrev pub is_over : List Entry → Bool

@@ -5,6 +5,8 @@ use Rattle.uvm_phase.specs.declared.agendas.Due.{Due}
 use Rattle.uvm_phase.specs.Phases.{phases, phase_number}
 use Rattle.uvm_tree.specs.declared.nodes.Node.{Node}
 use Rattle.uvm_tree.specs.Nodes.{node_at, path_at}
+use Rattle.uvm_report.specs.Counts.{issued_number}
+use Rattle.uvm_report.specs.Commands.{report_counts}
 use Rattle.uvm_object.specs.Acts.{node_of}
 use Rattle.uvm_object.specs.Objects.{exchanged_in, life_of}
 use Rattle.uvm_object.specs.declared.acts.Who.{Who}
@@ -20,6 +22,7 @@ use Rattle.bench_history.specs.declared.stages.Stage.{Stage}
 use Rattle.bench_history.specs.declared.stages.Stage.TheVariants.{Before, During, After, Ended}
 use Rattle.bench_history.specs.History.{stage_of, nodes_of, components_of, created_name, left_of, rest_of, speaker_of, is_over}
 use Rattle.bench_history.specs.Dues.{ended_of, first_due}
+use Rattle.bench_history.specs.Reports.{report_commands}
 use Rattle.bench_history.specs.Refusals.{child_refusal}
 use Rattle.bench_history.specs.Cases.{Next, Exactly, Answer, Need, Nothing, by_act}
 use Rattle.bench_history.specs.Next.{next_of, need_in, IsAct, EachIsNext}
@@ -114,3 +117,7 @@ MadeObjectsAreNew = (script : ScriptValue) (history : List Entry) (need : declar
 -- behind the nodes of the tree nobody was asked
 abbrev pub NewNodesAreUnasked : Type 0
 NewNodesAreUnasked = (script : ScriptValue) (history : List Entry) (node : ℕ) → EachIsNext script history → length (nodes_of history) ≤ node → life_of node history ≡ []
+
+-- no more reports were issued than there are entries
+abbrev pub ReportsAreFew : Type 0
+ReportsAreFew = (script : ScriptValue) (history : List Entry) → issued_number (report_counts (report_commands script history)) ≤ length history

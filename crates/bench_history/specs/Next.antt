@@ -9,7 +9,8 @@ use Rattle.uvm_object.specs.declared.entries.Entry.TheVariants.{Heard, Did}
 use Rattle.bench_script.specs.Scripts.{ScriptValue}
 use Rattle.bench_history.specs.declared.needs.Need as declared
 use Rattle.bench_history.specs.Limits.{log_limit}
-use Rattle.bench_history.specs.History.{stage_of, running, left_of, reason_of}
+use Rattle.bench_history.specs.History.{stage_of, running, left_of}
+use Rattle.bench_history.specs.Reports.{reason_of}
 use Rattle.bench_history.specs.Dues.{due_now}
 use Rattle.bench_history.specs.Cases.{Next, Exactly, Answer, Need, Nothing, end_reached, giving_up, long_answer, first_act, call_due, phase_call, phase_end, phase_begin, phase_to_begin, finish}
 
@@ -21,7 +22,7 @@ unfoldable pub next_of : ScriptValue → List Entry → Next
 next_of script history =
     first_next (
     end_reached (stage_of history)
-    ∷ giving_up (reason_of history)
+    ∷ giving_up (reason_of script history)
     ∷ long_answer history (left_of script history)
     ∷ first_act script history (left_of script history)
     ∷ call_due (due_now history)

@@ -8,7 +8,7 @@ use Rattle.uvm_tree.specs.Nodes.{path_at}
 use Rattle.uvm_object.specs.Acts.{node_of}
 use Rattle.uvm_object.specs.declared.acts.Who.{Who}
 use Rattle.uvm_object.specs.declared.acts.Act.{Act}
-use Rattle.uvm_object.specs.declared.acts.Act.TheVariants.{Create, Add, Set, Get, OverrideType, OverrideInst}
+use Rattle.uvm_object.specs.declared.acts.Act.TheVariants.{Create, Add, Set, Get, OverrideType, OverrideInst, Report, Verbosity, Actions, Severity}
 use Rattle.uvm_object.specs.declared.fatals.Fatal.{Fatal}
 use Rattle.uvm_object.specs.declared.entries.Entry.{Entry}
 use Rattle.bench_script.specs.Scripts.{ScriptValue}
@@ -49,6 +49,10 @@ upshot_of script history performer (Set glob field value) = unless_refused (sett
 upshot_of script history performer (Get field) = Finds (config_answer (settings_of script history) (path_text (path_at (nodes_of history) (node_of performer))) field)
 upshot_of script history performer (OverrideType original new replace) = unless_refused (overriding_refusal script.types original new) Does
 upshot_of script history performer (OverrideInst original new glob) = unless_refused (overriding_refusal script.types original new) Does
+upshot_of script history performer (Report report) = Does
+upshot_of script history performer (Verbosity which level) = Does
+upshot_of script history performer (Actions which actions) = Does
+upshot_of script history performer (Severity from id to) = Does
 
 -- why an act is refused, if it is
 abbrev pub refusal_in : Upshot → Option Fatal

@@ -1,10 +1,11 @@
 //! What holds of all logs, or of all in which each entry was next, as in each legal one, and of what comes next in them. The functions do
 //! nothing that shows; their contracts are the laws (`specs/Laws.antt`), for all scripts.
 
-ghost use Rattle.bench_history.specs.Laws.{PhasesGoInOrder, AskedAreComponents, ComponentsAreNodes, DueCallsGoInOrder, ActsGoInOrder, NeedsAreCreations, NothingAfterOver, SomethingBeforeOver, MachineEntriesAreSilent, NodesStay, MadeObjectsAreNew, NewNodesAreUnasked};
+ghost use Rattle.bench_history.specs.Laws.{PhasesGoInOrder, AskedAreComponents, ComponentsAreNodes, DueCallsGoInOrder, ActsGoInOrder, NeedsAreCreations, NothingAfterOver, SomethingBeforeOver, MachineEntriesAreSilent, NodesStay, MadeObjectsAreNew, NewNodesAreUnasked, ReportsAreFew};
 
 use uvm_object::{Call, Who};
 use uvm_phase::laws as agenda;
+use uvm_report::laws as reports;
 
 /// The phases go in their order (IEEE 1800.2-2020, Clause 9): until the end of the run those that have ended are the first of the
 /// nine, each once, and so they stand before the one that runs, or may begin next.
@@ -78,4 +79,12 @@ pub fn new_nodes_are_unasked()
     ensures { NewNodesAreUnasked }
 {
     agenda::order_keeps_all::<Who, Call>();
+}
+
+/// No more reports were issued than there are entries.
+#[tactic(auto, using(crate::proofs::Reported::reports_are_few))]
+pub fn reports_are_few()
+    ensures { ReportsAreFew }
+{
+    reports::commands_are_counted();
 }

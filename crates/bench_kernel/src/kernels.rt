@@ -1,13 +1,15 @@
 //! The kernel.
 
-ghost use Rattle.std.specs.Prelude.{◌≡◌, ◌∷◌, [], true, false, All, Contains, OnOk, OnErr, IfOk, IfErr, IfSome, IfNone, IsSome, None, length, option_copied};
+ghost use Rattle.std.specs.Prelude.{◌≡◌, ◌∷◌, [], true, false, All, Contains, OnOk, OnErr, IfOk, IfErr, IfSome, IfNone, IsSome, None, is_some, length, option_copied};
 ghost use Rattle.std.specs.List.{IsDistinct};
 ghost use Rattle.std.specs.List.Sorted.{IsPermutation};
 ghost use Rattle.uvm_object.specs.Acts.{node_of};
 ghost use Rattle.uvm_object.specs.declared.acts.Who.TheVariants.{Node};
 ghost use Rattle.bench_history.specs.History.{components_of, nodes_of};
 ghost use Rattle.bench_history.specs.Next.{next_of, declined_in, IsLegal};
-ghost use Rattle.bench_core.specs.Cores.{IsUnmade, core_after};
+ghost use Rattle.bench_history.specs.Reports.{report_commands};
+ghost use Rattle.uvm_report.specs.Changes.{Gives};
+ghost use Rattle.bench_core.specs.Cores.{IsUnmade, core_after, is_sound};
 ghost use Rattle.bench_core.specs.Cores.{Nothing};
 ghost use Rattle.bench_core.specs.declared.cores.Health.TheVariants.{Good};
 ghost use Rattle.bench_kernel.specs.Orders.{IsFirstDown};
@@ -22,6 +24,7 @@ use rand_core::Rng;
 use std::alloc::Global;
 use std::marker::Model;
 use uvm_object::{Log, UvmObject, Who};
+use uvm_report::Reports;
 
 /// What a step came to.
 #[derive(Clone, Copy, Debug, PartialEq, Eq)]
@@ -209,6 +212,15 @@ impl<O: UvmObject> Kernel<O> {
         ensures honest { AreHonest O.view O.says self.now }
     {
         self.core.log()
+    }
+
+    /// The report server (IEEE 1800.2-2020, Clause 6): what its calls give is what the log comes to. None once memory was refused
+    /// to the machine.
+    pub fn reports(&self) -> Option<&Reports>
+        ensures given { IfSome result (λ reports. Gives reports.now (report_commands self.now.core.script self.now.core.history)) }
+        ensures variant { is_some result ≡ is_sound self.now.core.health }
+    {
+        self.core.reports()
     }
 
     /// The machine.

@@ -538,12 +538,15 @@ begin build
 heard uvm_test_top build: 1
 ";
 
-const DECLINED: &[u8] = b"did uvm_test_top create bus_env env: refused FCTTYP\n";
+const DECLINED: &[u8] = b"did uvm_test_top create bus_env env: refused FCTTYP
+UVM_FATAL @ 0: uvm_test_top [FCTTYP] no object supplied
+";
 
 const LONG_ANSWER: &[u8] = b"did uvm_top create idle uvm_test_top: made idle
 begin build
 heard uvm_test_top build: 65
 note ACTLIM uvm_test_top
+UVM_FATAL @ 0: uvm_test_top [ACTLIM] more than 64 acts
 over exit
 ";
 

@@ -1,10 +1,16 @@
 -- A run that is not over.
-use Rattle.std.proofs.Common.{◌≡◌, Bool, true, false, List, refl, subst}
+use Rattle.std.proofs.Common.{◌≡◌, ℕ, Bool, true, false, List, [], ◌∷◌, ◌++◌, Option, Some, None, refl, ap, sym, ◌∙◌, subst, if◌then◌else◌}
+use Rattle.std.proofs.lemmas.List.{append_assoc}
+use Rattle.std.specs.Io.KnownBytes.{Appends}
 use Rattle.uvm_object.specs.declared.entries.Entry.{Entry}
 use Rattle.bench_script.specs.Scripts.{ScriptValue}
 use Rattle.bench_history.specs.History.{is_over}
 use Rattle.bench_history.specs.Next.{next_of}
 use Rattle.bench_history.specs.Laws.{NothingAfterOver, IsSomething}
+use Rattle.bench_core.specs.declared.cores.Health.{Health}
+use Rattle.bench_core.specs.declared.cores.Health.TheVariants.{Good}
+use Rattle.bench_core.specs.Cores.{CoreValue, is_sound, last_text}
+use Rattle.bench_run.specs.Running.{Grows, transcript}
 
 -- where something comes the run is not over
 pub on-where-some : NothingAfterOver → (script : ScriptValue) (history : List Entry) → IsSomething (next_of script history) → is_over history ≡ false
@@ -13,3 +19,31 @@ on-where-some nothing script history some = go (is_over history) refl
     go : (b : Bool) → is_over history ≡ b → is_over history ≡ false
     go false e = e
     go true e = absurd (subst IsSomething (nothing script history e) some)
+
+-- what is written after what was written
+pub Appends-more : (old mid new : Option (List ℕ)) (xs ys : List ℕ) → Appends old mid xs → Appends mid new ys → Appends old new (xs ++ ys)
+Appends-more None mid new xs ys first more = tt
+Appends-more (Some before) None new xs ys first more = absurd first
+Appends-more (Some before) (Some half) None xs ys first more = absurd more
+Appends-more (Some before) (Some half) (Some after) xs ys first more = more ∙ ap (λ l. l ++ ys) first ∙ append_assoc before xs ys
+
+-- with one more entry the script stays, and the health
+pub grown-health : {old new : CoreValue} → Grows old new → old.health ≡ Good → new.health ≡ Good
+grown-health {old} {new} grown good = ap (λ (core : CoreValue). core.health) grown.is ∙ good
+
+pub grown-script : {old new : CoreValue} {script : ScriptValue} → Grows old new → old.script ≡ script → new.script ≡ script
+grown-script {old} {new} grown same = ap (λ (core : CoreValue). core.script) grown.is ∙ same
+
+-- one more entry, and its text
+pub goes-on :
+    (trace : Bool) (old new : CoreValue) (script : ScriptValue) (first half last : Option (List ℕ)) → Grows old new → old.health ≡ Good → old.script ≡ script
+    → Appends first half (transcript trace script old.history)
+    → Appends half last (if is_sound new.health then last_text trace new.script new.history else [])
+    → Appends first last (transcript trace script new.history)
+goes-on trace old new script first half last grown good same wrote =
+    subst (λ (core : CoreValue). Appends half last (if is_sound core.health then last_text trace core.script core.history else []) → Appends first last (transcript trace script core.history)) (sym grown.is)
+    (λ more. Appends-more first half last (transcript trace script old.history) (last_text trace script (grown.entry ∷ old.history)) wrote (by-health old.health old.script good same more))
+  where
+    by-health : (health : Health) (other : ScriptValue) → health ≡ Good → other ≡ script
+        → Appends half last (if is_sound health then last_text trace other (grown.entry ∷ old.history) else []) → Appends half last (last_text trace script (grown.entry ∷ old.history))
+    by-health health other good same more = rw (good, same) at more

@@ -6,16 +6,18 @@
 //! ```text
 //! let make = |type_name: &Name| -> Result<Option<Asker>, AllocError> { Ok(Asker::of_type(type_name)) };
 //! match run_script(alloc, script, &mut words, true, make, &mut out) {
-//!     Ok(Reason::Finished) => ..,
+//!     Ok(ending) if ending.is_clean() => ..,
 //! ```
 //!
 //! Objects of several types are the variants of an enum that is an object itself, or boxes.
 #![tactic(auto)]
 
+mod endings;
 mod faults;
 mod running;
 #[cfg(test)]
 mod tests;
 
+pub use endings::Ending;
 pub use faults::RunFault;
 pub use running::{run_kernel, run_script};

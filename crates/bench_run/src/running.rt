@@ -1,6 +1,6 @@
 //! The run of a script: the kernel goes on step by step, and what it needs is made.
 
-ghost use Rattle.std.specs.Prelude.{◌≡◌, ◌&&◌, [], OnOk, IfOk, IfErr, IsSome, Some, true, false, MatchBool};
+ghost use Rattle.std.specs.Prelude.{◌≡◌, [], OnOk, IfOk, IfErr, IsSome, Some, true, false, if◌then◌else◌, MatchBool};
 ghost use Rattle.std.specs.Io.KnownBytes.{Appends};
 ghost use Rattle.uvm_glob.specs.Lists.{newest};
 ghost use Rattle.uvm_object.specs.declared.entries.Entry.TheVariants.{Over};
@@ -9,8 +9,13 @@ ghost use Rattle.bench_core.specs.declared.cores.Health.TheVariants.{Good};
 ghost use Rattle.bench_history.specs.History.{is_over};
 ghost use Rattle.bench_core.specs.Cores.{is_sound, last_text};
 ghost use Rattle.bench_kernel.specs.Kernels.{is_done, open_need};
-ghost use Rattle.bench_run.specs.Running.{Grows, IsHalted, IsRun, IsUnwritten};
+ghost use Rattle.bench_history.specs.Reports.{report_commands};
+ghost use Rattle.uvm_report.specs.Commands.{quit_limit};
+ghost use Rattle.uvm_report.specs.Observed as reports;
+ghost use Rattle.uvm_report.specs.Observed.{limit_of};
+ghost use Rattle.bench_run.specs.Running.{Grows, IsEnding, IsHalted, IsRun, IsUnwritten, counts_of, summary_of};
 
+use crate::endings::Ending;
 use crate::faults::RunFault;
 use bench_core::CoreFault;
 use bench_history::laws;
@@ -21,13 +26,15 @@ use std::alloc::{AllocError, Global};
 use std::io;
 use uvm_glob::Name;
 use uvm_object::{Entry, Reason, UvmObject};
+use uvm_report::{Reports, Severity};
 
 /// Runs a script to its end, with the words of a generator, over the objects that `make` makes: it is called for each object
 /// that is needed, with the name of its type, and answers none for a type that it does not have. Such an object is declined,
-/// and so is one of another type than its name is asked for. Where `trace` asks for it, the line of each entry of the log is
-/// written as it is made. Each object is given back at the end, whatever that is, and dropped.
+/// and so is one of another type than its name is asked for. As each entry of the log is made, its line is written where `trace`
+/// asks for it, and the line of its report where that is displayed. Each object is given back at the end, whatever that is,
+/// and dropped.
 ///
-/// Answers why the run is over. The error is `LogFull` where the log has 1,000,000 entries and is not over, `Memory` where
+/// Once the run is over the summary of its reports is written. Answers how it is over. The error is `LogFull` where the log has 1,000,000 entries and is not over, `Memory` where
 /// memory was refused, also to `make`, and `Output` where a write failed, after which nothing is said of what was written.
 pub fn run_script<
     O: UvmObject,
@@ -41,7 +48,7 @@ pub fn run_script<
     trace: bool,
     make: F,
     out: &mut W,
-) -> Result<Reason, RunFault>
+) -> Result<Ending, RunFault>
     requires callable { F.IsAlwaysCallable make }
     requires tested { IsSome script.test }
     ensures { IsRun script trace (W.contents out.old) (W.contents out.new) result }
@@ -67,7 +74,7 @@ pub fn run_kernel<
     trace: bool,
     make: &F,
     out: &mut W,
-) -> Result<Reason, RunFault>
+) -> Result<Ending, RunFault>
     requires callable { F.IsAlwaysCallable make.now }
     requires good { kernel.old.core.health ≡ Good }
     requires begun { kernel.old.core.history ≡ [] }
@@ -80,7 +87,7 @@ pub fn run_kernel<
     ended
 }
 
-// Makes entries until the run is over, and answers why it is.
+// Makes entries until the run is over, writes the summary, and answers how it is over.
 fn run_to_end<O: UvmObject, R: Rng, F: Fn(&Name) -> Result<Option<O>, AllocError>, W: io::Write>(
     alloc: Global,
     kernel: &mut Kernel<O>,
@@ -88,7 +95,7 @@ fn run_to_end<O: UvmObject, R: Rng, F: Fn(&Name) -> Result<Option<O>, AllocError
     trace: bool,
     make: &F,
     out: &mut W,
-) -> Result<Reason, RunFault>
+) -> Result<Ending, RunFault>
     requires callable { F.IsAlwaysCallable make.now }
     requires good { kernel.old.core.health ≡ Good }
     requires begun { kernel.old.core.history ≡ [] }
@@ -97,7 +104,8 @@ fn run_to_end<O: UvmObject, R: Rng, F: Fn(&Name) -> Result<Option<O>, AllocError
     while make_entry(kernel, words, make)? {
         write_last(alloc, kernel, trace, out)?;
     }
-    Ok(why_over(kernel))
+    write_summary(alloc, kernel, out)?;
+    Ok(ending_of(kernel))
 }
 
 // Makes the next entry, or answers that the run is over.
@@ -122,6 +130,20 @@ fn make_entry<O: UvmObject, R: Rng, F: Fn(&Name) -> Result<Option<O>, AllocError
         }
         Err(CoreFault::LogFull) => Err(RunFault::LogFull),
         Err(_) => Err(RunFault::Memory),
+    }
+}
+
+// How the run is over.
+fn ending_of<O: UvmObject>(kernel: &Kernel<O>) -> Ending
+    requires over { is_over kernel.now.core.history ≡ true }
+    requires sound { is_sound kernel.now.core.health ≡ true }
+    ensures { IsEnding result kernel.now.core.script kernel.now.core.history }
+{
+    let reports = reports_of(kernel);
+    Ending {
+        reason: why_over(kernel),
+        errors: reports.count_of(Severity::Error),
+        fatals: reports.count_of(Severity::Fatal),
     }
 }
 
@@ -183,7 +205,7 @@ fn supply<O: UvmObject>(kernel: &mut Kernel<O>, object: O) -> Result<(), RunFaul
     }
 }
 
-// Writes the line of the newest entry, where lines are asked for.
+// Writes the text of the newest entry.
 fn write_last<O: UvmObject, W: io::Write>(
     alloc: Global,
     kernel: &Kernel<O>,
@@ -191,18 +213,54 @@ fn write_last<O: UvmObject, W: io::Write>(
     out: &mut W,
 ) -> Result<(), RunFault>
     ensures legal { IsLegal kernel.now.core.script kernel.now.core.history }
-    ensures ok { OnOk result (Appends (W.contents out.old) (W.contents out.new) (last_text (trace && is_sound kernel.now.core.health) kernel.now.core.history)) }
+    ensures ok { OnOk result (Appends (W.contents out.old) (W.contents out.new) (if is_sound kernel.now.core.health then last_text trace kernel.now.core.script kernel.now.core.history else [])) }
     ensures err { IfErr result (λ fault. IsUnwritten fault (W.contents out.old) (W.contents out.new)) }
 {
     // It belongs to a legal log.
     let _log = kernel.log();
-    let mut line = Vec::new(alloc);
-    if kernel.core().last_text(trace, &mut line).is_err() {
+    let mut text = Vec::new(alloc);
+    if kernel.core().last_text(trace, &mut text).is_err() {
         return Err(RunFault::Memory);
     }
-    match out.write_all(line.as_slice()) {
+    write_text(text.as_slice(), out)
+}
+
+// Writes the summary of the reports.
+fn write_summary<O: UvmObject, W: io::Write>(
+    alloc: Global,
+    kernel: &Kernel<O>,
+    out: &mut W,
+) -> Result<(), RunFault>
+    requires { is_sound kernel.now.core.health ≡ true }
+    ensures ok { OnOk result (Appends (W.contents out.old) (W.contents out.new) (summary_of kernel.now.core.script kernel.now.core.history)) }
+    ensures err { IfErr result (λ fault. IsUnwritten fault (W.contents out.old) (W.contents out.new)) }
+{
+    let mut text = Vec::new(alloc);
+    if reports_of(kernel).summary(&mut text).is_err() {
+        return Err(RunFault::Memory);
+    }
+    write_text(text.as_slice(), out)
+}
+
+fn write_text<W: io::Write>(text: &[u8], out: &mut W) -> Result<(), RunFault>
+    ensures ok { OnOk result (Appends (W.contents out.old) (W.contents out.new) text.now) }
+    ensures err { IfErr result (λ fault. fault ≡ RunFault.Output) }
+{
+    match out.write_all(text) {
         Ok(()) => Ok(()),
         Err(_) => Err(RunFault::Output),
+    }
+}
+
+// The report server of a kernel to which no memory was refused.
+fn reports_of<O: UvmObject>(kernel: &Kernel<O>) -> &Reports
+    requires { is_sound kernel.now.core.health ≡ true }
+    ensures limit { limit_of result.now ≡ quit_limit (report_commands kernel.now.core.script kernel.now.core.history) }
+    ensures counts { reports.counts_of result.now ≡ counts_of kernel.now.core.script kernel.now.core.history }
+{
+    match kernel.reports() {
+        Some(reports) => reports,
+        None => unreachable!(),
     }
 }
 

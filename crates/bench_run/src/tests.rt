@@ -1,6 +1,6 @@
 //! Runs over an object of a user's own.
 
-use crate::{RunFault, run_kernel, run_script};
+use crate::{Ending, RunFault, run_kernel, run_script};
 use bench_kernel::Kernel;
 use rand_pcg::Pcg32;
 use std::alloc::{AllocError, Global};
@@ -45,10 +45,48 @@ begin final
 heard uvm_test_top final: 0
 end final
 over finished
+--- UVM Report Summary ---
+** Report counts by severity
+UVM_INFO : 0
+UVM_WARNING : 0
+UVM_ERROR : 0
+UVM_FATAL : 0
+** Report counts by id
 ";
 
+const SUMMARY: &[u8] = b"--- UVM Report Summary ---
+** Report counts by severity
+UVM_INFO : 0
+UVM_WARNING : 0
+UVM_ERROR : 0
+UVM_FATAL : 0
+** Report counts by id
+";
+
+// How the run of an object that says nothing is over, and that without one.
+const CLEAN: Ending = Ending {
+    reason: Reason::Finished,
+    errors: 0,
+    fatals: 0,
+};
+
+const DECLINED: Ending = Ending {
+    reason: Reason::NoTest,
+    errors: 0,
+    fatals: 1,
+};
+
 const DECLINED_LINES: &[u8] = b"did uvm_top create asker uvm_test_top: refused FCTTYP
+UVM_FATAL @ 0: uvm_top [FCTTYP] no object supplied
 over no_test
+--- UVM Report Summary ---
+** Report counts by severity
+UVM_INFO : 0
+UVM_WARNING : 0
+UVM_ERROR : 0
+UVM_FATAL : 1
+** Report counts by id
+[FCTTYP] 1
 ";
 
 /// Asks for its width when it builds.
@@ -85,12 +123,12 @@ fn make_asker(type_name: &Name) -> Result<Option<Asker>, AllocError> {
     }))
 }
 
-// A run of the script, traced or not, over what `make` makes: why it was over, and what was written.
+// A run of the script, traced or not, over what `make` makes: how it was over, and what was written.
 fn ran<O: UvmObject, F: Fn(&Name) -> Result<Option<O>, AllocError> + Drop>(
     alloc: Global,
     trace: bool,
     make: F,
-) -> Result<(Reason, Vec<u8>), Fail>
+) -> Result<(Ending, Vec<u8>), Fail>
     requires { F.IsAlwaysCallable make }
 {
     let script = bench_script::read(alloc, SCRIPT)?;
@@ -103,7 +141,8 @@ fn ran<O: UvmObject, F: Fn(&Name) -> Result<Option<O>, AllocError> + Drop>(
 #[test]
 fn object_of_a_user_is_run_to_the_end(rt: HostRuntime) -> Result<(), Fail> {
     let (ended, out) = ran(rt.alloc(), true, make_asker)?;
-    assert_eq!(rt; ended, Reason::Finished);
+    assert_eq!(rt; ended, CLEAN);
+    assert!(rt; ended.is_clean());
     assert_eq!(rt; out.as_slice(), LINES);
     Ok(())
 }
@@ -119,16 +158,17 @@ fn boxed_object_is_run_as_well(rt: HostRuntime) -> Result<(), Fail> {
         }
     };
     let (ended, out) = ran(alloc, true, make)?;
-    assert_eq!(rt; ended, Reason::Finished);
+    assert_eq!(rt; ended, CLEAN);
+    assert!(rt; ended.is_clean());
     assert_eq!(rt; out.as_slice(), LINES);
     Ok(())
 }
 
 #[test]
-fn nothing_is_written_without_trace(rt: HostRuntime) -> Result<(), Fail> {
+fn summary_alone_is_written_without_trace(rt: HostRuntime) -> Result<(), Fail> {
     let (ended, out) = ran(rt.alloc(), false, make_asker)?;
-    assert_eq!(rt; ended, Reason::Finished);
-    assert!(rt; out.is_empty());
+    assert_eq!(rt; ended, CLEAN);
+    assert_eq!(rt; out.as_slice(), SUMMARY);
     Ok(())
 }
 
@@ -136,7 +176,8 @@ fn nothing_is_written_without_trace(rt: HostRuntime) -> Result<(), Fail> {
 fn object_that_is_not_made_is_declined(rt: HostRuntime) -> Result<(), Fail> {
     let make = |_: &Name| -> Result<Option<Asker>, AllocError> { Ok(None) };
     let (ended, out) = ran(rt.alloc(), true, make)?;
-    assert_eq!(rt; ended, Reason::NoTest);
+    assert_eq!(rt; ended, DECLINED);
+    assert!(rt; !ended.is_clean());
     assert_eq!(rt; out.as_slice(), DECLINED_LINES);
     Ok(())
 }
@@ -146,7 +187,8 @@ fn object_of_another_type_is_declined(rt: HostRuntime) -> Result<(), Fail> {
     let other = Name::new(b"other")?;
     let make = |_: &Name| -> Result<Option<Asker>, AllocError> { make_asker(&other) };
     let (ended, out) = ran(rt.alloc(), true, make)?;
-    assert_eq!(rt; ended, Reason::NoTest);
+    assert_eq!(rt; ended, DECLINED);
+    assert!(rt; !ended.is_clean());
     assert_eq!(rt; out.as_slice(), DECLINED_LINES);
     Ok(())
 }
@@ -223,7 +265,7 @@ impl Write for Failing {
 fn ended_after(
     alloc: Global,
     writes: usize,
-) -> Result<(Result<Reason, RunFault>, usize, usize), Fail> {
+) -> Result<(Result<Ending, RunFault>, usize, usize), Fail> {
     let script = bench_script::read(alloc, SCRIPT)?;
     let mut kernel = Kernel::new(alloc, script)?;
     let mut out = Failing { left: writes };
@@ -238,7 +280,9 @@ fn writer_that_fails_breaks_the_run_and_no_object_is_held(rt: HostRuntime) -> Re
     assert_eq!(rt; ended_after(rt.alloc(), 0)?, (broken, 1, 0));
     assert_eq!(rt; ended_after(rt.alloc(), 3)?, (broken, 4, 0));
     assert_eq!(rt; ended_after(rt.alloc(), 30)?, (broken, 31, 0));
-    assert_eq!(rt; ended_after(rt.alloc(), 31)?, (Ok(Reason::Finished), 31, 0));
+    // The summary.
+    assert_eq!(rt; ended_after(rt.alloc(), 31)?, (broken, 31, 0));
+    assert_eq!(rt; ended_after(rt.alloc(), 32)?, (Ok(CLEAN), 31, 0));
     Ok(())
 }
 

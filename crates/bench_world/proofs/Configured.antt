@@ -1,12 +1,9 @@
 -- One more setting.
-use Rattle.std.proofs.Common.{◌≡◌, ℕ, ◌+◌, ◌<◌, List, [], ◌∷◌, length, map, take, reverse, get_or, option_map, ap, sym, ◌∙◌, arith, None}
-use Rattle.std.proofs.lemmas.List.{take_more, reverse-append, map-append}
+use Rattle.std.proofs.Common.{◌≡◌, ℕ, ◌+◌, List, [], ◌∷◌, option_map, ap, sym, ◌∙◌, arith, None}
 use Rattle.uvm_glob.specs.Paths.{path_text}
 use Rattle.uvm_config.specs.Answers.{Setting, config_answer, AnswersAreGiven, NoneSetNoAnswer}
 use Rattle.uvm_config.specs.Choice.{answer_after}
 use Rattle.uvm_config.specs.Observed.{Kept, answer_at, value_at, accepted}
-use Rattle.bench_script.specs.declared.scripts.Setting as script
-use Rattle.bench_history.specs.Configuration.{given_setting}
 use Rattle.bench_world.specs.Services.{IsSettings}
 
 -- the settings give what one more gives
@@ -30,10 +27,3 @@ settings-none nothing none count = record { answers = λ path asked. none path a
 -- the value that is found
 pub value-found : {given : List Setting} {kept : Kept} (path : List (List ℕ)) (asked : List ℕ) → IsSettings given kept → value_at kept path asked ≡ config_answer given (path_text path) asked
 value-found path asked s = ap (option_map (λ answer. answer.value)) (s.answers path asked)
-
--- one more setting of a script
-pub given-more : (settings : List script.Setting) (i : ℕ) (d : script.Setting) → i < length settings → reverse (map given_setting (take (i + 1) settings)) ≡ given_setting (get_or settings i d) ∷ reverse (map given_setting (take i settings))
-given-more settings i d within =
-    ap (λ l. reverse (map given_setting l)) (take_more settings i d within)
-    ∙ ap reverse (map-append given_setting (take i settings) (get_or settings i d ∷ []))
-    ∙ reverse-append (map given_setting (take i settings)) (given_setting (get_or settings i d) ∷ [])

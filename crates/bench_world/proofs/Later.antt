@@ -1,5 +1,6 @@
 -- What stays with one more entry.
-use Rattle.std.proofs.Common.{ℕ, List, ◌≡◌, refl, rules, ap, ◌<◌, ◌∷◌, length, Option, Bool, true, None, ◌∙◌}
+use Rattle.std.proofs.Common.{ℕ, List, ◌≡◌, refl, rules, ap, subst, sym, ◌<◌, ◌∷◌, length, Option, Bool, true, None, ◌∙◌, Result, Ok, Err, IfOk, OnOk}
+use Rattle.std.specs.declared.alloc.AllocError.{AllocError}
 use Rattle.uvm_object.specs.declared.acts.Act.{Act}
 use Rattle.uvm_object.specs.declared.entries.Entry.{Entry}
 use Rattle.uvm_object.specs.declared.entries.Entry.TheVariants.{Did}
@@ -10,23 +11,27 @@ use Rattle.uvm_object.specs.declared.acts.Who.{Who}
 use Rattle.uvm_object.specs.Logs.{LogValue}
 use Rattle.bench_script.specs.Scripts.{ScriptValue}
 use Rattle.bench_world.specs.declared.making.Waiting.{Waiting}
+use Rattle.bench_world.specs.declared.attempts.Attempt.{Attempt}
+use Rattle.bench_world.specs.declared.attempts.Attempt.TheVariants.{Became}
 use Rattle.bench_world.specs.declared.services.Services.{Services}
 use Rattle.bench_history.specs.Limits.{log_limit}
 use Rattle.bench_history.specs.History.{left_of, rest_of, speaker_of}
+use Rattle.bench_history.specs.Reports.{report_commands, newest_fate}
 use Rattle.bench_history.specs.Cases.{Exactly, by_act}
 use Rattle.bench_history.specs.Next.{next_of, IsNext}
 use Rattle.bench_history.specs.Laws.{PhasesGoInOrder}
-use Rattle.bench_world.specs.Services.{ServicesMatch, TakesIn, IsPerformed, one_done, with_refusal}
+use Rattle.bench_world.specs.Services.{ServicesMatch, TakesIn, IsPerformed, IsAttempt, IsRefusing, one_done}
 use Rattle.bench_world.specs.Worlds.{IsWorld}
 use Rattle.bench_world.proofs.Answered.{answer-later, answer-next, answer-noted}
 use Rattle.bench_world.proofs.Entered.{legal-more, sound-again}
+use Rattle.bench_world.proofs.Reported.{quiet}
 use Rattle.bench_world.proofs.Told.{agenda-later}
 
 -- what every entry leaves, but for what it changes
-pub ruleset later = (answer-later, answer-noted, agenda-later)
+pub ruleset later = (answer-later, answer-noted, agenda-later, quiet)
 
 -- what an act leaves, but for what it changes
-pub ruleset acted = (answer-next, agenda-later)
+pub ruleset acted = (answer-next, agenda-later, quiet)
 
 -- a world goes on with an entry that is next
 pub entered :
@@ -65,11 +70,20 @@ performed {script = script} {log} {old = old} outcome act p sound room left next
     acted-on outcome act p sound room left (rw comes refl) order did.kept is limit done
 
 -- any act may be refused
-pub refused-taken-in : {old new : Services} {place : ℕ} (act : Act) (fatal : Fatal) → new ≡ with_refusal old → TakesIn act (Refused fatal) place old new
-refused-taken-in act fatal kept = rw kept (record { same_answer = refl; with_entry = λ script history s. let m = s.known in let left = s.left in search (rules, acted) })
+pub refused-taken-in : {old new : Services} {place : ℕ} (act : Act) (fatal : Fatal) → IsRefusing fatal old new → TakesIn act (Refused fatal) place old new
+refused-taken-in {old} {new} {place} act fatal kept =
+    subst (λ (after : Services). TakesIn act (Refused fatal) place old after) (sym kept.rest) (record {
+      same_answer = refl;
+      with_entry = λ script history s.
+          let m = s.known in
+          let left = s.left in
+          let reporting = rw m.tree at (kept.reporting (report_commands script history) (newest_fate script history) m.reporting) in
+          search (rules, acted);
+    })
 
-pub refused-performed :
-    {old new : Services} {place : ℕ} {outcome : Outcome} (act : Act) (fatal : Fatal) → outcome ≡ Refused fatal → new ≡ with_refusal old
+pub refused-attempt :
+    (result : Result Attempt AllocError) (old new : Services) (act : Act) (fatal : Fatal) → IfOk result (λ attempt. attempt ≡ Became (Refused fatal)) → OnOk result (IsRefusing fatal old new)
     → ((script : ScriptValue) (history : List Entry) → ServicesMatch script history old → by_act script history old.answer.speaker act ≡ Exactly (Did old.answer.speaker (Refused fatal) act))
-    → IsPerformed act outcome place old new
-refused-performed act fatal is kept comes = rw is (record { comes = λ script history s. comes script history s.known; kept = refused-taken-in act fatal kept })
+    → IfOk result (λ attempt. (place : ℕ) → IsAttempt act attempt place old new)
+refused-attempt (Ok attempt) old new act fatal is kept comes = λ place. rw is (record { comes = λ script history s. comes script history s.known; kept = refused-taken-in act fatal kept })
+refused-attempt (Err fault) old new act fatal is kept comes = tt

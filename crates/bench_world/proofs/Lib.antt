@@ -10,3 +10,5 @@ pub mod Overriding
 pub mod Told
 pub mod Turns
 pub mod Waits
+mod Given
+mod Reported

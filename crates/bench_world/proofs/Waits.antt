@@ -1,7 +1,10 @@
 -- A world whose next act waits for an object.
-use Rattle.std.proofs.Common.{◌≡◌, ◌<◌, ◌∷◌, length, Option, Some, true, Bool, IsSome, vec_len, vec_capacity, refl, ap, sym, subst, ◌∙◌, rules}
+use Rattle.std.proofs.Common.{◌≡◌, ◌<◌, ◌∷◌, length, Option, Some, true, Bool, IsSome, IsTrue, vec_len, vec_capacity, refl, ap, sym, subst, ◌∙◌, rules}
 use Rattle.uvm_tree.specs.Nodes.{node_at}
+use Rattle.uvm_report.specs.Observed.{has_room}
 use Rattle.uvm_object.specs.Acts.{node_of}
+use Rattle.uvm_object.specs.Fatals.{fatal_report}
+use Rattle.uvm_object.specs.declared.fatals.Fatal.TheVariants.{NoObject}
 use Rattle.uvm_object.specs.Logs.{LogValue}
 use Rattle.bench_script.specs.Scripts.{ScriptValue}
 use Rattle.bench_history.specs.Limits.{log_limit}
@@ -11,15 +14,18 @@ use Rattle.bench_history.specs.Next.{next_of, need_in}
 use Rattle.bench_history.specs.Laws.{PhasesGoInOrder}
 use Rattle.bench_world.specs.declared.making.Waiting.{Waiting}
 use Rattle.bench_world.specs.declared.services.Services.{Services}
+use Rattle.bench_world.specs.Reportings.{KeepsReporting}
 use Rattle.bench_world.specs.Services.{AreTurns, ServicesMatch, IsInNeed}
 use Rattle.bench_world.specs.Worlds.{IsWorld, IsReady}
 use Rattle.bench_world.proofs.Entered.{for-some}
 
--- a tree of the same nodes and as many components in the same order are as good
+-- a tree of the same nodes, as many components in the same order, and reports that give the same are as good
 same-match :
     {script : ScriptValue} {services : Services} (log : LogValue) (other : Services) → other.tree.nodes ≡ services.tree.nodes → other.components.items ≡ services.components.items
-    → ServicesMatch script log.entries services → ServicesMatch script log.entries (record services { tree = other.tree; components = other.components })
-same-match {services = services} log other nodes items m =
+    → KeepsReporting services.reporting other.reporting
+    → ServicesMatch script log.entries services → ServicesMatch script log.entries (record services { tree = other.tree; components = other.components; reporting = other.reporting })
+same-match {services = services} log other nodes items reports m =
+    let reporting = reports _ _ m.reporting in
     let tree = nodes ∙ m.tree in
     let turns : AreTurns (components_of log.entries) (called_of log.entries) (length (nodes_of log.entries)) other.components.items = rw items m.turns in
     search (rules, tree, turns)
@@ -31,15 +37,17 @@ pub waits :
     → left_of script log.entries ≡ wait.deed ∷ rest_of (left_of script log.entries) → next_of script log.entries ≡ by_act script log.entries (speaker_of log.entries) wait.deed
     → PhasesGoInOrder → IsInNeed wait.deed wait.need (length log.entries) old new
     → (more.entries ≡ log.entries) × (more.limit ≡ log.limit) → 0 < more.spare
-    → services ≡ record new { tree = services.tree; components = services.components } → services.tree.nodes ≡ new.tree.nodes → services.components.items ≡ new.components.items
+    → services ≡ record new { tree = services.tree; components = services.components; reporting = services.reporting } → services.tree.nodes ≡ new.tree.nodes → services.components.items ≡ new.components.items
+    → KeepsReporting new.reporting services.reporting
     → (IsSome (node_at new.tree.nodes (node_of new.answer.speaker)) → services.tree.spare ≡ Some (node_of new.answer.speaker))
     → vec_len services.components < vec_capacity services.components
+    → wait.declined ≡ fatal_report NoObject → IsTrue (has_room services.reporting.reports wait.declined.id)
     → P × IsWorld true script more services (Some wait)
-waits {script = script} {log} {more} {old} {new} {services} wait p sound room left next order need same log_spare kept nodes items tree_spare components =
+waits {script = script} {log} {more} {old} {new} {services} wait p sound room left next order need same log_spare kept nodes items reports tree_spare components declined room_for_report =
     let m = p.1.services_match sound in
     let comes = next ∙ (rw m.answer.speaker at (need.comes script log.entries (record { known = m; left = left; place_is = refl; in_order = (order script log.entries p.1.legal.each).before }))) in
     let new_matches : ServicesMatch script log.entries new = subst (ServicesMatch script log.entries) (sym need.same) m in
-    let matches : ServicesMatch script log.entries services = subst (ServicesMatch script log.entries) (sym kept) (same-match log services nodes items new_matches) in (
+    let matches : ServicesMatch script log.entries services = subst (ServicesMatch script log.entries) (sym kept) (same-match log services nodes items reports new_matches) in (
       p.0,
       record {
         limit = same.1 ∙ p.1.limit;
@@ -53,6 +61,8 @@ waits {script = script} {log} {more} {old} {new} {services} wait p sound room le
           log_spare = log_spare;
           tree_spare = rw (nodes, ap (λ (s : Services). s.answer.speaker) kept) tree_spare;
           components = components;
+          declined = declined;
+          report_room = rw declined at room_for_report;
         });
       },
     )

@@ -1,2 +1,3 @@
+pub mod Reportings
 pub mod Services
 pub mod Worlds

@@ -14,7 +14,9 @@ use Rattle.uvm_phase.specs.declared.agendas.Cause.{Cause}
 use Rattle.uvm_phase.specs.declared.agendas.Due.{Due}
 use Rattle.uvm_phase.specs.Phases.{phase_number}
 use Rattle.uvm_phase.specs.Dues.{same_cause, in_order}
+use Rattle.uvm_tree.specs.Nodes.{path_at}
 use Rattle.uvm_object.specs.Acts.{node_of}
+use Rattle.uvm_object.specs.Fatals.{fatal_report}
 use Rattle.uvm_object.specs.declared.acts.Who.{Who}
 use Rattle.uvm_object.specs.declared.acts.Call.{Call}
 use Rattle.uvm_object.specs.declared.acts.Act.{Act}
@@ -34,7 +36,9 @@ use Rattle.bench_world.specs.declared.services.Component.{Component}
 use Rattle.bench_world.specs.declared.services.Services.{Services}
 use Rattle.bench_history.specs.Configuration.{settings_of}
 use Rattle.bench_history.specs.Dues.{caused_of, heard_of, ended_of, is_open}
-use Rattle.bench_history.specs.History.{stage_of, now_of, nodes_of, components_of, called_of, had_call, opening, left_of, rest_of, speaker_of, overrides_of, ends_build, asks_exit, refuses_test}
+use Rattle.bench_history.specs.History.{stage_of, now_of, nodes_of, components_of, called_of, had_call, opening, left_of, rest_of, speaker_of, overrides_of, ends_build}
+use Rattle.bench_history.specs.Reports.{report_commands, newest_fate, refuses_test}
+use Rattle.bench_world.specs.Reportings.{IsReporting, IsReported}
 use Rattle.bench_history.specs.Cases.{Exactly, Need, by_act}
 use Rattle.bench_history.specs.Laws.{next_number}
 use Rattle.bench_history.specs.Refusals.{Creation}
@@ -125,7 +129,7 @@ pub record ServicesMatch (script : ScriptValue) (history : List Entry) (services
   pub turns : AreTurns (components_of history) (called_of history) (length (nodes_of history)) services.components.items
   pub answer : IsAnswer (opening script) history (left_of script history) (speaker_of history) services.answer
   pub built : services.built ≡ list_any ends_build history
-  pub exit_asked : services.exit_asked ≡ list_any asks_exit history
+  pub reporting : IsReporting (report_commands script history) (newest_fate script history) services.reporting
   pub settings : IsSettings (settings_of script history) services.settings
   pub agenda : IsAgenda (caused_of history) (heard_of history) (ended_of history) (length history) services.agenda.dues
   pub test_refused : services.test_refused ≡ list_any refuses_test history
@@ -138,9 +142,14 @@ pub record IsScene (script : ScriptValue) (history : List Entry) (act : Act) (pl
   pub place_is : length history ≡ place
   pub in_order : All (λ phase. phase_number phase < next_number (stage_of history)) (ended_of history)
 
--- a refusal asks for exit, and may be the test's
-abbrev pub with_refusal : Services → Services
-with_refusal services = record services { exit_asked = true; test_refused = node_of services.answer.speaker == 0 || services.test_refused }
+-- an act is refused: its fatal report is issued, and it may be the test's
+pub record IsRefusing (fatal : Fatal) (old new : Services) : Type 0 where
+  pub rest : new ≡ record old { reporting = new.reporting; test_refused = node_of old.answer.speaker == 0 || old.test_refused }
+  pub reporting : IsReported (path_at old.tree.nodes (node_of old.answer.speaker)) (fatal_report fatal) old.reporting new.reporting
+
+-- an act is performed, and nothing is reported
+abbrev pub unreported : Services → Services
+unreported services = record services { reporting = record services.reporting { newest = None } }
 
 -- one more act of the answer is done
 abbrev pub one_done : Services → Services

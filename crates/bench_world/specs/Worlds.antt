@@ -1,8 +1,11 @@
 -- What contracts see of a world.
-use Rattle.std.specs.Prelude.{◌≡◌, ◌<◌, Bool, true, false, List, ◌∷◌, length, Option, Some, None, IsSome, vec_len, vec_capacity}
+use Rattle.std.specs.Prelude.{◌≡◌, ◌<◌, Bool, true, false, List, ◌∷◌, length, Option, Some, None, IsSome, IsTrue, vec_len, vec_capacity}
 use Rattle.std.specs.Option.{ForSome}
 use Rattle.uvm_tree.specs.Nodes.{node_at}
+use Rattle.uvm_report.specs.Observed.{has_room}
 use Rattle.uvm_object.specs.Acts.{node_of}
+use Rattle.uvm_object.specs.Fatals.{id_of, fatal_report}
+use Rattle.uvm_object.specs.declared.fatals.Fatal.TheVariants.{NoObject}
 use Rattle.uvm_object.specs.declared.acts.Act.{Act}
 use Rattle.uvm_object.specs.declared.entries.Entry.{Entry}
 use Rattle.uvm_object.specs.Logs.{LogValue}
@@ -32,7 +35,8 @@ world_after entry world = record world { history = entry ∷ world.history; wait
 abbrev pub broken : WorldValue → WorldValue
 broken world = record world { sound = false; waiting = None }
 
--- a creation waits: it is the next act, and needs this object; there is room for its entry, and for a node under its performer
+-- a creation waits: it is the next act, and needs this object; there is room for its entry, for a node under its performer,
+-- and for the report of an object that is declined
 pub record IsReady (waiting : Waiting) (script : ScriptValue) (log : LogValue) (services : Services) : Type 0 where
   pub left : left_of script log.entries ≡ waiting.deed ∷ rest_of (left_of script log.entries)
   pub needed : need_in (next_of script log.entries) ≡ Some waiting.need
@@ -40,6 +44,8 @@ pub record IsReady (waiting : Waiting) (script : ScriptValue) (log : LogValue) (
   pub log_spare : 0 < log.spare
   pub tree_spare : IsSome (node_at services.tree.nodes (node_of services.answer.speaker)) → services.tree.spare ≡ Some (node_of services.answer.speaker)
   pub components : vec_len services.components < vec_capacity services.components
+  pub declined : waiting.declined ≡ fatal_report NoObject
+  pub report_room : IsTrue (has_room services.reporting.reports (id_of NoObject))
 
 -- the log is legal, and while the world is sound its services are what the log says
 pub record IsWorld (sound : Bool) (script : ScriptValue) (log : LogValue) (services : Services) (waiting : Option Waiting) : Type 0 where

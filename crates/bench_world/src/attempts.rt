@@ -1,19 +1,26 @@
 //! What an act comes to: each act is a function on the services, and all have one contract.
 
-ghost use Rattle.std.specs.Prelude.{◌≡◌, ◌∷◌, ◌<◌, ◌+◌, ◌||◌, ◌==◌, length, true, OnOk, OnErr, IfOk, IsOk};
+ghost use Rattle.std.specs.Prelude.{◌≡◌, ◌∷◌, ◌<◌, ◌+◌, ◌||◌, ◌==◌, length, true, OnOk, OnErr, IfOk, IsOk, IsTrue};
 ghost use Rattle.uvm_object.specs.Acts.{node_of};
 ghost use Rattle.uvm_object.specs.declared.entries.Entry.TheVariants.{Did};
-ghost use Rattle.uvm_object.specs.declared.entries.Outcome.TheVariants.{Refused};
-ghost use Rattle.bench_world.specs.Services.{IsAttempt, one_done, with_refusal};
+ghost use Rattle.uvm_object.specs.declared.entries.Outcome.TheVariants.{Done, Refused};
+ghost use Rattle.uvm_object.specs.Fatals.{fatal_report};
+ghost use Rattle.uvm_report.specs.Observed.{has_room};
+ghost use Rattle.uvm_tree.specs.Nodes.{path_at};
+ghost use Rattle.bench_world.specs.Reportings.{CanReport, IsReported};
+ghost use Rattle.bench_world.specs.Services.{IsAttempt, IsRefusing, one_done, unreported};
 
 use crate::configuring::{get_field, set_field};
 use crate::entries::push;
 use crate::making::create;
 use crate::performing::{add, override_inst, override_type};
+use crate::report_acts::{issue, set_action, set_severity, set_verbosity};
 use crate::services::Services;
 use bench_history::Need;
 use std::alloc::{AllocError, Global};
+use uvm_glob::Path;
 use uvm_object::{Act, Deed, Entry, Fatal, Log, LoggedOutcome};
+use uvm_report::Report;
 use uvm_tree::NodeId;
 
 /// What an attempt to perform an act comes to.
@@ -32,34 +39,89 @@ pub(crate) fn perform(
     place: usize,
     act: &Act,
 ) -> Result<Attempt, AllocError>
+    requires { CanReport services.old.reporting }
     ensures { IfOk result (λ attempt. IsAttempt act.now attempt place services.old services.new) }
 {
     match act {
-        Act::Create { type_name, name } => create(services, type_name, name),
-        Act::Add { name, what } => add(services, *name, *what),
+        Act::Create { type_name, name } => create(services, alloc, type_name, name),
+        Act::Add { name, what } => add(services, alloc, *name, *what),
         Act::Set { glob, field, value } => set_field(services, alloc, glob, *field, *value),
         Act::Get { field } => get_field(services, alloc, place, *field),
         Act::OverrideType {
             original,
             new,
             replace,
-        } => override_type(services, original, new, *replace),
+        } => override_type(services, alloc, original, new, *replace),
         Act::OverrideInst {
             original,
             new,
             glob,
         } => override_inst(services, alloc, original, new, glob),
+        Act::Report { report } => issue(services, alloc, report),
+        Act::Verbosity { which, level } => set_verbosity(services, alloc, *which, *level),
+        Act::Actions { which, actions } => set_action(services, alloc, *which, *actions),
+        Act::Severity { from, id, to } => set_severity(services, alloc, *from, *id, *to),
     }
 }
 
-// An act is refused.
-pub(crate) fn refused(services: &mut Services, fatal: Fatal) -> LoggedOutcome
-    ensures outcome { result ≡ Refused fatal }
-    ensures services { services.new ≡ with_refusal services.old }
+// An act is performed, and nothing is reported.
+pub(crate) fn done(services: &mut Services) -> Attempt
+    ensures attempt { result ≡ Attempt.Became Done }
+    ensures services { services.new ≡ unreported services.old }
 {
-    services.exit_asked = true;
-    services.test_refused = is_test_refused(services.answer.speaker.node(), services.test_refused);
-    LoggedOutcome::refused(fatal)
+    services.reporting.newest = None;
+    Attempt::Became(LoggedOutcome::done())
+}
+
+// An act is refused, and its report is issued.
+pub(crate) fn refused(
+    services: &mut Services,
+    alloc: Global,
+    fatal: Fatal,
+) -> Result<Attempt, AllocError>
+    requires { CanReport services.old.reporting }
+    ensures attempt { IfOk result (λ attempt. attempt ≡ Attempt.Became (Refused fatal)) }
+    ensures services { OnOk result (IsRefusing fatal services.old services.new) }
+{
+    let report = fatal.report(alloc)?;
+    Ok(Attempt::Became(refused_by(services, alloc, fatal, &report)?))
+}
+
+// An act is refused with this report. Takes no memory where there is room for its id.
+pub(crate) fn refused_by(
+    services: &mut Services,
+    alloc: Global,
+    fatal: Fatal,
+    report: &Report,
+) -> Result<LoggedOutcome, AllocError>
+    requires can { CanReport services.old.reporting }
+    requires report { report.now ≡ fatal_report fatal }
+    ensures outcome { IfOk result (λ outcome. outcome ≡ Refused fatal) }
+    ensures services { OnOk result (IsRefusing fatal services.old services.new) }
+    ensures memory { IsTrue (has_room services.old.reporting.reports report.now.id) → IsOk result }
+{
+    let node = services.answer.speaker.node();
+    report_at(services, alloc, node, report)?;
+    services.test_refused = is_test_refused(node, services.test_refused);
+    Ok(LoggedOutcome::refused(fatal))
+}
+
+// A report is issued at the path of a node. Takes no memory where there is room for its id.
+pub(crate) fn report_at(
+    services: &mut Services,
+    alloc: Global,
+    node: NodeId,
+    report: &Report,
+) -> Result<(), AllocError>
+    requires { CanReport services.old.reporting }
+    ensures ok { OnOk result (IsReported (path_at services.old.tree.nodes node) report.now services.old.reporting services.new.reporting) }
+    ensures rest { services.new ≡ record services.old { reporting = services.new.reporting } }
+    ensures memory { IsTrue (has_room services.old.reporting.reports report.now.id) → IsOk result }
+{
+    match services.tree.path(node) {
+        Some(path) => services.reporting.issue(path, report),
+        None => services.reporting.issue(&Path::top(alloc), report),
+    }
 }
 
 // The top performs the creation of the test alone.

@@ -15,9 +15,10 @@ ghost use Rattle.uvm_object.specs.declared.entries.Outcome.TheVariants.{Value};
 ghost use Rattle.bench_history.specs.History.{running};
 ghost use Rattle.bench_history.specs.Configuration.{given_setting, is_building};
 ghost use Rattle.bench_history.specs.Dues.{calls_from};
+ghost use Rattle.bench_world.specs.Reportings.{CanReport};
 ghost use Rattle.bench_world.specs.Services.{IsAttempt, IsSettings};
 
-use crate::attempts::{Attempt, refused};
+use crate::attempts::{Attempt, done, refused};
 use crate::performing::scope_under;
 use crate::services::Services;
 use bench_history::Stage;
@@ -38,17 +39,18 @@ pub(crate) fn set_field(
     field: Name,
     value: i64,
 ) -> Result<Attempt, AllocError>
+    requires { CanReport services.old.reporting }
     ensures { IfOk result (λ attempt. (place : ℕ) → IsAttempt (Set glob.now field value) attempt place services.old services.new) }
 {
     if services.settings.is_full() {
-        return Ok(Attempt::Became(refused(services, Fatal::TooManySettings)));
+        return refused(services, alloc, Fatal::TooManySettings);
     }
     let node = services.answer.speaker.node();
     let scope = scope_under(alloc, &services.tree, node, glob)?;
     let depth = depth_of(&services.tree, node);
     let building = is_building(services.stage);
     set(&mut services.settings, depth, building, scope, field, value)?;
-    Ok(Attempt::Became(LoggedOutcome::done()))
+    Ok(done(services))
 }
 
 // The value of a field is found, and told at once: the entry's place is the cause.
@@ -63,6 +65,7 @@ pub(crate) fn get_field(
     let node = services.answer.speaker.node();
     let value = value_at(alloc, services, node, &field);
     tell(services, field, value, place)?;
+    services.reporting.newest = None;
     Ok(Attempt::Became(LoggedOutcome::value(value)))
 }
 

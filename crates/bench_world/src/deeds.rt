@@ -116,8 +116,9 @@ impl World {
         ensures ok { OnOk result (IsActed (next_of self.old.script self.old.history) self.old self.new) }
         ensures err { OnErr result (self.new ≡ broken self.old) }
     {
-        // A call that an act causes is due in a phase that has not ended.
+        // A call that an act causes is due in a phase that has not ended, and one more report can be counted.
         laws::phases_go_in_order();
+        laws::reports_are_few();
         self.sound = false;
         self.waiting = None;
         let place = self.log.len();
@@ -128,8 +129,9 @@ impl World {
                 Ok(())
             }
             Attempt::Needed(need) => {
-                make_room(&mut self.log, &mut self.services)?;
-                self.waiting = Some(Waiting::new(self.alloc, need, deed)?);
+                let waiting = Waiting::new(self.alloc, need, deed)?;
+                make_room(&mut self.log, &mut self.services, &waiting.declined.id)?;
+                self.waiting = Some(waiting);
                 self.sound = true;
                 Ok(())
             }

@@ -2,7 +2,8 @@
 
 ghost use Rattle.std.specs.Prelude.{◌≡◌, ◌||◌, ◌∷◌, ◌<◌, length, true, OnOk, OnErr, IsOk, Some, None};
 ghost use Rattle.uvm_object.specs.declared.entries.Entry.TheVariants.{Begin, End, Heard, Note, Over};
-ghost use Rattle.bench_history.specs.History.{next_call, phase_order, reason_of, ends_build};
+ghost use Rattle.bench_history.specs.History.{next_call, phase_order, ends_build};
+ghost use Rattle.bench_history.specs.Reports.{reason_of};
 ghost use Rattle.uvm_glob.specs.Orders.{order_of};
 ghost use Rattle.uvm_tree.specs.Cursors.{is_before, least, sooner};
 ghost use Rattle.bench_world.specs.Services.{waiting_in};
@@ -10,6 +11,7 @@ ghost use Rattle.bench_history.specs.Cases.{Exactly, Answer};
 ghost use Rattle.bench_history.specs.Next.{next_of};
 ghost use Rattle.bench_world.specs.Worlds.{MayEnter, world_after, broken};
 
+use crate::attempts::report_at;
 use crate::services::{Component, LastAnswer, clear_calls, mark_call};
 use crate::worlds::World;
 use bench_history::{Stage, laws};
@@ -29,6 +31,7 @@ impl World {
         self.sound = false;
         self.waiting = None;
         push(&mut self.log, Entry::Begin(phase))?;
+        self.services.reporting.newest = None;
         self.services.stage = Stage::During(phase);
         clear_calls(&mut self.services.components);
         self.sound = true;
@@ -45,6 +48,7 @@ impl World {
         self.sound = false;
         self.waiting = None;
         push(&mut self.log, Entry::End(phase))?;
+        self.services.reporting.newest = None;
         self.services.stage = Stage::After(phase);
         self.services.agenda.clear(phase);
         self.services.built = is_built_with(phase, self.services.built);
@@ -66,6 +70,7 @@ impl World {
         let node = who.node();
         let entry = Entry::heard(self.alloc, who.copy(), call, None, acts)?;
         push(&mut self.log, entry)?;
+        self.services.reporting.newest = None;
         mark_call(&mut self.services.components, node);
         self.services.answer = LastAnswer {
             speaker: who,
@@ -99,6 +104,7 @@ impl World {
         let (place, count) = (self.log.len(), acts.len());
         let entry = Entry::heard(self.alloc, who.copy(), call, Some(cause), acts)?;
         push(&mut self.log, entry)?;
+        self.services.reporting.newest = None;
         let _ = self.services.agenda.take_first();
         self.services.answer = LastAnswer {
             speaker: who,
@@ -117,11 +123,13 @@ impl World {
         ensures ok { OnOk result (self.new ≡ world_after (Note fatal node) self.old) }
         ensures err { OnErr result (self.new ≡ broken self.old) }
     {
+        laws::reports_are_few();
         self.sound = false;
         self.waiting = None;
+        let report = fatal.report(self.alloc)?;
+        report_at(&mut self.services, self.alloc, node, &report)?;
         push(&mut self.log, Entry::Note { fatal, node })?;
         self.services.answer.noted = true;
-        self.services.exit_asked = true;
         self.sound = true;
         Ok(())
     }
@@ -135,6 +143,7 @@ impl World {
         self.sound = false;
         self.waiting = None;
         push(&mut self.log, Entry::Over(reason))?;
+        self.services.reporting.newest = None;
         self.services.stage = Stage::Ended;
         self.sound = true;
         Ok(())
@@ -143,11 +152,11 @@ impl World {
     /// Why the run is given up, if it is.
     pub fn reason(&self) -> Option<Reason>
         requires { self.now.sound ≡ true }
-        ensures { result ≡ reason_of self.now.history }
+        ensures { result ≡ reason_of self.now.script self.now.history }
     {
         if self.services.test_refused {
             Some(Reason::NoTest)
-        } else if self.services.exit_asked {
+        } else if self.services.reporting.exit_asked {
             Some(Reason::Exit)
         } else {
             None

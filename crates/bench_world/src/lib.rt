@@ -8,6 +8,9 @@ mod deeds;
 mod entries;
 mod making;
 mod performing;
+mod report_acts;
+mod report_lines;
+mod reporting;
 mod services;
 #[cfg(test)]
 mod tests;

@@ -1,6 +1,6 @@
 //! Creations: an object is needed, and is made or declined.
 
-ghost use Rattle.std.specs.Prelude.{◌≡◌, ℕ, List, OnOk, IfOk, IfSome, IsSome, None, Some, length, ◌<◌, vec_len, vec_capacity};
+ghost use Rattle.std.specs.Prelude.{◌≡◌, ℕ, List, OnOk, IfOk, IfSome, IsSome, IsTrue, None, Some, length, ◌<◌, vec_len, vec_capacity};
 ghost use Rattle.std.specs.Option.{option_copied};
 ghost use Rattle.uvm_tree.specs.Nodes.{node_at};
 ghost use Rattle.uvm_object.specs.Acts.{node_of};
@@ -11,10 +11,14 @@ ghost use Rattle.bench_history.specs.History.{created_name, nodes_of};
 ghost use Rattle.bench_history.specs.Next.{next_of, made_in, declined_in};
 ghost use Rattle.bench_history.specs.Refusals.{child_refusal};
 ghost use Rattle.bench_history.specs.Laws.{IsCreation};
+ghost use Rattle.uvm_object.specs.Fatals.{fatal_report};
+ghost use Rattle.uvm_object.specs.declared.fatals.Fatal.TheVariants.{NoObject};
+ghost use Rattle.uvm_report.specs.Observed.{has_room};
+ghost use Rattle.bench_world.specs.Reportings.{CanReport, KeepsReporting};
 ghost use Rattle.bench_world.specs.Services.{TakesIn, IsAttempt};
 ghost use Rattle.bench_world.specs.Worlds.{world_after};
 
-use crate::attempts::{Attempt, enter, refused};
+use crate::attempts::{Attempt, enter, refused, refused_by};
 use crate::creations::{Uncreated, what_is_created};
 use crate::performing::add_child;
 use crate::services::{Component, Services};
@@ -23,22 +27,31 @@ use bench_history::{Need, laws};
 use std::alloc::{AllocError, Global};
 use uvm_glob::Name;
 use uvm_object::{Act, Deed, Fatal, Log, LoggedOutcome, Who};
+use uvm_report::Report;
 use uvm_tree::{NodeId, NodeKind};
 
-/// A creation that waits for its object: what it needs, the act, and room for the name of the type that is made.
+/// A creation that waits for its object: what it needs, the act, room for the name of the type that is made, and the report of
+/// an object that is declined.
 #[derive(Drop)]
 pub(crate) struct Waiting {
     pub(crate) need: Need,
     pub(crate) deed: Deed,
     name: Box<Name>,
+    pub(crate) declined: Report,
 }
 
 impl Waiting {
     pub(crate) fn new(alloc: Global, need: Need, deed: Deed) -> Result<Waiting, AllocError>
-        ensures { IfOk result (λ waiting. (waiting.need ≡ need) × (waiting.deed ≡ deed)) }
+        ensures { IfOk result (λ waiting. (waiting.need ≡ need) × (waiting.deed ≡ deed) × (waiting.declined ≡ fatal_report NoObject)) }
     {
         let name = Box::new(alloc, placeholder())?;
-        Ok(Waiting { need, deed, name })
+        let declined = Fatal::NoObject.report(alloc)?;
+        Ok(Waiting {
+            need,
+            deed,
+            name,
+            declined,
+        })
     }
 }
 
@@ -74,7 +87,12 @@ impl World {
         let Some(waiting) = self.waiting.take() else {
             unreachable!()
         };
-        let Waiting { need, deed, name } = waiting;
+        let Waiting {
+            need,
+            deed,
+            name,
+            declined: _,
+        } = waiting;
         let node = grow(&mut self.services, deed.act());
         let made = LoggedOutcome::made(name, need.type_name);
         let Ok(()) = enter(&mut self.log, &mut self.services, made, deed) else {
@@ -91,23 +109,30 @@ impl World {
     {
         laws::needs_are_creations();
         laws::phases_go_in_order();
+        laws::reports_are_few();
         self.sound = false;
         let Some(waiting) = self.waiting.take() else {
             unreachable!()
         };
-        let declined = refused(&mut self.services, Fatal::NoObject);
-        let Ok(()) = enter(&mut self.log, &mut self.services, declined, waiting.deed) else {
+        let Waiting { deed, declined, .. } = waiting;
+        let services = &mut self.services;
+        let Ok(refused) = refused_by(services, self.alloc, Fatal::NoObject, &declined) else {
+            unreachable!()
+        };
+        let Ok(()) = enter(&mut self.log, services, refused, deed) else {
             unreachable!()
         };
         self.sound = true;
     }
 }
 
-// Makes room for the entry of a creation, and for its component under the speaker's node.
-pub(crate) fn make_room(log: &mut Log, services: &mut Services) -> Result<(), AllocError>
+// Makes room for the entry of a creation, for its component under the speaker's node, and for a report of an id.
+pub(crate) fn make_room(log: &mut Log, services: &mut Services, id: &Name) -> Result<(), AllocError>
     ensures log { (log.new.entries ≡ log.old.entries) × (log.new.limit ≡ log.old.limit) }
     ensures log_spare { OnOk result (0 < log.new.spare) }
-    ensures services { services.new ≡ record services.old { tree = services.new.tree; components = services.new.components } }
+    ensures services { services.new ≡ record services.old { tree = services.new.tree; components = services.new.components; reporting = services.new.reporting } }
+    ensures reporting { KeepsReporting services.old.reporting services.new.reporting }
+    ensures report_room { OnOk result (IsTrue (has_room services.new.reporting.reports id.now)) }
     ensures nodes { services.new.tree.nodes ≡ services.old.tree.nodes }
     ensures items { services.new.components.items ≡ services.old.components.items }
     ensures tree_spare { OnOk result (IsSome (node_at services.old.tree.nodes (node_of services.old.answer.speaker)) → services.new.tree.spare ≡ Some (node_of services.old.answer.speaker)) }
@@ -115,21 +140,24 @@ pub(crate) fn make_room(log: &mut Log, services: &mut Services) -> Result<(), Al
 {
     services.tree.reserve(services.answer.speaker.node())?;
     services.components.reserve(1)?;
+    services.reporting.reserve_id(id)?;
     log.reserve()
 }
 
 // A component is to be created below the performer's node: an object is needed, or it is refused.
 pub(crate) fn create(
     services: &mut Services,
+    alloc: Global,
     type_name: &Name,
     name: &Name,
 ) -> Result<Attempt, AllocError>
+    requires { CanReport services.old.reporting }
     ensures { IfOk result (λ attempt. (place : ℕ) → IsAttempt (Create type_name.now name.now) attempt place services.old services.new) }
 {
     let performer = services.answer.speaker;
     match what_is_created(services, &performer, type_name, name) {
         Ok(need) => Ok(Attempt::Needed(need)),
-        Err(Uncreated::Refused(fatal)) => Ok(Attempt::Became(refused(services, fatal))),
+        Err(Uncreated::Refused(fatal)) => refused(services, alloc, fatal),
         Err(Uncreated::Memory) => Err(AllocError),
     }
 }
@@ -155,6 +183,7 @@ fn grow(services: &mut Services, act: &Act) -> NodeId
     let Ok(()) = services.components.push(component) else {
         unreachable!()
     };
+    services.reporting.newest = None;
     node
 }
 

@@ -11,43 +11,52 @@ ghost use Rattle.uvm_object.specs.Acts.{node_of};
 ghost use Rattle.uvm_object.specs.declared.acts.Act.TheVariants.{Add, OverrideType, OverrideInst};
 ghost use Rattle.bench_history.specs.History.{kind_of, with_override};
 ghost use Rattle.bench_history.specs.Refusals.{addition_refusal, child_refusal, overriding_refusal};
+ghost use Rattle.bench_world.specs.Reportings.{CanReport};
 ghost use Rattle.bench_world.specs.Services.{IsAttempt, IsFactory};
 
-use crate::attempts::{Attempt, refused};
+use crate::attempts::{Attempt, done, refused};
 use crate::creations::child_refusal;
 use crate::services::Services;
 use std::alloc::{AllocError, Global};
 use uvm_factory::{Factory, laws};
 use uvm_glob::{Glob, Name};
-use uvm_object::{Fatal, LoggedOutcome, What};
+use uvm_object::{Fatal, What};
 use uvm_tree::{NodeId, NodeKind, Tree};
 
 // A node is added below the performer's, unless that is refused.
-pub(crate) fn add(services: &mut Services, name: Name, what: What) -> Result<Attempt, AllocError>
+pub(crate) fn add(
+    services: &mut Services,
+    alloc: Global,
+    name: Name,
+    what: What,
+) -> Result<Attempt, AllocError>
+    requires { CanReport services.old.reporting }
     ensures { IfOk result (λ attempt. (place : ℕ) → IsAttempt (Add name what) attempt place services.old services.new) }
 {
     if let Some(fatal) = addition_refusal(services, &name) {
-        return Ok(Attempt::Became(refused(services, fatal)));
+        return refused(services, alloc, fatal);
     }
     let node = services.answer.speaker.node();
     add_child(&mut services.tree, node, name, kind_of(what))?;
-    Ok(Attempt::Became(LoggedOutcome::done()))
+    Ok(done(services))
 }
 
 // A type is overridden everywhere, unless that is refused.
 pub(crate) fn override_type(
     services: &mut Services,
+    alloc: Global,
     original: &Name,
     new: &Name,
     replace: bool,
 ) -> Result<Attempt, AllocError>
+    requires { CanReport services.old.reporting }
     ensures { IfOk result (λ attempt. (place : ℕ) → IsAttempt (OverrideType original.now new.now replace) attempt place services.old services.new) }
 {
     if let Some(fatal) = overriding_refusal(&services.factory, original, new) {
-        return Ok(Attempt::Became(refused(services, fatal)));
+        return refused(services, alloc, fatal);
     }
     override_everywhere(&mut services.factory, original, new, replace)?;
-    Ok(Attempt::Became(LoggedOutcome::done()))
+    Ok(done(services))
 }
 
 // A type is overridden at the paths that a glob matches under the performer's, unless that is refused.
@@ -58,15 +67,16 @@ pub(crate) fn override_inst(
     new: &Name,
     glob: &Glob,
 ) -> Result<Attempt, AllocError>
+    requires { CanReport services.old.reporting }
     ensures { IfOk result (λ attempt. (place : ℕ) → IsAttempt (OverrideInst original.now new.now glob.now) attempt place services.old services.new) }
 {
     if let Some(fatal) = overriding_refusal(&services.factory, original, new) {
-        return Ok(Attempt::Became(refused(services, fatal)));
+        return refused(services, alloc, fatal);
     }
     let node = services.answer.speaker.node();
     let scope = scope_under(alloc, &services.tree, node, glob)?;
     override_within(&mut services.factory, original, new, scope)?;
-    Ok(Attempt::Became(LoggedOutcome::done()))
+    Ok(done(services))
 }
 
 // Why nothing is added under a name, if so.

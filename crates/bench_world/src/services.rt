@@ -1,11 +1,14 @@
 //! What a world keeps beside its log.
 
-ghost use Rattle.std.specs.Prelude.{◌≡◌, [], map};
+ghost use Rattle.std.specs.Prelude.{◌≡◌, [], None, map};
 ghost use Rattle.bench_script.specs.Scripts.{ScriptValue};
 ghost use Rattle.bench_history.specs.Configuration.{settings_of};
 ghost use Rattle.bench_history.specs.History.{overrides_of};
+ghost use Rattle.bench_history.specs.Reports.{script_commands};
+ghost use Rattle.bench_world.specs.Reportings.{IsReporting};
 ghost use Rattle.bench_world.specs.Services.{IsFactory, IsSettings, ServicesMatch, cleared, with_call};
 
+use crate::reporting::Reporting;
 use bench_history::Stage;
 use std::alloc::Global;
 use uvm_config::Settings;
@@ -54,20 +57,26 @@ pub(crate) struct Services {
     pub(crate) tree: Tree,
     pub(crate) factory: Factory,
     pub(crate) settings: Settings,
+    pub(crate) reporting: Reporting,
     // The calls that are due.
     pub(crate) agenda: Agenda<Who, Call>,
     // In the order in which they were made.
     pub(crate) components: Vec<Component>,
     pub(crate) answer: LastAnswer,
     pub(crate) built: bool,
-    pub(crate) exit_asked: bool,
     pub(crate) test_refused: bool,
 }
 
 impl Services {
     // What is kept before the first entry.
-    pub(crate) fn new(alloc: Global, factory: Factory, settings: Settings) -> Services
-        ensures { (script : ScriptValue) → IsFactory script.types (overrides_of script []) factory → IsSettings (settings_of script []) settings → ServicesMatch script [] result }
+    pub(crate) fn new(
+        alloc: Global,
+        factory: Factory,
+        settings: Settings,
+        reporting: Reporting,
+    ) -> Services
+        ensures { (script : ScriptValue) → IsFactory script.types (overrides_of script []) factory → IsSettings (settings_of script []) settings
+            → IsReporting (script_commands script) None reporting → ServicesMatch script [] result }
     {
         Services {
             stage: Stage::Before,
@@ -75,6 +84,7 @@ impl Services {
             tree: Tree::new(alloc),
             factory,
             settings,
+            reporting,
             agenda: Agenda::new(alloc),
             components: Vec::new(alloc),
             answer: LastAnswer {
@@ -85,7 +95,6 @@ impl Services {
                 noted: false,
             },
             built: false,
-            exit_asked: false,
             test_refused: false,
         }
     }

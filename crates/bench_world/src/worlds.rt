@@ -3,8 +3,10 @@
 ghost use Rattle.std.specs.Prelude.{◌≡◌, [], IfOk, true, false, IsSome, None, length, nat_le};
 ghost use Rattle.bench_script.specs.Factories.{IsFactoryOf};
 ghost use Rattle.bench_history.specs.Limits.{log_limit};
-ghost use Rattle.bench_history.specs.History.{opening, stage_of, running, now_of, nodes_of, overrides_of, asks_exit};
-ghost use Rattle.std.specs.List.{list_any};
+ghost use Rattle.bench_history.specs.History.{opening, stage_of, running, now_of, nodes_of, overrides_of};
+ghost use Rattle.bench_history.specs.Reports.{report_commands, newest_fate};
+ghost use Rattle.uvm_report.specs.Commands.{is_exit_asked};
+ghost use Rattle.uvm_report.specs.Changes.{Gives};
 ghost use Rattle.std.specs.Option.{option_copied};
 ghost use Rattle.uvm_phase.specs.Dues.{in_order};
 ghost use Rattle.bench_world.specs.Services.{IsFactory, IsSettings};
@@ -17,6 +19,7 @@ ghost use Rattle.bench_world.specs.Worlds.{WorldValue};
 
 use crate::configuring::given_settings;
 use crate::making::Waiting;
+use crate::reporting::given_reporting;
 use crate::services::Services;
 use bench_history::Stage;
 use bench_script::Script;
@@ -27,6 +30,7 @@ use uvm_factory::Factory;
 use uvm_glob::{Name, Path};
 use uvm_object::{Act, Call, Deed, Log, Who};
 use uvm_phase::{Agenda, Due, Phase};
+use uvm_report::{Fate, Reports};
 use uvm_tree::{NodeId, Tree};
 
 /// A legal log with the script of the run and the services. While `sound()` is true each service is what the log says.
@@ -70,12 +74,13 @@ impl World {
     {
         let factory = script.factory(alloc)?;
         let settings = given_settings(alloc, script.settings())?;
+        let reporting = given_reporting(alloc, &script)?;
         let creation = Deed::new(alloc, opening(&script, &factory))?;
         Ok(World {
             alloc,
             script,
             log: Log::new(alloc, World::MAX_ENTRIES),
-            services: Services::new(alloc, factory, settings),
+            services: Services::new(alloc, factory, settings, reporting),
             creation,
             waiting: None,
             sound: true,
@@ -133,9 +138,25 @@ impl World {
     /// Whether a report has asked for exit (Clause 6).
     pub fn exit_asked(&self) -> bool
         requires { self.now.sound ≡ true }
-        ensures { result ≡ list_any asks_exit self.now.history }
+        ensures { result ≡ is_exit_asked (report_commands self.now.script self.now.history) }
     {
-        self.services.exit_asked
+        self.services.reporting.exit_asked
+    }
+
+    /// The report server: what its calls give is what the script, the accepted acts and the reports of the log come to (Clause 6).
+    pub fn reports(&self) -> &Reports
+        requires { self.now.sound ≡ true }
+        ensures { Gives result.now (report_commands self.now.script self.now.history) }
+    {
+        &self.services.reporting.reports
+    }
+
+    /// What became of the report of the newest entry, if it has one.
+    pub fn newest_fate(&self) -> Option<Fate>
+        requires { self.now.sound ≡ true }
+        ensures { result ≡ newest_fate self.now.script self.now.history }
+    {
+        self.services.reporting.newest
     }
 
     /// The present time in ticks.

@@ -1,9 +1,9 @@
 -- A report whose output was flushed.
-use Rattle.std.proofs.Common.{◌≡◌, ◌⊎◌, ℕ, Bool, List, Option, Some, Result, Ok, Err, OnErr, OnOk, inl, inr}
+use Rattle.std.proofs.Common.{◌≡◌, ◌⊎◌, ℕ, Bool, List, [], Option, Some, Result, Ok, Err, OnErr, OnOk, inl, inr}
 use Rattle.std.specs.Io.KnownBytes.{Keeps}
 use Rattle.std.proofs.KnownBytes.{Appends-kept, Keeps-trans}
 use Rattle.uvm_object.specs.declared.entries.Entry.{Entry}
-use Rattle.uvm_object.specs.declared.entries.Reason.{Reason}
+use Rattle.bench_run.specs.declared.endings.Ending.{Ending}
 use Rattle.bench_script.specs.declared.faults.ScriptFault.{ScriptFault}
 use Rattle.bench_script.specs.Scripts.{ScriptValue}
 use Rattle.bench_run.specs.Running.{BrokeOffRun, RanTo, WroteLog}
@@ -33,19 +33,19 @@ debug_run-kept bytes old mid new Faulty done kept = done
 debug_run-kept bytes old mid new (Refused fault) done kept = (done.0, done.1, Keeps-trans old mid new done.2 kept)
 debug_run-kept bytes old mid new (Broken breakage) done kept = broke_off-kept _ old mid new breakage done kept
 
-wrote_log-kept : (script : ScriptValue) (trace : Bool) (old mid new : Option (List ℕ)) (history : List Entry) → WroteLog script trace old mid history → Keeps mid new → WroteLog script trace old new history
-wrote_log-kept script trace old mid new history log kept = record { legal = log.legal; wrote = Appends-kept old mid new _ log.wrote kept }
+wrote_log-kept : (script : ScriptValue) (trace : Bool) (old mid new : Option (List ℕ)) (history : List Entry) (more : List ℕ) → WroteLog script trace old mid history more → Keeps mid new → WroteLog script trace old new history more
+wrote_log-kept script trace old mid new history more log kept = record { legal = log.legal; wrote = Appends-kept old mid new _ log.wrote kept }
 
-ran_to-kept : (reason : Reason) (script : ScriptValue) (trace : Bool) (old mid new : Option (List ℕ)) → RanTo reason script trace old mid → Keeps mid new → RanTo reason script trace old new
-ran_to-kept reason script trace old mid new ran kept = (ran.0, ran.1, wrote_log-kept script trace old mid new ran.0 ran.2 kept)
+ran_to-kept : (ending : Ending) (script : ScriptValue) (trace : Bool) (old mid new : Option (List ℕ)) → RanTo ending script trace old mid → Keeps mid new → RanTo ending script trace old new
+ran_to-kept ending script trace old mid new ran kept = (ran.0, ran.1, wrote_log-kept script trace old mid new ran.0 _ ran.2 kept)
 
 broke_off_run-kept : (fault : RunFault) (script : ScriptValue) (trace : Bool) (old mid new : Option (List ℕ)) → BrokeOffRun fault script trace old mid → Keeps mid new → BrokeOffRun fault script trace old new
-broke_off_run-kept ran.Memory script trace old mid new broke kept = (broke.0, broke.1, wrote_log-kept script trace old mid new broke.0 broke.2 kept)
-broke_off_run-kept ran.LogFull script trace old mid new broke kept = (broke.0, broke.1, broke.2, wrote_log-kept script trace old mid new broke.0 broke.3 kept)
+broke_off_run-kept ran.Memory script trace old mid new broke kept = (broke.0, broke.1, wrote_log-kept script trace old mid new broke.0 [] broke.2 kept)
+broke_off_run-kept ran.LogFull script trace old mid new broke kept = (broke.0, broke.1, broke.2, wrote_log-kept script trace old mid new broke.0 [] broke.3 kept)
 broke_off_run-kept ran.Output script trace old mid new broke kept = broke
 
 bench_run-kept : (asked : Result ScriptValue ScriptFault) (trace : Bool) (old mid new : Option (List ℕ)) (verdict : Verdict) → IsBenchRun asked trace old mid verdict → Keeps mid new → IsBenchRun asked trace old new verdict
-bench_run-kept asked trace old mid new Clean done kept = (done.0, done.1, ran_to-kept _ done.0 trace old mid new done.2 kept)
+bench_run-kept asked trace old mid new Clean done kept = (done.0, done.1, done.2, done.3, ran_to-kept done.2 done.0 trace old mid new done.4 kept)
 bench_run-kept asked trace old mid new Faulty done kept = (done.0, done.1, done.2, done.3, ran_to-kept done.2 done.0 trace old mid new done.4 kept)
 bench_run-kept asked trace old mid new (Refused fault) done kept = (done.0, done.1, Keeps-trans old mid new done.2 kept)
 bench_run-kept asked trace old mid new (Broken breakage) (inl none) kept = inl (none.0, Keeps-trans old mid new none.1 kept)

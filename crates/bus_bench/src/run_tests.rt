@@ -1,9 +1,16 @@
 use crate::debug_tests::Failing;
 use crate::runs::run_bench;
 use crate::verdicts::{Breakage, Verdict, tell};
+use bench_kernel::Kernel;
+use bench_run::{Ending, run_kernel};
 use bench_script::ScriptFault;
+use bus_objects::BusObject;
+use rand_core::SeedableRng;
+use rand_pcg::Pcg64;
+use std::alloc::AllocError;
 use std::test::Fail;
 use uvm_glob::Name;
+use uvm_object::Reason;
 
 // A test that answers each call with no acts.
 const IDLE: &[u8] =
@@ -15,6 +22,66 @@ const NO_TEST: &[u8] = b"version = 1\ntype = [{ name = \"idle\", kind = \"compon
 // The test is of a type that the bench does not have.
 const OTHER: &[u8] =
     b"version = 1\ntest = \"other\"\ntype = [{ name = \"other\", kind = \"component\" }, { name = \"idle\", kind = \"component\" }]\n";
+
+const SUMMARY: &[u8] = b"--- UVM Report Summary ---
+** Report counts by severity
+UVM_INFO : 0
+UVM_WARNING : 0
+UVM_ERROR : 0
+UVM_FATAL : 0
+** Report counts by id
+";
+
+// The quit limit is 2.
+const LOUD: &[u8] =
+    b"version = 1\ntest = \"loud\"\nquit_limit = 2\ntype = [{ name = \"loud\", kind = \"component\" }]\n";
+
+const LOUD_RUN: &[u8] = b"UVM_ERROR @ 0: uvm_test_top [E] one
+UVM_ERROR @ 0: uvm_test_top [E] two
+--- UVM Report Summary ---
+Quit count : 2 of 2
+** Report counts by severity
+UVM_INFO : 0
+UVM_WARNING : 0
+UVM_ERROR : 2
+UVM_FATAL : 0
+** Report counts by id
+[E] 2
+";
+
+// There is no quit limit.
+const LOUD_TO_THE_END: &[u8] =
+    b"version = 1\ntest = \"loud\"\ntype = [{ name = \"loud\", kind = \"component\" }]\n";
+
+const LOUD_RUN_TO_THE_END: &[u8] = b"UVM_ERROR @ 0: uvm_test_top [E] one
+UVM_ERROR @ 0: uvm_test_top [E] two
+UVM_ERROR @ 0: uvm_test_top [E] three
+--- UVM Report Summary ---
+** Report counts by severity
+UVM_INFO : 0
+UVM_WARNING : 0
+UVM_ERROR : 3
+UVM_FATAL : 0
+** Report counts by id
+[E] 3
+";
+
+// Errors are warnings.
+const MILD: &[u8] =
+    b"version = 1\ntest = \"loud\"\ntype = [{ name = \"loud\", kind = \"component\" }]\nseverity = [{ scope = \"*\", from = \"ERROR\", to = \"WARNING\" }]\n";
+
+const MILD_RUN: &[u8] = b"UVM_WARNING @ 0: uvm_test_top [E] one
+UVM_WARNING @ 0: uvm_test_top [E] two
+UVM_WARNING @ 0: uvm_test_top [E] three
+--- UVM Report Summary ---
+** Report counts by severity
+UVM_INFO : 0
+UVM_WARNING : 3
+UVM_ERROR : 0
+UVM_FATAL : 0
+** Report counts by id
+[E] 3
+";
 
 const IDLE_RUN: &[u8] = b"did uvm_top create idle uvm_test_top: made idle
 begin build
@@ -45,10 +112,26 @@ begin final
 heard uvm_test_top final: 0
 end final
 over finished
+--- UVM Report Summary ---
+** Report counts by severity
+UVM_INFO : 0
+UVM_WARNING : 0
+UVM_ERROR : 0
+UVM_FATAL : 0
+** Report counts by id
 ";
 
 const DECLINED_RUN: &[u8] = b"did uvm_top create other uvm_test_top: refused FCTTYP
+UVM_FATAL @ 0: uvm_top [FCTTYP] no object supplied
 over no_test
+--- UVM Report Summary ---
+** Report counts by severity
+UVM_INFO : 0
+UVM_WARNING : 0
+UVM_ERROR : 0
+UVM_FATAL : 1
+** Report counts by id
+[FCTTYP] 1
 ";
 
 #[test]
@@ -60,11 +143,57 @@ fn idle_transcript(rt: HostRuntime) {
 }
 
 #[test]
-fn nothing_is_written_without_trace(rt: HostRuntime) {
+fn summary_alone_is_written_without_trace(rt: HostRuntime) {
     let mut out = Vec::new(rt.alloc());
     let verdict = run_bench(rt.alloc(), IDLE, 1, None, false, &mut out);
     assert_eq!(rt; verdict, Verdict::Clean);
-    assert!(rt; out.is_empty());
+    assert_eq!(rt; out.as_slice(), SUMMARY);
+}
+
+// The third error is never issued.
+#[test]
+fn loud_run_is_given_up_at_the_quit_limit(rt: HostRuntime) {
+    let mut out = Vec::new(rt.alloc());
+    let verdict = run_bench(rt.alloc(), LOUD, 1, None, false, &mut out);
+    assert_eq!(rt; verdict, Verdict::Faulty);
+    assert_eq!(rt; out.as_slice(), LOUD_RUN);
+}
+
+#[test]
+fn loud_run_holds_no_object_at_its_end(rt: HostRuntime) -> Result<(), Fail> {
+    let alloc = rt.alloc();
+    let script = bench_script::read(alloc, LOUD)?;
+    let mut kernel = Kernel::new(alloc, script)?;
+    let mut out = Vec::new(alloc);
+    let words = &mut Pcg64::seed_from_u64(1);
+    let make = |type_name: &Name| -> Result<Option<BusObject>, AllocError> {
+        Ok(BusObject::of_type(type_name))
+    };
+    let ended = run_kernel(alloc, &mut kernel, words, false, &make, &mut out);
+    let given_up = Ending {
+        reason: Reason::Exit,
+        errors: 2,
+        fatals: 0,
+    };
+    assert_eq!(rt; ended, Ok(given_up));
+    assert_eq!(rt; kernel.live(), 0);
+    Ok(())
+}
+
+#[test]
+fn errors_without_a_quit_limit_are_faulty(rt: HostRuntime) {
+    let mut out = Vec::new(rt.alloc());
+    let verdict = run_bench(rt.alloc(), LOUD_TO_THE_END, 1, None, false, &mut out);
+    assert_eq!(rt; verdict, Verdict::Faulty);
+    assert_eq!(rt; out.as_slice(), LOUD_RUN_TO_THE_END);
+}
+
+#[test]
+fn errors_that_are_made_warnings_are_clean(rt: HostRuntime) {
+    let mut out = Vec::new(rt.alloc());
+    let verdict = run_bench(rt.alloc(), MILD, 1, None, false, &mut out);
+    assert_eq!(rt; verdict, Verdict::Clean);
+    assert_eq!(rt; out.as_slice(), MILD_RUN);
 }
 
 #[test]
@@ -118,7 +247,7 @@ fn run_without_its_test_is_refused(rt: HostRuntime) -> Result<(), Fail> {
 
 #[test]
 fn writer_that_fails_breaks_the_run(rt: HostRuntime) {
-    for left in [0, 1, 28] {
+    for left in [0, 1, 28, 29] {
         let mut out = Failing { left };
         assert_eq!(rt;
             run_bench(rt.alloc(), IDLE, 1, None, true, &mut out),
@@ -126,7 +255,7 @@ fn writer_that_fails_breaks_the_run(rt: HostRuntime) {
             "after {left}"
         );
     }
-    let mut out = Failing { left: 29 };
+    let mut out = Failing { left: 30 };
     assert_eq!(rt;
         run_bench(rt.alloc(), IDLE, 1, None, true, &mut out),
         Verdict::Clean

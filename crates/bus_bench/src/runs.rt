@@ -1,11 +1,12 @@
 //! The command `run`.
 
-ghost use Rattle.std.specs.Prelude.{◌≡◌, ◌≢◌, IfErr, IfOk, IsSome, Ok, Err, option_copied};
+ghost use Rattle.std.specs.Prelude.{◌≡◌, ◌≢◌, IfErr, IfOk, IsSome, Ok, Err, if◌then◌else◌, option_copied};
+ghost use Rattle.bench_run.specs.Endings.{is_clean};
 ghost use Rattle.bench_run.specs.Running.{IsRun};
 ghost use Rattle.bus_bench.specs.Runs.{IsBenchRun, script_to_run};
 
 use crate::verdicts::{Breakage, Verdict};
-use bench_run::{RunFault, run_script};
+use bench_run::{Ending, RunFault, run_script};
 use bench_script::{Script, ScriptFault};
 use bus_objects::BusObject;
 use rand_core::{Rng, SeedableRng};
@@ -13,13 +14,14 @@ use rand_pcg::Pcg64;
 use std::alloc::{AllocError, Global};
 use std::io;
 use uvm_glob::Name;
-use uvm_object::{Reason, UvmObject};
+use uvm_object::UvmObject;
 
 /// Runs the script in `bytes`, with `test` in place of its own test where it is given, on the words of `Pcg64` from the seed.
-/// Where `trace` asks for it, the line of each entry of the log is written as it is made. Objects of types that the bench
-/// does not have are declined, and each object is given back at the end.
+/// As each entry of the log is made, its line is written where `trace` asks for it, and the line of its report where that is
+/// displayed; once the run is over the summary of the reports is written. Objects of types that the bench does not have are
+/// declined, and each object is given back at the end.
 ///
-/// The verdict is `Clean` where the run finished, `Faulty` where it ended otherwise, and `Refused` where the bytes are no script
+/// The verdict is `Clean` where the run finished and neither an ERROR nor a FATAL was counted, `Faulty` where it ended otherwise, and `Refused` where the bytes are no script
 /// or it has no such test (`Missing` where it has none at all), with nothing written. It is `Broken` where the log is full,
 /// memory was refused, or a write failed.
 pub fn run_bench<W: io::Write>(
@@ -36,13 +38,23 @@ pub fn run_bench<W: io::Write>(
         Ok(script) => {
             let mut words = Pcg64::seed_from_u64(seed);
             match run_boxed(alloc, script, &mut words, trace, out) {
-                Ok(Reason::Finished) => Verdict::Clean,
-                Ok(Reason::Exit | Reason::NoTest) => Verdict::Faulty,
+                Ok(ending) => verdict_on(&ending),
                 Err(fault) => Verdict::Broken(Breakage::from(fault)),
             }
         }
         Err(ScriptFault::Memory) => Verdict::Broken(Breakage::Memory),
         Err(fault) => Verdict::Refused(fault),
+    }
+}
+
+// The verdict on a run that is over.
+fn verdict_on(ending: &Ending) -> Verdict
+    ensures { result ≡ (if is_clean ending.now then Verdict.Clean else Verdict.Faulty) }
+{
+    if ending.is_clean() {
+        Verdict::Clean
+    } else {
+        Verdict::Faulty
     }
 }
 
@@ -70,7 +82,7 @@ fn run_boxed<R: Rng, W: io::Write>(
     words: &mut R,
     trace: bool,
     out: &mut W,
-) -> Result<Reason, RunFault>
+) -> Result<Ending, RunFault>
     requires { IsSome script.test }
     ensures { IsRun script trace (W.contents out.old) (W.contents out.new) result }
 {

@@ -15,7 +15,7 @@ use std::io;
 pub enum Verdict {
     /// All that was asked for was done.
     Clean,
-    /// The run ended otherwise than by finishing.
+    /// The run ended otherwise than by finishing, or an ERROR or a FATAL was counted.
     Faulty,
     /// The script is refused.
     Refused(ScriptFault),

@@ -2,9 +2,11 @@
 #![tactic(auto)]
 
 mod idle;
+mod loud;
 mod objects;
 #[cfg(test)]
 mod tests;
 
 pub use idle::Idle;
+pub use loud::Loud;
 pub use objects::BusObject;

@@ -3,6 +3,7 @@
 ghost use Rattle.std.specs.Prelude.{◌≡◌};
 
 use crate::idle::Idle;
+use crate::loud::Loud;
 use std::alloc::{AllocError, Global};
 use uvm_glob::Name;
 use uvm_object::{Acts, Call, UvmObject};
@@ -12,6 +13,8 @@ use uvm_object::{Acts, Call, UvmObject};
 pub enum BusObject {
     /// Of the type `idle`.
     Idle(Idle),
+    /// Of the type `loud`.
+    Loud(Loud),
 }
 
 impl BusObject {
@@ -21,7 +24,10 @@ impl BusObject {
     pub fn of_type(type_name: &Name) -> Option<BusObject>
         ensures { result ≡ object_named type_name.now }
     {
-        Idle::of_type(type_name).map(BusObject::Idle)
+        match Idle::of_type(type_name) {
+            Some(idle) => Some(BusObject::Idle(idle)),
+            None => Loud::of_type(type_name).map(BusObject::Loud),
+        }
     }
 }
 
@@ -37,12 +43,14 @@ impl UvmObject for BusObject {
     fn type_name(&self) -> &Name {
         match self {
             BusObject::Idle(idle) => idle.type_name(),
+            BusObject::Loud(loud) => loud.type_name(),
         }
     }
 
     fn hear(&mut self, alloc: Global, call: &Call) -> Result<Acts, AllocError> {
         match self {
             BusObject::Idle(idle) => idle.hear(alloc, call),
+            BusObject::Loud(loud) => loud.hear(alloc, call),
         }
     }
 }

@@ -1,8 +1,9 @@
 use crate::BusObject;
 use std::test::Fail;
 use uvm_glob::Name;
-use uvm_object::{Call, UvmObject};
+use uvm_object::{Act, Call, UvmObject};
 use uvm_phase::Phase;
+use uvm_report::Severity;
 
 #[test]
 fn idle_answers_with_no_acts(rt: HostRuntime) -> Result<(), Fail> {
@@ -11,6 +12,26 @@ fn idle_answers_with_no_acts(rt: HostRuntime) -> Result<(), Fail> {
     assert_eq!(rt; *idle.type_name(), name);
     for phase in [Phase::Build, Phase::Run, Phase::Final] {
         assert!(rt; idle.hear(rt.alloc(), &Call::Phase(phase))?.is_empty());
+    }
+    Ok(())
+}
+
+#[test]
+fn loud_reports_three_errors_when_it_builds(rt: HostRuntime) -> Result<(), Fail> {
+    let name = Name::new(b"loud")?;
+    let mut loud = BusObject::of_type(&name).ok_or("no object")?;
+    assert_eq!(rt; *loud.type_name(), name);
+    assert!(rt; loud.hear(rt.alloc(), &Call::Phase(Phase::Run))?.is_empty());
+    let acts = loud.hear(rt.alloc(), &Call::Phase(Phase::Build))?;
+    assert_eq!(rt; acts.len(), 3);
+    for (act, text) in acts.iter().zip(["one", "two", "three"]) {
+        let Act::Report { report } = act else {
+            return Err("no report".into());
+        };
+        assert_eq!(rt; report.severity, Severity::Error);
+        assert_eq!(rt; report.id, Name::new(b"E")?);
+        assert_eq!(rt; report.text.as_bytes(), text.as_bytes());
+        assert_eq!(rt; report.verbosity, 0);
     }
     Ok(())
 }

@@ -138,6 +138,13 @@ impl Path {
         })
     }
 
+    /// The bytes of the text of the path: its names with dots between them, and none for the top's. Takes no memory.
+    pub fn as_bytes(&self) -> &[u8]
+        ensures { result.now ≡ path_text self.now }
+    {
+        self.text()
+    }
+
     // The text of the path.
     pub(crate) fn text(&self) -> &[u8]
         ensures text { result.now ≡ path_text self.now }

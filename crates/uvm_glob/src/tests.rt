@@ -209,7 +209,7 @@ fn is_path_at(
         (Ok(path), Ok(want)) => {
             let mut text = Vec::new(alloc);
             path.write(&mut text)?;
-            text.as_slice() == want
+            text.as_slice() == want && path.as_bytes() == want
         }
         (Err(fault), Err(want)) => fault == want,
         _ => false,

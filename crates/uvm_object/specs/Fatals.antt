@@ -1,5 +1,7 @@
 -- The ids and texts of the kernel's fatal reports.
 use Rattle.std.specs.Prelude.{ℕ, List, codes}
+use Rattle.uvm_report.specs.declared.severities.Severity.TheVariants as severity
+use Rattle.uvm_report.specs.declared.messages.Report.{Report}
 use Rattle.uvm_object.specs.declared.fatals.Fatal.{Fatal}
 use Rattle.uvm_object.specs.declared.fatals.Fatal.TheVariants.{CreatedAfterBuild, TooManyActs, InvalidType, ChildTaken, TreeLimit, OverrideLoop, NoObject, TooManySettings}
 
@@ -22,3 +24,7 @@ text_of TreeLimit = codes "tree limit reached"
 text_of OverrideLoop = codes "override loop"
 text_of NoObject = codes "no object supplied"
 text_of TooManySettings = codes "too many settings"
+
+-- the report itself
+abbrev pub fatal_report : Fatal → Report
+fatal_report fatal = record { severity = severity.Fatal; id = id_of fatal; text = text_of fatal; verbosity = 0 }

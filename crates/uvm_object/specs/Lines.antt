@@ -1,8 +1,13 @@
 -- The line of an entry.
-use Rattle.std.specs.Prelude.{ℕ, ℤ, Option, Some, None, Bool, true, false, List, [], ◌∷◌, ◌++◌, length, codes}
+use Rattle.std.specs.Prelude.{ℕ, ℤ, Option, Some, None, Bool, true, false, List, [], ◌∷◌, ◌++◌, length, codes, if◌then◌else◌}
+use Rattle.std.specs.List.{join_with_byte}
 use Rattle.std.specs.Fmt.{decimal, signed_decimal}
 use Rattle.uvm_glob.specs.Paths.{path_text}
 use Rattle.uvm_phase.specs.Phases.{phase_name}
+use Rattle.uvm_report.specs.declared.severities.Actions.{Actions}
+use Rattle.uvm_report.specs.declared.settings.Which.{Which}
+use Rattle.uvm_report.specs.declared.settings.Which.TheVariants as which
+use Rattle.uvm_report.specs.Severities.{severity_name, is_empty}
 use Rattle.uvm_tree.specs.declared.nodes.Node.{Node}
 use Rattle.uvm_tree.specs.Nodes.{path_at}
 use Rattle.uvm_object.specs.declared.acts.Who.{Who}
@@ -12,7 +17,7 @@ use Rattle.uvm_object.specs.declared.acts.Call.TheVariants as call
 use Rattle.uvm_object.specs.declared.acts.What.{What}
 use Rattle.uvm_object.specs.declared.acts.What.TheVariants.{Fifo}
 use Rattle.uvm_object.specs.declared.acts.Act.{Act}
-use Rattle.uvm_object.specs.declared.acts.Act.TheVariants.{Create, Add, Set, Get, OverrideType, OverrideInst}
+use Rattle.uvm_object.specs.declared.acts.Act.TheVariants as act
 use Rattle.uvm_object.specs.declared.entries.Outcome.{Outcome}
 use Rattle.uvm_object.specs.declared.entries.Outcome.TheVariants.{Done, Made, Value, Refused}
 use Rattle.uvm_object.specs.declared.entries.Reason.{Reason}
@@ -45,13 +50,39 @@ abbrev pub replace_text : Bool → List ℕ
 replace_text true = codes " replace"
 replace_text false = []
 
+-- the reports that a setting is for
+abbrev pub which_text : Which → List ℕ
+which_text which.All = codes "all"
+which_text (which.Severity severity) = severity_name severity
+which_text (which.Id id) = codes "id " ++ id
+which_text (which.Both severity id) = severity_name severity ++ 32 ∷ id
+
+-- the words of a set of actions, parted by commas
+abbrev pub word_if : Bool → List ℕ → List (List ℕ)
+word_if true word = word ∷ []
+word_if false word = []
+
+abbrev pub actions_text : Actions → List ℕ
+actions_text actions =
+    if is_empty actions then codes "none"
+    else join_with_byte 44 (word_if actions.display (codes "display") ++ word_if actions.count (codes "count") ++ word_if actions.exit (codes "exit"))
+
+-- an id that may be absent
+abbrev pub id_text : Option (List ℕ) → List ℕ
+id_text None = codes "none"
+id_text (Some id) = id
+
 abbrev pub act_text : Act → List ℕ
-act_text (Create type_name name) = codes "create " ++ type_name ++ 32 ∷ name
-act_text (Add name what) = codes "add " ++ name ++ 32 ∷ what_text what
-act_text (Set glob field value) = codes "set (" ++ glob ++ codes ") " ++ field ++ 32 ∷ signed_decimal value
-act_text (Get field) = codes "get " ++ field
-act_text (OverrideType original new replace) = codes "override " ++ original ++ 32 ∷ new ++ replace_text replace
-act_text (OverrideInst original new glob) = codes "override " ++ original ++ 32 ∷ new ++ codes " at (" ++ glob ++ codes ")"
+act_text (act.Create type_name name) = codes "create " ++ type_name ++ 32 ∷ name
+act_text (act.Add name what) = codes "add " ++ name ++ 32 ∷ what_text what
+act_text (act.Set glob field value) = codes "set (" ++ glob ++ codes ") " ++ field ++ 32 ∷ signed_decimal value
+act_text (act.Get field) = codes "get " ++ field
+act_text (act.OverrideType original new replace) = codes "override " ++ original ++ 32 ∷ new ++ replace_text replace
+act_text (act.OverrideInst original new glob) = codes "override " ++ original ++ 32 ∷ new ++ codes " at (" ++ glob ++ codes ")"
+act_text (act.Report report) = codes "report " ++ severity_name report.severity ++ 32 ∷ report.id
+act_text (act.Verbosity which level) = codes "verbosity " ++ which_text which ++ 32 ∷ decimal level
+act_text (act.Actions which actions) = codes "actions " ++ which_text which ++ 32 ∷ actions_text actions
+act_text (act.Severity from id to) = codes "severity " ++ severity_name from ++ 32 ∷ id_text id ++ 32 ∷ severity_name to
 
 abbrev pub outcome_text : Outcome → List ℕ
 outcome_text Done = codes "done"

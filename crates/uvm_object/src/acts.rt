@@ -10,6 +10,7 @@ use std::rc::Rc;
 use std::slice;
 use uvm_glob::{Glob, Name};
 use uvm_phase::Phase;
+use uvm_report::{Actions, Report, Severity, Which};
 use uvm_tree::NodeId;
 
 /// Who is called, and performs what it answers.
@@ -110,6 +111,34 @@ pub enum Act {
         /// The paths, as below the performer's.
         glob: Glob,
     },
+    /// Issue a report at the performer's path (Clause 6).
+    Report {
+        /// The report.
+        report: Report,
+    },
+    /// Set the level for reports at the performer's path: those of a greater verbosity are dropped (Clause 6).
+    Verbosity {
+        /// The reports that it is for.
+        which: Which,
+        /// The level.
+        level: u16,
+    },
+    /// Set what is done with reports at the performer's path (Clause 6).
+    Actions {
+        /// The reports that it is for.
+        which: Which,
+        /// What is done with them.
+        actions: Actions,
+    },
+    /// Change the severity of reports at the performer's path (Clause 6).
+    Severity {
+        /// The severity that they are issued with.
+        from: Severity,
+        /// Their id; none for all ids.
+        id: Option<Name>,
+        /// The severity that they have instead.
+        to: Severity,
+    },
 }
 
 impl Act {
@@ -149,6 +178,22 @@ impl Act {
                 original: *original,
                 new: *new,
                 glob: glob.copy()?,
+            },
+            Act::Report { report } => Act::Report {
+                report: report.copy()?,
+            },
+            Act::Verbosity { which, level } => Act::Verbosity {
+                which: *which,
+                level: *level,
+            },
+            Act::Actions { which, actions } => Act::Actions {
+                which: *which,
+                actions: *actions,
+            },
+            Act::Severity { from, id, to } => Act::Severity {
+                from: *from,
+                id: *id,
+                to: *to,
             },
         })
     }

@@ -1,7 +1,11 @@
 //! The fatal reports of the kernel.
 
-ghost use Rattle.std.specs.Prelude.{◌≡◌};
-ghost use Rattle.uvm_object.specs.Fatals.{id_of, text_of};
+ghost use Rattle.std.specs.Prelude.{◌≡◌, IfOk};
+ghost use Rattle.uvm_object.specs.Fatals.{id_of, text_of, fatal_report};
+
+use std::alloc::{AllocError, Global};
+use uvm_glob::Name;
+use uvm_report::{Report, Severity, Text};
 
 /// A fatal report of the kernel: why it refuses an act, or gives up.
 #[derive(Clone, Copy, Debug, PartialEq, Eq)]
@@ -54,6 +58,25 @@ impl Fatal {
             Fatal::OverrideLoop => "override loop",
             Fatal::NoObject => "no object supplied",
             Fatal::TooManySettings => "too many settings",
+        }
+    }
+
+    /// The report: of severity FATAL. The error is want of memory.
+    #[tactic(auto, unfolding(uvm_glob::specs::Names::name_fault))]
+    pub fn report(self, alloc: Global) -> Result<Report, AllocError>
+        ensures { IfOk result (λ report. report ≡ fatal_report self) }
+    {
+        let Ok(id) = Name::new(self.id().as_bytes()) else {
+            unreachable!()
+        };
+        match Text::new(alloc, self.text().as_bytes()) {
+            Ok(text) => Ok(Report {
+                severity: Severity::Fatal,
+                id,
+                text,
+                verbosity: 0,
+            }),
+            Err(_) => Err(AllocError),
         }
     }
 }

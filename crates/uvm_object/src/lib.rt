@@ -13,6 +13,6 @@ mod tests;
 pub use acts::{Act, Acts, ActsIter, Call, Deed, What, Who};
 pub use entries::{Entry, LoggedActs, LoggedCall, LoggedCause, LoggedOutcome, Outcome, Reason};
 pub use fatals::Fatal;
-pub use lines::line_of;
+pub use lines::{line_of, shown_path};
 pub use logs::{Log, LogFault};
 pub use objects::UvmObject;

@@ -2,13 +2,14 @@
 
 ghost use Rattle.std.specs.Prelude.{◌≡◌, ◌++◌, ◌∷◌, OnOk, OnErr};
 ghost use Rattle.std.specs.Fmt.{decimal, signed_decimal};
-ghost use Rattle.uvm_object.specs.Lines.{entry_line, entry_text, who_text, shown_path, call_text, value_text, what_text, act_text, outcome_text, reason_text};
+ghost use Rattle.uvm_object.specs.Lines.{entry_line, entry_text, who_text, shown_path, call_text, value_text, what_text, which_text, actions_text, id_text, act_text, outcome_text, reason_text};
 ghost use Rattle.uvm_tree.specs.Nodes.{path_at};
 
 use crate::acts::{Act, Call, What, Who};
 use crate::entries::{Entry, Outcome, Reason};
 use std::alloc::AllocError;
 use uvm_glob::Name;
+use uvm_report::{Actions, Which};
 use uvm_tree::{NodeId, Tree};
 
 /// Appends the line of an entry, with its newline. The tree tells the paths of the nodes; the top, and a node that the tree
@@ -78,9 +79,16 @@ fn push_who(who: &Who, tree: &Tree, line: &mut Vec<u8>) -> Result<(), AllocError
 fn push_path(node: NodeId, tree: &Tree, line: &mut Vec<u8>) -> Result<(), AllocError>
     ensures { OnOk result (line.new.items ≡ line.old.items ++ shown_path (path_at tree.now.nodes node)) }
 {
+    line.extend_from_slice(shown_path(node, tree))
+}
+
+/// How a node is shown in lines: by its path; the top, and a node that the tree does not have, is `uvm_top`. Takes no memory.
+pub fn shown_path(node: NodeId, tree: &Tree) -> &[u8]
+    ensures { result.now ≡ shown_path (path_at tree.now.nodes node) }
+{
     match tree.path(node) {
-        Some(path) if path.depth() > 0 => path.write(line),
-        _ => line.extend_from_slice(b"uvm_top"),
+        Some(path) if path.depth() > 0 => path.as_bytes(),
+        _ => b"uvm_top",
     }
 }
 
@@ -151,6 +159,74 @@ fn push_act(act: &Act, line: &mut Vec<u8>) -> Result<(), AllocError>
             line.extend_from_slice(glob.as_bytes())?;
             line.extend_from_slice(b")")
         }
+        Act::Report { report } => {
+            push_two(b"report ", report.severity.name(), line)?;
+            line.push(b' ')?;
+            line.extend_from_slice(report.id.as_bytes())
+        }
+        Act::Verbosity { which, level } => {
+            line.extend_from_slice(b"verbosity ")?;
+            push_which(which, line)?;
+            line.push(b' ')?;
+            push_number(usize::from(*level), line)
+        }
+        Act::Actions { which, actions } => {
+            line.extend_from_slice(b"actions ")?;
+            push_which(which, line)?;
+            line.push(b' ')?;
+            line.extend_from_slice(actions_text(*actions).as_bytes())
+        }
+        Act::Severity { from, id, to } => {
+            push_two(b"severity ", from.name(), line)?;
+            line.push(b' ')?;
+            push_id(id, line)?;
+            push_two(b" ", to.name(), line)
+        }
+    }
+}
+
+// The reports that a setting is for.
+fn push_which(which: &Which, line: &mut Vec<u8>) -> Result<(), AllocError>
+    ensures { OnOk result (line.new.items ≡ line.old.items ++ which_text which.now) }
+{
+    match which {
+        Which::All => line.extend_from_slice(b"all"),
+        Which::Severity(severity) => line.extend_from_slice(severity.name().as_bytes()),
+        Which::Id(id) => {
+            line.extend_from_slice(b"id ")?;
+            line.extend_from_slice(id.as_bytes())
+        }
+        Which::Both(severity, id) => {
+            line.extend_from_slice(severity.name().as_bytes())?;
+            line.push(b' ')?;
+            line.extend_from_slice(id.as_bytes())
+        }
+    }
+}
+
+// An id that may be absent.
+fn push_id(id: &Option<Name>, line: &mut Vec<u8>) -> Result<(), AllocError>
+    ensures { OnOk result (line.new.items ≡ line.old.items ++ id_text id.now) }
+{
+    match id {
+        Some(id) => line.extend_from_slice(id.as_bytes()),
+        None => line.extend_from_slice(b"none"),
+    }
+}
+
+// The words of a set of actions.
+fn actions_text(actions: Actions) -> &'static str
+    ensures { result.now ≡ actions_text actions }
+{
+    match (actions.display, actions.count, actions.exit) {
+        (true, true, true) => "display,count,exit",
+        (true, true, false) => "display,count",
+        (true, false, true) => "display,exit",
+        (true, false, false) => "display",
+        (false, true, true) => "count,exit",
+        (false, true, false) => "count",
+        (false, false, true) => "exit",
+        (false, false, false) => "none",
     }
 }
 

@@ -2,13 +2,14 @@
 
 use crate::{
     Act, Acts, Call, Deed, Entry, Fatal, Log, LogFault, LoggedOutcome, Outcome, Reason, What, Who,
-    line_of,
+    line_of, shown_path,
 };
 use std::alloc::Global;
 use std::mem::size_of;
 use std::test::Fail;
 use uvm_glob::{Glob, Name};
 use uvm_phase::{Cause, Phase};
+use uvm_report::{Actions, Report, Severity, Text, Which};
 use uvm_tree::{NodeId, NodeKind, Tree};
 
 // A tree of `uvm_test_top` and `a` below it, and their nodes.
@@ -299,6 +300,120 @@ fn due_line_is_right(alloc: Global, tree: &Tree, test: NodeId) -> Result<bool, F
     let acts = Acts::new(alloc);
     let heard = Entry::heard(alloc, Who::Node(test), call, Some(cause), acts)?;
     line_is(alloc, tree, heard, "heard uvm_test_top config f none: 0\n")
+}
+
+#[test]
+fn lines_of_acts_that_report(rt: HostRuntime) -> Result<(), Fail> {
+    let (alloc, (tree, test, _)) = (rt.alloc(), small_tree(rt.alloc())?);
+    let (id, severity) = (Name::new(b"E")?, Severity::Error);
+    let all = [true, true, true];
+    let said = did(alloc, test, LoggedOutcome::done(), report(alloc)?)?;
+    assert!(rt;
+        line_is(
+            alloc,
+            &tree,
+            said,
+            "did uvm_test_top report ERROR E: done\n"
+        )?
+    );
+    for (act, line) in [
+        (
+            level(Which::All),
+            "did uvm_test_top verbosity all 300: done\n",
+        ),
+        (
+            level(Which::Severity(severity)),
+            "did uvm_test_top verbosity ERROR 300: done\n",
+        ),
+        (
+            level(Which::Id(id)),
+            "did uvm_test_top verbosity id E 300: done\n",
+        ),
+        (
+            level(Which::Both(severity, id)),
+            "did uvm_test_top verbosity ERROR E 300: done\n",
+        ),
+        (
+            actions(all),
+            "did uvm_test_top actions all display,count,exit: done\n",
+        ),
+        (
+            actions([false, true, false]),
+            "did uvm_test_top actions all count: done\n",
+        ),
+        (
+            actions([true, false, true]),
+            "did uvm_test_top actions all display,exit: done\n",
+        ),
+        (
+            actions([false, false, false]),
+            "did uvm_test_top actions all none: done\n",
+        ),
+        (
+            change(None),
+            "did uvm_test_top severity ERROR none INFO: done\n",
+        ),
+        (
+            change(Some(id)),
+            "did uvm_test_top severity ERROR E INFO: done\n",
+        ),
+    ] {
+        let entry = did(alloc, test, LoggedOutcome::done(), act)?;
+        assert!(rt; line_is(alloc, &tree, entry, line)?, "{line}");
+    }
+    Ok(())
+}
+
+fn report(alloc: Global) -> Result<Act, Fail> {
+    Ok(Act::Report {
+        report: Report {
+            severity: Severity::Error,
+            id: Name::new(b"E")?,
+            text: Text::new(alloc, b"one")?,
+            verbosity: 0,
+        },
+    })
+}
+
+fn level(which: Which) -> Act {
+    Act::Verbosity { which, level: 300 }
+}
+
+fn actions([display, count, exit]: [bool; 3]) -> Act {
+    Act::Actions {
+        which: Which::All,
+        actions: Actions {
+            display,
+            count,
+            exit,
+        },
+    }
+}
+
+fn change(id: Option<Name>) -> Act {
+    Act::Severity {
+        from: Severity::Error,
+        id,
+        to: Severity::Info,
+    }
+}
+
+#[test]
+fn a_fatal_report_is_that_of_its_id_and_text(rt: HostRuntime) -> Result<(), Fail> {
+    let report = Fatal::ChildTaken.report(rt.alloc())?;
+    assert_eq!(rt; report.severity, Severity::Fatal);
+    assert_eq!(rt; report.id, Name::new(b"CLDEXT")?);
+    assert_eq!(rt; report.text.as_bytes(), b"child name taken".as_slice());
+    assert_eq!(rt; report.verbosity, 0);
+    Ok(())
+}
+
+#[test]
+fn the_top_is_shown_by_its_name(rt: HostRuntime) -> Result<(), Fail> {
+    let (tree, _, below) = small_tree(rt.alloc())?;
+    assert_eq!(rt; shown_path(NodeId::TOP, &tree), b"uvm_top".as_slice());
+    assert_eq!(rt; shown_path(below, &tree), b"uvm_test_top.a".as_slice());
+    Ok(())
 }
 
 // Whether that is the line of an entry.

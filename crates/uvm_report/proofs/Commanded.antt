@@ -1,5 +1,5 @@
 -- What one more command comes to.
-use Rattle.std.proofs.Common.{◌≡◌, ℕ, ◌+◌, ◌≤◌, List, [], ◌∷◌, length, Bool, true, false, nat_lt, suc, map, sum_by, if◌then◌else◌, refl, sym, ap, ◌∙◌, inl, inr, add-one, add-zero, arith}
+use Rattle.std.proofs.Common.{◌≡◌, ℕ, ◌+◌, ◌≤◌, List, [], ◌∷◌, length, Bool, true, false, nat_lt, suc, map, filter, sum_by, if◌then◌else◌, refl, sym, ap, ◌∙◌, inl, inr, add-one, add-zero, arith}
 use Rattle.std.specs.List.{filter_map}
 use Rattle.std.proofs.lemmas.Bool.{cases_Bool}
 use Rattle.std.proofs.Math.Bool.{or-true}
@@ -12,7 +12,7 @@ use Rattle.uvm_report.specs.declared.messages.Fate.TheVariants.{Issued}
 use Rattle.uvm_report.specs.Severities.{is_empty}
 use Rattle.uvm_report.specs.Counts.{Counts, no_counts, issued_number, with_id, with_report, Agree}
 use Rattle.uvm_report.specs.Fates.{Ruling, ruling_by, effective_verbosity, is_issued, counts_with, is_reached, fate_of}
-use Rattle.uvm_report.specs.Commands.{Command, SetVerbosity, SetAction, SetSeverity, SetQuitLimit, Issue, which_from, level_in, actions_in, severity_in, given_level, given_actions, given_severity, given_ruling, quit_limit, IssuedReport, issued_reports, severity_count, quit_count, counts_in, report_counts}
+use Rattle.uvm_report.specs.Commands.{Command, is_issue, SetVerbosity, SetAction, SetSeverity, SetQuitLimit, Issue, which_from, level_in, actions_in, severity_in, given_level, given_actions, given_severity, given_ruling, quit_limit, IssuedReport, issued_reports, severity_count, quit_count, counts_in, report_counts}
 use Rattle.uvm_report.specs.Observed.{Kept}
 use Rattle.uvm_report.specs.Changes.{ruling_at, severity_after, level_after, actions_after, limit_after, counts_after, Gives}
 use Rattle.uvm_report.specs.Laws.{NewGivesNothing, CommandsAreGiven, FatesAreGiven, CommandsAreCounted, ReachedLimitEndsRuns}
@@ -178,13 +178,13 @@ counted_with report ruling counts n agree few = elim (cases_Bool (is_issued repo
   | inr not ↦ rw not (agree, omega (arith, few), omega arith)
 ]
 
-counted-issue : (path : List (List ℕ)) (report : Report) (older : List Command) → Agree (report_counts older) → issued_number (report_counts older) ≤ length older
-    → Agree (report_counts (Issue path report ∷ older)) × (issued_number (report_counts (Issue path report ∷ older)) ≤ suc (length older))
+counted-issue : (path : List (List ℕ)) (report : Report) (older : List Command) → Agree (report_counts older) → issued_number (report_counts older) ≤ length (filter is_issue older)
+    → Agree (report_counts (Issue path report ∷ older)) × (issued_number (report_counts (Issue path report ∷ older)) ≤ suc (length (filter is_issue older)))
 counted-issue path report older agree few =
-    let after = counted_with report (given_ruling older path report) (report_counts older) (length older) agree few in
+    let after = counted_with report (given_ruling older path report) (report_counts older) (length (filter is_issue older)) agree few in
     rw (report_counts-issue path report older) (after.0, after.1)
 
-counted : (commands : List Command) → Agree (report_counts commands) × (issued_number (report_counts commands) ≤ length commands)
+counted : (commands : List Command) → Agree (report_counts commands) × (issued_number (report_counts commands) ≤ length (filter is_issue commands))
 unfolding report_counts
 counted [] = (record { ids = refl; quit = omega arith }, omega arith)
 counted (SetVerbosity scope which level ∷ older) = let (agree, few) = counted older in (agree, omega (arith, few))
@@ -210,7 +210,7 @@ fate-exit report ruling reached severity display exit at_limit is = elim (cases_
 pub reached_limit_ends_runs : ReachedLimitEndsRuns
 reached_limit_ends_runs commands path report severity display exit reached is =
     let more : (report_counts commands).quit ≤ (report_counts (Issue path report ∷ commands)).quit =
-    rw (report_counts-issue path report commands) (counted_with report (given_ruling commands path report) (report_counts commands) (length commands) (counted commands).0 (counted commands).1).2 in
+    rw (report_counts-issue path report commands) (counted_with report (given_ruling commands path report) (report_counts commands) (length (filter is_issue commands)) (counted commands).0 (counted commands).1).2 in
     fate-exit report (given_ruling commands path report) (is_reached (quit_limit commands) (report_counts (Issue path report ∷ commands)).quit) severity display exit (still (quit_limit commands) (report_counts commands).quit (report_counts (Issue path report ∷ commands)).quit more reached) is
   where
     still : (limit quit later : ℕ) → quit ≤ later → is_reached limit quit ≡ true → is_reached limit later ≡ true

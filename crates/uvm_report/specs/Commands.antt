@@ -1,6 +1,7 @@
 -- What some commands to reports come to, the newest command first.
-use Rattle.std.specs.Prelude.{ℕ, Bool, List, [], ◌∷◌, ◌++◌, length, Option, Some, None, nat_eq, filter, map, unwrap_or, if◌then◌else◌}
+use Rattle.std.specs.Prelude.{ℕ, Bool, true, false, ◌||◌, List, [], ◌∷◌, ◌++◌, length, Option, Some, None, nat_eq, filter, map, unwrap_or, if◌then◌else◌}
 use Rattle.std.specs.List.{filter_map, cons_option, list_any}
+use Rattle.std.specs.Option.{option_map_or}
 use Rattle.std.specs.Cmp.Lexicographic.{pointwise}
 use Rattle.uvm_glob.specs.Paths.{path_text}
 use Rattle.uvm_glob.specs.Lists.{newest}
@@ -15,7 +16,7 @@ use Rattle.uvm_report.specs.Severities.{same_severity}
 use Rattle.uvm_report.specs.Choice.{Lookup}
 use Rattle.uvm_report.specs.Settings.{Setting, choice_among}
 use Rattle.uvm_report.specs.Counts.{Counts}
-use Rattle.uvm_report.specs.Fates.{Ruling, ruling_by, is_issued, is_reached, fate_of}
+use Rattle.uvm_report.specs.Fates.{Ruling, ruling_by, is_issued, is_reached, fate_of, asks_exit}
 
 -- what is asked of reports. Scopes match whole paths
 pub data Command : Type 0 where
@@ -116,7 +117,22 @@ counts_in issued = record {
 unfoldable pub report_counts : List Command → Counts
 report_counts commands = counts_in (issued_reports commands)
 
+-- a command issues a report
+abbrev pub is_issue : Command → Bool
+is_issue (Issue path report) = true
+is_issue command = false
+
 -- what becomes of a report after some commands
 abbrev pub report_fate : List Command → List (List ℕ) → Report → Fate
 report_fate commands path report =
     fate_of report (given_ruling commands path report) (is_reached (quit_limit commands) (report_counts (Issue path report ∷ commands)).quit)
+
+-- what became of the report of a command, if it issues one
+abbrev pub fate_in : List Command → Command → Option Fate
+fate_in older (Issue path report) = Some (report_fate older path report)
+fate_in older command = None
+
+-- one of the reports asked for the end of the run
+abbrev pub is_exit_asked : List Command → Bool
+is_exit_asked [] = false
+is_exit_asked (command ∷ older) = option_map_or asks_exit (fate_in older command) false || is_exit_asked older

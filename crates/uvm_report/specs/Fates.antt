@@ -1,5 +1,5 @@
 -- What the settings say of a report, and what becomes of it.
-use Rattle.std.specs.Prelude.{ℕ, Bool, not, ◌&&◌, ◌||◌, ◌==◌, Option, Some, None, nat_le, nat_lt, if◌then◌else◌}
+use Rattle.std.specs.Prelude.{ℕ, Bool, true, false, not, ◌&&◌, ◌||◌, ◌==◌, Option, Some, None, nat_le, nat_lt, if◌then◌else◌}
 use Rattle.uvm_report.specs.declared.severities.Severity.{Severity}
 use Rattle.uvm_report.specs.declared.severities.Severity.TheVariants.{Info}
 use Rattle.uvm_report.specs.declared.severities.Actions.{Actions}
@@ -54,3 +54,13 @@ fate_of report ruling reached =
     if nat_lt ruling.level (effective_verbosity report) then Dropped
     else if is_empty ruling.actions then Silent
     else Issued ruling.severity ruling.actions.display (ruling.actions.exit || reached)
+
+-- the severity under which a report is displayed, if it is
+abbrev pub displayed_as : Fate → Option Severity
+displayed_as (Issued severity true exit) = Some severity
+displayed_as fate = None
+
+-- a report that is issued asks for the end of the run
+abbrev pub asks_exit : Fate → Bool
+asks_exit (Issued severity display exit) = exit
+asks_exit fate = false

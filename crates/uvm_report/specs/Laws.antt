@@ -1,11 +1,11 @@
 -- Laws of the definitions.
-use Rattle.std.specs.Prelude.{◌≡◌, ◌≤◌, true, Bool, ℕ, List, [], ◌∷◌, length}
+use Rattle.std.specs.Prelude.{◌≡◌, ◌≤◌, true, Bool, ℕ, List, [], ◌∷◌, length, filter}
 use Rattle.uvm_report.specs.declared.severities.Severity.{Severity}
 use Rattle.uvm_report.specs.declared.messages.Report.{Report}
 use Rattle.uvm_report.specs.declared.messages.Fate.TheVariants.{Issued}
 use Rattle.uvm_report.specs.Counts.{issued_number, Agree}
 use Rattle.uvm_report.specs.Fates.{is_reached}
-use Rattle.uvm_report.specs.Commands.{Command, quit_limit, report_counts, report_fate}
+use Rattle.uvm_report.specs.Commands.{Command, is_issue, quit_limit, report_counts, report_fate}
 use Rattle.uvm_report.specs.Observed.{Kept}
 use Rattle.uvm_report.specs.Changes.{fate_at, IsAfter, IsNew, Gives}
 
@@ -21,10 +21,10 @@ CommandsAreGiven = (command : Command) (older : List Command) (old new : Kept) �
 abbrev pub FatesAreGiven : Type 0
 FatesAreGiven = (kept : Kept) (commands : List Command) → Gives kept commands → (path : List (List ℕ)) (report : Report) → fate_at kept path report ≡ report_fate commands path report
 
--- the counts agree, and no more reports are issued than there are commands
+-- the counts agree, and no more reports are issued than commands issue one
 pub record AreCounted (commands : List Command) : Type 0 where
   pub agree : Agree (report_counts commands)
-  pub few : issued_number (report_counts commands) ≤ length commands
+  pub few : issued_number (report_counts commands) ≤ length (filter is_issue commands)
 
 abbrev pub CommandsAreCounted : Type 0
 CommandsAreCounted = (commands : List Command) → AreCounted commands

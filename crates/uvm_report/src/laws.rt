@@ -20,8 +20,8 @@ pub fn fates_are_given()
     ensures { FatesAreGiven }
 {}
 
-/// The counts by severity and those by id have one sum, which is at most the number of commands, and the quit count is not
-/// above it.
+/// The counts by severity and those by id have one sum, which is at most the number of commands that issue a report, and the
+/// quit count is not above it.
 pub fn commands_are_counted()
     ensures { CommandsAreCounted }
 {}

@@ -1,7 +1,7 @@
 //! Reports, and what becomes of them.
 
 ghost use Rattle.std.specs.Prelude.{◌≡◌, ◌++◌, IfOk, OnOk, OnErr};
-ghost use Rattle.uvm_report.specs.Fates.{effective_verbosity};
+ghost use Rattle.uvm_report.specs.Fates.{asks_exit, displayed_as, effective_verbosity};
 ghost use Rattle.uvm_report.specs.Lines.{report_line};
 
 use crate::severities::Severity;
@@ -38,6 +38,32 @@ pub enum Fate {
         /// It asks for the end of the run.
         exit: bool,
     },
+}
+
+impl Fate {
+    /// The severity, after changes, under which the report is displayed, if it is.
+    pub fn displayed_as(self) -> Option<Severity>
+        ensures { result ≡ displayed_as self }
+    {
+        match self {
+            Fate::Issued {
+                severity,
+                display: true,
+                ..
+            } => Some(severity),
+            _ => None,
+        }
+    }
+
+    /// Whether the report is issued and asks for the end of the run.
+    pub fn asks_exit(self) -> bool
+        ensures { result ≡ asks_exit self }
+    {
+        match self {
+            Fate::Issued { exit, .. } => exit,
+            Fate::Dropped | Fate::Silent => false,
+        }
+    }
 }
 
 impl Report {

@@ -239,6 +239,22 @@ fn a_fatal_report_asks_for_the_end(rt: HostRuntime) -> Result<(), Fail> {
 }
 
 #[test]
+fn a_fate_says_what_is_shown_and_whether_the_run_goes_on(rt: HostRuntime) {
+    let silent = Fate::Issued {
+        severity: Severity::Error,
+        display: false,
+        exit: true,
+    };
+    assert_eq!(rt; silent.displayed_as(), None);
+    assert!(rt; silent.asks_exit());
+    let shown = displayed(Severity::Info);
+    assert_eq!(rt; shown.displayed_as(), Some(Severity::Info));
+    assert!(rt; !shown.asks_exit());
+    assert_eq!(rt; Fate::Silent.displayed_as(), None);
+    assert!(rt; !Fate::Dropped.asks_exit());
+}
+
+#[test]
 fn texts_are_refused_at_their_first_fault(rt: HostRuntime) -> Result<(), Fail> {
     for (bytes, want) in [
         (b"".as_slice(), None),

@@ -1,8 +1,9 @@
+use Rattle.std.specs.Io.KnownBytes.{Appends}
 use Rattle.std.proofs.Common.{◌≡◌, ◌<◌, ◌-◌, true, length}
 use Rattle.bench_history.specs.Limits.{log_limit}
 use Rattle.bench_history.specs.Next.{IsLegal}
 use Rattle.bench_core.specs.declared.cores.Health.TheVariants.{Good}
-use Rattle.bench_run.specs.Running.{Wrote}
+use Rattle.bench_run.specs.Running.{transcript}
 use Rattle.bench_run.proofs.running.run_to_end.Given as goal
 
 -- the text of the log so far was written, which has room where the kernel has failed
@@ -12,7 +13,7 @@ invariant-loop-kernel g l = record {
   script : l.kernel.core.script ≡ l.fn.kernel.core.script;
   legal : IsLegal l.kernel.core.script l.kernel.core.history;
   room : l.kernel.failed ≡ true → length l.kernel.core.history < log_limit l.fn.kernel.core.script;
-  wrote : Wrote l.trace (g.W.Write.contents l.fn.out) (g.W.Write.contents l.out) l.kernel.core.history;
+  wrote : Appends (g.W.Write.contents l.fn.out) (g.W.Write.contents l.out) (transcript l.trace l.fn.kernel.core.script l.kernel.core.history);
 }
 
 -- the log grows

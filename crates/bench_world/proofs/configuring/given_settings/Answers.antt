@@ -1,4 +1,6 @@
-use Rattle.bench_world.proofs.Configured.{settings-none, given-more}
+use Rattle.bench_history.specs.Configuration.{given_setting}
+use Rattle.bench_world.proofs.Configured.{settings-none}
+use Rattle.bench_world.proofs.Given.{given-more}
 use Rattle.bench_world.proofs.configuring.given_settings.Goals as goal
 
 pub loop-setting-init : goal.loop-setting-init
@@ -7,5 +9,5 @@ loop-setting-init c = settings-none c.none_set_no_answer.ensures c.new-settings.
 -- one more setting
 pub loop-setting-preserved : goal.loop-setting-preserved
 loop-setting-preserved c =
-    rw (given-more c.args.given.now c.loop-setting.setting-index c.setting-item.result c.loop-setting-test.true, ← c.setting-item.is)
+    rw (given-more given_setting c.args.given.now c.loop-setting.setting-index c.setting-item.result c.loop-setting-test.true, ← c.setting-item.is)
     (c.in_ok-set_given.ensures _ c.loop-setting.invariant)

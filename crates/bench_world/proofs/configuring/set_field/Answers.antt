@@ -6,18 +6,18 @@ use Rattle.uvm_object.specs.declared.acts.Act.TheVariants.{Set}
 use Rattle.uvm_object.specs.declared.fatals.Fatal.TheVariants.{TooManySettings}
 use Rattle.bench_history.specs.Configuration.{settings_of}
 use Rattle.bench_history.specs.Refusals.{setting_refusal}
-use Rattle.bench_world.proofs.Later.{acted, refused-performed}
+use Rattle.bench_world.proofs.Later.{acted, refused-attempt}
 use Rattle.bench_world.proofs.configuring.set_field.Goals as goal
 
 pub returns-then-is_full : goal.returns-then-is_full
 unfolding setting_refusal
-returns-then-is_full c = λ place. refused-performed (Set c.args.glob.now c.args.field c.args.value) TooManySettings c.refused.ensures.outcome c.refused.ensures.services (λ script history m.
+returns-then-is_full c = refused-attempt _ _ _ (Set c.args.glob.now c.args.field c.args.value) TooManySettings c.refused.ensures.attempt c.refused.ensures.services (λ script history m.
     let full : nat_le most_settings (length (settings_of script history)) ≡ true = ap (nat_le most_settings) (sym m.settings.count) ∙ sym c.is_full.ensures ∙ c.if-is_full.true in
     rw full refl)
 
 pub returns : goal.returns
 unfolding setting_refusal
-returns c = λ place. rw c.done.ensures (record {
+returns c = λ place. rw (c.done.ensures.attempt, c.done.ensures.services) (record {
   comes = λ script history s.
       let few : nat_le most_settings (length (settings_of script history)) ≡ false = ap (nat_le most_settings) (sym s.known.settings.count) ∙ sym c.is_full.ensures ∙ c.if-is_full.false in
       rw few refl;

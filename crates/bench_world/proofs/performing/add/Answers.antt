@@ -5,16 +5,16 @@ use Rattle.uvm_object.specs.declared.acts.Act.TheVariants.{Add}
 use Rattle.bench_history.specs.History.{nodes_of, kind_of, is_built}
 use Rattle.bench_history.specs.Refusals.{addition_refusal}
 use Rattle.bench_world.proofs.Answered.{turns-more, one-longer}
-use Rattle.bench_world.proofs.Later.{acted, refused-performed}
+use Rattle.bench_world.proofs.Later.{acted, refused-attempt}
 use Rattle.bench_world.proofs.performing.add.Goals as goal
 
 pub returns-in-Some : goal.returns-in-Some
-returns-in-Some c = λ place. refused-performed (Add c.args.name c.args.what) c.in-Some.fatal c.refused.ensures.outcome c.refused.ensures.services (λ script history m.
+returns-in-Some c = refused-attempt _ _ _ (Add c.args.name c.args.what) c.in-Some.fatal c.refused.ensures.attempt c.refused.ensures.services (λ script history m.
     let refuses : addition_refusal (is_built history) (nodes_of history) (node_of c.args.services.now.answer.speaker) c.args.name ≡ Some c.in-Some.fatal = rw (← m.built, ← m.tree) (sym c.addition_refusal.ensures.refusal ∙ c.in-Some.is) in
     rw refuses refl)
 
 pub returns : goal.returns
-returns c = λ place. rw c.done.ensures (record {
+returns c = λ place. rw (c.done.ensures.attempt, c.done.ensures.services) (record {
   comes = λ script history s.
       let does : addition_refusal (is_built history) (nodes_of history) (node_of c.args.services.now.answer.speaker) c.args.name ≡ None = rw (← s.known.built, ← s.known.tree) (sym c.in_default.ensures.refusal) in
       rw does refl;

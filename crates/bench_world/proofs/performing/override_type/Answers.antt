@@ -1,16 +1,16 @@
 use Rattle.std.proofs.Common.{◌≡◌, Some, None, refl, sym, ◌∙◌, rules}
 use Rattle.uvm_object.specs.declared.acts.Act.TheVariants.{OverrideType}
 use Rattle.bench_history.specs.Refusals.{overriding_refusal}
-use Rattle.bench_world.proofs.Later.{acted, refused-performed}
+use Rattle.bench_world.proofs.Later.{acted, refused-attempt}
 use Rattle.bench_world.proofs.performing.override_type.Goals as goal
 
 pub returns-in-Some : goal.returns-in-Some
-returns-in-Some c = λ place. refused-performed (OverrideType c.args.original.now c.args.new.now c.args.replace) c.in-Some.fatal c.refused.ensures.outcome c.refused.ensures.services (λ script history m.
+returns-in-Some c = refused-attempt _ _ _ (OverrideType c.args.original.now c.args.new.now c.args.replace) c.in-Some.fatal c.refused.ensures.attempt c.refused.ensures.services (λ script history m.
     let refuses : overriding_refusal script.types c.args.original.now c.args.new.now ≡ Some c.in-Some.fatal = rw (← m.factory.types_are) (sym c.overriding_refusal.ensures ∙ c.in-Some.is) in
     rw refuses refl)
 
 pub returns : goal.returns
-returns c = λ place. rw c.done.ensures (record {
+returns c = λ place. rw (c.done.ensures.attempt, c.done.ensures.services) (record {
   comes = λ script history s.
       let does : overriding_refusal script.types c.args.original.now c.args.new.now ≡ None = rw (← s.known.factory.types_are) (sym c.in_default.ensures) in
       rw does refl;

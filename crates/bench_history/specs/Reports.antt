@@ -1,0 +1,92 @@
+-- What a log asks of the report server, and what becomes of its reports (IEEE 1800.2-2020, Clause 6).
+use Rattle.std.specs.Prelude.{ℕ, Bool, false, List, [], ◌∷◌, ◌++◌, reverse, map, Option, Some, None, option_and_then, ◌==◌, if◌then◌else◌}
+use Rattle.std.specs.List.{list_any, cons_option}
+use Rattle.uvm_glob.specs.Paths.{path_text}
+use Rattle.uvm_report.specs.declared.severities.Severity.{Severity}
+use Rattle.uvm_report.specs.declared.messages.Fate.{Fate}
+use Rattle.uvm_report.specs.Fates.{displayed_as}
+use Rattle.uvm_report.specs.Commands.{Command, SetVerbosity, SetAction, SetSeverity, SetQuitLimit, Issue, fate_in, is_exit_asked}
+use Rattle.uvm_report.specs.Lines.{report_line}
+use Rattle.uvm_tree.specs.declared.nodes.Node.{Node}
+use Rattle.uvm_tree.specs.Nodes.{path_at}
+use Rattle.uvm_object.specs.Acts.{node_of}
+use Rattle.uvm_object.specs.declared.acts.Act.{Act}
+use Rattle.uvm_object.specs.declared.acts.Act.TheVariants as act
+use Rattle.uvm_object.specs.Fatals.{fatal_report}
+use Rattle.uvm_object.specs.Lines.{shown_path}
+use Rattle.uvm_object.specs.declared.entries.Outcome.{Outcome}
+use Rattle.uvm_object.specs.declared.entries.Outcome.TheVariants.{Done, Refused}
+use Rattle.uvm_object.specs.declared.entries.Reason.{Reason}
+use Rattle.uvm_object.specs.declared.entries.Reason.TheVariants.{Exit, NoTest}
+use Rattle.uvm_object.specs.declared.entries.Entry.{Entry}
+use Rattle.uvm_object.specs.declared.entries.Entry.TheVariants.{Did, Note}
+use Rattle.bench_script.specs.declared.report_settings.VerbositySetting.{VerbositySetting}
+use Rattle.bench_script.specs.declared.report_settings.ActionSetting.{ActionSetting}
+use Rattle.bench_script.specs.declared.report_settings.SeverityChange.{SeverityChange}
+use Rattle.bench_script.specs.Scripts.{ScriptValue}
+use Rattle.bench_history.specs.History.{now_of, nodes_of}
+
+-- what a script asks
+abbrev pub verbosity_command : VerbositySetting → Command
+verbosity_command given = SetVerbosity given.scope given.which given.level
+
+abbrev pub action_command : ActionSetting → Command
+action_command given = SetAction given.scope given.which given.actions
+
+abbrev pub severity_command : SeverityChange → Command
+severity_command given = SetSeverity given.scope given.from given.id given.to
+
+abbrev pub script_commands : ScriptValue → List Command
+script_commands script =
+    reverse (map severity_command script.severities) ++ (reverse (map action_command script.actions) ++ (reverse (map verbosity_command script.verbosities) ++ SetQuitLimit script.quit_limit ∷ []))
+
+-- what an act asks that was performed: its settings hold at its performer's path alone
+abbrev pub act_command : List (List ℕ) → Act → Option Command
+act_command path (act.Report report) = Some (Issue path report)
+act_command path (act.Verbosity which level) = Some (SetVerbosity (path_text path) which level)
+act_command path (act.Actions which actions) = Some (SetAction (path_text path) which actions)
+act_command path (act.Severity from id to) = Some (SetSeverity (path_text path) from id to)
+act_command path other = None
+
+-- an act that is refused, and a note, have a fatal report
+abbrev pub deed_command : List (List ℕ) → Outcome → Act → Option Command
+deed_command path Done act = act_command path act
+deed_command path (Refused fatal) act = Some (Issue path (fatal_report fatal))
+deed_command path outcome act = None
+
+abbrev pub command_in : List Node → Entry → Option Command
+command_in nodes (Did performer outcome act) = deed_command (path_at nodes (node_of performer)) outcome act
+command_in nodes (Note fatal node) = Some (Issue (path_at nodes node) (fatal_report fatal))
+command_in nodes entry = None
+
+-- all that is asked, the newest first: by the entries, and behind them by the script
+abbrev pub report_commands : ScriptValue → List Entry → List Command
+report_commands script [] = script_commands script
+report_commands script (entry ∷ before) = cons_option (command_in (nodes_of before) entry) (report_commands script before)
+
+-- this entry refuses the test: the creation of the test is the one act of the top
+abbrev pub refuses_test : Entry → Bool
+refuses_test (Did performer (Refused fatal) act) = node_of performer == 0
+refuses_test entry = false
+
+-- why the run is given up, if it is: the test was refused, or a report asked for exit
+abbrev pub reason_of : ScriptValue → List Entry → Option Reason
+reason_of script history =
+    if list_any refuses_test history then Some NoTest
+    else if is_exit_asked (report_commands script history) then Some Exit
+    else None
+
+-- what became of the report of the newest entry, if it has one
+abbrev pub newest_fate : ScriptValue → List Entry → Option Fate
+newest_fate script [] = None
+newest_fate script (entry ∷ before) = option_and_then (fate_in (report_commands script before)) (command_in (nodes_of before) entry)
+
+-- the line of a report, where it is displayed under a severity
+abbrev pub line_under : ℕ → Option Command → Option Severity → List ℕ
+line_under time (Some (Issue path report)) (Some severity) = report_line severity time (shown_path path) report.id report.text
+line_under time command severity = []
+
+-- the line of the newest entry's report, where it has one that is displayed
+abbrev pub report_text : ScriptValue → List Entry → List ℕ
+report_text script [] = []
+report_text script (entry ∷ before) = line_under (now_of (entry ∷ before)) (command_in (nodes_of before) entry) (option_and_then displayed_as (newest_fate script (entry ∷ before)))

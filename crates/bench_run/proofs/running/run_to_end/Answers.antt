@@ -1,0 +1,18 @@
+use Rattle.std.proofs.Common.{◌≡◌, true, false}
+use Rattle.bench_run.specs.Running.{Grows}
+use Rattle.bench_run.proofs.Goings.{goes-on, grown-health, grown-script}
+use Rattle.bench_run.proofs.running.run_to_end.Goals as goal
+
+-- one more entry, and its text
+pub loop-kernel-preserved : goal.loop-kernel-preserved
+loop-kernel-preserved g c =
+    let inv = c.loop-kernel.invariant in
+    let grown : Grows c.loop-kernel.kernel.core c.make_entry.new.kernel.core = rw c.if-branch.true at c.in_ok-make_entry.ensures.ok in
+    let going : c.make_entry.new.kernel.failed ≡ false = c.in_ok-make_entry.ensures.going c.if-branch.true in
+    record {
+      good = grown-health grown inv.good;
+      script = grown-script grown inv.script;
+      legal = c.in_ok-write_last.ensures.legal;
+      room = λ failed. absurd (let bad : true ≡ false = rw failed at going in cc);
+      wrote = goes-on c.args.trace _ _ c.args.kernel.now.core.script _ _ _ grown inv.good inv.script inv.wrote c.in_ok-write_last.ensures.ok;
+    }

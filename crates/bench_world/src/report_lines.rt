@@ -1,0 +1,87 @@
+//! The line of the report of the newest entry.
+
+ghost use Rattle.std.specs.Prelude.{◌≡◌, ◌++◌, true, OnOk, OnErr, option_and_then};
+ghost use Rattle.uvm_report.specs.Fates.{displayed_as};
+ghost use Rattle.uvm_report.specs.Lines.{report_line};
+ghost use Rattle.uvm_tree.specs.Nodes.{path_at};
+ghost use Rattle.uvm_object.specs.Acts.{node_of};
+ghost use Rattle.uvm_object.specs.Lines.{shown_path};
+ghost use Rattle.bench_history.specs.History.{nodes_of, now_of};
+ghost use Rattle.bench_history.specs.Reports.{deed_command, line_under, newest_fate, report_text};
+
+use crate::worlds::World;
+use std::alloc::AllocError;
+use uvm_object::{Act, Entry, Outcome, Who, shown_path};
+use uvm_report::{Report, Severity};
+use uvm_tree::NodeId;
+
+impl World {
+    /// Appends the line of the report of the newest entry, with its newline, where it has a report that is displayed (IEEE
+    /// 1800.2-2020, Clause 6). Where memory is refused nothing is appended.
+    pub fn push_report(&self, out: &mut Vec<u8>) -> Result<(), AllocError>
+        requires { self.now.sound ≡ true }
+        ensures ok { OnOk result (out.new.items ≡ out.old.items ++ report_text self.now.script self.now.history) }
+        ensures err { OnErr result (out.new.items ≡ out.old.items) }
+    {
+        let Some(severity) = self.displayed_severity() else {
+            return Ok(());
+        };
+        match self.log.last() {
+            Some(Entry::Did { who, outcome, act }) => {
+                self.push_deed(severity, who, &outcome.get(), act.act(), out)
+            }
+            Some(Entry::Note { fatal, node }) => {
+                self.push_line(severity, *node, &fatal.report(self.alloc)?, out)
+            }
+            _ => Ok(()),
+        }
+    }
+
+    // The severity under which the report of the newest entry is displayed, if it is.
+    fn displayed_severity(&self) -> Option<Severity>
+        requires { self.now.sound ≡ true }
+        ensures { result ≡ option_and_then displayed_as (newest_fate self.now.script self.now.history) }
+    {
+        self.newest_fate()?.displayed_as()
+    }
+
+    // The line of the report of an act's entry.
+    fn push_deed(
+        &self,
+        severity: Severity,
+        who: &Who,
+        outcome: &Outcome,
+        act: &Act,
+        out: &mut Vec<u8>,
+    ) -> Result<(), AllocError>
+        requires { self.now.sound ≡ true }
+        ensures ok { OnOk result (out.new.items ≡ out.old.items ++ line_under (now_of self.now.history) (deed_command (path_at (nodes_of self.now.history) (node_of who.now)) outcome.now act.now) (Some severity)) }
+        ensures err { OnErr result (out.new.items ≡ out.old.items) }
+    {
+        match (outcome, act) {
+            (Outcome::Refused(fatal), _) => {
+                self.push_line(severity, who.node(), &fatal.report(self.alloc)?, out)
+            }
+            (Outcome::Done, Act::Report { report }) => {
+                self.push_line(severity, who.node(), report, out)
+            }
+            _ => Ok(()),
+        }
+    }
+
+    // The line of a report at a node.
+    fn push_line(
+        &self,
+        severity: Severity,
+        node: NodeId,
+        report: &Report,
+        out: &mut Vec<u8>,
+    ) -> Result<(), AllocError>
+        requires { self.now.sound ≡ true }
+        ensures ok { OnOk result (out.new.items ≡ out.old.items ++ report_line severity (now_of self.now.history) (shown_path (path_at (nodes_of self.now.history) node)) report.now.id report.now.text) }
+        ensures err { OnErr result (out.new.items ≡ out.old.items) }
+    {
+        let source = shown_path(node, self.tree());
+        report.write_line(severity, self.now(), source, out)
+    }
+}

@@ -34,8 +34,9 @@ use uvm_report::{Reports, Severity};
 /// asks for it, and the line of its report where that is displayed. Each object is given back at the end, whatever that is,
 /// and dropped.
 ///
-/// Once the run is over the summary of its reports is written. Answers how it is over. The error is `LogFull` where the log has 1,000,000 entries and is not over, `Memory` where
-/// memory was refused, also to `make`, and `Output` where a write failed, after which nothing is said of what was written.
+/// Once the run is over the summary of its reports is written. Answers how it is over. The error is `LogFull` where the log has
+/// 1,000,000 entries and is not over, `Memory` where memory was refused, also to `make`, and `Output` where a write failed,
+/// after which nothing is said of what was written.
 pub fn run_script<
     O: UvmObject,
     R: Rng,

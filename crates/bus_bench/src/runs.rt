@@ -21,9 +21,9 @@ use uvm_object::UvmObject;
 /// displayed; once the run is over the summary of the reports is written. Objects of types that the bench does not have are
 /// declined, and each object is given back at the end.
 ///
-/// The verdict is `Clean` where the run finished and neither an ERROR nor a FATAL was counted, `Faulty` where it ended otherwise, and `Refused` where the bytes are no script
-/// or it has no such test (`Missing` where it has none at all), with nothing written. It is `Broken` where the log is full,
-/// memory was refused, or a write failed.
+/// The verdict is `Clean` where the run finished and neither an ERROR nor a FATAL was counted, `Faulty` where it ended otherwise,
+/// and `Refused` where the bytes are no script or it has no such test (`Missing` where it has none at all), with nothing
+/// written. It is `Broken` where the log is full, memory was refused, or a write failed.
 pub fn run_bench<W: io::Write>(
     alloc: Global,
     bytes: &[u8],

@@ -83,29 +83,25 @@ fn creation_after_build_is_refused(rt: HostRuntime) -> Result<(), Fail> {
 
 #[test]
 fn reports_are_shown_as_the_settings_of_their_component_say(rt: HostRuntime) -> Result<(), Fail> {
-    let mut core = machine(rt.alloc())?;
-    let text = play(rt.alloc(), &mut core, Bench::Reporting)?;
+    let (text, counts) = counted(rt.alloc(), SCRIPT, Bench::Reporting)?;
     assert!(rt; text.as_slice().starts_with(REPORTING));
     assert!(rt; text.as_slice().ends_with(b"over finished\n"));
-    assert_eq!(rt; counts(&core), Some((2, 0, 1, 0)));
+    assert_eq!(rt; counts, Some((2, 0, 1, 0)));
     Ok(())
 }
 
 #[test]
 fn silenced_refusal_lets_the_run_go_on(rt: HostRuntime) -> Result<(), Fail> {
-    let mut core = machine(rt.alloc())?;
-    let text = play(rt.alloc(), &mut core, Bench::Silent)?;
+    let (text, counts) = counted(rt.alloc(), SCRIPT, Bench::Silent)?;
     assert!(rt; text.as_slice().starts_with(SILENT));
     assert!(rt; text.as_slice().ends_with(b"over finished\n"));
-    assert_eq!(rt; counts(&core), Some((0, 0, 0, 0)));
+    assert_eq!(rt; counts, Some((0, 0, 0, 0)));
     Ok(())
 }
 
 #[test]
 fn silenced_refusal_of_the_test_ends_the_run_nevertheless(rt: HostRuntime) -> Result<(), Fail> {
-    let script = bench_script::read(rt.alloc(), SILENCED_SCRIPT)?;
-    let mut core = Core::new(rt.alloc(), script)?;
-    let text = play(rt.alloc(), &mut core, Bench::Declined)?;
+    let (text, _) = counted(rt.alloc(), SILENCED_SCRIPT, Bench::Declined)?;
     assert_eq!(rt; text.as_slice(), SILENCED);
     Ok(())
 }
@@ -223,8 +219,17 @@ fn begins_to_build(alloc: Global, core: &mut Core) -> Result<bool, Fail> {
     )
 }
 
+type Counts = Option<(u64, u64, u64, u64)>;
+
+// The text of a run of a script, and how many reports were issued of each severity.
+fn counted(alloc: Global, script: &[u8], bench: Bench) -> Result<(Vec<u8>, Counts), Fail> {
+    let mut core = Core::new(alloc, bench_script::read(alloc, script)?)?;
+    let text = play(alloc, &mut core, bench)?;
+    Ok((text, counts(&core)))
+}
+
 // How many reports were issued of each severity.
-fn counts(core: &Core) -> Option<(u64, u64, u64, u64)> {
+fn counts(core: &Core) -> Counts {
     let reports = core.reports()?;
     Some((
         reports.count_of(Severity::Info),

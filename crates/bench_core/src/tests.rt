@@ -53,10 +53,8 @@ fn nodes_have_their_calls_in_the_orders_of_the_phases(rt: HostRuntime) -> Result
 
 #[test]
 fn declined_test_ends_the_run(rt: HostRuntime) -> Result<(), Fail> {
-    let mut core = machine(rt.alloc())?;
-    let text = play(rt.alloc(), &mut core, Bench::Declined)?;
+    let text = transcript(rt.alloc(), Bench::Declined)?;
     assert_eq!(rt; text.as_slice(), DECLINED);
-    assert!(rt; core.is_over());
     Ok(())
 }
 
@@ -136,34 +134,63 @@ fn script_without_a_test_has_no_machine(rt: HostRuntime) -> Result<(), Fail> {
 
 #[test]
 fn need_is_told_until_it_is_met(rt: HostRuntime) -> Result<(), Fail> {
-    let mut core = machine(rt.alloc())?;
-    assert_eq!(rt; core.turn(), None);
-    assert!(rt; is_in_need(rt.alloc(), &mut core)?);
+    let is_told = looked_at(rt.alloc(), Look::Need)?;
+    assert!(rt; is_told);
     Ok(())
 }
 
 #[test]
 fn machine_tells_its_phase_and_its_nodes(rt: HostRuntime) -> Result<(), Fail> {
-    let mut core = machine(rt.alloc())?;
-    assert!(rt; begins_to_build(rt.alloc(), &mut core)?);
-    assert_eq!(rt; core.now(), 0);
-    assert_eq!(rt; core.log().len(), 2);
+    let is_told = looked_at(rt.alloc(), Look::Build)?;
+    assert!(rt; is_told);
     Ok(())
 }
 
 // Each Config is answered with a Get, which is answered with a Config: nothing else comes any more.
 #[test]
 fn full_log_fails_the_machine(rt: HostRuntime) -> Result<(), Fail> {
-    let mut core = machine(rt.alloc())?;
-    assert_eq!(rt; fill_log(rt.alloc(), &mut core)?, Some(CoreFault::LogFull));
-    assert_eq!(rt; core.log().len(), 1_000_000);
-    assert_eq!(rt; core.turn(), None);
-    assert!(rt; !core.is_over());
-    // It goes on to tell what the log says.
-    assert_eq!(rt; core.phase(), Some(Phase::Build));
-    let mut words = Pcg32::new(42, 54);
-    assert_eq!(rt; core.next(&mut words), Err(CoreFault::Failed));
+    let has_failed = looked_at(rt.alloc(), Look::FullLog)?;
+    assert!(rt; has_failed);
     Ok(())
+}
+
+/// What a test looks at in a machine.
+#[derive(Clone, Copy)]
+enum Look {
+    /// What is needed before the first entry.
+    Need,
+    /// What stands when the test begins to build.
+    Build,
+    /// What is left where the log is full.
+    FullLog,
+}
+
+// Whether a machine is as it should be. It is kept here, and looked at through a borrow: so few proofs hold it.
+fn looked_at(alloc: Global, look: Look) -> Result<bool, Fail> {
+    let mut core = machine(alloc)?;
+    sees(alloc, &mut core, look)
+}
+
+fn sees(alloc: Global, core: &mut Core, look: Look) -> Result<bool, Fail> {
+    match look {
+        Look::Need => is_in_need(alloc, core),
+        Look::Build => begins_to_build(alloc, core),
+        Look::FullLog => fails_with_a_full_log(alloc, core),
+    }
+}
+
+// Whether a machine whose log is full has failed, and goes on to tell what the log says.
+fn fails_with_a_full_log(alloc: Global, core: &mut Core) -> Result<bool, Fail> {
+    let fault = fill_log(alloc, core)?;
+    let mut words = Pcg32::new(42, 54);
+    Ok(
+        fault == Some(CoreFault::LogFull)
+            && core.log().len() == 1_000_000
+            && core.turn().is_none()
+            && !core.is_over()
+            && core.phase() == Some(Phase::Build)
+            && core.next(&mut words) == Err(CoreFault::Failed),
+    )
 }
 
 // Answers each call with a Get until no entry is made any more: the fault, if there was one.
@@ -188,6 +215,7 @@ fn fill_log(alloc: Global, core: &mut Core) -> Result<Option<CoreFault>, Fail> {
 // Whether the test is needed, and is needed again.
 fn is_in_need(alloc: Global, core: &mut Core) -> Result<bool, Fail> {
     let test = test_path(alloc)?;
+    let was_asked = core.turn().is_some();
     let mut words = Pcg32::new(42, 54);
     let turns = [core.next(&mut words)?, core.next(&mut words)?];
     let is_test = match core.need() {
@@ -196,6 +224,7 @@ fn is_in_need(alloc: Global, core: &mut Core) -> Result<bool, Fail> {
     };
     Ok(
         is_test
+            && !was_asked
             && turns == [Turn::Need, Turn::Need]
             && core.find(&test).is_none()
             && core.phase().is_none(),
@@ -215,7 +244,9 @@ fn begins_to_build(alloc: Global, core: &mut Core) -> Result<bool, Fail> {
                 .find(&test)
                 .is_some_and(|node| core.path(node) == Some(&test))
             && !core.is_over()
-            && core.config(&test, &field) == Some(7),
+            && core.config(&test, &field) == Some(7)
+            && core.now() == 0
+            && core.log().len() == 2,
     )
 }
 
@@ -259,7 +290,11 @@ fn play(alloc: Global, core: &mut Core, bench: Bench) -> Result<Vec<u8>, Fail> {
         }
         core.last_text(true, &mut text)?;
     }
-    Ok(text)
+    if core.is_over() {
+        Ok(text)
+    } else {
+        Err("not over".into())
+    }
 }
 
 // Makes one entry, unless the run is over.

@@ -1,16 +1,21 @@
--- A run that is not over.
-use Rattle.std.proofs.Common.{◌≡◌, ℕ, Bool, true, false, List, [], ◌∷◌, ◌++◌, Option, Some, None, refl, ap, sym, ◌∙◌, subst, if◌then◌else◌}
+-- A run that is not over, and one that breaks off.
+use Rattle.std.proofs.Common.{◌≡◌, ℕ, Bool, true, false, List, [], ◌∷◌, ◌++◌, length, Option, Some, None, Result, Ok, Err, refl, ap, sym, ◌∙◌, subst, if◌then◌else◌, append-nil, arith, suc, lit≤}
+use Rattle.std.specs.Result.{IsErrAnd}
 use Rattle.std.proofs.lemmas.List.{append_assoc}
 use Rattle.std.specs.Io.KnownBytes.{Appends}
+use Rattle.std.proofs.KnownBytes.{Appends-kept}
 use Rattle.uvm_object.specs.declared.entries.Entry.{Entry}
 use Rattle.bench_script.specs.Scripts.{ScriptValue}
 use Rattle.bench_history.specs.History.{is_over}
-use Rattle.bench_history.specs.Next.{next_of}
+use Rattle.bench_history.specs.Next.{next_of, IsLegal}
 use Rattle.bench_history.specs.Laws.{NothingAfterOver, IsSomething}
 use Rattle.bench_core.specs.declared.cores.Health.{Health}
 use Rattle.bench_core.specs.declared.cores.Health.TheVariants.{Good}
 use Rattle.bench_core.specs.Cores.{CoreValue, is_sound, last_text}
-use Rattle.bench_run.specs.Running.{Grows, transcript}
+use Rattle.bench_run.specs.declared.endings.Ending.{Ending}
+use Rattle.bench_run.specs.declared.faults.RunFault.{RunFault}
+use Rattle.bench_run.specs.declared.faults.RunFault.TheVariants as fault
+use Rattle.bench_run.specs.Running.{BrokeOffRun, Grows, IsUnwritten, LeavesRun, transcript}
 
 -- where something comes the run is not over
 pub on-where-some : NothingAfterOver → (script : ScriptValue) (history : List Entry) → IsSomething (next_of script history) → is_over history ≡ false
@@ -47,3 +52,28 @@ goes-on trace old new script first half last grown good same wrote =
     by-health : (health : Health) (other : ScriptValue) → health ≡ Good → other ≡ script
         → Appends half last (if is_sound health then last_text trace other (grown.entry ∷ old.history) else []) → Appends half last (last_text trace script (grown.entry ∷ old.history))
     by-health health other good same more = rw (good, same) at more
+
+-- one more entry, whose text was not written
+pub breaks-off :
+    (result : Result Ending RunFault) (why : RunFault) (trace : Bool) (old new : CoreValue) (script : ScriptValue) (first half last : Option (List ℕ))
+    → IsErrAnd result (λ told. told ≡ why) → Grows old new → new.script ≡ script → IsLegal script old.history → IsLegal new.script new.history
+    → Appends first half (transcript trace script old.history) → IsUnwritten why half last
+    → LeavesRun script trace new.history first last result
+breaks-off (Ok ending) why trace old new script first half last told grown same legal more wrote unwritten = absurd told
+breaks-off (Err given) why trace old new script first half last told grown same legal more wrote unwritten =
+    go given (subst (λ fault. IsUnwritten fault half last) (sym told) unwritten)
+  where
+    one_more : length new.history ≡ suc (length old.history)
+    one_more = ap (λ (core : CoreValue). length core.history) grown.is
+
+    go : (given : RunFault) → IsUnwritten given half last → BrokeOffRun given script trace new.history first last
+    go fault.Memory kept = record {
+      unwritten = grown.entry ∷ [];
+      written = old.history;
+      log = ap (λ (core : CoreValue). core.history) grown.is;
+      newest_alone = lit≤ tt;
+      room = λ going. omega (arith, one_more, more.few);
+      wrote = record { legal = legal; wrote = Appends-kept first half last _ (rw append-nil wrote) kept };
+    }
+    go fault.LogFull bad = absurd bad
+    go fault.Output done = tt

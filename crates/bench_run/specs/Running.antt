@@ -23,11 +23,11 @@ transcript trace script [] = []
 transcript trace script (entry ∷ before) = transcript trace script before ++ last_text trace script (entry ∷ before)
 
 -- the counts of its reports, and the summary of them
-abbrev pub counts_of : ScriptValue → List Entry → Counts
-counts_of script history = report_counts (report_commands script history)
+abbrev pub log_counts : ScriptValue → List Entry → Counts
+log_counts script history = report_counts (report_commands script history)
 
 abbrev pub summary_of : ScriptValue → List Entry → List ℕ
-summary_of script history = summary_text (quit_limit (report_commands script history)) (counts_of script history)
+summary_of script history = summary_text (quit_limit (report_commands script history)) (log_counts script history)
 
 -- a legal log of a script, whose text was written, and then more
 pub record WroteLog (script : ScriptValue) (trace : Bool) (old new : Option (List ℕ)) (history : List Entry) (more : List ℕ) : Type 0 where
@@ -37,24 +37,37 @@ pub record WroteLog (script : ScriptValue) (trace : Bool) (old new : Option (Lis
 -- how a run is over: why, and how many reports were issued as ERROR and as FATAL
 pub record IsEnding (ending : Ending) (script : ScriptValue) (history : List Entry) : Type 0 where
   pub reason : newest history ≡ Some (Over ending.reason)
-  pub errors : ending.errors ≡ (counts_of script history).error
-  pub fatals : ending.fatals ≡ (counts_of script history).fatal
+  pub errors : ending.errors ≡ (log_counts script history).error
+  pub fatals : ending.fatals ≡ (log_counts script history).fatal
 
--- the run is over, and its summary was written behind the text of its log
-abbrev pub RanTo : Ending → ScriptValue → Bool → Option (List ℕ) → Option (List ℕ) → Type 0
-RanTo ending script trace old new = (history : List Entry) × IsEnding ending script history × WroteLog script trace old new history (summary_of script history)
+-- the log that is left is that of a run that is over, and its summary was written behind its text
+abbrev pub RanTo : Ending → ScriptValue → Bool → List Entry → Option (List ℕ) → Option (List ℕ) → Type 0
+RanTo ending script trace history old new = IsEnding ending script history × WroteLog script trace old new history (summary_of script history)
 
--- where a run broke off: so far as memory was there, the log not full unless the run is over; with a full log that is not over; or
--- where a write failed
-abbrev pub BrokeOffRun : RunFault → ScriptValue → Bool → Option (List ℕ) → Option (List ℕ) → Type 0
-BrokeOffRun Memory script trace old new = (history : List Entry) × (is_over history ≡ false → length history < log_limit script) × WroteLog script trace old new history []
-BrokeOffRun LogFull script trace old new = (history : List Entry) × (log_limit script ≤ length history) × (is_over history ≡ false) × WroteLog script trace old new history []
-BrokeOffRun Output script trace old new = Unit {0}
+-- where memory was refused: the text of the log that is left was written, or of all of it but its newest entry; what was written is not
+-- full, unless the run is over
+pub record WroteSoFar (script : ScriptValue) (trace : Bool) (history : List Entry) (old new : Option (List ℕ)) : Type 0 where
+  pub unwritten : List Entry
+  pub written : List Entry
+  pub log : history ≡ unwritten ++ written
+  pub newest_alone : length unwritten ≤ 1
+  pub room : is_over written ≡ false → length written < log_limit script
+  pub wrote : WroteLog script trace old new written []
 
--- what a run of a script comes to
+-- where a run broke off, by the log that is left: so far as memory was there; with a full log that is not over; or where a write failed
+abbrev pub BrokeOffRun : RunFault → ScriptValue → Bool → List Entry → Option (List ℕ) → Option (List ℕ) → Type 0
+BrokeOffRun Memory script trace history old new = WroteSoFar script trace history old new
+BrokeOffRun LogFull script trace history old new = (log_limit script ≤ length history) × (is_over history ≡ false) × WroteLog script trace old new history []
+BrokeOffRun Output script trace history old new = Unit {0}
+
+-- what a run of a script comes to, by the log that it leaves
+abbrev pub LeavesRun : ScriptValue → Bool → List Entry → Option (List ℕ) → Option (List ℕ) → Result Ending RunFault → Type 0
+LeavesRun script trace history old new (Ok ending) = RanTo ending script trace history old new
+LeavesRun script trace history old new (Err fault) = BrokeOffRun fault script trace history old new
+
+-- the same where the log is gone
 abbrev pub IsRun : ScriptValue → Bool → Option (List ℕ) → Option (List ℕ) → Result Ending RunFault → Type 0
-IsRun script trace old new (Ok ending) = RanTo ending script trace old new
-IsRun script trace old new (Err fault) = BrokeOffRun fault script trace old new
+IsRun script trace old new result = (history : List Entry) × LeavesRun script trace history old new result
 
 -- one more entry
 pub record Grows (old new : CoreValue) : Type 0 where

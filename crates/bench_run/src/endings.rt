@@ -17,7 +17,7 @@ pub struct Ending {
 }
 
 impl Ending {
-    /// Whether the run went through all phases, and no error was reported, and nothing fatal.
+    /// Whether the run went through all phases, and no report was counted as ERROR or FATAL.
     pub fn is_clean(&self) -> bool
         ensures { result ≡ is_clean self.now }
     {

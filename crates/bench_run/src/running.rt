@@ -1,6 +1,6 @@
 //! The run of a script: the kernel goes on step by step, and what it needs is made.
 
-ghost use Rattle.std.specs.Prelude.{◌≡◌, [], OnOk, IfOk, IfErr, IsSome, Some, true, false, if◌then◌else◌, MatchBool};
+ghost use Rattle.std.specs.Prelude.{◌≡◌, [], OnErr, OnOk, IfOk, IfErr, IsSome, Some, true, false, if◌then◌else◌, MatchBool};
 ghost use Rattle.std.specs.Io.KnownBytes.{Appends};
 ghost use Rattle.uvm_glob.specs.Lists.{newest};
 ghost use Rattle.uvm_object.specs.declared.entries.Entry.TheVariants.{Over};
@@ -9,11 +9,12 @@ ghost use Rattle.bench_core.specs.declared.cores.Health.TheVariants.{Good};
 ghost use Rattle.bench_history.specs.History.{is_over};
 ghost use Rattle.bench_core.specs.Cores.{is_sound, last_text};
 ghost use Rattle.bench_kernel.specs.Kernels.{is_done, open_need};
+ghost use Rattle.bench_kernel.specs.Steps.{IsSameLog};
 ghost use Rattle.bench_history.specs.Reports.{report_commands};
 ghost use Rattle.uvm_report.specs.Commands.{quit_limit};
 ghost use Rattle.uvm_report.specs.Observed as reports;
 ghost use Rattle.uvm_report.specs.Observed.{limit_of};
-ghost use Rattle.bench_run.specs.Running.{Grows, IsEnding, IsHalted, IsRun, IsUnwritten, counts_of, summary_of};
+ghost use Rattle.bench_run.specs.Running.{Grows, IsEnding, IsHalted, IsRun, IsUnwritten, LeavesRun, log_counts, summary_of};
 
 use crate::endings::Ending;
 use crate::faults::RunFault;
@@ -62,7 +63,7 @@ pub fn run_script<
 }
 
 /// Runs a kernel that has not begun as `run_script` runs a script, and gives each object back. The kernel then still tells its
-/// log.
+/// log, which is that of the run.
 pub fn run_kernel<
     O: UvmObject,
     R: Rng,
@@ -79,7 +80,8 @@ pub fn run_kernel<
     requires callable { F.IsAlwaysCallable make.now }
     requires good { kernel.old.core.health ≡ Good }
     requires begun { kernel.old.core.history ≡ [] }
-    ensures run { IsRun kernel.old.core.script trace (W.contents out.old) (W.contents out.new) result }
+    ensures run { LeavesRun kernel.old.core.script trace kernel.new.core.history (W.contents out.old) (W.contents out.new) result }
+    ensures script { kernel.new.core.script ≡ kernel.old.core.script }
     ensures back { kernel.new.held ≡ [] }
 {
     let ended = run_to_end(alloc, kernel, words, trace, make, out);
@@ -100,7 +102,8 @@ fn run_to_end<O: UvmObject, R: Rng, F: Fn(&Name) -> Result<Option<O>, AllocError
     requires callable { F.IsAlwaysCallable make.now }
     requires good { kernel.old.core.health ≡ Good }
     requires begun { kernel.old.core.history ≡ [] }
-    ensures { IsRun kernel.old.core.script trace (W.contents out.old) (W.contents out.new) result }
+    ensures run { LeavesRun kernel.old.core.script trace kernel.new.core.history (W.contents out.old) (W.contents out.new) result }
+    ensures script { kernel.new.core.script ≡ kernel.old.core.script }
 {
     while make_entry(kernel, words, make)? {
         write_last(alloc, kernel, trace, out)?;
@@ -119,6 +122,7 @@ fn make_entry<O: UvmObject, R: Rng, F: Fn(&Name) -> Result<Option<O>, AllocError
     ensures ok { IfOk result (λ made. MatchBool made (Grows kernel.old.core kernel.new.core) ((is_over kernel.old.core.history ≡ true) × (kernel.new ≡ kernel.old))) }
     ensures going { IfOk result (λ made. made ≡ true → kernel.new.failed ≡ false) }
     ensures err { IfErr result (λ fault. IsHalted fault kernel.old.failed kernel.old.core) }
+    ensures same { OnErr result (IsSameLog kernel.old.core kernel.new.core) }
 {
     // Where something comes the run is not over.
     laws::nothing_after_over();
@@ -169,6 +173,7 @@ fn fill<O: UvmObject, F: Fn(&Name) -> Result<Option<O>, AllocError>>(
     ensures ok { OnOk result (Grows kernel.old.core kernel.new.core) }
     ensures going { OnOk result (kernel.new.failed ≡ kernel.old.failed) }
     ensures err { IfErr result (λ fault. fault ≡ RunFault.Memory) }
+    ensures same { OnErr result (kernel.new ≡ kernel.old) }
 {
     let Some(need) = kernel.need() else {
         unreachable!()
@@ -190,6 +195,7 @@ fn supply<O: UvmObject>(kernel: &mut Kernel<O>, object: O) -> Result<(), RunFaul
     ensures ok { OnOk result (Grows kernel.old.core kernel.new.core) }
     ensures going { OnOk result (kernel.new.failed ≡ kernel.old.failed) }
     ensures err { IfErr result (λ fault. fault ≡ RunFault.Memory) }
+    ensures same { OnErr result (kernel.new ≡ kernel.old) }
 {
     match kernel.supply(object) {
         Ok(()) => Ok(()),
@@ -257,7 +263,7 @@ fn write_text<W: io::Write>(text: &[u8], out: &mut W) -> Result<(), RunFault>
 fn reports_of<O: UvmObject>(kernel: &Kernel<O>) -> &Reports
     requires { is_sound kernel.now.core.health ≡ true }
     ensures limit { limit_of result.now ≡ quit_limit (report_commands kernel.now.core.script kernel.now.core.history) }
-    ensures counts { reports.counts_of result.now ≡ counts_of kernel.now.core.script kernel.now.core.history }
+    ensures counts { reports.counts_of result.now ≡ log_counts kernel.now.core.script kernel.now.core.history }
 {
     match kernel.reports() {
         Some(reports) => reports,
@@ -268,7 +274,7 @@ fn reports_of<O: UvmObject>(kernel: &Kernel<O>) -> &Reports
 // Gives back each object that is held.
 fn give_all_back<O: UvmObject>(kernel: &mut Kernel<O>)
     requires { is_done kernel.old ≡ true }
-    ensures { kernel.new.held ≡ [] }
+    ensures { kernel.new ≡ record kernel.old { held = [] } }
 {
     while let Some((_, _)) = kernel.give_back() {}
 }

@@ -1,17 +1,17 @@
 -- A report whose output was flushed.
-use Rattle.std.proofs.Common.{◌≡◌, ◌⊎◌, ℕ, Bool, List, [], Option, Some, Result, Ok, Err, OnErr, OnOk, inl, inr}
+use Rattle.std.proofs.Common.{◌≡◌, ◌⊎◌, ℕ, Bool, List, [], Option, Result, Ok, Err, OnErr, OnOk, inl, inr}
 use Rattle.std.specs.Io.KnownBytes.{Keeps}
 use Rattle.std.proofs.KnownBytes.{Appends-kept, Keeps-trans}
 use Rattle.uvm_object.specs.declared.entries.Entry.{Entry}
 use Rattle.bench_run.specs.declared.endings.Ending.{Ending}
 use Rattle.bench_script.specs.declared.faults.ScriptFault.{ScriptFault}
 use Rattle.bench_script.specs.Scripts.{ScriptValue}
-use Rattle.bench_run.specs.Running.{BrokeOffRun, RanTo, WroteLog}
+use Rattle.bench_run.specs.Running.{IsRun, LeavesRun, WroteLog}
 use Rattle.bench_run.specs.declared.faults.RunFault.{RunFault}
 use Rattle.bench_run.specs.declared.faults.RunFault.TheVariants as ran
 use Rattle.bus_command.specs.Commands.{Asked, debug, run}
 use Rattle.bus_bench.specs.Debugging.{BrokeOff, IsDebugRun}
-use Rattle.bus_bench.specs.Program.{IsReport, IsWork}
+use Rattle.bus_bench.specs.Program.{IsWork}
 use Rattle.bus_bench.specs.Runs.{IsBenchRun, script_to_run}
 use Rattle.bus_bench.specs.Verdicts.{unflushed}
 use Rattle.bus_bench.specs.declared.verdicts.Breakage.{Breakage}
@@ -36,20 +36,28 @@ debug_run-kept bytes old mid new (Broken breakage) done kept = broke_off-kept _ 
 wrote_log-kept : (script : ScriptValue) (trace : Bool) (old mid new : Option (List ℕ)) (history : List Entry) (more : List ℕ) → WroteLog script trace old mid history more → Keeps mid new → WroteLog script trace old new history more
 wrote_log-kept script trace old mid new history more log kept = record { legal = log.legal; wrote = Appends-kept old mid new _ log.wrote kept }
 
-ran_to-kept : (ending : Ending) (script : ScriptValue) (trace : Bool) (old mid new : Option (List ℕ)) → RanTo ending script trace old mid → Keeps mid new → RanTo ending script trace old new
-ran_to-kept ending script trace old mid new ran kept = (ran.0, ran.1, wrote_log-kept script trace old mid new ran.0 _ ran.2 kept)
+leaves_run-kept : (script : ScriptValue) (trace : Bool) (history : List Entry) (old mid new : Option (List ℕ)) (result : Result Ending RunFault) → LeavesRun script trace history old mid result → Keeps mid new → LeavesRun script trace history old new result
+leaves_run-kept script trace history old mid new (Ok ending) ran kept = (ran.0, wrote_log-kept script trace old mid new history _ ran.1 kept)
+leaves_run-kept script trace history old mid new (Err ran.Memory) broke kept = record {
+  unwritten = broke.unwritten;
+  written = broke.written;
+  log = broke.log;
+  newest_alone = broke.newest_alone;
+  room = broke.room;
+  wrote = wrote_log-kept script trace old mid new broke.written [] broke.wrote kept;
+}
+leaves_run-kept script trace history old mid new (Err ran.LogFull) broke kept = (broke.0, broke.1, wrote_log-kept script trace old mid new history [] broke.2 kept)
+leaves_run-kept script trace history old mid new (Err ran.Output) broke kept = broke
 
-broke_off_run-kept : (fault : RunFault) (script : ScriptValue) (trace : Bool) (old mid new : Option (List ℕ)) → BrokeOffRun fault script trace old mid → Keeps mid new → BrokeOffRun fault script trace old new
-broke_off_run-kept ran.Memory script trace old mid new broke kept = (broke.0, broke.1, wrote_log-kept script trace old mid new broke.0 [] broke.2 kept)
-broke_off_run-kept ran.LogFull script trace old mid new broke kept = (broke.0, broke.1, broke.2, wrote_log-kept script trace old mid new broke.0 [] broke.3 kept)
-broke_off_run-kept ran.Output script trace old mid new broke kept = broke
+run-kept : (script : ScriptValue) (trace : Bool) (old mid new : Option (List ℕ)) (result : Result Ending RunFault) → IsRun script trace old mid result → Keeps mid new → IsRun script trace old new result
+run-kept script trace old mid new result left kept = (left.0, leaves_run-kept script trace left.0 old mid new result left.1 kept)
 
 bench_run-kept : (asked : Result ScriptValue ScriptFault) (trace : Bool) (old mid new : Option (List ℕ)) (verdict : Verdict) → IsBenchRun asked trace old mid verdict → Keeps mid new → IsBenchRun asked trace old new verdict
-bench_run-kept asked trace old mid new Clean done kept = (done.0, done.1, done.2, done.3, ran_to-kept done.2 done.0 trace old mid new done.4 kept)
-bench_run-kept asked trace old mid new Faulty done kept = (done.0, done.1, done.2, done.3, ran_to-kept done.2 done.0 trace old mid new done.4 kept)
+bench_run-kept asked trace old mid new Clean done kept = (done.0, done.1, done.2, done.3, run-kept done.0 trace old mid new (Ok done.2) done.4 kept)
+bench_run-kept asked trace old mid new Faulty done kept = (done.0, done.1, done.2, done.3, run-kept done.0 trace old mid new (Ok done.2) done.4 kept)
 bench_run-kept asked trace old mid new (Refused fault) done kept = (done.0, done.1, Keeps-trans old mid new done.2 kept)
 bench_run-kept asked trace old mid new (Broken breakage) (inl none) kept = inl (none.0, Keeps-trans old mid new none.1 kept)
-bench_run-kept asked trace old mid new (Broken breakage) (inr done) kept = inr (done.0, done.1, done.2, done.3, broke_off_run-kept done.2 done.0 trace old mid new done.4 kept)
+bench_run-kept asked trace old mid new (Broken breakage) (inr done) kept = inr (done.0, done.1, done.2, done.3, run-kept done.0 trace old mid new (Err done.2) done.4 kept)
 
 pub work-kept : (asked : Asked) (bytes : List ℕ) (old mid new : Option (List ℕ)) (verdict : Verdict) → IsWork asked bytes old mid verdict → Keeps mid new → IsWork asked bytes old new verdict
 work-kept (debug file) bytes old mid new verdict done kept = debug_run-kept bytes old mid new verdict done kept

@@ -7,7 +7,7 @@ use Rattle.bench_script.specs.Reading.{and_then}
 use Rattle.bench_script.specs.Documents.{script_of_bytes, test_among}
 use Rattle.bench_script.specs.Scripts.{ScriptValue}
 use Rattle.bench_run.specs.Endings.{is_clean}
-use Rattle.bench_run.specs.Running.{BrokeOffRun, RanTo}
+use Rattle.bench_run.specs.Running.{IsRun}
 use Rattle.bench_run.specs.declared.endings.Ending.{Ending}
 use Rattle.bench_run.specs.declared.faults.RunFault.{RunFault}
 use Rattle.bus_bench.specs.Verdicts.{breakage_of}
@@ -30,9 +30,9 @@ script_to_run bytes test = and_then (and_then (script_of_bytes bytes) (with_test
 
 -- what the verdict says of the script and of the bytes that the writer holds before and after
 abbrev pub IsBenchRun : Result ScriptValue ScriptFault → Bool → Option (List ℕ) → Option (List ℕ) → Verdict → Type 0
-IsBenchRun asked trace old new Clean = (script : ScriptValue) × (asked ≡ Ok script) × (ending : Ending) × (is_clean ending ≡ true) × RanTo ending script trace old new
-IsBenchRun asked trace old new Faulty = (script : ScriptValue) × (asked ≡ Ok script) × (ending : Ending) × (is_clean ending ≡ false) × RanTo ending script trace old new
+IsBenchRun asked trace old new Clean = (script : ScriptValue) × (asked ≡ Ok script) × (ending : Ending) × (is_clean ending ≡ true) × IsRun script trace old new (Ok ending)
+IsBenchRun asked trace old new Faulty = (script : ScriptValue) × (asked ≡ Ok script) × (ending : Ending) × (is_clean ending ≡ false) × IsRun script trace old new (Ok ending)
 IsBenchRun asked trace old new (Refused fault) = (asked ≡ Err fault) × (fault ≢ faults.Memory) × Keeps old new
 IsBenchRun asked trace old new (Broken breakage) =
     ((breakage ≡ Memory) × Keeps old new)
-    ⊎ ((script : ScriptValue) × (asked ≡ Ok script) × (fault : RunFault) × (breakage ≡ breakage_of fault) × BrokeOffRun fault script trace old new)
+    ⊎ ((script : ScriptValue) × (asked ≡ Ok script) × (fault : RunFault) × (breakage ≡ breakage_of fault) × IsRun script trace old new (Err fault))

@@ -1,6 +1,6 @@
 use Rattle.std.proofs.Common.{◌≡◌, true, false}
 use Rattle.bench_run.specs.Running.{Grows}
-use Rattle.bench_run.proofs.Goings.{goes-on, grown-health, grown-script}
+use Rattle.bench_run.proofs.Goings.{breaks-off, goes-on, grown-health, grown-script}
 use Rattle.bench_run.proofs.running.run_to_end.Goals as goal
 
 -- one more entry, and its text
@@ -16,3 +16,11 @@ loop-kernel-preserved g c =
       room = λ failed. absurd (let bad : true ≡ false = rw failed at going in cc);
       wrote = goes-on c.args.trace _ _ c.args.kernel.now.core.script _ _ _ grown inv.good inv.script inv.wrote c.in_ok-write_last.ensures.ok;
     }
+
+-- the text of the newest entry was not written
+pub returns-in_err-write_last-clause-run : goal.returns-in_err-write_last-clause-run
+returns-in_err-write_last-clause-run g c =
+    let inv = c.loop-kernel.invariant in
+    let grown : Grows c.loop-kernel.kernel.core c.make_entry.new.kernel.core = rw c.if-branch.true at c.in_ok-make_entry.ensures.ok in
+    breaks-off c.from_residual-in_err-write_last.result c.in_err-write_last.field-0.0 c.args.trace _ _ c.args.kernel.now.core.script _ _ _
+    c.from_residual-in_err-write_last.ensures.1 grown (grown-script grown inv.script) (rw inv.script at (inv.legal)) c.in_err-write_last.ensures.legal inv.wrote c.in_err-write_last.ensures.err

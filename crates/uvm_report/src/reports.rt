@@ -121,8 +121,8 @@ impl Reports {
         Ok(())
     }
 
-    /// Sets how many reports with action count are issued before each report asks for the end of the run; 0 is no limit.
-    /// Takes no memory.
+    /// Sets how many reports with action count are issued until reports ask for the end of the run: the one that reaches the
+    /// limit does, and each that is issued after it. 0 is no limit. Takes no memory.
     pub fn set_quit_limit(&mut self, limit: u16)
         ensures after { IsAfter (SetQuitLimit limit) self.old self.new }
         ensures room { (asked : List ℕ) → has_room self.new asked ≡ has_room self.old asked }

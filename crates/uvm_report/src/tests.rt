@@ -255,6 +255,20 @@ fn a_fate_says_what_is_shown_and_whether_the_run_goes_on(rt: HostRuntime) {
 }
 
 #[test]
+fn named_verbosities_are_those_of_the_standard(rt: HostRuntime) {
+    for (named, want) in [
+        (verbosity::NONE, 0),
+        (verbosity::LOW, 100),
+        (verbosity::MEDIUM, 200),
+        (verbosity::HIGH, 300),
+        (verbosity::FULL, 400),
+        (verbosity::DEBUG, 500),
+    ] {
+        assert_eq!(rt; named, want);
+    }
+}
+
+#[test]
 fn texts_are_refused_at_their_first_fault(rt: HostRuntime) -> Result<(), Fail> {
     for (bytes, want) in [
         (b"".as_slice(), None),

@@ -1,8 +1,12 @@
 //! The choice of the next entry.
 
-ghost use Rattle.std.specs.Prelude.{◌≡◌, true};
+ghost use Rattle.std.specs.Prelude.{◌≡◌, ◌&&◌, true, if◌then◌else◌};
+ghost use Rattle.uvm_phase.specs.Phases.{is_task};
+ghost use Rattle.uvm_object.specs.declared.fatals.Fatal.TheVariants.{Stall};
+ghost use Rattle.uvm_object.specs.declared.entries.Entry.TheVariants.{Note, End};
+ghost use Rattle.bench_history.specs.Objections.{objections_of, stands};
 ghost use Rattle.bench_history.specs.Next.{next_of};
-ghost use Rattle.bench_core.specs.Choices.{IsChoice};
+ghost use Rattle.bench_core.specs.Choices.{IsChoice, entry_of};
 
 use bench_history::Stage;
 use bench_world::World;
@@ -63,12 +67,24 @@ pub(crate) fn choose(world: &World) -> Choice
         Stage::Before => Choice::Enter(Mark::Begin(Phase::Build)),
         Stage::During(phase) => match world.next_call(phase) {
             Some(node) => Choice::Ask(Who::Node(node), Call::Phase(phase), None),
-            None => Choice::Enter(Mark::End(phase)),
+            None => Choice::Enter(ending(world, phase)),
         },
         Stage::After(phase) => match Schedule::next(phase) {
             Some(phase) => Choice::Enter(Mark::Begin(phase)),
             None => Choice::Enter(Mark::Over(Reason::Finished)),
         },
         Stage::Ended => Choice::Nothing,
+    }
+}
+
+// Where each component had its call: the phase ends, or an objection stands and nothing is due.
+fn ending(world: &World, phase: Phase) -> Mark
+    requires { world.now.sound ≡ true }
+    ensures { entry_of result ≡ (if is_task phase && stands (objections_of world.now.history) then Note Stall 0 else End phase) }
+{
+    if phase.is_task() && world.objection_stands() {
+        Mark::Note(Fatal::Stall, NodeId::TOP)
+    } else {
+        Mark::End(phase)
     }
 }

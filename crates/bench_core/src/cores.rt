@@ -1,6 +1,6 @@
 //! The machine.
 
-ghost use Rattle.std.specs.Prelude.{◌≡◌, ◌<◌, [], true, false, OnOk, OnErr, IfOk, IfErr, IfSome, IsSome, is_some, Some, None, ◌&&◌, length, ◌++◌, if◌then◌else◌, option_map};
+ghost use Rattle.std.specs.Prelude.{◌≡◌, ◌<◌, [], true, false, OnOk, OnErr, IfOk, IfErr, IfSome, IsSome, is_some, Some, None, ◌&&◌, length, ◌++◌, nat_lt, if◌then◌else◌, option_map};
 ghost use Rattle.std.specs.Bool.{OnTrue, OnFalse};
 ghost use Rattle.std.specs.Option.{option_copied};
 ghost use Rattle.uvm_tree.specs.Nodes.{node_at, number_at};
@@ -10,6 +10,8 @@ ghost use Rattle.bench_history.specs.History.{is_over, nodes_of, now_of, running
 ghost use Rattle.uvm_glob.specs.Paths.{path_text};
 ghost use Rattle.uvm_config.specs.Answers.{config_answer};
 ghost use Rattle.bench_history.specs.Configuration.{settings_of};
+ghost use Rattle.bench_history.specs.Objections.{objections_of};
+ghost use Rattle.uvm_objection.specs.Totals.{total};
 ghost use Rattle.bench_history.specs.Reports.{report_commands};
 ghost use Rattle.uvm_report.specs.Changes.{Gives};
 ghost use Rattle.bench_history.specs.Next.{next_of, made_in, declined_in, IsLegal};
@@ -261,6 +263,17 @@ impl Core {
             return None;
         }
         self.world.config(path, field)
+    }
+
+    /// The count of objections that stands at a node and below it, with what is held back below it (10.5). None where there is no
+    /// such node, or once memory was refused.
+    pub fn total(&self, node: NodeId) -> Option<u64>
+        ensures { result ≡ (if is_sound self.now.health && nat_lt node (length (nodes_of self.now.history)) then Some (total (objections_of self.now.history) node) else None) }
+    {
+        if !self.is_sound() {
+            return None;
+        }
+        self.world.total(node)
     }
 
     /// The report server (Clause 6). None once memory was refused.

@@ -9,6 +9,7 @@ use uvm_glob::{Glob, Name, Path};
 use uvm_object::{Act, Acts, Call, What};
 use uvm_phase::Phase;
 use uvm_report::{Actions, Report, Severity, Text, Which, verbosity};
+use uvm_tree::NodeId;
 
 const SCRIPT: &[u8] =
     b"version = 1\ntest = \"t\"\ntype = [{ name = \"t\", kind = \"component\" }, { name = \"c\", kind = \"component\" }]
@@ -40,6 +41,24 @@ enum Bench {
     Silent,
     /// To build: reports, and settings of reports.
     Reporting,
+    /// To this phase: objections are raised and dropped.
+    Objecting(Phase, &'static [Objecting]),
+}
+
+/// What is done to the objections of the test.
+#[derive(Clone, Copy, PartialEq, Eq)]
+enum Objecting {
+    Raise(u16),
+    Drop(u16),
+}
+
+impl Objecting {
+    fn act(&self) -> Act {
+        match *self {
+            Objecting::Raise(count) => Act::RaiseObjection { count },
+            Objecting::Drop(count) => Act::DropObjection { count },
+        }
+    }
 }
 
 #[test]
@@ -122,6 +141,43 @@ fn last_setting_prevails_after_build(rt: HostRuntime) -> Result<(), Fail> {
 fn due_call_goes_before_the_next_of_the_phase(rt: HostRuntime) -> Result<(), Fail> {
     let text = transcript(rt.alloc(), Bench::AskingParent)?;
     assert!(rt; text.as_slice().starts_with(ASKING_PARENT));
+    Ok(())
+}
+
+#[test]
+fn run_ends_where_all_that_was_raised_is_dropped(rt: HostRuntime) -> Result<(), Fail> {
+    const DROPPED: &[Objecting] = &[
+        Objecting::Raise(2),
+        Objecting::Drop(1),
+        Objecting::Raise(0),
+        Objecting::Drop(1),
+    ];
+    let text = transcript(rt.alloc(), Bench::Objecting(Phase::Run, DROPPED))?;
+    assert!(rt; text.as_slice().ends_with(DROPPED_END));
+    Ok(())
+}
+
+#[test]
+fn objection_stands_and_nothing_is_due(rt: HostRuntime) -> Result<(), Fail> {
+    const RAISED: &[Objecting] = &[Objecting::Raise(1)];
+    let text = transcript(rt.alloc(), Bench::Objecting(Phase::Run, RAISED))?;
+    assert!(rt; text.as_slice().ends_with(STALLED_END));
+    Ok(())
+}
+
+#[test]
+fn objections_are_no_acts_of_other_phases(rt: HostRuntime) -> Result<(), Fail> {
+    const RAISED: &[Objecting] = &[Objecting::Raise(1)];
+    let text = transcript(rt.alloc(), Bench::Objecting(Phase::Build, RAISED))?;
+    assert_eq!(rt; text.as_slice(), RAISED_IN_BUILD);
+    Ok(())
+}
+
+#[test]
+fn no_more_is_dropped_than_was_raised(rt: HostRuntime) -> Result<(), Fail> {
+    const BELOW_ZERO: &[Objecting] = &[Objecting::Raise(1), Objecting::Drop(2)];
+    let text = transcript(rt.alloc(), Bench::Objecting(Phase::Run, BELOW_ZERO))?;
+    assert!(rt; text.as_slice().ends_with(BELOW_ZERO_END));
     Ok(())
 }
 
@@ -245,6 +301,7 @@ fn begins_to_build(alloc: Global, core: &mut Core) -> Result<bool, Fail> {
                 .is_some_and(|node| core.path(node) == Some(&test))
             && !core.is_over()
             && core.config(&test, &field) == Some(7)
+            && core.total(NodeId::TOP) == Some(0)
             && core.now() == 0
             && core.log().len() == 2,
     )
@@ -338,63 +395,78 @@ fn test_path(alloc: Global) -> Result<Path, Fail> {
     Ok(Path::parse(alloc, b"uvm_test_top")?)
 }
 
-// What somebody answers.
+// What somebody answers: the test as the bench says, and all others nothing.
 fn acts_of(alloc: Global, bench: Bench, is_test: bool, call: Call) -> Result<Acts, Fail> {
     let mut acts = Acts::new(alloc);
-    if !is_test {
-        return Ok(acts);
-    }
-    let Call::Phase(phase) = call else {
+    let (true, Call::Phase(phase)) = (is_test, call) else {
         return Ok(acts);
     };
     match (bench, phase) {
-        (Bench::Children, Phase::Build) => {
-            acts.push(create(b"b")?)?;
-            acts.push(create(b"a")?)?;
-            acts.push(add(b"f")?)?;
-        }
-        (Bench::OneNameTwice, Phase::Build) => {
-            acts.push(add(b"x")?)?;
-            acts.push(add(b"x")?)?;
-        }
-        (Bench::ManyActs, Phase::Build) => {
-            for _ in 0..65 {
-                acts.push(add(b"x")?)?;
-            }
-        }
         (Bench::Setting(at), phase) if at == phase => {
             acts.push(set(alloc)?)?;
             acts.push(get()?)?;
         }
-        (Bench::AskingParent, Phase::Build) => {
+        (Bench::Objecting(at, answer), phase) if at == phase => {
+            for act in answer {
+                acts.push(act.act())?;
+            }
+        }
+        (Bench::LateChild, Phase::Connect) => acts.push(create(b"b")?)?,
+        (bench, Phase::Build) => build(alloc, bench, &mut acts)?,
+        _ => (),
+    }
+    Ok(acts)
+}
+
+// What the test answers when it builds.
+fn build(alloc: Global, bench: Bench, acts: &mut Acts) -> Result<(), Fail> {
+    match bench {
+        Bench::Children => {
+            acts.push(create(b"b")?)?;
+            acts.push(create(b"a")?)?;
+            acts.push(add(b"f")?)?;
+        }
+        Bench::OneNameTwice => {
+            acts.push(add(b"x")?)?;
+            acts.push(add(b"x")?)?;
+        }
+        Bench::ManyActs => {
+            for _ in 0..65 {
+                acts.push(add(b"x")?)?;
+            }
+        }
+        Bench::AskingParent => {
             acts.push(create(b"b")?)?;
             acts.push(get()?)?;
         }
-        (Bench::LateChild, Phase::Connect) => acts.push(create(b"b")?)?,
-        (Bench::Silent, Phase::Build) => {
+        Bench::Silent => {
             acts.push(silence())?;
             acts.push(add(b"x")?)?;
             acts.push(add(b"x")?)?;
         }
-        (Bench::Reporting, Phase::Build) => {
-            let level = verbosity::LOW;
-            acts.push(report(alloc, Severity::Info, b"I", b"now")?)?;
-            acts.push(Act::Verbosity {
-                which: Which::All,
-                level,
-            })?;
-            acts.push(report(alloc, Severity::Info, b"I", b"never")?)?;
-            acts.push(Act::Severity {
-                from: Severity::Warning,
-                id: None,
-                to: Severity::Info,
-            })?;
-            acts.push(report(alloc, Severity::Warning, b"W", b"changed")?)?;
-            acts.push(report(alloc, Severity::Error, b"E", b"")?)?;
-        }
+        Bench::Reporting => build_reporting(alloc, acts)?,
         _ => (),
     }
-    Ok(acts)
+    Ok(())
+}
+
+// Reports, and settings of reports.
+fn build_reporting(alloc: Global, acts: &mut Acts) -> Result<(), Fail> {
+    let level = verbosity::LOW;
+    acts.push(report(alloc, Severity::Info, b"I", b"now")?)?;
+    acts.push(Act::Verbosity {
+        which: Which::All,
+        level,
+    })?;
+    acts.push(report(alloc, Severity::Info, b"I", b"never")?)?;
+    acts.push(Act::Severity {
+        from: Severity::Warning,
+        id: None,
+        to: Severity::Info,
+    })?;
+    acts.push(report(alloc, Severity::Warning, b"W", b"changed")?)?;
+    acts.push(report(alloc, Severity::Error, b"E", b"")?)?;
+    Ok(())
 }
 
 fn create(name: &[u8]) -> Result<Act, Fail> {
@@ -498,6 +570,50 @@ over exit
 const LATE_CHILD_END: &[u8] = b"heard uvm_test_top connect: 1
 did uvm_test_top create c b: refused ILLCRT
 UVM_FATAL @ 0: uvm_test_top [ILLCRT] created after build
+over exit
+";
+
+const DROPPED_END: &[u8] = b"begin run
+heard uvm_test_top run: 4
+did uvm_test_top raise 2: done
+did uvm_test_top drop 1: done
+did uvm_test_top raise 0: done
+did uvm_test_top drop 1: done
+end run
+begin extract
+heard uvm_test_top extract: 0
+end extract
+begin check
+heard uvm_test_top check: 0
+end check
+begin report
+heard uvm_test_top report: 0
+end report
+begin final
+heard uvm_test_top final: 0
+end final
+over finished
+";
+
+const STALLED_END: &[u8] = b"begin run
+heard uvm_test_top run: 1
+did uvm_test_top raise 1: done
+note STALL uvm_top
+UVM_FATAL @ 0: uvm_top [STALL] objection stands and nothing is due
+over stall
+";
+
+const RAISED_IN_BUILD: &[u8] = b"did uvm_top create t uvm_test_top: made t
+begin build
+heard uvm_test_top build: 1
+did uvm_test_top raise 1: refused NOTTASK
+UVM_FATAL @ 0: uvm_test_top [NOTTASK] act outside a task phase
+over exit
+";
+
+const BELOW_ZERO_END: &[u8] = b"did uvm_test_top raise 1: done
+did uvm_test_top drop 2: refused OBJTN_ZERO
+UVM_FATAL @ 0: uvm_test_top [OBJTN_ZERO] objection dropped below zero
 over exit
 ";
 

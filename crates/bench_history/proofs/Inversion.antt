@@ -1,13 +1,14 @@
 -- Which case of the machine gives what comes next.
-use Rattle.std.proofs.Common.{◌≡◌, ℕ, Bool, true, false, List, [], ◌∷◌, length, nat_lt, Option, Some, None, option_map, refl, ap, if◌then◌else◌}
+use Rattle.std.proofs.Common.{◌≡◌, ℕ, Bool, true, false, List, [], ◌∷◌, length, nat_lt, Option, Some, None, option_map, refl, ap, ◌&&◌, if◌then◌else◌}
 use Rattle.uvm_phase.specs.declared.phases.Phase.{Phase}
 use Rattle.uvm_phase.specs.declared.agendas.Due.{Due}
+use Rattle.uvm_phase.specs.Phases.{is_task}
 use Rattle.uvm_object.specs.declared.acts.Who.{Who}
 use Rattle.uvm_object.specs.declared.acts.Who.TheVariants as who
 use Rattle.uvm_object.specs.declared.acts.Call.{Call}
 use Rattle.uvm_object.specs.declared.acts.Call.TheVariants as call
 use Rattle.uvm_object.specs.declared.acts.Act.{Act}
-use Rattle.uvm_object.specs.declared.fatals.Fatal.TheVariants.{TooManyActs}
+use Rattle.uvm_object.specs.declared.fatals.Fatal.TheVariants.{TooManyActs, Stall}
 use Rattle.uvm_object.specs.Acts.{node_of}
 use Rattle.uvm_object.specs.declared.entries.Outcome.{Outcome}
 use Rattle.uvm_object.specs.declared.entries.Outcome.TheVariants.{Done, Made, Value, Refused}
@@ -22,6 +23,7 @@ use Rattle.bench_history.specs.declared.stages.Stage.TheVariants.{Before, During
 use Rattle.bench_history.specs.Limits.{most_acts}
 use Rattle.bench_history.specs.History.{stage_of, running, next_call, left_of, rest_of, speaker_of}
 use Rattle.bench_history.specs.Reports.{reason_of}
+use Rattle.bench_history.specs.Objections.{objections_of, stands}
 use Rattle.bench_history.specs.Dues.{due_now}
 use Rattle.bench_history.specs.Upshots.{Upshot, Needs, Does, Finds, Refuses, upshot_of}
 use Rattle.bench_history.specs.Cases.{Next, Exactly, Answer, Need, Nothing, end_reached, giving_up, first_act, by_upshot, by_act, call_due, phase_call, phase_end, phase_begin, phase_to_begin, finish}
@@ -60,7 +62,7 @@ pub data Case (script : ScriptValue) (history : List Entry) (next : Next) : Type
 
 -- the cases from the phases' course on
 abbrev phase_cases : List Entry → Option Phase → List (Option Next)
-phase_cases history phase = phase_call history phase ∷ phase_end phase ∷ phase_begin (phase_to_begin (stage_of history)) ∷ finish ∷ []
+phase_cases history phase = phase_call history phase ∷ phase_end history phase ∷ phase_begin (phase_to_begin (stage_of history)) ∷ finish ∷ []
 
 -- and from the acts on
 abbrev act_cases : ScriptValue → List Entry → List (Option Next)
@@ -70,9 +72,14 @@ case-begin : (script : ScriptValue) (history : List Entry) (next : Next) (begins
 case-begin script history next (Some phase) is e = ByBegin phase is e
 case-begin script history next None is e = ByOwn (Over Finished) tt e
 
-case-turn : (script : ScriptValue) (history : List Entry) (next : Next) (phase : Phase) (turn : Option ℕ) → stage_of history ≡ During phase → next_call phase history ≡ turn → next ≡ first_next (option_map (λ node. Answer (who.Node node) (call.Phase phase) None) turn ∷ phase_end (Some phase) ∷ phase_begin (phase_to_begin (stage_of history)) ∷ finish ∷ []) → Case script history next
+-- where each component had its call
+case-ended : (script : ScriptValue) (history : List Entry) (next : Next) (phase : Phase) (standing : Bool) → stage_of history ≡ During phase → next ≡ Exactly (if standing then Note Stall 0 else End phase) → Case script history next
+case-ended script history next phase true runs e = ByOwn (Note Stall 0) tt e
+case-ended script history next phase false runs e = ByEnd phase runs e
+
+case-turn : (script : ScriptValue) (history : List Entry) (next : Next) (phase : Phase) (turn : Option ℕ) → stage_of history ≡ During phase → next_call phase history ≡ turn → next ≡ first_next (option_map (λ node. Answer (who.Node node) (call.Phase phase) None) turn ∷ phase_end history (Some phase) ∷ phase_begin (phase_to_begin (stage_of history)) ∷ finish ∷ []) → Case script history next
 case-turn script history next phase (Some node) runs is e = ByTurn phase node is e
-case-turn script history next phase None runs is e = ByEnd phase runs e
+case-turn script history next phase None runs is e = case-ended script history next phase (is_task phase && stands (objections_of history)) runs e
 
 -- a phase that runs is the stage
 runs-during : (stage : Stage) (phase : Phase) → running stage ≡ Some phase → stage ≡ During phase

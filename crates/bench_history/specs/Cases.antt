@@ -1,18 +1,18 @@
 -- The machine's cases: for each what comes next, if the case is given. Each takes for granted that those that stand above it in `next_of` were
 -- not.
-use Rattle.std.specs.Prelude.{List, [], ◌∷◌, length, nat_lt, Option, Some, None, option_map, if◌then◌else◌}
+use Rattle.std.specs.Prelude.{ℕ, Bool, ◌&&◌, List, [], ◌∷◌, length, nat_lt, Option, Some, None, option_map, if◌then◌else◌}
 use Rattle.uvm_phase.specs.declared.phases.Phase.{Phase}
 use Rattle.uvm_phase.specs.declared.phases.Phase.TheVariants.{Build}
 use Rattle.uvm_phase.specs.declared.agendas.Cause.{Cause}
 use Rattle.uvm_phase.specs.declared.agendas.Due.{Due}
-use Rattle.uvm_phase.specs.Phases.{phase_after}
+use Rattle.uvm_phase.specs.Phases.{phase_after, is_task}
 use Rattle.uvm_object.specs.Acts.{node_of}
 use Rattle.uvm_object.specs.declared.acts.Who.{Who}
 use Rattle.uvm_object.specs.declared.acts.Who.TheVariants as who
 use Rattle.uvm_object.specs.declared.acts.Call.{Call}
 use Rattle.uvm_object.specs.declared.acts.Call.TheVariants as call
 use Rattle.uvm_object.specs.declared.acts.Act.{Act}
-use Rattle.uvm_object.specs.declared.fatals.Fatal.TheVariants.{TooManyActs}
+use Rattle.uvm_object.specs.declared.fatals.Fatal.TheVariants.{TooManyActs, Stall}
 use Rattle.uvm_object.specs.declared.entries.Outcome.TheVariants.{Done, Value, Refused}
 use Rattle.uvm_object.specs.declared.entries.Reason.{Reason}
 use Rattle.uvm_object.specs.declared.entries.Reason.TheVariants.{Finished}
@@ -24,6 +24,7 @@ use Rattle.bench_history.specs.declared.stages.Stage.{Stage}
 use Rattle.bench_history.specs.declared.stages.Stage.TheVariants.{Before, After, Ended}
 use Rattle.bench_history.specs.Limits.{most_acts}
 use Rattle.bench_history.specs.History.{next_call, speaker_of}
+use Rattle.bench_history.specs.Objections.{objections_of, stands}
 use Rattle.bench_history.specs.Upshots.{Upshot, Needs, Does, Finds, Refuses, upshot_of}
 
 -- what comes next: this entry; the answer of a hearer to a call, caused or a phase's; an object for a performer's act, made or declined; or nothing
@@ -70,9 +71,11 @@ abbrev pub phase_call : List Entry → Option Phase → Option Next
 phase_call history None = None
 phase_call history (Some phase) = option_map (λ node. Answer (who.Node node) (call.Phase phase) None) (next_call phase history)
 
--- the phase that runs ends: each component had its call
-abbrev pub phase_end : Option Phase → Option Next
-phase_end phase = option_map (λ phase. Exactly (End phase)) phase
+-- the phase that runs ends: each component had its call. Run does not end while an objection stands: as nothing is due then, nothing can
+-- happen any more, which is noted
+abbrev pub phase_end : List Entry → Option Phase → Option Next
+phase_end history None = None
+phase_end history (Some phase) = Some (Exactly (if is_task phase && stands (objections_of history) then Note Stall 0 else End phase))
 
 -- a phase begins: the first, or the one after that which has ended
 abbrev pub phase_to_begin : Stage → Option Phase

@@ -7,6 +7,7 @@ pub mod Limits
 pub mod History
 pub mod Configuration
 pub mod Dues
+pub mod Objections
 pub mod Reports
 pub mod Refusals
 pub mod Upshots

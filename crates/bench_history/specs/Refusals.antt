@@ -1,6 +1,6 @@
 -- Why acts are refused: for each sort of act the refusals in the order in which they are looked for. What is still refused after these is an
 -- object that nobody supplies (Next, `Allows`).
-use Rattle.std.specs.Prelude.{ℕ, Bool, false, not, List, [], ◌∷◌, ◌++◌, length, slice_get, Option, Some, None, option_map, option_and_then, is_none, nat_le}
+use Rattle.std.specs.Prelude.{ℕ, Bool, false, not, List, [], ◌∷◌, ◌++◌, length, slice_get, Option, Some, None, option_map, option_and_then, is_none, nat_le, nat_lt}
 use Rattle.uvm_glob.specs.Faults.{fault_if}
 use Rattle.uvm_glob.specs.Lists.{first_given}
 use Rattle.uvm_glob.specs.Paths.{path_text}
@@ -10,12 +10,14 @@ use Rattle.uvm_factory.specs.declared.overrides.Override.{Override}
 use Rattle.uvm_factory.specs.Faults.{Types, type_named, is_same_kind}
 use Rattle.uvm_factory.specs.Overrides.{made_type}
 use Rattle.uvm_config.specs.Answers.{most_settings}
+use Rattle.uvm_phase.specs.declared.phases.Phase.{Phase}
+use Rattle.uvm_phase.specs.Phases.{is_task}
 use Rattle.uvm_tree.specs.declared.nodes.Node.{Node}
 use Rattle.uvm_tree.specs.declared.faults.TreeFault.{TreeFault}
 use Rattle.uvm_tree.specs.declared.faults.TreeFault.TheVariants.{NameTaken}
 use Rattle.uvm_tree.specs.Nodes.{path_at, add_fault}
 use Rattle.uvm_object.specs.declared.fatals.Fatal.{Fatal}
-use Rattle.uvm_object.specs.declared.fatals.Fatal.TheVariants.{CreatedAfterBuild, InvalidType, ChildTaken, TreeLimit, OverrideLoop, TooManySettings}
+use Rattle.uvm_object.specs.declared.fatals.Fatal.TheVariants.{CreatedAfterBuild, InvalidType, ChildTaken, TreeLimit, OverrideLoop, TooManySettings, OutsideTask, ObjectionBelowZero}
 
 -- a creation that is asked for below a node: of which type by name, under which name, and what it depends on, the overrides with the newest first
 pub record Creation : Type 0 where
@@ -85,3 +87,16 @@ are_of_one_kind original new = false
 -- an override goes between known types of one kind
 unfoldable pub overriding_refusal : Types → List ℕ → List ℕ → Option Fatal
 overriding_refusal types original new = fault_if (not (are_of_one_kind (kind_named types original) (kind_named types new))) InvalidType
+
+-- a phase runs that takes time
+abbrev pub in_task : Option Phase → Bool
+in_task None = false
+in_task (Some phase) = is_task phase
+
+-- objections are raised in such a phase
+unfoldable pub raise_refusal : Option Phase → Option Fatal
+raise_refusal running = fault_if (not (in_task running)) OutsideTask
+
+-- and dropped there, no more than was raised
+unfoldable pub drop_refusal : Option Phase → ℕ → ℕ → Option Fatal
+drop_refusal running raised count = first_given (fault_if (not (in_task running)) OutsideTask ∷ fault_if (nat_lt raised count) ObjectionBelowZero ∷ [])

@@ -1,5 +1,5 @@
 -- What a log asks of the report server, and what becomes of its reports (IEEE 1800.2-2020, Clause 6).
-use Rattle.std.specs.Prelude.{ℕ, Bool, false, List, [], ◌∷◌, ◌++◌, reverse, map, Option, Some, None, option_and_then, ◌==◌, if◌then◌else◌}
+use Rattle.std.specs.Prelude.{ℕ, Bool, true, false, List, [], ◌∷◌, ◌++◌, reverse, map, Option, Some, None, option_and_then, ◌==◌, if◌then◌else◌}
 use Rattle.std.specs.List.{list_any, cons_option}
 use Rattle.uvm_glob.specs.Paths.{path_text}
 use Rattle.uvm_report.specs.declared.severities.Severity.{Severity}
@@ -13,11 +13,12 @@ use Rattle.uvm_object.specs.Acts.{node_of}
 use Rattle.uvm_object.specs.declared.acts.Act.{Act}
 use Rattle.uvm_object.specs.declared.acts.Act.TheVariants as act
 use Rattle.uvm_object.specs.Fatals.{fatal_report}
+use Rattle.uvm_object.specs.declared.fatals.Fatal.TheVariants as fatal
 use Rattle.uvm_object.specs.Lines.{shown_path}
 use Rattle.uvm_object.specs.declared.entries.Outcome.{Outcome}
 use Rattle.uvm_object.specs.declared.entries.Outcome.TheVariants.{Done, Refused}
 use Rattle.uvm_object.specs.declared.entries.Reason.{Reason}
-use Rattle.uvm_object.specs.declared.entries.Reason.TheVariants.{Exit, NoTest}
+use Rattle.uvm_object.specs.declared.entries.Reason.TheVariants as reason
 use Rattle.uvm_object.specs.declared.entries.Entry.{Entry}
 use Rattle.uvm_object.specs.declared.entries.Entry.TheVariants.{Did, Note}
 use Rattle.bench_script.specs.declared.report_settings.VerbositySetting.{VerbositySetting}
@@ -69,11 +70,17 @@ abbrev pub refuses_test : Entry → Bool
 refuses_test (Did performer (Refused fatal) act) = node_of performer == 0
 refuses_test entry = false
 
--- why the run is given up, if it is: the test was refused, or a report asked for exit
+-- this entry notes that an objection stands, and nothing is due
+abbrev pub is_stall : Entry → Bool
+is_stall (Note fatal.Stall node) = true
+is_stall entry = false
+
+-- why the run is given up, if it is: an objection stands and nothing is due, the test was refused, or a report asked for exit
 abbrev pub reason_of : ScriptValue → List Entry → Option Reason
 reason_of script history =
-    if list_any refuses_test history then Some NoTest
-    else if is_exit_asked (report_commands script history) then Some Exit
+    if list_any is_stall history then Some reason.Stall
+    else if list_any refuses_test history then Some reason.NoTest
+    else if is_exit_asked (report_commands script history) then Some reason.Exit
     else None
 
 -- what became of the report of the newest entry, if it has one

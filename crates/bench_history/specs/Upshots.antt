@@ -5,17 +5,19 @@ use Rattle.uvm_glob.specs.Paths.{path_text}
 use Rattle.uvm_config.specs.Answers.{config_answer}
 use Rattle.uvm_factory.specs.declared.types.Kind.TheVariants.{Component}
 use Rattle.uvm_tree.specs.Nodes.{path_at}
+use Rattle.uvm_objection.specs.Nodes.{source_of}
 use Rattle.uvm_object.specs.Acts.{node_of}
 use Rattle.uvm_object.specs.declared.acts.Who.{Who}
 use Rattle.uvm_object.specs.declared.acts.Act.{Act}
-use Rattle.uvm_object.specs.declared.acts.Act.TheVariants.{Create, Add, Set, Get, OverrideType, OverrideInst, Report, Verbosity, Actions, Severity}
+use Rattle.uvm_object.specs.declared.acts.Act.TheVariants.{Create, Add, Set, Get, OverrideType, OverrideInst, Report, Verbosity, Actions, Severity, RaiseObjection, DropObjection}
 use Rattle.uvm_object.specs.declared.fatals.Fatal.{Fatal}
 use Rattle.uvm_object.specs.declared.entries.Entry.{Entry}
 use Rattle.bench_script.specs.Scripts.{ScriptValue}
 use Rattle.bench_history.specs.declared.needs.Need.{Need}
-use Rattle.bench_history.specs.History.{nodes_of, overrides_of, is_built, type_name_or}
+use Rattle.bench_history.specs.History.{stage_of, running, nodes_of, overrides_of, is_built, type_name_or}
 use Rattle.bench_history.specs.Configuration.{settings_of}
-use Rattle.bench_history.specs.Refusals.{Creation, created_path, type_made, creation_refusal, addition_refusal, setting_refusal, overriding_refusal}
+use Rattle.bench_history.specs.Objections.{objections_of}
+use Rattle.bench_history.specs.Refusals.{Creation, created_path, type_made, creation_refusal, addition_refusal, setting_refusal, overriding_refusal, raise_refusal, drop_refusal}
 
 -- what an act comes to: an object is needed first; or at once it is performed, or finds a value, or is refused
 pub data Upshot : Type 0 where
@@ -53,6 +55,8 @@ upshot_of script history performer (Report report) = Does
 upshot_of script history performer (Verbosity which level) = Does
 upshot_of script history performer (Actions which actions) = Does
 upshot_of script history performer (Severity from id to) = Does
+upshot_of script history performer (RaiseObjection count) = unless_refused (raise_refusal (running (stage_of history))) Does
+upshot_of script history performer (DropObjection count) = unless_refused (drop_refusal (running (stage_of history)) (source_of (node_of performer) (objections_of history)) count) Does
 
 -- why an act is refused, if it is
 abbrev pub refusal_in : Upshot → Option Fatal

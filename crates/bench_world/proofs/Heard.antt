@@ -14,12 +14,16 @@ use Rattle.bench_world.specs.Services.{with_call, acts_in, AreTurns, IsAnswer}
 use Rattle.bench_world.proofs.Entered.{get-last, answered-last}
 use Rattle.bench_world.proofs.Turns.{turns-heard}
 
--- who is asked had its call
+-- who is asked stands at a node
+pub asked-within : {components called : List ℕ} {count : ℕ} {kept : List Component} (performer : Who) → Contains components (node_of performer) → AreTurns components called count kept → node_of performer < count
+asked-within {components} {count = count} performer there turns = All-contains (λ other. other < count) components (node_of performer) turns.within there
+
+-- and had its call
 pub heard-turns :
     {components called : List ℕ} {count : ℕ} {kept : List Component} (performer : Who) (node : ℕ) → node ≡ node_of performer → Contains components (node_of performer)
     → AreTurns components called count kept → AreTurns components (node_of performer ∷ called) count (map (with_call node) kept)
 heard-turns {components} {count = count} performer node is there turns =
-    rw is (turns-heard (node_of performer) (All-contains (λ other. other < count) components (node_of performer) turns.within there) turns)
+    rw is (turns-heard (node_of performer) (asked-within performer there turns) turns)
 
 -- the answer is the last one, and all of it is left
 pub heard-answer :

@@ -25,13 +25,14 @@ use Rattle.bench_world.specs.Worlds.{IsWorld}
 use Rattle.bench_world.proofs.Answered.{answer-later, answer-next, answer-noted}
 use Rattle.bench_world.proofs.Entered.{legal-more, sound-again}
 use Rattle.bench_world.proofs.Reported.{quiet}
+use Rattle.bench_world.proofs.Objected.{objecting-later}
 use Rattle.bench_world.proofs.Told.{agenda-later}
 
 -- what every entry leaves, but for what it changes
-pub ruleset later = (answer-later, answer-noted, agenda-later, quiet)
+pub ruleset later = (answer-later, answer-noted, agenda-later, quiet, objecting-later)
 
 -- what an act leaves, but for what it changes
-pub ruleset acted = (answer-next, agenda-later, quiet)
+pub ruleset acted = (answer-next, agenda-later, quiet, objecting-later)
 
 -- a world goes on with an entry that is next
 pub entered :

@@ -12,3 +12,4 @@ pub mod Turns
 pub mod Waits
 mod Given
 mod Reported
+mod Objected

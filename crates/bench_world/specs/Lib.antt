@@ -1,3 +1,4 @@
 pub mod Reportings
+pub mod Objectings
 pub mod Services
 pub mod Worlds

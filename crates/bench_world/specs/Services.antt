@@ -1,5 +1,5 @@
 -- What a world keeps beside its log, and that it is what the log says.
-use Rattle.std.specs.Prelude.{◌≡◌, ℕ, ◌<◌, ◌≤◌, ◌+◌, Bool, true, false, ◌==◌, ◌||◌, List, [], ◌∷◌, length, drop, map, filter, reverse, slice_get, Option, Some, None, All, AllPairs, if◌then◌else◌}
+use Rattle.std.specs.Prelude.{◌≡◌, ℕ, ◌<◌, ◌≤◌, ◌+◌, Bool, true, false, ◌==◌, ◌||◌, ◌^◌, List, [], ◌∷◌, length, drop, map, filter, reverse, slice_get, Option, Some, None, All, AllPairs, if◌then◌else◌}
 use Rattle.std.specs.Option.{ForSome}
 use Rattle.std.specs.List.{list_any}
 use Rattle.uvm_glob.specs.Paths.{path_text}
@@ -37,8 +37,11 @@ use Rattle.bench_world.specs.declared.services.Services.{Services}
 use Rattle.bench_history.specs.Configuration.{settings_of}
 use Rattle.bench_history.specs.Dues.{caused_of, heard_of, ended_of, is_open}
 use Rattle.bench_history.specs.History.{stage_of, now_of, nodes_of, components_of, called_of, had_call, opening, left_of, rest_of, speaker_of, overrides_of, ends_build}
-use Rattle.bench_history.specs.Reports.{report_commands, newest_fate, refuses_test}
-use Rattle.bench_world.specs.Reportings.{IsReporting, IsReported}
+use Rattle.bench_history.specs.Objections.{objections_of}
+use Rattle.bench_history.specs.Reports.{report_commands, newest_fate, refuses_test, is_stall}
+use Rattle.bench_world.specs.Reportings.{CanReport, IsReporting, IsReported}
+use Rattle.bench_world.specs.Objectings.{AreNumbered, IsObjecting}
+use Rattle.uvm_objection.specs.Totals.{total}
 use Rattle.bench_history.specs.Cases.{Exactly, Need, by_act}
 use Rattle.bench_history.specs.Laws.{next_number}
 use Rattle.bench_history.specs.Refusals.{Creation}
@@ -125,14 +128,26 @@ pub record ServicesMatch (script : ScriptValue) (history : List Entry) (services
   pub stage : services.stage ≡ stage_of history
   pub time : services.time ≡ now_of history
   pub tree : services.tree.nodes ≡ nodes_of history
+  pub objections : IsObjecting (objections_of history) (length (nodes_of history)) (length history) services.objection
   pub factory : IsFactory script.types (overrides_of script history) services.factory
   pub turns : AreTurns (components_of history) (called_of history) (length (nodes_of history)) services.components.items
   pub answer : IsAnswer (opening script) history (left_of script history) (speaker_of history) services.answer
+  pub speaks : node_of (speaker_of history) < length (nodes_of history)
   pub built : services.built ≡ list_any ends_build history
   pub reporting : IsReporting (report_commands script history) (newest_fate script history) services.reporting
   pub settings : IsSettings (settings_of script history) services.settings
   pub agenda : IsAgenda (caused_of history) (heard_of history) (ended_of history) (length history) services.agenda.dues
   pub test_refused : services.test_refused ≡ list_any refuses_test history
+  pub stalled : services.stalled ≡ list_any is_stall history
+
+-- an act may be performed: its performer stands at one of the nodes, which are known to the objections; one more report can be counted, and one more
+-- count raised
+pub record CanPerform (services : Services) : Type 0 where
+  pub speaks : node_of services.answer.speaker < length services.tree.nodes
+  pub numbered : AreNumbered services.objection.nodes (length services.tree.nodes)
+  pub report : CanReport services.reporting
+  pub few : total services.objection.nodes 0 + 65535 ≤ 10 ^ 18
+  pub time : services.time ≤ 10 ^ 18
 
 -- an act of the last answer is to be performed: what is kept is what the log says, the phases went in their order, and its entry will
 -- stand at a place

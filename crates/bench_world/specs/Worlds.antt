@@ -43,6 +43,7 @@ pub record IsReady (waiting : Waiting) (script : ScriptValue) (log : LogValue) (
   pub room : length log.entries < log_limit script
   pub log_spare : 0 < log.spare
   pub tree_spare : IsSome (node_at services.tree.nodes (node_of services.answer.speaker)) → services.tree.spare ≡ Some (node_of services.answer.speaker)
+  pub objection_spare : 0 < services.objection.spare
   pub components : vec_len services.components < vec_capacity services.components
   pub declined : waiting.declined ≡ fatal_report NoObject
   pub report_room : IsTrue (has_room services.reporting.reports (id_of NoObject))

@@ -8,11 +8,12 @@ ghost use Rattle.uvm_object.specs.Fatals.{fatal_report};
 ghost use Rattle.uvm_report.specs.Observed.{has_room};
 ghost use Rattle.uvm_tree.specs.Nodes.{path_at};
 ghost use Rattle.bench_world.specs.Reportings.{CanReport, IsReported};
-ghost use Rattle.bench_world.specs.Services.{IsAttempt, IsRefusing, one_done, unreported};
+ghost use Rattle.bench_world.specs.Services.{CanPerform, IsAttempt, IsRefusing, one_done, unreported};
 
 use crate::configuring::{get_field, set_field};
 use crate::entries::push;
 use crate::making::create;
+use crate::objecting::{drop, raise};
 use crate::performing::{add, override_inst, override_type};
 use crate::report_acts::{issue, set_action, set_severity, set_verbosity};
 use crate::services::Services;
@@ -39,7 +40,7 @@ pub(crate) fn perform(
     place: usize,
     act: &Act,
 ) -> Result<Attempt, AllocError>
-    requires { CanReport services.old.reporting }
+    requires { CanPerform services.old }
     ensures { IfOk result (λ attempt. IsAttempt act.now attempt place services.old services.new) }
 {
     match act {
@@ -61,6 +62,8 @@ pub(crate) fn perform(
         Act::Verbosity { which, level } => set_verbosity(services, alloc, *which, *level),
         Act::Actions { which, actions } => set_action(services, alloc, *which, *actions),
         Act::Severity { from, id, to } => set_severity(services, alloc, *from, *id, *to),
+        Act::RaiseObjection { count } => raise(services, alloc, *count),
+        Act::DropObjection { count } => drop(services, alloc, *count),
     }
 }
 

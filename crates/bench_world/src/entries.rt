@@ -1,9 +1,9 @@
 //! The entries of a log that are no act's: one call for each kind.
 
-ghost use Rattle.std.specs.Prelude.{◌≡◌, ◌||◌, ◌∷◌, ◌<◌, length, true, OnOk, OnErr, IsOk, Some, None};
+ghost use Rattle.std.specs.Prelude.{◌≡◌, ℕ, ◌||◌, ◌∷◌, ◌<◌, length, true, OnOk, OnErr, IsOk, Some, None};
 ghost use Rattle.uvm_object.specs.declared.entries.Entry.TheVariants.{Begin, End, Heard, Note, Over};
 ghost use Rattle.bench_history.specs.History.{next_call, phase_order, ends_build};
-ghost use Rattle.bench_history.specs.Reports.{reason_of};
+ghost use Rattle.bench_history.specs.Reports.{is_stall, reason_of};
 ghost use Rattle.uvm_glob.specs.Orders.{order_of};
 ghost use Rattle.uvm_tree.specs.Cursors.{is_before, least, sooner};
 ghost use Rattle.bench_world.specs.Services.{waiting_in};
@@ -97,6 +97,8 @@ impl World {
     {
         // The call is the first of the agenda, which is then taken from it.
         laws::due_calls_go_in_order();
+        // Its owner is a component.
+        laws::asked_are_components();
         agenda::order_keeps_all::<Who, Call>();
         agenda::order_loses_first::<Who, Call>();
         self.sound = false;
@@ -130,6 +132,7 @@ impl World {
         report_at(&mut self.services, self.alloc, node, &report)?;
         push(&mut self.log, Entry::Note { fatal, node })?;
         self.services.answer.noted = true;
+        self.services.stalled = is_stalled_with(fatal, self.services.stalled);
         self.sound = true;
         Ok(())
     }
@@ -154,7 +157,9 @@ impl World {
         requires { self.now.sound ≡ true }
         ensures { result ≡ reason_of self.now.script self.now.history }
     {
-        if self.services.test_refused {
+        if self.services.stalled {
+            Some(Reason::Stall)
+        } else if self.services.test_refused {
             Some(Reason::NoTest)
         } else if self.services.reporting.exit_asked {
             Some(Reason::Exit)
@@ -183,6 +188,13 @@ fn is_built_with(phase: Phase, built: bool) -> bool
     ensures { result ≡ (ends_build (End phase) || built) }
 {
     matches!(phase, Phase::Build) || built
+}
+
+// Whether an objection stands and nothing is due, once the kernel has reported.
+fn is_stalled_with(fatal: Fatal, stalled: bool) -> bool
+    ensures { (node : ℕ) → result ≡ (is_stall (Note fatal node) || stalled) }
+{
+    matches!(fatal, Fatal::Stall) || stalled
 }
 
 // The direction in which a phase goes.

@@ -7,6 +7,7 @@ mod creations;
 mod deeds;
 mod entries;
 mod making;
+mod objecting;
 mod performing;
 mod report_acts;
 mod report_lines;

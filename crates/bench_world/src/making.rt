@@ -14,6 +14,7 @@ ghost use Rattle.bench_history.specs.Laws.{IsCreation};
 ghost use Rattle.uvm_object.specs.Fatals.{fatal_report};
 ghost use Rattle.uvm_object.specs.declared.fatals.Fatal.TheVariants.{NoObject};
 ghost use Rattle.uvm_report.specs.Observed.{has_room};
+ghost use Rattle.bench_world.specs.Objectings.{AreNumbered};
 ghost use Rattle.bench_world.specs.Reportings.{CanReport, KeepsReporting};
 ghost use Rattle.bench_world.specs.Services.{TakesIn, IsAttempt};
 ghost use Rattle.bench_world.specs.Worlds.{world_after};
@@ -27,6 +28,7 @@ use bench_history::{Need, laws};
 use std::alloc::{AllocError, Global};
 use uvm_glob::Name;
 use uvm_object::{Act, Deed, Fatal, Log, LoggedOutcome, Who};
+use uvm_objection::laws as objections;
 use uvm_report::Report;
 use uvm_tree::{NodeId, NodeKind};
 
@@ -130,15 +132,18 @@ impl World {
 pub(crate) fn make_room(log: &mut Log, services: &mut Services, id: &Name) -> Result<(), AllocError>
     ensures log { (log.new.entries ≡ log.old.entries) × (log.new.limit ≡ log.old.limit) }
     ensures log_spare { OnOk result (0 < log.new.spare) }
-    ensures services { services.new ≡ record services.old { tree = services.new.tree; components = services.new.components; reporting = services.new.reporting } }
+    ensures services { services.new ≡ record services.old { tree = services.new.tree; objection = services.new.objection; components = services.new.components; reporting = services.new.reporting } }
     ensures reporting { KeepsReporting services.old.reporting services.new.reporting }
     ensures report_room { OnOk result (IsTrue (has_room services.new.reporting.reports id.now)) }
     ensures nodes { services.new.tree.nodes ≡ services.old.tree.nodes }
+    ensures objections { services.new.objection.nodes ≡ services.old.objection.nodes }
+    ensures objection_spare { OnOk result (0 < services.new.objection.spare) }
     ensures items { services.new.components.items ≡ services.old.components.items }
     ensures tree_spare { OnOk result (IsSome (node_at services.old.tree.nodes (node_of services.old.answer.speaker)) → services.new.tree.spare ≡ Some (node_of services.old.answer.speaker)) }
     ensures components { OnOk result (vec_len services.new.components < vec_capacity services.new.components) }
 {
     services.tree.reserve(services.answer.speaker.node())?;
+    services.objection.reserve()?;
     services.components.reserve(1)?;
     services.reporting.reserve_id(id)?;
     log.reserve()
@@ -167,13 +172,20 @@ fn grow(services: &mut Services, act: &Act) -> NodeId
     requires creates { IsCreation act.now }
     requires free { child_refusal services.old.tree.nodes (node_of services.old.answer.speaker) (created_name act.now) ≡ None }
     requires tree { services.old.tree.spare ≡ Some (node_of services.old.answer.speaker) }
+    requires speaks { node_of services.old.answer.speaker < length services.old.tree.nodes }
+    requires numbered { AreNumbered services.old.objection.nodes (length services.old.tree.nodes) }
+    requires objection { 0 < services.old.objection.spare }
     requires components { vec_len services.old.components < vec_capacity services.old.components }
     ensures node { result ≡ length services.old.tree.nodes }
     ensures kept { (type_name : List ℕ) (place : ℕ) → TakesIn act.now (Made type_name) place services.old services.new }
 {
+    objections::nodes_grow();
     let parent = services.answer.speaker.node();
     let name = created_name(act);
     let Ok(node) = add_child(&mut services.tree, parent, name, NodeKind::Component) else {
+        unreachable!()
+    };
+    let Ok(()) = services.objection.add(node, parent) else {
         unreachable!()
     };
     let component = Component {

@@ -12,7 +12,7 @@ ghost use Rattle.uvm_object.specs.declared.acts.Act.TheVariants.{Add, OverrideTy
 ghost use Rattle.bench_history.specs.History.{kind_of, with_override};
 ghost use Rattle.bench_history.specs.Refusals.{addition_refusal, child_refusal, overriding_refusal};
 ghost use Rattle.bench_world.specs.Reportings.{CanReport};
-ghost use Rattle.bench_world.specs.Services.{IsAttempt, IsFactory};
+ghost use Rattle.bench_world.specs.Services.{CanPerform, IsAttempt, IsFactory};
 
 use crate::attempts::{Attempt, done, refused};
 use crate::creations::child_refusal;
@@ -21,6 +21,7 @@ use std::alloc::{AllocError, Global};
 use uvm_factory::{Factory, laws};
 use uvm_glob::{Glob, Name};
 use uvm_object::{Fatal, What};
+use uvm_objection::laws as objections;
 use uvm_tree::{NodeId, NodeKind, Tree};
 
 // A node is added below the performer's, unless that is refused.
@@ -30,14 +31,16 @@ pub(crate) fn add(
     name: Name,
     what: What,
 ) -> Result<Attempt, AllocError>
-    requires { CanReport services.old.reporting }
+    requires { CanPerform services.old }
     ensures { IfOk result (λ attempt. (place : ℕ) → IsAttempt (Add name what) attempt place services.old services.new) }
 {
     if let Some(fatal) = addition_refusal(services, &name) {
         return refused(services, alloc, fatal);
     }
-    let node = services.answer.speaker.node();
-    add_child(&mut services.tree, node, name, kind_of(what))?;
+    objections::nodes_grow();
+    let parent = services.answer.speaker.node();
+    let node = add_child(&mut services.tree, parent, name, kind_of(what))?;
+    services.objection.add(node, parent)?;
     Ok(done(services))
 }
 

@@ -14,6 +14,7 @@ use std::alloc::Global;
 use uvm_config::Settings;
 use uvm_factory::Factory;
 use uvm_object::{Call, Who};
+use uvm_objection::{Objection, laws as objections};
 use uvm_phase::Agenda;
 use uvm_tree::{NodeId, Tree};
 
@@ -55,6 +56,7 @@ pub(crate) struct Services {
     // The present time in ticks.
     pub(crate) time: u64,
     pub(crate) tree: Tree,
+    pub(crate) objection: Objection,
     pub(crate) factory: Factory,
     pub(crate) settings: Settings,
     pub(crate) reporting: Reporting,
@@ -65,6 +67,8 @@ pub(crate) struct Services {
     pub(crate) answer: LastAnswer,
     pub(crate) built: bool,
     pub(crate) test_refused: bool,
+    // An objection stands, and nothing is due.
+    pub(crate) stalled: bool,
 }
 
 impl Services {
@@ -78,10 +82,12 @@ impl Services {
         ensures { (script : ScriptValue) → IsFactory script.types (overrides_of script []) factory → IsSettings (settings_of script []) settings
             → IsReporting (script_commands script) None reporting → ServicesMatch script [] result }
     {
+        objections::nodes_grow();
         Services {
             stage: Stage::Before,
             time: 0,
             tree: Tree::new(alloc),
+            objection: Objection::new(alloc),
             factory,
             settings,
             reporting,
@@ -96,6 +102,7 @@ impl Services {
             },
             built: false,
             test_refused: false,
+            stalled: false,
         }
     }
 }

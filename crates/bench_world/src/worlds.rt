@@ -1,10 +1,12 @@
 //! The world.
 
-ghost use Rattle.std.specs.Prelude.{◌≡◌, [], IfOk, true, false, IsSome, None, length, nat_le};
+ghost use Rattle.std.specs.Prelude.{◌≡◌, [], IfOk, true, false, IsSome, None, Some, length, nat_le, nat_lt, if◌then◌else◌};
 ghost use Rattle.bench_script.specs.Factories.{IsFactoryOf};
 ghost use Rattle.bench_history.specs.Limits.{log_limit};
 ghost use Rattle.bench_history.specs.History.{opening, stage_of, running, now_of, nodes_of, overrides_of};
+ghost use Rattle.bench_history.specs.Objections.{objections_of, stands};
 ghost use Rattle.bench_history.specs.Reports.{report_commands, newest_fate};
+ghost use Rattle.uvm_objection.specs.Totals.{total};
 ghost use Rattle.uvm_report.specs.Commands.{is_exit_asked};
 ghost use Rattle.uvm_report.specs.Changes.{Gives};
 ghost use Rattle.std.specs.Option.{option_copied};
@@ -29,6 +31,7 @@ use uvm_config::Settings;
 use uvm_factory::Factory;
 use uvm_glob::{Name, Path};
 use uvm_object::{Act, Call, Deed, Log, Who};
+use uvm_objection::Objection;
 use uvm_phase::{Agenda, Due, Phase};
 use uvm_report::{Fate, Reports};
 use uvm_tree::{NodeId, Tree};
@@ -209,6 +212,34 @@ impl World {
         ensures { result.now.dues ≡ in_order (due_calls self.now.history) }
     {
         &self.services.agenda
+    }
+
+    /// The objections: what is raised at each node, and held back there (10.5).
+    pub fn objection(&self) -> &Objection
+        requires { self.now.sound ≡ true }
+        ensures { result.now.nodes ≡ objections_of self.now.history }
+    {
+        &self.services.objection
+    }
+
+    /// What is raised at a node and below it, with what is held back below it. None where there is no such node.
+    pub fn total(&self, node: NodeId) -> Option<u64>
+        requires { self.now.sound ≡ true }
+        ensures { result ≡ (if nat_lt node (length (nodes_of self.now.history)) then Some (total (objections_of self.now.history) node) else None) }
+    {
+        if self.services.tree.path(node).is_none() {
+            return None;
+        }
+        Some(self.services.objection.total(node))
+    }
+
+    /// Whether an objection stands: something is raised at the top or below, or held back.
+    pub fn objection_stands(&self) -> bool
+        requires { self.now.sound ≡ true }
+        ensures { result ≡ stands (objections_of self.now.history) }
+    {
+        let objection = &self.services.objection;
+        objection.total(NodeId::TOP) > 0 || objection.held(NodeId::TOP) > 0
     }
 
     /// The tree.

@@ -3,7 +3,7 @@ use Rattle.std.specs.Prelude.{ℕ, List, codes}
 use Rattle.uvm_report.specs.declared.severities.Severity.TheVariants as severity
 use Rattle.uvm_report.specs.declared.messages.Report.{Report}
 use Rattle.uvm_object.specs.declared.fatals.Fatal.{Fatal}
-use Rattle.uvm_object.specs.declared.fatals.Fatal.TheVariants.{CreatedAfterBuild, TooManyActs, InvalidType, ChildTaken, TreeLimit, OverrideLoop, NoObject, TooManySettings}
+use Rattle.uvm_object.specs.declared.fatals.Fatal.TheVariants.{CreatedAfterBuild, TooManyActs, InvalidType, ChildTaken, TreeLimit, OverrideLoop, NoObject, TooManySettings, OutsideTask, ObjectionBelowZero, Stall}
 
 abbrev pub id_of : Fatal → List ℕ
 id_of CreatedAfterBuild = codes "ILLCRT"
@@ -14,6 +14,9 @@ id_of TreeLimit = codes "TREELIM"
 id_of OverrideLoop = codes "OVRDLOOP"
 id_of NoObject = codes "FCTTYP"
 id_of TooManySettings = codes "CFGFULL"
+id_of OutsideTask = codes "NOTTASK"
+id_of ObjectionBelowZero = codes "OBJTN_ZERO"
+id_of Stall = codes "STALL"
 
 abbrev pub text_of : Fatal → List ℕ
 text_of CreatedAfterBuild = codes "created after build"
@@ -24,6 +27,9 @@ text_of TreeLimit = codes "tree limit reached"
 text_of OverrideLoop = codes "override loop"
 text_of NoObject = codes "no object supplied"
 text_of TooManySettings = codes "too many settings"
+text_of OutsideTask = codes "act outside a task phase"
+text_of ObjectionBelowZero = codes "objection dropped below zero"
+text_of Stall = codes "objection stands and nothing is due"
 
 -- the report itself
 abbrev pub fatal_report : Fatal → Report

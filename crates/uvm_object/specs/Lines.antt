@@ -21,7 +21,7 @@ use Rattle.uvm_object.specs.declared.acts.Act.TheVariants as act
 use Rattle.uvm_object.specs.declared.entries.Outcome.{Outcome}
 use Rattle.uvm_object.specs.declared.entries.Outcome.TheVariants.{Done, Made, Value, Refused}
 use Rattle.uvm_object.specs.declared.entries.Reason.{Reason}
-use Rattle.uvm_object.specs.declared.entries.Reason.TheVariants.{Finished, Exit, NoTest}
+use Rattle.uvm_object.specs.declared.entries.Reason.TheVariants.{Finished, Exit, NoTest, Stall}
 use Rattle.uvm_object.specs.declared.entries.Entry.{Entry}
 use Rattle.uvm_object.specs.declared.entries.Entry.TheVariants.{Begin, End, Heard, Did, Note, Over}
 use Rattle.uvm_object.specs.Fatals.{id_of}
@@ -83,6 +83,8 @@ act_text (act.Report report) = codes "report " ++ severity_name report.severity 
 act_text (act.Verbosity which level) = codes "verbosity " ++ which_text which ++ 32 ∷ decimal level
 act_text (act.Actions which actions) = codes "actions " ++ which_text which ++ 32 ∷ actions_text actions
 act_text (act.Severity from id to) = codes "severity " ++ severity_name from ++ 32 ∷ id_text id ++ 32 ∷ severity_name to
+act_text (act.RaiseObjection count) = codes "raise " ++ decimal count
+act_text (act.DropObjection count) = codes "drop " ++ decimal count
 
 abbrev pub outcome_text : Outcome → List ℕ
 outcome_text Done = codes "done"
@@ -94,6 +96,7 @@ abbrev pub reason_text : Reason → List ℕ
 reason_text Finished = codes "finished"
 reason_text Exit = codes "exit"
 reason_text NoTest = codes "no_test"
+reason_text Stall = codes "stall"
 
 abbrev pub entry_text : List Node → Entry → List ℕ
 entry_text nodes (Begin phase) = codes "begin " ++ phase_name phase

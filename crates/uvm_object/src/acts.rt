@@ -139,6 +139,16 @@ pub enum Act {
         /// The severity that they have instead.
         to: Severity,
     },
+    /// Raise an objection at the performer's node: the run phase goes on while one stands (Clause 10.5).
+    RaiseObjection {
+        /// By how much.
+        count: u16,
+    },
+    /// Drop what was raised at the performer's node (Clause 10.5).
+    DropObjection {
+        /// By how much.
+        count: u16,
+    },
 }
 
 impl Act {
@@ -146,55 +156,45 @@ impl Act {
     pub fn copy(&self) -> Result<Act, AllocError>
         ensures { IfOk result (λ act. act ≡ self.now) }
     {
-        Ok(match self {
-            Act::Create { type_name, name } => Act::Create {
-                type_name: *type_name,
-                name: *name,
-            },
-            Act::Add { name, what } => Act::Add {
-                name: *name,
-                what: *what,
-            },
-            Act::Set { glob, field, value } => Act::Set {
+        Ok(match *self {
+            Act::Create { type_name, name } => Act::Create { type_name, name },
+            Act::Add { name, what } => Act::Add { name, what },
+            Act::Set {
+                ref glob,
+                field,
+                value,
+            } => Act::Set {
                 glob: glob.copy()?,
-                field: *field,
-                value: *value,
+                field,
+                value,
             },
-            Act::Get { field } => Act::Get { field: *field },
+            Act::Get { field } => Act::Get { field },
             Act::OverrideType {
                 original,
                 new,
                 replace,
             } => Act::OverrideType {
-                original: *original,
-                new: *new,
-                replace: *replace,
+                original,
+                new,
+                replace,
             },
             Act::OverrideInst {
                 original,
                 new,
-                glob,
+                ref glob,
             } => Act::OverrideInst {
-                original: *original,
-                new: *new,
+                original,
+                new,
                 glob: glob.copy()?,
             },
-            Act::Report { report } => Act::Report {
+            Act::Report { ref report } => Act::Report {
                 report: report.copy()?,
             },
-            Act::Verbosity { which, level } => Act::Verbosity {
-                which: *which,
-                level: *level,
-            },
-            Act::Actions { which, actions } => Act::Actions {
-                which: *which,
-                actions: *actions,
-            },
-            Act::Severity { from, id, to } => Act::Severity {
-                from: *from,
-                id: *id,
-                to: *to,
-            },
+            Act::Verbosity { which, level } => Act::Verbosity { which, level },
+            Act::Actions { which, actions } => Act::Actions { which, actions },
+            Act::Severity { from, id, to } => Act::Severity { from, id, to },
+            Act::RaiseObjection { count } => Act::RaiseObjection { count },
+            Act::DropObjection { count } => Act::DropObjection { count },
         })
     }
 }

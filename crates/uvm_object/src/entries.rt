@@ -35,6 +35,8 @@ pub enum Reason {
     Exit,
     /// The test was not created.
     NoTest,
+    /// An objection stood, and nothing was due any more.
+    Stall,
 }
 
 // What an entry of a call holds beside who was called.

@@ -26,6 +26,12 @@ pub enum Fatal {
     NoObject,
     /// CFGFULL: as many settings were accepted as there may be.
     TooManySettings,
+    /// NOTTASK: the act is one of a phase that takes time.
+    OutsideTask,
+    /// OBJTN_ZERO: more is dropped than was raised.
+    ObjectionBelowZero,
+    /// STALL: an objection stands, and nothing is due any more.
+    Stall,
 }
 
 impl Fatal {
@@ -42,6 +48,9 @@ impl Fatal {
             Fatal::OverrideLoop => "OVRDLOOP",
             Fatal::NoObject => "FCTTYP",
             Fatal::TooManySettings => "CFGFULL",
+            Fatal::OutsideTask => "NOTTASK",
+            Fatal::ObjectionBelowZero => "OBJTN_ZERO",
+            Fatal::Stall => "STALL",
         }
     }
 
@@ -58,6 +67,9 @@ impl Fatal {
             Fatal::OverrideLoop => "override loop",
             Fatal::NoObject => "no object supplied",
             Fatal::TooManySettings => "too many settings",
+            Fatal::OutsideTask => "act outside a task phase",
+            Fatal::ObjectionBelowZero => "objection dropped below zero",
+            Fatal::Stall => "objection stands and nothing is due",
         }
     }
 

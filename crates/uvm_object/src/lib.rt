@@ -1,6 +1,7 @@
 //! What passes through the machine of a testbench: calls, acts, and the entries of its log.
 #![tactic(auto)]
 
+mod act_lines;
 mod acts;
 mod entries;
 mod fatals;

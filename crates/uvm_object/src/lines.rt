@@ -1,15 +1,14 @@
 //! The lines of entries.
 
-ghost use Rattle.std.specs.Prelude.{◌≡◌, ◌++◌, ◌∷◌, OnOk, OnErr};
+ghost use Rattle.std.specs.Prelude.{◌≡◌, ◌++◌, OnOk, OnErr};
 ghost use Rattle.std.specs.Fmt.{decimal, signed_decimal};
-ghost use Rattle.uvm_object.specs.Lines.{entry_line, entry_text, who_text, shown_path, call_text, value_text, what_text, which_text, actions_text, id_text, act_text, outcome_text, reason_text};
+ghost use Rattle.uvm_object.specs.Lines.{entry_line, entry_text, who_text, shown_path, call_text, value_text, outcome_text, reason_text};
 ghost use Rattle.uvm_tree.specs.Nodes.{path_at};
 
-use crate::acts::{Act, Call, What, Who};
+use crate::act_lines::push_act;
+use crate::acts::{Call, Who};
 use crate::entries::{Entry, Outcome, Reason};
 use std::alloc::AllocError;
-use uvm_glob::Name;
-use uvm_report::{Actions, Which};
 use uvm_tree::{NodeId, Tree};
 
 /// Appends the line of an entry, with its newline. The tree tells the paths of the nodes; the top, and a node that the tree
@@ -61,7 +60,7 @@ fn push_entry(entry: &Entry, tree: &Tree, line: &mut Vec<u8>) -> Result<(), Allo
     }
 }
 
-fn push_two(front: &[u8], back: &str, line: &mut Vec<u8>) -> Result<(), AllocError>
+pub(crate) fn push_two(front: &[u8], back: &str, line: &mut Vec<u8>) -> Result<(), AllocError>
     ensures { OnOk result (line.new.items ≡ line.old.items ++ (front.now ++ back.now)) }
 {
     line.extend_from_slice(front)?;
@@ -115,147 +114,6 @@ fn push_value(value: Option<i64>, line: &mut Vec<u8>) -> Result<(), AllocError>
     }
 }
 
-fn push_act(act: &Act, line: &mut Vec<u8>) -> Result<(), AllocError>
-    ensures { OnOk result (line.new.items ≡ line.old.items ++ act_text act.now) }
-{
-    match act {
-        Act::Create { type_name, name } => push_names(b"create ", type_name, name, line),
-        Act::Add { name, what } => {
-            line.extend_from_slice(b"add ")?;
-            line.extend_from_slice(name.as_bytes())?;
-            line.push(b' ')?;
-            push_what(*what, line)
-        }
-        Act::Set { glob, field, value } => {
-            line.extend_from_slice(b"set (")?;
-            line.extend_from_slice(glob.as_bytes())?;
-            line.extend_from_slice(b") ")?;
-            line.extend_from_slice(field.as_bytes())?;
-            line.push(b' ')?;
-            push_integer(*value, line)
-        }
-        Act::Get { field } => {
-            line.extend_from_slice(b"get ")?;
-            line.extend_from_slice(field.as_bytes())
-        }
-        Act::OverrideType {
-            original,
-            new,
-            replace,
-        } => {
-            push_names(b"override ", original, new, line)?;
-            if *replace {
-                line.extend_from_slice(b" replace")?;
-            }
-            Ok(())
-        }
-        Act::OverrideInst {
-            original,
-            new,
-            glob,
-        } => {
-            push_names(b"override ", original, new, line)?;
-            line.extend_from_slice(b" at (")?;
-            line.extend_from_slice(glob.as_bytes())?;
-            line.extend_from_slice(b")")
-        }
-        Act::Report { report } => {
-            push_two(b"report ", report.severity.name(), line)?;
-            line.push(b' ')?;
-            line.extend_from_slice(report.id.as_bytes())
-        }
-        Act::Verbosity { which, level } => {
-            line.extend_from_slice(b"verbosity ")?;
-            push_which(which, line)?;
-            line.push(b' ')?;
-            push_number(usize::from(*level), line)
-        }
-        Act::Actions { which, actions } => {
-            line.extend_from_slice(b"actions ")?;
-            push_which(which, line)?;
-            line.push(b' ')?;
-            line.extend_from_slice(actions_text(*actions).as_bytes())
-        }
-        Act::Severity { from, id, to } => {
-            push_two(b"severity ", from.name(), line)?;
-            line.push(b' ')?;
-            push_id(id, line)?;
-            push_two(b" ", to.name(), line)
-        }
-    }
-}
-
-// The reports that a setting is for.
-fn push_which(which: &Which, line: &mut Vec<u8>) -> Result<(), AllocError>
-    ensures { OnOk result (line.new.items ≡ line.old.items ++ which_text which.now) }
-{
-    match which {
-        Which::All => line.extend_from_slice(b"all"),
-        Which::Severity(severity) => line.extend_from_slice(severity.name().as_bytes()),
-        Which::Id(id) => {
-            line.extend_from_slice(b"id ")?;
-            line.extend_from_slice(id.as_bytes())
-        }
-        Which::Both(severity, id) => {
-            line.extend_from_slice(severity.name().as_bytes())?;
-            line.push(b' ')?;
-            line.extend_from_slice(id.as_bytes())
-        }
-    }
-}
-
-// An id that may be absent.
-fn push_id(id: &Option<Name>, line: &mut Vec<u8>) -> Result<(), AllocError>
-    ensures { OnOk result (line.new.items ≡ line.old.items ++ id_text id.now) }
-{
-    match id {
-        Some(id) => line.extend_from_slice(id.as_bytes()),
-        None => line.extend_from_slice(b"none"),
-    }
-}
-
-// The words of a set of actions.
-fn actions_text(actions: Actions) -> &'static str
-    ensures { result.now ≡ actions_text actions }
-{
-    match (actions.display, actions.count, actions.exit) {
-        (true, true, true) => "display,count,exit",
-        (true, true, false) => "display,count",
-        (true, false, true) => "display,exit",
-        (true, false, false) => "display",
-        (false, true, true) => "count,exit",
-        (false, true, false) => "count",
-        (false, false, true) => "exit",
-        (false, false, false) => "none",
-    }
-}
-
-// A word and two names.
-fn push_names(
-    word: &[u8],
-    first: &Name,
-    second: &Name,
-    line: &mut Vec<u8>,
-) -> Result<(), AllocError>
-    ensures { OnOk result (line.new.items ≡ line.old.items ++ (word.now ++ first.now ++ 32 ∷ second.now)) }
-{
-    line.extend_from_slice(word)?;
-    line.extend_from_slice(first.as_bytes())?;
-    line.push(b' ')?;
-    line.extend_from_slice(second.as_bytes())
-}
-
-fn push_what(what: What, line: &mut Vec<u8>) -> Result<(), AllocError>
-    ensures { OnOk result (line.new.items ≡ line.old.items ++ what_text what) }
-{
-    match what {
-        What::Fifo { size } => {
-            line.extend_from_slice(b"fifo ")?;
-            push_number(usize::from(size), line)
-        }
-    }
-}
-
 fn push_outcome(outcome: &Outcome, line: &mut Vec<u8>) -> Result<(), AllocError>
     ensures { OnOk result (line.new.items ≡ line.old.items ++ outcome_text outcome.now) }
 {
@@ -280,17 +138,18 @@ fn reason_text(reason: Reason) -> &'static str
         Reason::Finished => "finished",
         Reason::Exit => "exit",
         Reason::NoTest => "no_test",
+        Reason::Stall => "stall",
     }
 }
 
-fn push_number(n: usize, line: &mut Vec<u8>) -> Result<(), AllocError>
+pub(crate) fn push_number(n: usize, line: &mut Vec<u8>) -> Result<(), AllocError>
     ensures { OnOk result (line.new.items ≡ line.old.items ++ decimal n) }
 {
     let digits = n.to_string(*line.allocator())?;
     line.extend_from_slice(digits.as_bytes())
 }
 
-fn push_integer(n: i64, line: &mut Vec<u8>) -> Result<(), AllocError>
+pub(crate) fn push_integer(n: i64, line: &mut Vec<u8>) -> Result<(), AllocError>
     ensures { OnOk result (line.new.items ≡ line.old.items ++ signed_decimal n) }
 {
     let digits = n.to_string(*line.allocator())?;

@@ -33,6 +33,11 @@ is_top_down Build = true
 is_top_down Final = true
 is_top_down phase = false
 
+-- whether a phase takes simulated time: run does
+abbrev pub is_task : Phase → Bool
+is_task Run = true
+is_task phase = false
+
 abbrev pub phase_name : Phase → List ℕ
 phase_name Build = codes "build"
 phase_name Connect = codes "connect"

@@ -1,7 +1,7 @@
 //! The phases and their order.
 
 ghost use Rattle.std.specs.Prelude.{◌≡◌, Some};
-ghost use Rattle.uvm_phase.specs.Phases.{phase_number, phase_after, is_top_down, phase_name};
+ghost use Rattle.uvm_phase.specs.Phases.{phase_number, phase_after, is_top_down, is_task, phase_name};
 
 /// A phase, in the order in which they run (IEEE 1800.2-2020, Clause 9). `Run` alone takes simulated time.
 #[derive(Clone, Copy, Debug, PartialEq, Eq)]
@@ -57,6 +57,13 @@ impl Phase {
         ensures { result ≡ is_top_down self }
     {
         matches!(self, Phase::Build | Phase::Final)
+    }
+
+    /// Whether the phase is a task phase: it takes simulated time (Clause 9). Run is.
+    pub fn is_task(self) -> bool
+        ensures { result ≡ is_task self }
+    {
+        matches!(self, Phase::Run)
     }
 }
 

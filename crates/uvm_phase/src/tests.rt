@@ -29,6 +29,8 @@ fn build_and_final_are_top_down(rt: HostRuntime) {
     assert!(rt; !Phase::Connect.is_top_down());
     assert!(rt; !Phase::Run.is_top_down());
     assert!(rt; Phase::Final.is_top_down());
+    assert!(rt; Phase::Run.is_task());
+    assert!(rt; !Phase::Build.is_task());
     assert_eq!(rt; Phase::Run.number(), 4);
 }
 

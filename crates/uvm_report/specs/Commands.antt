@@ -132,7 +132,11 @@ abbrev pub fate_in : List Command → Command → Option Fate
 fate_in older (Issue path report) = Some (report_fate older path report)
 fate_in older command = None
 
+-- what became of each report that some commands issue, the newest first
+abbrev pub fates_of : List Command → List Fate
+fates_of [] = []
+fates_of (command ∷ older) = cons_option (fate_in older command) (fates_of older)
+
 -- one of the reports asked for the end of the run
 abbrev pub is_exit_asked : List Command → Bool
-is_exit_asked [] = false
-is_exit_asked (command ∷ older) = option_map_or asks_exit (fate_in older command) false || is_exit_asked older
+is_exit_asked commands = list_any asks_exit (fates_of commands)

@@ -1,11 +1,14 @@
-use Rattle.std.proofs.Common.{[], ◌∷◌, ◌++◌, length, refl, rules}
+use Rattle.std.proofs.Common.{◌≡◌, ◌<◌, ◌≤◌, arith, [], ◌∷◌, ◌++◌, length, refl, rules}
 use Rattle.uvm_tree.specs.declared.nodes.NodeKind.TheVariants.{Component}
 use Rattle.uvm_tree.specs.Nodes.{child}
 use Rattle.uvm_object.specs.Acts.{node_of}
-use Rattle.bench_history.specs.History.{nodes_of, components_of, called_of, created_name}
+use Rattle.uvm_objection.specs.Nodes.{new_node}
+use Rattle.bench_history.specs.History.{nodes_of, components_of, called_of, created_name, speaker_of}
+use Rattle.bench_history.specs.Objections.{objections_of}
 use Rattle.bench_world.specs.Services.{AreTurns}
 use Rattle.bench_world.proofs.Answered.{length-snoc}
 use Rattle.bench_world.proofs.Later.{acted}
+use Rattle.bench_world.proofs.Objected.{objecting-more}
 use Rattle.bench_world.proofs.Turns.{turns-made}
 use Rattle.bench_world.proofs.making.grow.Goals as goal
 
@@ -19,5 +22,11 @@ returns-clause-kept c = λ type_name place. record {
       let tree = rw (c.node-parent.ensures, c.created_name-name.ensures, m.tree) at c.in-Ok.ensures.nodes in
       let turns : AreTurns (components_of history ++ length (nodes_of history) ∷ []) (called_of history) (length (nodes_of history ++ made ∷ [])) c.push.new.self.items =
       rw (c.in-Ok-push.ensures.items, c.in-Ok.ensures.id, m.tree, length-snoc (nodes_of history) made) (turns-made m.turns) in
+      let speaker = node_of c.args.services.now.answer.speaker in
+      let longer = length-snoc (nodes_of history) made in
+      let speaks : node_of (speaker_of history) < length (nodes_of history ++ made ∷ []) = omega (arith, m.speaks, longer) in
+      let below : speaker < length (nodes_of history) = rw m.answer.speaker m.speaks in
+      let is : c.add.new.self.nodes ≡ objections_of history ++ new_node (length (nodes_of history)) speaker ∷ [] = rw (c.node-parent.ensures, c.in-Ok.ensures.id, m.tree, m.objections.are) at c.in-Ok-add.ensures.ok in
+      let objections = objecting-more c.add.new.self speaker c.nodes_grow.ensures below m.objections longer is in
       search (rules, acted);
 }

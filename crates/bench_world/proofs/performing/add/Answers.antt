@@ -1,10 +1,13 @@
-use Rattle.std.proofs.Common.{◌≡◌, Some, None, sym, ◌∙◌, refl, rules}
+use Rattle.std.proofs.Common.{◌≡◌, ◌<◌, ◌≤◌, [], ◌∷◌, ◌++◌, length, arith, Some, None, sym, ◌∙◌, refl, rules}
 use Rattle.uvm_tree.specs.Nodes.{child}
 use Rattle.uvm_object.specs.Acts.{node_of}
 use Rattle.uvm_object.specs.declared.acts.Act.TheVariants.{Add}
-use Rattle.bench_history.specs.History.{nodes_of, kind_of, is_built}
+use Rattle.uvm_objection.specs.Nodes.{new_node}
+use Rattle.bench_history.specs.History.{nodes_of, kind_of, is_built, speaker_of}
+use Rattle.bench_history.specs.Objections.{objections_of}
 use Rattle.bench_history.specs.Refusals.{addition_refusal}
-use Rattle.bench_world.proofs.Answered.{turns-more, one-longer}
+use Rattle.bench_world.proofs.Answered.{turns-more, one-longer, length-snoc}
+use Rattle.bench_world.proofs.Objected.{objecting-more}
 use Rattle.bench_world.proofs.Later.{acted, refused-attempt}
 use Rattle.bench_world.proofs.performing.add.Goals as goal
 
@@ -24,8 +27,14 @@ returns c = λ place. rw (c.done.ensures.attempt, c.done.ensures.services) (reco
         let m = s.known in
         let left = s.left in
         let added = child (nodes_of history) (node_of c.args.services.now.answer.speaker) c.args.name (kind_of c.args.what) in
-        let tree = rw (c.node-node.ensures, c.kind_of.ensures, m.tree) at c.in_ok-add_child.ensures.nodes in
+        let speaker = node_of c.args.services.now.answer.speaker in
+        let tree = rw (c.node-parent.ensures, c.kind_of.ensures, m.tree) at c.in_ok-node.ensures.nodes in
         let turns = turns-more _ (one-longer (nodes_of history) added) m.turns in
+        let longer = length-snoc (nodes_of history) added in
+        let speaks : node_of (speaker_of history) < length (nodes_of history ++ added ∷ []) = omega (arith, m.speaks, longer) in
+        let below : speaker < length (nodes_of history) = rw m.answer.speaker m.speaks in
+        let is : c.add.new.self.nodes ≡ objections_of history ++ new_node (length (nodes_of history)) speaker ∷ [] = rw (c.node-parent.ensures, c.in_ok-node.ensures.id, m.tree, m.objections.are) at c.in_ok-add.ensures.ok in
+        let objections = objecting-more c.add.new.self speaker c.nodes_grow.ensures below m.objections longer is in
         search (rules, acted);
   };
 })

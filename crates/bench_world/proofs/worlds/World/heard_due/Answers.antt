@@ -3,7 +3,7 @@ use Rattle.uvm_object.specs.declared.entries.Entry.TheVariants.{Heard}
 use Rattle.bench_history.specs.History.{opening}
 use Rattle.bench_history.specs.Dues.{caused_of, heard_of, ended_of}
 use Rattle.bench_world.proofs.Later.{later, entered}
-use Rattle.bench_world.proofs.Heard.{heard-answer}
+use Rattle.bench_world.proofs.Heard.{asked-within, heard-answer}
 use Rattle.bench_world.proofs.Told.{agenda-heard}
 use Rattle.bench_world.proofs.worlds.World.heard_due.Goals as goal
 
@@ -15,5 +15,7 @@ invariant_of-self-2 c =
     let d = c.due_calls_go_in_order.ensures c.self.inside.script before c.args.who c.args.call c.args.cause r.next in
     let first = ap (λ l. slice_get l 0) m.agenda.are ∙ d.1 in
     let agenda = rw d.2 at (agenda-heard (caused_of before) (heard_of before) (ended_of before) _ _ _ d.0 c.order_keeps_all.ensures c.order_loses_first.ensures m.agenda first c.take_first.ensures.rest) in
+    let asked = c.asked_are_components.ensures c.self.inside.script before c.args.who c.args.call (Some c.args.cause) c.self.invariant.1.legal.each r.next in
+    let speaks = asked-within c.args.who asked m.turns in
     let answer = rw (← c.len-place.ensures, ← c.len-count.ensures) at (heard-answer (opening c.self.inside.script) before c.args.who c.args.call (Some c.args.cause) c.args.acts) in
     search (rules, later))

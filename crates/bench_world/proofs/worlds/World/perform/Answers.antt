@@ -15,4 +15,4 @@ invariant_of-self-in-Needed c =
     let kept = c.in_ok-make_room-in-Needed.ensures in
     let need = rw (c.in-Needed.is, c.act.ensures, c.len-place.ensures, ← c.in_ok-waiting-in-Needed.ensures.0, ← c.in_ok-waiting-in-Needed.ensures.1) at c.in_ok-outcome.ensures in
     let waiting = c.in_ok-waiting-in-Needed in
-    waits waiting.waiting c.self.invariant r.sound r.room (rw waiting.ensures.1 r.left) (rw waiting.ensures.1 r.next) c.phases_go_in_order.ensures need kept.log kept.log_spare kept.services kept.nodes kept.items kept.reporting kept.tree_spare kept.components waiting.ensures.2 kept.report_room
+    waits waiting.waiting c.self.invariant r.sound r.room (rw waiting.ensures.1 r.left) (rw waiting.ensures.1 r.next) c.phases_go_in_order.ensures need kept.log kept.log_spare kept.services kept.nodes kept.items kept.reporting kept.objections kept.objection_spare kept.tree_spare kept.components waiting.ensures.2 kept.report_room

@@ -1,0 +1,208 @@
+//! The lines of acts.
+
+ghost use Rattle.std.specs.Prelude.{◌≡◌, ◌++◌, ◌∷◌, OnOk};
+ghost use Rattle.std.specs.Fmt.{decimal};
+ghost use Rattle.uvm_object.specs.declared.acts.Act.TheVariants as act;
+ghost use Rattle.uvm_object.specs.Lines.{act_text, actions_text, id_text, what_text, which_text};
+
+use crate::acts::{Act, What};
+use crate::lines::{push_integer, push_number, push_two};
+use std::alloc::AllocError;
+use uvm_glob::{Glob, Name};
+use uvm_report::{Actions, Report, Severity, Which};
+
+pub(crate) fn push_act(act: &Act, line: &mut Vec<u8>) -> Result<(), AllocError>
+    ensures { OnOk result (line.new.items ≡ line.old.items ++ act_text act.now) }
+{
+    match act {
+        Act::Create { type_name, name } => push_names(b"create ", type_name, name, line),
+        Act::Add { name, what } => push_addition(name, *what, line),
+        Act::Set { glob, field, value } => push_setting(glob, field, *value, line),
+        Act::Get { field } => push_bytes(b"get ", field.as_bytes(), line),
+        Act::OverrideType {
+            original,
+            new,
+            replace,
+        } => push_override(original, new, *replace, line),
+        Act::OverrideInst {
+            original,
+            new,
+            glob,
+        } => push_override_at(original, new, glob, line),
+        Act::Report { report } => push_report(report, line),
+        Act::Verbosity { which, level } => push_level(which, *level, line),
+        Act::Actions { which, actions } => push_actions(which, *actions, line),
+        Act::Severity { from, id, to } => push_change(*from, id, *to, line),
+        Act::RaiseObjection { count } => push_count(b"raise ", *count, line),
+        Act::DropObjection { count } => push_count(b"drop ", *count, line),
+    }
+}
+
+fn push_addition(name: &Name, what: What, line: &mut Vec<u8>) -> Result<(), AllocError>
+    ensures { OnOk result (line.new.items ≡ line.old.items ++ act_text (act.Add name.now what)) }
+{
+    push_bytes(b"add ", name.as_bytes(), line)?;
+    line.push(b' ')?;
+    push_what(what, line)
+}
+
+fn push_setting(glob: &Glob, field: &Name, value: i64, line: &mut Vec<u8>) -> Result<(), AllocError>
+    ensures { OnOk result (line.new.items ≡ line.old.items ++ act_text (act.Set glob.now field.now value)) }
+{
+    push_bytes(b"set (", glob.as_bytes(), line)?;
+    push_bytes(b") ", field.as_bytes(), line)?;
+    line.push(b' ')?;
+    push_integer(value, line)
+}
+
+fn push_override(
+    original: &Name,
+    new: &Name,
+    replace: bool,
+    line: &mut Vec<u8>,
+) -> Result<(), AllocError>
+    ensures { OnOk result (line.new.items ≡ line.old.items ++ act_text (act.OverrideType original.now new.now replace)) }
+{
+    push_names(b"override ", original, new, line)?;
+    if replace {
+        line.extend_from_slice(b" replace")?;
+    }
+    Ok(())
+}
+
+fn push_override_at(
+    original: &Name,
+    new: &Name,
+    glob: &Glob,
+    line: &mut Vec<u8>,
+) -> Result<(), AllocError>
+    ensures { OnOk result (line.new.items ≡ line.old.items ++ act_text (act.OverrideInst original.now new.now glob.now)) }
+{
+    push_names(b"override ", original, new, line)?;
+    push_bytes(b" at (", glob.as_bytes(), line)?;
+    line.extend_from_slice(b")")
+}
+
+fn push_report(report: &Report, line: &mut Vec<u8>) -> Result<(), AllocError>
+    ensures { OnOk result (line.new.items ≡ line.old.items ++ act_text (act.Report report.now)) }
+{
+    push_two(b"report ", report.severity.name(), line)?;
+    push_bytes(b" ", report.id.as_bytes(), line)
+}
+
+fn push_level(which: &Which, level: u16, line: &mut Vec<u8>) -> Result<(), AllocError>
+    ensures { OnOk result (line.new.items ≡ line.old.items ++ act_text (act.Verbosity which.now level)) }
+{
+    line.extend_from_slice(b"verbosity ")?;
+    push_which(which, line)?;
+    push_count(b" ", level, line)
+}
+
+fn push_actions(which: &Which, actions: Actions, line: &mut Vec<u8>) -> Result<(), AllocError>
+    ensures { OnOk result (line.new.items ≡ line.old.items ++ act_text (act.Actions which.now actions)) }
+{
+    line.extend_from_slice(b"actions ")?;
+    push_which(which, line)?;
+    push_two(b" ", actions_text(actions), line)
+}
+
+fn push_change(
+    from: Severity,
+    id: &Option<Name>,
+    to: Severity,
+    line: &mut Vec<u8>,
+) -> Result<(), AllocError>
+    ensures { OnOk result (line.new.items ≡ line.old.items ++ act_text (act.Severity from id.now to)) }
+{
+    push_two(b"severity ", from.name(), line)?;
+    line.push(b' ')?;
+    push_id(id, line)?;
+    push_two(b" ", to.name(), line)
+}
+
+// A word and a number.
+fn push_count(word: &[u8], count: u16, line: &mut Vec<u8>) -> Result<(), AllocError>
+    ensures { OnOk result (line.new.items ≡ line.old.items ++ (word.now ++ decimal count)) }
+{
+    line.extend_from_slice(word)?;
+    push_number(usize::from(count), line)
+}
+
+// A word and some bytes.
+fn push_bytes(word: &[u8], bytes: &[u8], line: &mut Vec<u8>) -> Result<(), AllocError>
+    ensures { OnOk result (line.new.items ≡ line.old.items ++ (word.now ++ bytes.now)) }
+{
+    line.extend_from_slice(word)?;
+    line.extend_from_slice(bytes)
+}
+
+// The reports that a setting is for.
+fn push_which(which: &Which, line: &mut Vec<u8>) -> Result<(), AllocError>
+    ensures { OnOk result (line.new.items ≡ line.old.items ++ which_text which.now) }
+{
+    match which {
+        Which::All => line.extend_from_slice(b"all"),
+        Which::Severity(severity) => line.extend_from_slice(severity.name().as_bytes()),
+        Which::Id(id) => {
+            line.extend_from_slice(b"id ")?;
+            line.extend_from_slice(id.as_bytes())
+        }
+        Which::Both(severity, id) => {
+            line.extend_from_slice(severity.name().as_bytes())?;
+            line.push(b' ')?;
+            line.extend_from_slice(id.as_bytes())
+        }
+    }
+}
+
+// An id that may be absent.
+fn push_id(id: &Option<Name>, line: &mut Vec<u8>) -> Result<(), AllocError>
+    ensures { OnOk result (line.new.items ≡ line.old.items ++ id_text id.now) }
+{
+    match id {
+        Some(id) => line.extend_from_slice(id.as_bytes()),
+        None => line.extend_from_slice(b"none"),
+    }
+}
+
+// The words of a set of actions.
+fn actions_text(actions: Actions) -> &'static str
+    ensures { result.now ≡ actions_text actions }
+{
+    match (actions.display, actions.count, actions.exit) {
+        (true, true, true) => "display,count,exit",
+        (true, true, false) => "display,count",
+        (true, false, true) => "display,exit",
+        (true, false, false) => "display",
+        (false, true, true) => "count,exit",
+        (false, true, false) => "count",
+        (false, false, true) => "exit",
+        (false, false, false) => "none",
+    }
+}
+
+// A word and two names.
+fn push_names(
+    word: &[u8],
+    first: &Name,
+    second: &Name,
+    line: &mut Vec<u8>,
+) -> Result<(), AllocError>
+    ensures { OnOk result (line.new.items ≡ line.old.items ++ (word.now ++ first.now ++ 32 ∷ second.now)) }
+{
+    line.extend_from_slice(word)?;
+    line.extend_from_slice(first.as_bytes())?;
+    line.push(b' ')?;
+    line.extend_from_slice(second.as_bytes())
+}
+
+fn push_what(what: What, line: &mut Vec<u8>) -> Result<(), AllocError>
+    ensures { OnOk result (line.new.items ≡ line.old.items ++ what_text what) }
+{
+    match what {
+        What::Fifo { size } => {
+            line.extend_from_slice(b"fifo ")?;
+            push_number(usize::from(size), line)
+        }
+    }
+}

@@ -1,0 +1,117 @@
+-- The drains that a walk begins and ends.
+use Rattle.std.proofs.Common.{◌≡◌, ◌≢◌, ◌<◌, ◌≤◌, ℕ, zero, suc, ◌+◌, Bool, true, false, ◌&&◌, ◌==◌, nat_lt, List, [], ◌∷◌, map, filter, Option, Some, None, is_some, refl, sym, ap, ◌∙◌, arith, if◌then◌else◌}
+use Rattle.std.specs.Option.{option_to_list}
+use Rattle.std.proofs.lemmas.Bool.Decides.{nat_tests}
+use Rattle.uvm_objection.specs.declared.nodes.Change.{Change}
+use Rattle.uvm_objection.specs.declared.nodes.Entry.{Entry}
+use Rattle.uvm_objection.specs.declared.objections.Due.{Due}
+use Rattle.uvm_objection.specs.declared.walks.Walk.{Walk}
+use Rattle.uvm_objection.specs.Nodes.{Node, held_of}
+use Rattle.uvm_objection.specs.Totals.{held_after}
+use Rattle.uvm_objection.specs.Walks.{walked, entry_next, walk_next, is_at}
+use Rattle.uvm_objection.specs.Kept.{node_of}
+use Rattle.uvm_objection.proofs.Passed.{AddUp}
+use Rattle.uvm_objection.proofs.Trees.{Differs, Distinct, same_node, other_node}
+use Rattle.uvm_objection.proofs.Settling.{walk_settles, low_at, held_none}
+
+-- what was held at each
+abbrev pub WasHeld : (ℕ → ℕ) → List Entry → Type 0
+WasHeld held [] = Unit {0}
+WasHeld held (e ∷ newer) = (held e.node ≡ e.held) × WasHeld held newer
+
+held_later : (n : Node) (nodes : List Node) (es : List Entry) → Differs n.node es → WasHeld (λ k. held_of k nodes) es → WasHeld (λ k. held_of k (n ∷ nodes)) es
+held_later n nodes [] apart held = tt
+held_later n nodes (e ∷ newer) apart held =
+    let differ : n.node ≢ e.node = λ h. apart.0 (sym h) in
+    (rw (other_node n.node e.node differ) held.0, held_later n nodes newer apart.1 held.1)
+
+pub was_held : (es : List Entry) → Distinct es → WasHeld (λ k. held_of k (map node_of es)) es
+was_held [] apart = tt
+was_held (e ∷ newer) apart = (rw (same_node e.node) refl, held_later (node_of e) (map node_of newer) newer apart.0 (was_held newer apart.1))
+
+-- one more that passes a test, or does not
+filter_cons : {A : Type 0} (f : Node → A) (p : Node → Bool) (x : Node) (xs : List Node) (b : Bool) → p x ≡ b → map f (filter p (x ∷ xs)) ≡ (if b then f x ∷ map f (filter p xs) else map f (filter p xs))
+filter_cons f p x xs true is = rw is refl
+filter_cons f p x xs false is = rw is refl
+
+one_option : {A : Type 0} (b : Bool) (x : A) (o : Option A) (l : List A) → l ≡ option_to_list o → (b ≡ true → o ≡ None) → (if b then x ∷ l else l) ≡ option_to_list (if b then Some x else o)
+one_option true x o l is none = ap (λ r. x ∷ r) (is ∙ ap option_to_list (none refl))
+one_option false x o l is none = is
+
+-- nothing is there yet where it would count for something
+none_yet : {A : Type 0} (o : Option A) (n : ℕ) → (is_some o ≡ true → 0 < n) → n ≡ 0 → o ≡ None
+none_yet None n counts none = refl
+none_yet (Some x) n counts none = let some = counts refl in absurd (omega (arith, some, none))
+
+counts_on : {A : Type 0} (b : Bool) (x : A) (o : Option A) (n m : ℕ) → (is_some o ≡ true → 0 < n) → n ≤ m → (b ≡ true → 0 < m) → is_some (if b then Some x else o) ≡ true → 0 < m
+counts_on true x o n m counts less new some = new refl
+counts_on false x o n m counts less new some = let now = counts some in omega (arith, now, less)
+
+not_both : (h : ℕ) → (nat_lt 0 h && (h == 0)) ≡ false
+not_both h = grind (arith, nat_tests)
+
+not_either : (h : ℕ) → ((h == 0) && nat_lt 0 h) ≡ false
+not_either h = grind (arith, nat_tests)
+
+begun_holds : (h g : ℕ) → ((h == 0) && nat_lt 0 g) ≡ true → 0 < g
+begun_holds h g new = grind (arith, nat_tests)
+
+ended_held : (h g : ℕ) → (nat_lt 0 h && (g == 0)) ≡ true → 0 < h
+ended_held h g new = grind (arith, nat_tests)
+
+-- a drain begins where nothing goes up any more
+none_after : (t r a d h : ℕ) → 0 < held_after t (r + a) d h → a ≡ 0
+none_after t r zero d h some = refl
+none_after t r (suc a) d h some = let none = held_none t (r + suc a) d h (omega arith) in absurd (omega (arith, some, none))
+
+abbrev pub has_begun : (ℕ → ℕ) → Node → Bool
+has_begun held n = (held n.node == 0) && nat_lt 0 n.held
+
+abbrev pub has_ended : (ℕ → ℕ) → Node → Bool
+has_ended held n = nat_lt 0 (held n.node) && (n.held == 0)
+
+abbrev pub due_at : Node → Due
+due_at n = record { node = n.node; at = n.due }
+
+pub record IsTold (held : ℕ → ℕ) (w : Walk) (ys : List Entry) : Type 0 where
+  pub began : map due_at (filter (has_begun held) (map node_of ys)) ≡ option_to_list w.began
+  pub ended : map (λ n. n.node) (filter (has_ended held) (map node_of ys)) ≡ option_to_list w.ended
+  after : is_some w.began ≡ true → 0 < w.after
+  before : is_some w.ended ≡ true → 0 < w.before
+
+module _ (c : Change) (held : ℕ → ℕ) (w : Walk) (e : Entry) (ys : List Entry) (good : 0 < e.total → e.held ≡ 0) (was : held e.node ≡ e.held) (low : is_at w e ≡ true → w.before ≤ e.total) (so_far : IsTold held w ys) where
+  told_here : (b : Bool) → is_at w e ≡ b → IsTold held (if b then walk_next w e (entry_next c w e) else w) ((if b then entry_next c w e else e) ∷ ys)
+  told_here true at =
+      let g = entry_next c w e in
+      let n = node_of g in
+      let begun = (e.held == 0) && nat_lt 0 g.held in
+      let ends = nat_lt 0 e.held && (g.held == 0) in
+      let less = low at in
+      record {
+        began =
+            filter_cons due_at (has_begun held) n (map node_of ys) begun (ap (λ h. (h == 0) && nat_lt 0 g.held) was)
+            ∙ one_option begun (due_at n) w.began _ so_far.began (λ new. none_yet w.began w.after so_far.after (none_after e.total _ w.after _ _ (begun_holds e.held g.held new)));
+        ended =
+            filter_cons (λ m. m.node) (has_ended held) n (map node_of ys) ends (ap (λ h. nat_lt 0 h && (g.held == 0)) was)
+            ∙ one_option ends e.node w.ended _ so_far.ended (λ new. none_yet w.ended w.before so_far.before (nothing_up e.total e.held w.before good less (ended_held e.held g.held new)));
+        after = counts_on begun (due_at n) w.began w.after (g.total + g.held) so_far.after (omega arith) (λ new. let some = begun_holds e.held g.held new in omega (arith, some));
+        before = counts_on ends e.node w.ended w.before (e.total + e.held) so_far.before (omega (arith, less)) (λ new. let some = ended_held e.held g.held new in omega (arith, some));
+      }
+    where
+      nothing_up : (t h b : ℕ) → (0 < t → h ≡ 0) → b ≤ t → 0 < h → b ≡ 0
+      nothing_up zero h b none less some = omega arith
+      nothing_up (suc t) h b none less some = let is = none (omega arith) in absurd (omega (arith, is, some))
+  told_here false at = record {
+    began = filter_cons due_at (has_begun held) (node_of e) (map node_of ys) false (ap (λ h. (h == 0) && nat_lt 0 e.held) was ∙ not_either e.held) ∙ so_far.began;
+    ended = filter_cons (λ m. m.node) (has_ended held) (node_of e) (map node_of ys) false (ap (λ h. nat_lt 0 h && (e.held == 0)) was ∙ not_both e.held) ∙ so_far.ended;
+    after = so_far.after;
+    before = so_far.before;
+  }
+
+-- what a walk tells of drains
+pub walk_tells : (c : Change) (held : ℕ → ℕ) (es : List Entry) → Distinct es → AddUp es → WasHeld held es → IsTold held (walked c es).walk (walked c es).entries
+walk_tells c held [] apart kept was = record { began = refl; ended = refl; after = λ some. let no : false ≡ true = some in cc; before = λ some. let no : false ≡ true = some in cc }
+walk_tells c held (e ∷ newer) apart kept was =
+    let below = walked c newer in
+    let is = kept.0 in
+    told_here c held below.walk e below.entries kept.1 was.0 (λ at. let low = low_at c below.walk e newer below.entries (walk_settles c newer apart.1 kept.2) apart kept at in omega (arith, low, is)) (walk_tells c held newer apart.1 kept.2 was.1) (is_at below.walk e) refl

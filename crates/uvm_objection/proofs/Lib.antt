@@ -1,0 +1,13 @@
+pub mod Passed
+pub mod Trees
+pub mod Sums
+pub mod Settling
+pub mod Drains
+pub mod Passing
+pub mod Objecting
+pub mod Finding
+pub mod Adding
+pub mod Summing
+pub mod Staying
+pub mod Beginning
+pub mod Growing

@@ -1,0 +1,198 @@
+-- What is kept goes through a change.
+use Rattle.std.proofs.Common.{◌≡◌, ◌<◌, ◌≤◌, ℕ, ◌+◌, ◌^◌, ◌⊎◌, inl, inr, Bool, true, false, ◌==◌, List, [], ◌∷◌, map, Option, refl, sym, ap, ◌∙◌, subst, arith, if◌then◌else◌}
+use Rattle.std.specs.Option.{option_to_list}
+use Rattle.uvm_objection.specs.declared.nodes.Entry.{Entry}
+use Rattle.uvm_objection.specs.declared.nodes.Change.{Change}
+use Rattle.uvm_objection.specs.declared.nodes.ChangeKind.{ChangeKind}
+use Rattle.uvm_objection.specs.declared.nodes.ChangeKind.TheVariants.{Raise, Drop, Release, SetDrain}
+use Rattle.uvm_objection.specs.declared.walks.Walk.{Walk}
+use Rattle.uvm_objection.specs.declared.objections.Objection.TheInside.{Inside}
+use Rattle.uvm_objection.specs.Nodes.{Node, held_of}
+use Rattle.uvm_objection.specs.Totals.{total, settled, settled_node, drains_begun, drains_ended}
+use Rattle.uvm_objection.specs.Laws.{IsTree, AreNodes}
+use Rattle.uvm_objection.specs.Changes.{source_changed, held_changed, drain_changed, entry_changed, node_changed, nodes_changed, most_raised, IsWithin, IsTimely, IsSteady}
+use Rattle.uvm_objection.specs.Walks.{walked, CanWalk}
+use Rattle.uvm_objection.specs.Kept.{node_of, Kept, Fits, IsObjection}
+use Rattle.uvm_objection.proofs.Passed.{is_under, passed, when, AddUp}
+use Rattle.uvm_objection.proofs.Trees.{Differs, Distinct, distinct_of, Under, under_top, shape, true_node}
+use Rattle.uvm_objection.proofs.Sums.{Agree, agree, first_total, add_up, kept_of}
+use Rattle.uvm_objection.proofs.Settling.{Rises, Before, IsSettled, walk_settles, walk_can, entry_same}
+use Rattle.uvm_objection.proofs.Drains.{IsTold, was_held, walk_tells}
+
+abbrev pub entries_of : Inside → List Entry
+entries_of o = o.top ∷ o.entries.items
+
+abbrev pub nodes_of : Inside → List Node
+nodes_of o = map node_of (entries_of o)
+
+-- the nodes of the entries with a change
+one_changed : (b : Bool) (kind : ChangeKind) (e : Entry) → let f : Entry = record e { source = if b then source_changed kind e.source else e.source; held = if b then held_changed kind e.held else e.held; drain = if b then drain_changed kind e.drain else e.drain } in node_of f ≡ (if b then node_changed kind (node_of e) else node_of e)
+one_changed true (Raise count) e = refl
+one_changed true (Drop count) e = refl
+one_changed true Release e = refl
+one_changed true (SetDrain drain) e = refl
+one_changed false kind e = refl
+
+pub map_changed : (c : Change) (es : List Entry) → map node_of (map (entry_changed c) es) ≡ nodes_changed c.node c.kind (map node_of es)
+map_changed c [] = refl
+map_changed c (e ∷ newer) =
+    ap (λ n. n ∷ map node_of (map (entry_changed c) newer)) (one_changed (c.node == e.node) c.kind e)
+    ∙ ap (λ ns. (let n : Node = if c.node == e.node then node_changed c.kind (node_of e) else node_of e in n) ∷ ns) (map_changed c newer)
+
+-- a node with a positive total holds nothing
+holds_test : (node : ℕ) (e : Entry) (newer : List Entry) (b : Bool) → (e.node == node) ≡ b → Agree (map node_of newer) newer → AddUp (e ∷ newer) → 0 < total (map node_of (e ∷ newer)) node → (0 < total (map node_of newer) node → held_of node (map node_of newer) ≡ 0) → held_of node (map node_of (e ∷ newer)) ≡ 0
+holds_test node e newer true here agrees kept some rest =
+    let own = ap (total (map node_of (e ∷ newer))) (sym (true_node e.node node here)) ∙ first_total e newer agrees ∙ sym kept.0 in
+    let Some : ℕ → Type 0 = λ t. 0 < t in
+    rw here (kept.1 (subst Some own some))
+holds_test node e newer false here agrees kept some rest = let later = rw here at some in rw here (rest later)
+
+pub holds_nothing : (node : ℕ) (es : List Entry) → Distinct es → AddUp es → 0 < total (map node_of es) node → held_of node (map node_of es) ≡ 0
+holds_nothing node [] apart kept some = refl
+holds_nothing node (e ∷ newer) apart kept some =
+    holds_test node e newer (e.node == node) refl (agree newer apart.1 kept.2) kept some (holds_nothing node newer apart.1 kept.2)
+
+pub are_nodes : (o : Inside) → IsObjection o → AreNodes (nodes_of o)
+are_nodes o keeps = record {
+  tree = keeps.tree;
+  positive = λ node some. let apart = distinct_of (entries_of o) keeps.tree in holds_nothing node (entries_of o) apart (add_up (entries_of o) apart keeps.kept) some;
+}
+
+-- a raise lets nothing fall, so that its time does not matter
+raise_rises : (count : ℕ) (b : Bool) (n : ℕ) → (n ≤ (if b then source_changed (Raise count) n else n)) × ((if b then held_changed (Raise count) n else n) ≡ n)
+raise_rises count true n = (omega arith, refl)
+raise_rises count false n = (omega arith, refl)
+
+pub timely : (node : ℕ) (kind : ChangeKind) (time now : ℕ) → IsTimely kind time now → let c : Change = record { node = node; kind = kind; time = time } in (now ≡ time) ⊎ Rises c
+timely node (Raise count) time now is = inr (raise_rises count)
+timely node (Drop count) time now is = inl is
+timely node Release time now is = inl is
+timely node (SetDrain drain) time now is = inl is
+
+pub before_kept : (nodes : List Node) (es : List Entry) → Agree nodes es → Before (total nodes) es
+before_kept nodes [] agree = tt
+before_kept nodes (e ∷ newer) agree = (agree.0, before_kept nodes newer agree.1)
+
+-- there is room for what a change raises
+room : (kind : ChangeKind) (t : ℕ) → t ≤ 10 ^ 18 → IsWithin kind t → t + most_raised kind ≤ 10 ^ 18
+room (Raise count) t low within = within
+room (Drop count) t low within = omega arith
+room Release t low within = omega arith
+room (SetDrain drain) t low within = omega arith
+
+-- a change that changes no total leaves what is settled
+steady_one : (b : Bool) (kind : ChangeKind) (n : ℕ) → IsSteady kind → ((if b then source_changed kind n else n) ≡ n) × ((if b then held_changed kind n else n) ≡ n)
+steady_one true (Raise count) n steady = absurd steady
+steady_one true (Drop count) n steady = absurd steady
+steady_one true Release n steady = absurd steady
+steady_one true (SetDrain drain) n steady = (refl, refl)
+steady_one false kind n steady = (refl, refl)
+
+passed_changed : (c : Change) → IsSteady c.kind → (es : List Entry) (k : ℕ) → passed (map (entry_changed c) es) k ≡ passed es k
+passed_changed c steady [] k = refl
+passed_changed c steady (e ∷ newer) k =
+    ap (λ h. when (is_under e k) (e.total + h) + passed (map (entry_changed c) newer) k) (steady_one (c.node == e.node) c.kind e.held steady).1
+    ∙ ap (λ n. when (is_under e k) (e.total + e.held) + n) (passed_changed c steady newer k)
+
+kept_changed : (c : Change) → IsSteady c.kind → (es : List Entry) → AddUp es → AddUp (map (entry_changed c) es)
+kept_changed c steady [] kept = tt
+kept_changed c steady (e ∷ newer) kept =
+    let source = (steady_one (c.node == e.node) c.kind e.source steady).0 in
+    let held = (steady_one (c.node == e.node) c.kind e.held steady).1 in
+    let below = passed_changed c steady newer e.node in
+    let is = kept.0 in
+    (omega (arith, source, below, is), λ some. held ∙ kept.1 some, kept_changed c steady newer kept.2)
+
+differs_changed : (c : Change) (k : ℕ) (es : List Entry) → Differs k es → Differs k (map (entry_changed c) es)
+differs_changed c k [] apart = tt
+differs_changed c k (e ∷ newer) apart = (apart.0, differs_changed c k newer apart.1)
+
+distinct_changed : (c : Change) (es : List Entry) → Distinct es → Distinct (map (entry_changed c) es)
+distinct_changed c [] apart = tt
+distinct_changed c (e ∷ newer) apart = (differs_changed c e.node newer apart.0, distinct_changed c newer apart.1)
+
+before_changed : (c : Change) (before : ℕ → ℕ) (es : List Entry) → Before before es → Before before (map (entry_changed c) es)
+before_changed c before [] were = tt
+before_changed c before (e ∷ newer) were = (were.0, before_changed c before newer were.1)
+
+settled_kept : (time : ℕ) (before : ℕ → ℕ) (es : List Entry) → Distinct es → AddUp es → Before before es → settled time before (map node_of es) ≡ map node_of es
+settled_kept time before [] apart kept were = refl
+settled_kept time before (e ∷ newer) apart kept were =
+    let n = node_of e in
+    let below = map node_of newer in
+    ap (λ ns. settled_node time (before e.node) (total (n ∷ ns) e.node) n ∷ ns) (settled_kept time before newer apart.1 kept.2 were.1)
+    ∙ ap (λ t. settled_node time t (total (n ∷ below) e.node) n ∷ below) were.0
+    ∙ ap (λ t. settled_node time e.total t n ∷ below) (first_total e newer (agree newer apart.1 kept.2) ∙ sym kept.0)
+    ∙ ap (λ f. node_of f ∷ below) (entry_same time e kept.1)
+
+pub settled_steady : (c : Change) → IsSteady c.kind → (before : ℕ → ℕ) (es : List Entry) → Distinct es → AddUp es → Before before es → settled c.time before (nodes_changed c.node c.kind (map node_of es)) ≡ nodes_changed c.node c.kind (map node_of es)
+settled_steady c steady before es apart sums were =
+    ap (settled c.time before) (sym (map_changed c es))
+    ∙ settled_kept c.time before (map (entry_changed c) es) (distinct_changed c es apart) (kept_changed c steady es sums) (before_changed c before es were)
+    ∙ map_changed c es
+
+module _ (o : Inside) (c : Change) (keeps : IsObjection o) (within : IsWithin c.kind (total (nodes_of o) 0)) where
+  distinct : Distinct (entries_of o)
+  distinct = distinct_of (entries_of o) keeps.tree
+
+  sums : AddUp (entries_of o)
+  sums = add_up (entries_of o) distinct keeps.kept
+
+  agrees : Agree (nodes_of o) (entries_of o)
+  agrees = agree (entries_of o) distinct sums
+
+  top_total : total (nodes_of o) 0 ≡ o.top.total
+  top_total = ap (total (nodes_of o)) (sym keeps.tree.0) ∙ agrees.0
+
+  within_top : IsWithin c.kind o.top.total
+  within_top = let W : ℕ → Type 0 = IsWithin c.kind in subst W top_total within
+
+  limit : o.top.total + most_raised c.kind ≤ 10 ^ 18
+  limit = room c.kind o.top.total keeps.fits.0 within_top
+
+  under : Under o.top.total (entries_of o)
+  under = under_top o.top o.entries.items keeps.tree sums
+
+  pub can_pass : c.time ≤ 10 ^ 18 → CanWalk c (entries_of o)
+  can_pass early = walk_can c (entries_of o) distinct sums o.top.total within_top o.top.total limit under keeps.fits early
+
+  settled_all : IsSettled c (walked c (entries_of o)).walk (entries_of o) (walked c (entries_of o)).entries
+  settled_all = walk_settles c (entries_of o) distinct sums
+
+  told_all : IsTold (λ k. held_of k (nodes_of o)) (walked c (entries_of o)).walk (walked c (entries_of o)).entries
+  told_all = walk_tells c (λ k. held_of k (nodes_of o)) (entries_of o) distinct sums (was_held (entries_of o) distinct)
+
+  module _ (next : Inside) (w : Walk) (entries : entries_of next ≡ (walked c (entries_of o)).entries) (walk : w ≡ (walked c (entries_of o)).walk) where
+    pub kept_after : IsObjection next
+    kept_after =
+        let T : List (ℕ × Option ℕ) → Type 0 = IsTree in
+        let K : List Entry → Type 0 = Kept in
+        let F : List Entry → Type 0 = Fits in
+        record {
+          tree = subst T (sym (ap shape entries ∙ settled_all.places)) keeps.tree;
+          kept = subst K (sym entries) (kept_of (walked c (entries_of o)).entries settled_all.distinct settled_all.kept);
+          fits = subst F (sym entries) (settled_all.fits o.top.total within_top o.top.total limit under keeps.fits);
+        }
+
+    pub nodes_after : (now : ℕ) → IsTimely c.kind c.time now → nodes_of next ≡ settled now (total (nodes_of o)) (nodes_changed c.node c.kind (nodes_of o))
+    nodes_after now is =
+        ap (map node_of) entries
+        ∙ settled_all.nodes (total (nodes_of o)) now (timely c.node c.kind c.time now is) (before_kept (nodes_of o) (entries_of o) agrees)
+        ∙ ap (settled now (total (nodes_of o))) (map_changed c (entries_of o))
+
+    pub begun_after : drains_begun (nodes_of o) (nodes_of next) ≡ option_to_list w.began
+    begun_after = ap (λ es. drains_begun (nodes_of o) (map node_of es)) entries ∙ told_all.began ∙ ap (λ v. option_to_list v.began) (sym walk)
+
+    pub ended_after : drains_ended (nodes_of o) (nodes_of next) ≡ option_to_list w.ended
+    ended_after = ap (λ es. drains_ended (nodes_of o) (map node_of es)) entries ∙ told_all.ended ∙ ap (λ v. option_to_list v.ended) (sym walk)
+
+    pub steady_after : IsSteady c.kind → nodes_of next ≡ nodes_changed c.node c.kind (nodes_of o)
+    steady_after steady =
+        nodes_after c.time (same_time c.kind steady)
+        ∙ settled_steady c steady (total (nodes_of o)) (entries_of o) distinct sums (before_kept (nodes_of o) (entries_of o) agrees)
+      where
+        same_time : (kind : ChangeKind) → IsSteady kind → IsTimely kind c.time c.time
+        same_time (Raise count) steady = tt
+        same_time (Drop count) steady = refl
+        same_time Release steady = refl
+        same_time (SetDrain drain) steady = refl

@@ -1,0 +1,72 @@
+-- A change of one node.
+use Rattle.std.specs.Prelude.{◌≡◌, ℕ, ◌==◌, ◌+◌, ◌-◌, ◌^◌, ◌≤◌, List, if◌then◌else◌}
+use Rattle.uvm_objection.specs.Nodes.{Node, changed_at}
+use Rattle.uvm_objection.specs.declared.nodes.Entry.{Entry}
+use Rattle.uvm_objection.specs.declared.nodes.Change.{Change}
+use Rattle.uvm_objection.specs.declared.nodes.ChangeKind.{ChangeKind}
+use Rattle.uvm_objection.specs.declared.nodes.ChangeKind.TheVariants.{Raise, Drop, Release, SetDrain}
+
+-- what a change makes of a source, of what is held, and of a drain time
+abbrev pub source_changed : ChangeKind → ℕ → ℕ
+source_changed (Raise count) source = source + count
+source_changed (Drop count) source = source - count
+source_changed Release source = source
+source_changed (SetDrain drain) source = source
+
+abbrev pub held_changed : ChangeKind → ℕ → ℕ
+held_changed (Raise count) held = held
+held_changed (Drop count) held = held
+held_changed Release held = 0
+held_changed (SetDrain drain) held = held
+
+abbrev pub drain_changed : ChangeKind → ℕ → ℕ
+drain_changed (Raise count) drain = drain
+drain_changed (Drop count) drain = drain
+drain_changed Release drain = drain
+drain_changed (SetDrain time) drain = time
+
+-- an entry with the change, where it is of its node
+abbrev pub entry_changed : Change → Entry → Entry
+entry_changed c e = record e {
+  source = if c.node == e.node then source_changed c.kind e.source else e.source;
+  held = if c.node == e.node then held_changed c.kind e.held else e.held;
+  drain = if c.node == e.node then drain_changed c.kind e.drain else e.drain;
+}
+
+-- the nodes with the change at one of them
+abbrev pub node_changed : ChangeKind → Node → Node
+node_changed (Raise count) e = record e { source = e.source + count }
+node_changed (Drop count) e = record e { source = e.source - count }
+node_changed Release e = record e { held = 0 }
+node_changed (SetDrain drain) e = record e { drain = drain }
+
+abbrev pub nodes_changed : ℕ → ChangeKind → List Node → List Node
+nodes_changed node kind nodes = changed_at node (node_changed kind) nodes
+
+-- the most that a change adds to a total
+abbrev pub most_raised : ChangeKind → ℕ
+most_raised (Raise count) = count
+most_raised (Drop count) = 0
+most_raised Release = 0
+most_raised (SetDrain drain) = 0
+
+-- what a change asks for, by the total of the top
+abbrev pub IsWithin : ChangeKind → ℕ → Type 0
+IsWithin (Raise count) total = total + count ≤ 10 ^ 18
+IsWithin (Drop count) total = Unit {0}
+IsWithin Release total = Unit {0}
+IsWithin (SetDrain drain) total = drain ≤ 10 ^ 15
+
+-- a change at a time may count as one at another: a raise begins no drain
+abbrev pub IsTimely : ChangeKind → ℕ → ℕ → Type 0
+IsTimely (Raise count) time now = Unit {0}
+IsTimely (Drop count) time now = now ≡ time
+IsTimely Release time now = now ≡ time
+IsTimely (SetDrain drain) time now = now ≡ time
+
+-- it changes no total
+abbrev pub IsSteady : ChangeKind → Type 0
+IsSteady (Raise count) = ⊥
+IsSteady (Drop count) = ⊥
+IsSteady Release = ⊥
+IsSteady (SetDrain drain) = Unit {0}

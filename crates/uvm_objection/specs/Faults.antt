@@ -1,0 +1,5 @@
+-- What is told of a drop that is refused.
+use Rattle.std.specs.Prelude.{ℕ, List, codes}
+
+abbrev pub fault_text : List ℕ
+fault_text = codes "objection dropped below zero"

@@ -1,0 +1,27 @@
+-- What is kept of the nodes.
+use Rattle.std.specs.Prelude.{◌≡◌, ◌^◌, ◌<◌, ◌≤◌, List, [], ◌∷◌, map}
+use Rattle.uvm_objection.specs.Nodes.{Node}
+use Rattle.uvm_objection.specs.Totals.{total}
+use Rattle.uvm_objection.specs.Laws.{places, IsTree}
+use Rattle.uvm_objection.specs.declared.nodes.Entry.{Entry}
+use Rattle.uvm_objection.specs.declared.objections.Objection.TheInside.{Inside}
+
+-- the node that an entry stands for
+abbrev pub node_of : Entry → Node
+node_of e = record { node = e.node; parent = e.parent; source = e.source; drain = e.drain; held = e.held; due = e.due }
+
+-- each total is that from scratch, and where it is positive nothing is held
+abbrev pub Kept : List Entry → Type 0
+Kept [] = Unit {0}
+Kept (e ∷ newer) = (e.total ≡ total (map node_of (e ∷ newer)) e.node) × (0 < e.total → e.held ≡ 0) × Kept newer
+
+-- the bounds of what is kept
+abbrev pub Fits : List Entry → Type 0
+Fits [] = Unit {0}
+Fits (e ∷ newer) = (e.total ≤ 10 ^ 18) × (e.held ≤ 10 ^ 18) × (e.drain ≤ 10 ^ 15) × Fits newer
+
+-- what an objection keeps
+pub record IsObjection (o : Inside) : Type 0 where
+  pub tree : IsTree (places (map node_of (o.top ∷ o.entries.items)))
+  pub kept : Kept (o.top ∷ o.entries.items)
+  pub fits : Fits (o.top ∷ o.entries.items)

@@ -1,0 +1,73 @@
+-- What holds of the nodes of every objection, and what follows.
+use Rattle.std.specs.Prelude.{◌≡◌, ◌≢◌, ℕ, Bool, true, false, ◌||◌, ◌==◌, ◌+◌, ◌<◌, ◌≤◌, List, [], ◌∷◌, ◌++◌, map, filter, sum_by, All, Option, None, IsTrue}
+use Rattle.std.specs.Option.{option_map_or}
+use Rattle.uvm_objection.specs.Nodes.{Node, top, new_node, is_known, source_of, held_of, due_of, raised, dropped, released, with_drain}
+use Rattle.uvm_objection.specs.Totals.{total, is_child, settled, drains_begun}
+use Rattle.uvm_objection.specs.declared.objections.Due.{Due}
+
+-- each node with its parent
+abbrev pub places : List Node → List (ℕ × Option ℕ)
+places nodes = map (λ e. (e.node, e.parent)) nodes
+
+-- a node stands at none of these places
+abbrev pub IsNew : ℕ → List (ℕ × Option ℕ) → Type 0
+IsNew node [] = Unit {0}
+IsNew node (p ∷ ps) = (p.0 ≢ node) × IsNew node ps
+
+-- each of these stands once, under one that is known or stands before it
+abbrev pub AreUnder : (ℕ → Bool) → List (ℕ × Option ℕ) → Type 0
+AreUnder known [] = Unit {0}
+AreUnder known (p ∷ ps) = (option_map_or known p.1 false ≡ true) × IsNew p.0 ps × AreUnder (λ node. (p.0 == node) || known node) ps
+
+-- these are the top and what stands under it
+abbrev pub IsTree : List (ℕ × Option ℕ) → Type 0
+IsTree [] = ⊥
+IsTree (p ∷ ps) = (p.0 ≡ 0) × (p.1 ≡ None) × IsNew p.0 ps × AreUnder (λ node. p.0 == node) ps
+
+-- these are the nodes of an objection: the top stands first, each other node once and behind its parent, and a node with a
+-- positive total holds nothing
+pub record AreNodes (nodes : List Node) : Type 0 where
+  pub tree : IsTree (places nodes)
+  pub positive : (node : ℕ) → 0 < total nodes node → held_of node nodes ≡ 0
+
+-- a node with a positive total holds nothing
+abbrev pub PositiveTotalHoldsNothing : Type 0
+PositiveTotalHoldsNothing = (nodes : List Node) → AreNodes nodes → (node : ℕ) → 0 < total nodes node → held_of node nodes ≡ 0
+
+-- the total of a node is its source, and of each of its children the total and what it holds back
+abbrev pub TotalIsSum : Type 0
+TotalIsSum = (nodes : List Node) → AreNodes nodes → (node : ℕ) → IsTrue (is_known node nodes) → total nodes node ≡ source_of node nodes + sum_by (λ child. total nodes child.node + child.held) (filter (is_child node) nodes)
+
+-- a drain is that of its node: it is due when that says, and the node holds something
+pub record IsHeldUntilDue (nodes : List Node) (drain : Due) : Type 0 where
+  pub due : due_of drain.node nodes ≡ drain.at
+  pub held : 0 < held_of drain.node nodes
+
+-- so is each drain that began
+abbrev pub BegunDrainsAreHeld : Type 0
+BegunDrainsAreHeld = (earlier nodes : List Node) → AreNodes nodes → All (IsHeldUntilDue nodes) (drains_begun earlier nodes)
+
+-- no call moves a node: the nodes stand where they stood, and who stands where decides who is known
+pub record PlacesStay : Type 0 where
+  pub settled : (time : ℕ) (before : ℕ → ℕ) (nodes : List Node) → places (settled time before nodes) ≡ places nodes
+  pub raised : (node count : ℕ) (nodes : List Node) → places (raised node count nodes) ≡ places nodes
+  pub dropped : (node count : ℕ) (nodes : List Node) → places (dropped node count nodes) ≡ places nodes
+  pub released : (node : ℕ) (nodes : List Node) → places (released node nodes) ≡ places nodes
+  pub with_drain : (node drain : ℕ) (nodes : List Node) → places (with_drain node drain nodes) ≡ places nodes
+  pub known : (node : ℕ) (nodes others : List Node) → places others ≡ places nodes → is_known node others ≡ is_known node nodes
+
+-- these are still the nodes of an objection, and the total of the top grew by no more than a count
+pub record GrowsBy (count : ℕ) (before after : List Node) : Type 0 where
+  pub nodes : AreNodes after
+  pub most : total after 0 ≤ total before 0 + count
+
+-- what each call makes of the nodes of an objection are the nodes of one, and raises alone let the total of the top grow
+pub record ChangesGrow (nodes : List Node) : Type 0 where
+  pub added : (node parent : ℕ) → is_known node nodes ≡ false → IsTrue (is_known parent nodes) → GrowsBy 0 nodes (nodes ++ new_node node parent ∷ [])
+  pub raised : (time node count : ℕ) → GrowsBy count nodes (settled time (total nodes) (raised node count nodes))
+  pub dropped : (time node count : ℕ) → GrowsBy 0 nodes (settled time (total nodes) (dropped node count nodes))
+  pub released : (time node : ℕ) → GrowsBy 0 nodes (settled time (total nodes) (released node nodes))
+  pub with_drain : (node drain : ℕ) → GrowsBy 0 nodes (with_drain node drain nodes)
+
+abbrev pub NodesGrow : Type 0
+NodesGrow = AreNodes (top ∷ []) × ((nodes : List Node) → AreNodes nodes → ChangesGrow nodes)

@@ -1,0 +1,57 @@
+-- The nodes of a tree with what is raised at each, in the order in which they were added: a parent stands before its children.
+use Rattle.std.specs.Prelude.{ℕ, Bool, ◌==◌, ◌+◌, ◌-◌, List, map, find, Option, Some, None, if◌then◌else◌}
+use Rattle.std.specs.List.{list_any}
+use Rattle.std.specs.Option.{option_map_or}
+
+-- a node: its parent, which the top alone has not, the count raised at it, its drain time, the count that it holds back, and
+-- when the drain that began last is due
+pub record Node : Type 0 where
+  pub node : ℕ
+  pub parent : Option ℕ
+  pub source : ℕ
+  pub drain : ℕ
+  pub held : ℕ
+  pub due : ℕ
+
+-- what contracts see: the nodes, and for how many more there is room
+pub record ObjectionValue : Type 0 where
+  pub nodes : List Node
+  pub spare : ℕ
+
+-- the top, and a node that is added under a parent
+abbrev pub top : Node
+top = record { node = 0; parent = None; source = 0; drain = 0; held = 0; due = 0 }
+
+abbrev pub new_node : ℕ → ℕ → Node
+new_node node parent = record { node = node; parent = Some parent; source = 0; drain = 0; held = 0; due = 0 }
+
+-- whether a node is one of them
+abbrev pub is_known : ℕ → List Node → Bool
+is_known node nodes = list_any (λ e. e.node == node) nodes
+
+-- what stands at a node, 0 where there is no such node
+abbrev pub source_of : ℕ → List Node → ℕ
+source_of node nodes = option_map_or (λ e. e.source) (find (λ e. e.node == node) nodes) 0
+
+abbrev pub held_of : ℕ → List Node → ℕ
+held_of node nodes = option_map_or (λ e. e.held) (find (λ e. e.node == node) nodes) 0
+
+abbrev pub due_of : ℕ → List Node → ℕ
+due_of node nodes = option_map_or (λ e. e.due) (find (λ e. e.node == node) nodes) 0
+
+-- the nodes with a change at one of them
+abbrev pub changed_at : ℕ → (Node → Node) → List Node → List Node
+changed_at node change nodes = map (λ e. if node == e.node then change e else e) nodes
+
+-- more is raised at a node, or some of it dropped; nothing is held there any more; its drain time is another
+abbrev pub raised : ℕ → ℕ → List Node → List Node
+raised node count nodes = changed_at node (λ e. record e { source = e.source + count }) nodes
+
+abbrev pub dropped : ℕ → ℕ → List Node → List Node
+dropped node count nodes = changed_at node (λ e. record e { source = e.source - count }) nodes
+
+abbrev pub released : ℕ → List Node → List Node
+released node nodes = changed_at node (λ e. record e { held = 0 }) nodes
+
+abbrev pub with_drain : ℕ → ℕ → List Node → List Node
+with_drain node drain nodes = changed_at node (λ e. record e { drain = drain }) nodes

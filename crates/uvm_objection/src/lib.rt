@@ -1,0 +1,13 @@
+//! Objections: who keeps a phase from ending, and the drains that hold back what has fallen (IEEE 1800.2-2020, Clause 10.5).
+#![tactic(auto)]
+
+mod faults;
+pub mod laws;
+mod nodes;
+mod objections;
+#[cfg(test)]
+mod tests;
+mod walks;
+
+pub use faults::BelowZero;
+pub use objections::{Due, Objection};

@@ -1,0 +1,99 @@
+//! The walk by which a change goes up.
+
+ghost use Rattle.std.specs.Prelude.{◌≡◌, ◌∷◌, IsTrue, vec_capacity, vec_len};
+ghost use Rattle.uvm_objection.specs.Walks.{start_of, is_at, entry_after, walk_after, CanStep, CanWalk, walked};
+
+use crate::nodes::{Change, Entry};
+use crate::objections::Due;
+use uvm_tree::NodeId;
+
+// A walk over the nodes, the newest first: the node that it comes to next, if the change goes up; what a child had passed up
+// to that node, and what it passes up now; and the drains that began and ended.
+#[derive(Clone, Copy)]
+pub(crate) struct Walk {
+    pub at: Option<NodeId>,
+    pub before: u64,
+    pub after: u64,
+    pub began: Option<Due>,
+    pub ended: Option<NodeId>,
+}
+
+impl Walk {
+    // Makes a change at one of the nodes, and passes up what this changes above it.
+    pub(crate) fn over(top: &mut Entry, entries: &mut Vec<Entry>, change: &Change) -> Walk
+        requires { CanWalk change.now (top.old ∷ entries.old.items) }
+        ensures entries { top.new ∷ entries.new.items ≡ (walked change.now (top.old ∷ entries.old.items)).entries }
+        ensures walk { result ≡ (walked change.now (top.old ∷ entries.old.items)).walk }
+        ensures capacity { vec_capacity entries.new ≡ vec_capacity entries.old }
+        ensures length { vec_len entries.new ≡ vec_len entries.old }
+    {
+        let mut walk = Walk::start(change.node);
+        walk.pass(change, entries);
+        walk.step(change, top);
+        walk
+    }
+
+    // The walk of a change at a node, before it comes to one.
+    fn start(node: NodeId) -> Walk
+        ensures { result ≡ record { at = Some node; before = 0; after = 0; began = None; ended = None } }
+    {
+        Walk {
+            at: Some(node),
+            before: 0,
+            after: 0,
+            began: None,
+            ended: None,
+        }
+    }
+
+    // Passes the nodes besides the top, the last first.
+    fn pass(&mut self, change: &Change, entries: &mut Vec<Entry>)
+        requires start { self.old ≡ start_of change.now }
+        requires walk { CanWalk change.now entries.old.items }
+        ensures entries { entries.new.items ≡ (walked change.now entries.old.items).entries }
+        ensures walk { self.new ≡ (walked change.now entries.old.items).walk }
+        ensures capacity { vec_capacity entries.new ≡ vec_capacity entries.old }
+        ensures length { vec_len entries.new ≡ vec_len entries.old }
+    {
+        for place in (0..entries.len()).rev() {
+            self.step(change, &mut entries[place]);
+        }
+    }
+
+    // Passes a node. Where it is the one, its total changes, with it what it holds back, and so what it passes up.
+    fn step(&mut self, change: &Change, entry: &mut Entry)
+        requires { IsTrue (is_at self.old entry.old) → CanStep change.now self.old entry.old }
+        ensures entry { entry.new ≡ entry_after change.now self.old entry.old }
+        ensures walk { self.new ≡ walk_after change.now self.old entry.old }
+    {
+        if !self.is_at(entry) {
+            return;
+        }
+        let (total, held) = (entry.total, entry.held);
+        let passed = total - entry.source - self.before;
+        entry.change(change);
+        entry.settle(passed + entry.source + self.after, change.time);
+        if held == 0 && entry.held > 0 {
+            self.began = Some(Due {
+                node: entry.node,
+                at: entry.due,
+            });
+        }
+        if held > 0 && entry.held == 0 {
+            self.ended = Some(entry.node);
+        }
+        self.at = entry.parent;
+        self.before = total + held;
+        self.after = entry.total + entry.held;
+    }
+
+    // Whether this is the node to which it comes next.
+    fn is_at(&self, entry: &Entry) -> bool
+        ensures { result ≡ is_at self.now entry.now }
+    {
+        match self.at {
+            Some(node) => node == entry.node,
+            None => false,
+        }
+    }
+}

@@ -2,8 +2,9 @@
 
 ghost use Rattle.std.specs.Prelude.{◌≡◌, ◌&&◌, true, if◌then◌else◌};
 ghost use Rattle.uvm_phase.specs.Phases.{is_task};
-ghost use Rattle.uvm_object.specs.declared.fatals.Fatal.TheVariants.{Stall};
-ghost use Rattle.uvm_object.specs.declared.entries.Entry.TheVariants.{Note, End};
+ghost use Rattle.uvm_object.specs.declared.entries.Entry.TheVariants.{End};
+ghost use Rattle.bench_history.specs.Dues.{first_due};
+ghost use Rattle.bench_history.specs.Cases.{time_passes};
 ghost use Rattle.bench_history.specs.Objections.{objections_of, stands};
 ghost use Rattle.bench_history.specs.Next.{next_of};
 ghost use Rattle.bench_core.specs.Choices.{IsChoice, entry_of};
@@ -21,6 +22,8 @@ pub(crate) enum Mark {
     Begin(Phase),
     /// A phase ends.
     End(Phase),
+    /// Time passes.
+    Time(u64),
     /// The kernel reports at a node.
     Note(Fatal, NodeId),
     /// The run is over.
@@ -77,14 +80,27 @@ pub(crate) fn choose(world: &World) -> Choice
     }
 }
 
-// Where each component had its call: the phase ends, or an objection stands and nothing is due.
+// Where each component had its call: the phase ends, or time passes while an objection stands in run.
 fn ending(world: &World, phase: Phase) -> Mark
     requires { world.now.sound ≡ true }
-    ensures { entry_of result ≡ (if is_task phase && stands (objections_of world.now.history) then Note Stall 0 else End phase) }
+    ensures { entry_of result ≡ (if is_task phase && stands (objections_of world.now.history) then time_passes world.now.script.time_limit (first_due world.now.history) else End phase) }
 {
     if phase.is_task() && world.objection_stands() {
-        Mark::Note(Fatal::Stall, NodeId::TOP)
+        time_passes(world)
     } else {
         Mark::End(phase)
+    }
+}
+
+// Time passes to the first call that is due, unless none is, or only beyond the time limit.
+fn time_passes(world: &World) -> Mark
+    requires { world.now.sound ≡ true }
+    ensures { entry_of result ≡ time_passes world.now.script.time_limit (first_due world.now.history) }
+{
+    let limit = world.script().time_limit();
+    match world.agenda().first() {
+        None => Mark::Note(Fatal::Stall, NodeId::TOP),
+        Some(due) if due.time > limit => Mark::Note(Fatal::Timeout, NodeId::TOP),
+        Some(due) => Mark::Time(due.time),
     }
 }

@@ -396,6 +396,7 @@ fn enter(world: &mut World, mark: Mark) -> Result<(), AllocError>
     match mark {
         Mark::Begin(phase) => world.begin(phase),
         Mark::End(phase) => world.end(phase),
+        Mark::Time(time) => world.time(time),
         Mark::Note(fatal, node) => world.note(fatal, node),
         Mark::Over(reason) => world.over(reason),
     }

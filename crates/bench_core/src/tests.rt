@@ -15,6 +15,9 @@ const SCRIPT: &[u8] =
     b"version = 1\ntest = \"t\"\ntype = [{ name = \"t\", kind = \"component\" }, { name = \"c\", kind = \"component\" }]
 set = [{ scope = \"*\", field = \"f\", value = 7 }]\n";
 
+const LIMITED_SCRIPT: &[u8] =
+    b"version = 1\ntest = \"t\"\ntime_limit = 100\ntype = [{ name = \"t\", kind = \"component\" }]\n";
+
 // Nothing is done with fatal reports.
 const SILENCED_SCRIPT: &[u8] =
     b"version = 1\ntest = \"t\"\ntype = [{ name = \"t\", kind = \"component\" }]
@@ -43,6 +46,10 @@ enum Bench {
     Reporting,
     /// To this phase: objections are raised and dropped.
     Objecting(Phase, &'static [Objecting]),
+    /// To run: an objection is raised, and dropped after so many ticks.
+    Sleeping(u64),
+    /// To build: a wait of no ticks.
+    WaitingInBuild,
 }
 
 /// What is done to the objections of the test.
@@ -170,6 +177,36 @@ fn objections_are_no_acts_of_other_phases(rt: HostRuntime) -> Result<(), Fail> {
     const RAISED: &[Objecting] = &[Objecting::Raise(1)];
     let text = transcript(rt.alloc(), Bench::Objecting(Phase::Build, RAISED))?;
     assert_eq!(rt; text.as_slice(), RAISED_IN_BUILD);
+    Ok(())
+}
+
+#[test]
+fn time_passes_to_the_first_call_that_is_due(rt: HostRuntime) -> Result<(), Fail> {
+    let (text, _) = counted(rt.alloc(), LIMITED_SCRIPT, Bench::Sleeping(100))?;
+    assert!(rt; text.as_slice().starts_with(SLEPT_BEGIN));
+    assert!(rt; text.as_slice().ends_with(b"over finished\n"));
+    Ok(())
+}
+
+#[test]
+fn time_passes_no_limit(rt: HostRuntime) -> Result<(), Fail> {
+    let (text, _) = counted(rt.alloc(), LIMITED_SCRIPT, Bench::Sleeping(101))?;
+    assert!(rt; text.as_slice().ends_with(TIMEOUT_END));
+    Ok(())
+}
+
+#[test]
+fn waits_are_limited(rt: HostRuntime) -> Result<(), Fail> {
+    let text = transcript(rt.alloc(), Bench::Sleeping(1_000_000_000_000_001))?;
+    assert!(rt; text.as_slice().ends_with(OUT_OF_RANGE_END));
+    Ok(())
+}
+
+#[test]
+fn wait_of_no_ticks_is_for_each_phase(rt: HostRuntime) -> Result<(), Fail> {
+    let text = transcript(rt.alloc(), Bench::WaitingInBuild)?;
+    assert!(rt; text.as_slice().starts_with(WAITED_IN_BUILD));
+    assert!(rt; text.as_slice().ends_with(b"over finished\n"));
     Ok(())
 }
 
@@ -398,6 +435,9 @@ fn test_path(alloc: Global) -> Result<Path, Fail> {
 // What somebody answers: the test as the bench says, and all others nothing.
 fn acts_of(alloc: Global, bench: Bench, is_test: bool, call: Call) -> Result<Acts, Fail> {
     let mut acts = Acts::new(alloc);
+    if let (Bench::Sleeping(_), Call::Wake { .. }) = (bench, call) {
+        acts.push(Act::DropObjection { count: 1 })?;
+    }
     let (true, Call::Phase(phase)) = (is_test, call) else {
         return Ok(acts);
     };
@@ -410,6 +450,10 @@ fn acts_of(alloc: Global, bench: Bench, is_test: bool, call: Call) -> Result<Act
             for act in answer {
                 acts.push(act.act())?;
             }
+        }
+        (Bench::Sleeping(ticks), Phase::Run) => {
+            acts.push(Act::RaiseObjection { count: 1 })?;
+            acts.push(Act::Wait { ticks, tag: 1 })?;
         }
         (Bench::LateChild, Phase::Connect) => acts.push(create(b"b")?)?,
         (bench, Phase::Build) => build(alloc, bench, &mut acts)?,
@@ -445,6 +489,7 @@ fn build(alloc: Global, bench: Bench, acts: &mut Acts) -> Result<(), Fail> {
             acts.push(add(b"x")?)?;
         }
         Bench::Reporting => build_reporting(alloc, acts)?,
+        Bench::WaitingInBuild => acts.push(Act::Wait { ticks: 0, tag: 7 })?,
         _ => (),
     }
     Ok(())
@@ -601,6 +646,49 @@ did uvm_test_top raise 1: done
 note STALL uvm_top
 UVM_FATAL @ 0: uvm_top [STALL] objection stands and nothing is due
 over stall
+";
+
+const SLEPT_BEGIN: &[u8] = b"did uvm_top create t uvm_test_top: made t
+begin build
+heard uvm_test_top build: 0
+end build
+begin connect
+heard uvm_test_top connect: 0
+end connect
+begin end_of_elaboration
+heard uvm_test_top end_of_elaboration: 0
+end end_of_elaboration
+begin start_of_simulation
+heard uvm_test_top start_of_simulation: 0
+end start_of_simulation
+begin run
+heard uvm_test_top run: 2
+did uvm_test_top raise 1: done
+did uvm_test_top wait 100 1: done
+time 100
+heard uvm_test_top wake 1: 1
+did uvm_test_top drop 1: done
+end run
+";
+
+const TIMEOUT_END: &[u8] = b"did uvm_test_top wait 101 1: done
+note PH_TIMEOUT uvm_top
+UVM_FATAL @ 0: uvm_top [PH_TIMEOUT] time limit passed
+over timeout
+";
+
+const OUT_OF_RANGE_END: &[u8] = b"did uvm_test_top raise 1: done
+did uvm_test_top wait 1000000000000001 1: refused ACTRNG
+UVM_FATAL @ 0: uvm_test_top [ACTRNG] value out of range
+over exit
+";
+
+const WAITED_IN_BUILD: &[u8] = b"did uvm_top create t uvm_test_top: made t
+begin build
+heard uvm_test_top build: 1
+did uvm_test_top wait 0 7: done
+heard uvm_test_top wake 7: 0
+end build
 ";
 
 const RAISED_IN_BUILD: &[u8] = b"did uvm_top create t uvm_test_top: made t

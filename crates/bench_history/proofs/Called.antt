@@ -16,13 +16,13 @@ use Rattle.uvm_object.specs.declared.acts.Who.{Who}
 use Rattle.uvm_object.specs.declared.acts.Call.{Call}
 use Rattle.uvm_object.specs.declared.acts.Act.{Act}
 use Rattle.uvm_object.specs.declared.entries.Outcome.{Outcome}
-use Rattle.uvm_object.specs.declared.entries.Outcome.TheVariants.{Made, Value}
+use Rattle.uvm_object.specs.declared.entries.Outcome.TheVariants.{Done, Made, Value}
 use Rattle.uvm_object.specs.declared.entries.Entry.{Entry}
 use Rattle.uvm_object.specs.declared.entries.Entry.TheVariants.{Heard, Did, Note}
 use Rattle.bench_script.specs.Scripts.{ScriptValue}
 use Rattle.bench_history.specs.declared.needs.Need as declared
 use Rattle.bench_history.specs.History.{stage_of, now_of, running, nodes_of, components_of, left_of, rest_of, speaker_of, phase_order, called_of, had_call, next_call, opening}
-use Rattle.bench_history.specs.Dues.{told_by, due_from, calls_from, caused_of, heard_of, ended_of, is_open, due_calls, first_due, due_at, due_now}
+use Rattle.bench_history.specs.Dues.{told_by, due_after, due_from, calls_from, caused_of, heard_of, ended_of, is_open, due_calls, first_due, due_at, due_now}
 use Rattle.bench_history.specs.Cases.{Next, Exactly, Answer, Need, Nothing}
 use Rattle.bench_history.specs.Next.{next_of, Allows, IsNext, EachIsNext}
 use Rattle.bench_history.specs.Laws.{HasGrown, AskedAreComponents, ComponentsAreNodes, NewNodesAreUnasked}
@@ -153,7 +153,7 @@ DeedIn script history (Exactly (Did performer outcome act)) = IsDeed script hist
 DeedIn script history next = Unit {0}
 
 -- what the machine writes by itself is no act's
-deed-own : (script : ScriptValue) (history : List Entry) (entry : Entry) → IsOwn entry → DeedIn script history (Exactly entry)
+deed-own : (script : ScriptValue) (history : List Entry) (entry : Entry) → IsOwn script entry → DeedIn script history (Exactly entry)
 deed-own script history (Did performer outcome act) own = absurd own
 deed-own script history entry own = tt
 
@@ -198,6 +198,7 @@ due-owner P (Some notice) performer (Some phase) time cause (inr holds) = All-co
 -- the opening of the run is a creation, which causes no call
 opening-tells : (script : ScriptValue) (outcome : Outcome) → told_by outcome (opening script) ≡ None
 opening-tells script (Value value) = refl
+opening-tells script Done = refl
 opening-tells script outcome = refl
 
 -- with one more entry the owners stay components
@@ -238,7 +239,7 @@ module _ (keeps : OrderKeepsAll Who Call) where
       record {
         owners =
             All-append (λ due. Contains (components_of (entry ∷ before)) (node_of due.owner)) (calls_from outcome act performer (running (stage_of before)) (now_of before) (length before)) (caused_of before)
-            (due-owner (λ who. Contains (components_of (entry ∷ before)) (node_of who)) (told_by outcome act) performer (running (stage_of before)) (now_of before) (record { place = length before; number = 0 }) (deed-owner script before entry performer outcome act deed known.speaker))
+            (due-owner (λ who. Contains (components_of (entry ∷ before)) (node_of who)) (told_by outcome act) performer (running (stage_of before)) (due_after (now_of before) act) (record { place = length before; number = 0 }) (deed-owner script before entry performer outcome act deed known.speaker))
             (owners-more script before entry known);
         speaker = speaker-more script before entry (rest-all (λ one. one ≡ opening script) (left_of script before)) known.speaker;
       }

@@ -23,7 +23,7 @@ nothing-comes script history e =
     ∷ first_act script history (left_of script history)
     ∷ call_due (due_now history)
     ∷ phase_call history (running (stage_of history))
-    ∷ phase_end history (running (stage_of history))
+    ∷ phase_end script history (running (stage_of history))
     ∷ phase_begin (phase_to_begin (stage_of history))
     ∷ finish
     ∷ [])) e

@@ -1,5 +1,6 @@
 -- Which case of the machine gives what comes next.
-use Rattle.std.proofs.Common.{◌≡◌, ℕ, Bool, true, false, List, [], ◌∷◌, length, nat_lt, Option, Some, None, option_map, refl, ap, ◌&&◌, if◌then◌else◌}
+use Rattle.std.proofs.Common.{◌≡◌, ℕ, Bool, true, false, List, [], ◌∷◌, length, nat_lt, Option, Some, None, option_map, refl, ap, arith, ◌≤◌, ◌&&◌, if◌then◌else◌}
+use Rattle.std.proofs.lemmas.Bool.Decides.{nat_tests}
 use Rattle.uvm_phase.specs.declared.phases.Phase.{Phase}
 use Rattle.uvm_phase.specs.declared.agendas.Due.{Due}
 use Rattle.uvm_phase.specs.Phases.{is_task}
@@ -8,14 +9,14 @@ use Rattle.uvm_object.specs.declared.acts.Who.TheVariants as who
 use Rattle.uvm_object.specs.declared.acts.Call.{Call}
 use Rattle.uvm_object.specs.declared.acts.Call.TheVariants as call
 use Rattle.uvm_object.specs.declared.acts.Act.{Act}
-use Rattle.uvm_object.specs.declared.fatals.Fatal.TheVariants.{TooManyActs, Stall}
+use Rattle.uvm_object.specs.declared.fatals.Fatal.TheVariants.{TooManyActs, Timeout, Stall}
 use Rattle.uvm_object.specs.Acts.{node_of}
 use Rattle.uvm_object.specs.declared.entries.Outcome.{Outcome}
 use Rattle.uvm_object.specs.declared.entries.Outcome.TheVariants.{Done, Made, Value, Refused}
 use Rattle.uvm_object.specs.declared.entries.Reason.{Reason}
 use Rattle.uvm_object.specs.declared.entries.Reason.TheVariants.{Finished}
 use Rattle.uvm_object.specs.declared.entries.Entry.{Entry}
-use Rattle.uvm_object.specs.declared.entries.Entry.TheVariants.{Begin, End, Heard, Did, Note, Over}
+use Rattle.uvm_object.specs.declared.entries.Entry.TheVariants.{Begin, End, Time, Heard, Did, Note, Over}
 use Rattle.bench_script.specs.Scripts.{ScriptValue}
 use Rattle.bench_history.specs.declared.needs.Need as declared
 use Rattle.bench_history.specs.declared.stages.Stage.{Stage}
@@ -24,18 +25,19 @@ use Rattle.bench_history.specs.Limits.{most_acts}
 use Rattle.bench_history.specs.History.{stage_of, running, next_call, left_of, rest_of, speaker_of}
 use Rattle.bench_history.specs.Reports.{reason_of}
 use Rattle.bench_history.specs.Objections.{objections_of, stands}
-use Rattle.bench_history.specs.Dues.{due_now}
+use Rattle.bench_history.specs.Dues.{first_due, due_now}
 use Rattle.bench_history.specs.Upshots.{Upshot, Needs, Does, Finds, Refuses, upshot_of}
-use Rattle.bench_history.specs.Cases.{Next, Exactly, Answer, Need, Nothing, end_reached, giving_up, first_act, by_upshot, by_act, call_due, phase_call, phase_end, phase_begin, phase_to_begin, finish}
+use Rattle.bench_history.specs.Cases.{Next, Exactly, Answer, Need, Nothing, end_reached, giving_up, first_act, by_upshot, by_act, call_due, phase_call, phase_end, time_passes, phase_begin, phase_to_begin, finish}
 use Rattle.bench_history.specs.Next.{first_next, next_of}
 
--- what the machine writes by itself, outside a phase's course: neither a mark, nor an answer, nor an act
-abbrev pub IsOwn : Entry → Type 0
-IsOwn (Begin phase) = ⊥
-IsOwn (End phase) = ⊥
-IsOwn (Heard performer call cause acts) = ⊥
-IsOwn (Did performer outcome act) = ⊥
-IsOwn entry = Unit {0}
+-- what the machine writes by itself, outside a phase's course: neither a mark, nor an answer, nor an act. Time stays within its limit
+abbrev pub IsOwn : ScriptValue → Entry → Type 0
+IsOwn script (Begin phase) = ⊥
+IsOwn script (End phase) = ⊥
+IsOwn script (Heard performer call cause acts) = ⊥
+IsOwn script (Did performer outcome act) = ⊥
+IsOwn script (Time time) = time ≤ script.time_limit
+IsOwn script entry = Unit {0}
 
 -- no object was made
 abbrev pub NotMade : Outcome → Type 0
@@ -46,7 +48,7 @@ pub data Case (script : ScriptValue) (history : List Entry) (next : Next) : Type
   -- the run is over
   AtEnd : stage_of history ≡ Ended → next ≡ Nothing → Case script history next
   -- or what comes is an entry of the machine's own
-  ByOwn : (entry : Entry) → IsOwn entry → next ≡ Exactly entry → Case script history next
+  ByOwn : (entry : Entry) → IsOwn script entry → next ≡ Exactly entry → Case script history next
   -- or an act that was not performed yet: it needs an object
   ByNeed : (act : Act) (need : declared.Need) → left_of script history ≡ act ∷ rest_of (left_of script history) → upshot_of script history (speaker_of history) act ≡ Needs need → next ≡ Need need (speaker_of history) act → Case script history next
   -- or comes to something at once, by which no object is made
@@ -61,23 +63,32 @@ pub data Case (script : ScriptValue) (history : List Entry) (next : Next) : Type
   ByBegin : (phase : Phase) → phase_to_begin (stage_of history) ≡ Some phase → next ≡ Exactly (Begin phase) → Case script history next
 
 -- the cases from the phases' course on
-abbrev phase_cases : List Entry → Option Phase → List (Option Next)
-phase_cases history phase = phase_call history phase ∷ phase_end history phase ∷ phase_begin (phase_to_begin (stage_of history)) ∷ finish ∷ []
+abbrev phase_cases : ScriptValue → List Entry → Option Phase → List (Option Next)
+phase_cases script history phase = phase_call history phase ∷ phase_end script history phase ∷ phase_begin (phase_to_begin (stage_of history)) ∷ finish ∷ []
 
 -- and from the acts on
 abbrev act_cases : ScriptValue → List Entry → List (Option Next)
-act_cases script history = call_due (due_now history) ∷ phase_cases history (running (stage_of history))
+act_cases script history = call_due (due_now history) ∷ phase_cases script history (running (stage_of history))
 
 case-begin : (script : ScriptValue) (history : List Entry) (next : Next) (begins : Option Phase) → phase_to_begin (stage_of history) ≡ begins → next ≡ first_next (phase_begin begins ∷ finish ∷ []) → Case script history next
 case-begin script history next (Some phase) is e = ByBegin phase is e
 case-begin script history next None is e = ByOwn (Over Finished) tt e
 
+-- where time would pass
+case-limit : (script : ScriptValue) (history : List Entry) (next : Next) (due : Due Who Call) (late : Bool) → nat_lt script.time_limit due.time ≡ late → next ≡ Exactly (if late then Note Timeout 0 else Time due.time) → Case script history next
+case-limit script history next due true is e = ByOwn (Note Timeout 0) tt e
+case-limit script history next due false is e = ByOwn (Time due.time) (grind (arith, nat_tests)) e
+
+case-time : (script : ScriptValue) (history : List Entry) (next : Next) (first : Option (Due Who Call)) → next ≡ Exactly (time_passes script.time_limit first) → Case script history next
+case-time script history next None e = ByOwn (Note Stall 0) tt e
+case-time script history next (Some due) e = case-limit script history next due (nat_lt script.time_limit due.time) refl e
+
 -- where each component had its call
-case-ended : (script : ScriptValue) (history : List Entry) (next : Next) (phase : Phase) (standing : Bool) → stage_of history ≡ During phase → next ≡ Exactly (if standing then Note Stall 0 else End phase) → Case script history next
-case-ended script history next phase true runs e = ByOwn (Note Stall 0) tt e
+case-ended : (script : ScriptValue) (history : List Entry) (next : Next) (phase : Phase) (standing : Bool) → stage_of history ≡ During phase → next ≡ Exactly (if standing then time_passes script.time_limit (first_due history) else End phase) → Case script history next
+case-ended script history next phase true runs e = case-time script history next (first_due history) e
 case-ended script history next phase false runs e = ByEnd phase runs e
 
-case-turn : (script : ScriptValue) (history : List Entry) (next : Next) (phase : Phase) (turn : Option ℕ) → stage_of history ≡ During phase → next_call phase history ≡ turn → next ≡ first_next (option_map (λ node. Answer (who.Node node) (call.Phase phase) None) turn ∷ phase_end history (Some phase) ∷ phase_begin (phase_to_begin (stage_of history)) ∷ finish ∷ []) → Case script history next
+case-turn : (script : ScriptValue) (history : List Entry) (next : Next) (phase : Phase) (turn : Option ℕ) → stage_of history ≡ During phase → next_call phase history ≡ turn → next ≡ first_next (option_map (λ node. Answer (who.Node node) (call.Phase phase) None) turn ∷ phase_end script history (Some phase) ∷ phase_begin (phase_to_begin (stage_of history)) ∷ finish ∷ []) → Case script history next
 case-turn script history next phase (Some node) runs is e = ByTurn phase node is e
 case-turn script history next phase None runs is e = case-ended script history next phase (is_task phase && stands (objections_of history)) runs e
 
@@ -88,11 +99,11 @@ runs-during (During other) phase e = let same : other ≡ phase = cc in rw same 
 runs-during (After other) phase e = cc
 runs-during Ended phase e = cc
 
-case-phase : (script : ScriptValue) (history : List Entry) (next : Next) (phase : Option Phase) → running (stage_of history) ≡ phase → next ≡ first_next (phase_cases history phase) → Case script history next
+case-phase : (script : ScriptValue) (history : List Entry) (next : Next) (phase : Option Phase) → running (stage_of history) ≡ phase → next ≡ first_next (phase_cases script history phase) → Case script history next
 case-phase script history next (Some phase) runs e = case-turn script history next phase (next_call phase history) (runs-during (stage_of history) phase runs) refl e
 case-phase script history next None runs e = case-begin script history next (phase_to_begin (stage_of history)) refl e
 
-case-due : (script : ScriptValue) (history : List Entry) (next : Next) (due : Option (Due Who Call)) → due_now history ≡ due → next ≡ first_next (call_due due ∷ phase_cases history (running (stage_of history))) → Case script history next
+case-due : (script : ScriptValue) (history : List Entry) (next : Next) (due : Option (Due Who Call)) → due_now history ≡ due → next ≡ first_next (call_due due ∷ phase_cases script history (running (stage_of history))) → Case script history next
 case-due script history next (Some due) is e = ByDue due is e
 case-due script history next None is e = case-phase script history next (running (stage_of history)) refl e
 

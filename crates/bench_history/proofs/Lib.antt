@@ -7,3 +7,4 @@ mod Leasts
 mod Called
 mod Ended
 mod Reported
+mod Timed

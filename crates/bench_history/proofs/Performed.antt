@@ -16,13 +16,13 @@ use Rattle.bench_history.specs.Laws.{IsFirstAct, ActsGoInOrder, DueCallsGoInOrde
 use Rattle.bench_history.proofs.Inversion.{IsOwn, Case, AtEnd, ByOwn, ByNeed, ByDeed, ByDue, ByTurn, ByEnd, ByBegin, case-of}
 
 -- what the machine writes by itself is no act's
-no-own : (entry : Entry) → IsOwn entry → IsAct (Exactly entry) → ⊥
-no-own (Did performer outcome act) own is = own
-no-own entry own is = is
+no-own : (script : ScriptValue) (entry : Entry) → IsOwn script entry → IsAct (Exactly entry) → ⊥
+no-own script (Did performer outcome act) own is = own
+no-own script entry own is = is
 
 act-case : (script : ScriptValue) (history : List Entry) (next : Next) → next_of script history ≡ next → IsAct next → Case script history next → (act : Act) × IsFirstAct script history act
 act-case script history next is did (AtEnd ended e) = absurd (subst IsAct e did)
-act-case script history next is did (ByOwn entry own e) = absurd (no-own entry own (subst IsAct e did))
+act-case script history next is did (ByOwn entry own e) = absurd (no-own script entry own (subst IsAct e did))
 act-case script history next is did (ByNeed act need left upshot e) = (act, record { left = left; next = is ∙ e ∙ ap (by_upshot (speaker_of history) act) (sym upshot) })
 act-case script history next is did (ByDeed act outcome left plain comes e) = (act, record { left = left; next = is ∙ e ∙ sym comes })
 act-case script history next is did (ByDue due now e) = absurd (subst IsAct e did)

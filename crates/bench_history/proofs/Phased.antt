@@ -44,7 +44,7 @@ begin-on Ended phase may ended = cc
 
 begin-case : (script : ScriptValue) (history : List Entry) (phase : Phase) (next : Next) → next ≡ Exactly (Begin phase) → Case script history next → (phase_number phase ≡ next_number (stage_of history)) × (stage_of history ≡ Ended → ⊥)
 begin-case script history phase next is (AtEnd over e) = cc
-begin-case script history phase next is (ByOwn entry own e) = let same : entry ≡ Begin phase = cc in absurd (subst IsOwn same own)
+begin-case script history phase next is (ByOwn entry own e) = let same : entry ≡ Begin phase = cc in absurd (subst (IsOwn script) same own)
 begin-case script history phase next is (ByNeed act need left upshot e) = cc
 begin-case script history phase next is (ByDeed act outcome left plain comes e) = cc
 begin-case script history phase next is (ByDue due now e) = cc
@@ -55,7 +55,7 @@ begin-case script history phase next is (ByBegin begins may e) = let same : begi
 -- a phase that ends is the one that runs
 end-case : (script : ScriptValue) (history : List Entry) (phase : Phase) (next : Next) → next ≡ Exactly (End phase) → Case script history next → stage_of history ≡ During phase
 end-case script history phase next is (AtEnd over e) = cc
-end-case script history phase next is (ByOwn entry own e) = let same : entry ≡ End phase = cc in absurd (subst IsOwn same own)
+end-case script history phase next is (ByOwn entry own e) = let same : entry ≡ End phase = cc in absurd (subst (IsOwn script) same own)
 end-case script history phase next is (ByNeed act need left upshot e) = cc
 end-case script history phase next is (ByDeed act outcome left plain comes e) = cc
 end-case script history phase next is (ByDue due now e) = cc

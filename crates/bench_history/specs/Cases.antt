@@ -1,6 +1,6 @@
 -- The machine's cases: for each what comes next, if the case is given. Each takes for granted that those that stand above it in `next_of` were
 -- not.
-use Rattle.std.specs.Prelude.{ℕ, Bool, ◌&&◌, List, [], ◌∷◌, length, nat_lt, Option, Some, None, option_map, if◌then◌else◌}
+use Rattle.std.specs.Prelude.{ℕ, ◌&&◌, List, [], ◌∷◌, length, nat_lt, Option, Some, None, option_map, if◌then◌else◌}
 use Rattle.uvm_phase.specs.declared.phases.Phase.{Phase}
 use Rattle.uvm_phase.specs.declared.phases.Phase.TheVariants.{Build}
 use Rattle.uvm_phase.specs.declared.agendas.Cause.{Cause}
@@ -12,12 +12,12 @@ use Rattle.uvm_object.specs.declared.acts.Who.TheVariants as who
 use Rattle.uvm_object.specs.declared.acts.Call.{Call}
 use Rattle.uvm_object.specs.declared.acts.Call.TheVariants as call
 use Rattle.uvm_object.specs.declared.acts.Act.{Act}
-use Rattle.uvm_object.specs.declared.fatals.Fatal.TheVariants.{TooManyActs, Stall}
+use Rattle.uvm_object.specs.declared.fatals.Fatal.TheVariants.{TooManyActs, Timeout, Stall}
 use Rattle.uvm_object.specs.declared.entries.Outcome.TheVariants.{Done, Value, Refused}
 use Rattle.uvm_object.specs.declared.entries.Reason.{Reason}
 use Rattle.uvm_object.specs.declared.entries.Reason.TheVariants.{Finished}
 use Rattle.uvm_object.specs.declared.entries.Entry.{Entry}
-use Rattle.uvm_object.specs.declared.entries.Entry.TheVariants.{Begin, End, Did, Note, Over}
+use Rattle.uvm_object.specs.declared.entries.Entry.TheVariants.{Begin, End, Time, Did, Note, Over}
 use Rattle.bench_script.specs.Scripts.{ScriptValue}
 use Rattle.bench_history.specs.declared.needs.Need as declared
 use Rattle.bench_history.specs.declared.stages.Stage.{Stage}
@@ -25,6 +25,7 @@ use Rattle.bench_history.specs.declared.stages.Stage.TheVariants.{Before, After,
 use Rattle.bench_history.specs.Limits.{most_acts}
 use Rattle.bench_history.specs.History.{next_call, speaker_of}
 use Rattle.bench_history.specs.Objections.{objections_of, stands}
+use Rattle.bench_history.specs.Dues.{first_due}
 use Rattle.bench_history.specs.Upshots.{Upshot, Needs, Does, Finds, Refuses, upshot_of}
 
 -- what comes next: this entry; the answer of a hearer to a call, caused or a phase's; an object for a performer's act, made or declined; or nothing
@@ -71,11 +72,15 @@ abbrev pub phase_call : List Entry → Option Phase → Option Next
 phase_call history None = None
 phase_call history (Some phase) = option_map (λ node. Answer (who.Node node) (call.Phase phase) None) (next_call phase history)
 
--- the phase that runs ends: each component had its call. Run does not end while an objection stands: as nothing is due then, nothing can
--- happen any more, which is noted
-abbrev pub phase_end : List Entry → Option Phase → Option Next
-phase_end history None = None
-phase_end history (Some phase) = Some (Exactly (if is_task phase && stands (objections_of history) then Note Stall 0 else End phase))
+-- time passes to the first call that is due. Where none is, nothing can happen any more; or it is due beyond the time limit
+abbrev pub time_passes : ℕ → Option (Due Who Call) → Entry
+time_passes limit None = Note Stall 0
+time_passes limit (Some due) = if nat_lt limit due.time then Note Timeout 0 else Time due.time
+
+-- the phase that runs ends: each component had its call. In run time passes while an objection stands
+abbrev pub phase_end : ScriptValue → List Entry → Option Phase → Option Next
+phase_end script history None = None
+phase_end script history (Some phase) = Some (Exactly (if is_task phase && stands (objections_of history) then time_passes script.time_limit (first_due history) else End phase))
 
 -- a phase begins: the first, or the one after that which has ended
 abbrev pub phase_to_begin : Stage → Option Phase

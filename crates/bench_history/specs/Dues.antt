@@ -1,5 +1,5 @@
 -- The calls that a log has caused and that nobody has heard yet.
-use Rattle.std.specs.Prelude.{ℕ, Bool, not, ◌&&◌, ◌==◌, List, [], ◌∷◌, ◌++◌, length, filter, slice_get, Option, Some, None, if◌then◌else◌}
+use Rattle.std.specs.Prelude.{ℕ, Bool, not, ◌+◌, ◌&&◌, ◌==◌, List, [], ◌∷◌, ◌++◌, length, filter, slice_get, Option, Some, None, if◌then◌else◌}
 use Rattle.std.specs.List.{flat_map, list_any}
 use Rattle.uvm_phase.specs.declared.phases.Phase.{Phase}
 use Rattle.uvm_phase.specs.declared.agendas.Cause.{Cause}
@@ -10,19 +10,25 @@ use Rattle.uvm_object.specs.declared.acts.Who.{Who}
 use Rattle.uvm_object.specs.declared.acts.Call.{Call}
 use Rattle.uvm_object.specs.declared.acts.Call.TheVariants as call
 use Rattle.uvm_object.specs.declared.acts.Act.{Act}
-use Rattle.uvm_object.specs.declared.acts.Act.TheVariants.{Get}
+use Rattle.uvm_object.specs.declared.acts.Act.TheVariants.{Get, Wait}
 use Rattle.uvm_object.specs.declared.entries.Outcome.{Outcome}
-use Rattle.uvm_object.specs.declared.entries.Outcome.TheVariants.{Value}
+use Rattle.uvm_object.specs.declared.entries.Outcome.TheVariants.{Done, Value}
 use Rattle.uvm_object.specs.declared.entries.Entry.{Entry}
 use Rattle.uvm_object.specs.declared.entries.Entry.TheVariants.{End, Heard, Did}
 use Rattle.bench_history.specs.History.{stage_of, now_of, running}
 
--- the call that an act causes: a Get that its performer is told the value that was found. No other act causes one
+-- the call that an act causes: a Get that its performer is told the value that was found, a wait that it is called again. No other act causes one
 abbrev pub told_by : Outcome → Act → Option Call
 told_by (Value value) (Get field) = Some (call.Config field value)
+told_by Done (Wait ticks tag) = Some (call.Wake tag)
 told_by outcome act = None
 
--- it is due at once, to the performer, while a phase runs
+-- when it is due: at once, but after a wait
+abbrev pub due_after : ℕ → Act → ℕ
+due_after time (Wait ticks tag) = time + ticks
+due_after time act = time
+
+-- it is due to the performer, while a phase runs
 abbrev pub due_from : Option Call → Who → Option Phase → ℕ → Cause → List (Due Who Call)
 due_from (Some notice) performer (Some phase) time cause = record { time = time; cause = cause; phase = phase; owner = performer; notice = notice } ∷ []
 due_from (Some notice) performer None time cause = []
@@ -30,7 +36,7 @@ due_from None performer phase time cause = []
 
 -- the calls that the entry of an act causes, which stands at a place
 abbrev pub calls_from : Outcome → Act → Who → Option Phase → ℕ → ℕ → List (Due Who Call)
-calls_from outcome act performer phase time place = due_from (told_by outcome act) performer phase time (record { place = place; number = 0 })
+calls_from outcome act performer phase time place = due_from (told_by outcome act) performer phase (due_after time act) (record { place = place; number = 0 })
 
 -- all calls that were caused; the place of an entry is the number of those before it
 abbrev pub caused_of : List Entry → List (Due Who Call)
@@ -72,6 +78,6 @@ abbrev pub due_at : ℕ → Option (Due Who Call) → Option (Due Who Call)
 due_at now None = None
 due_at now (Some due) = if due.time == now then Some due else None
 
--- the first call, if it is due now. As time stands still yet, each call that is due is due now
+-- the first call, if it is due now
 unfoldable pub due_now : List Entry → Option (Due Who Call)
 due_now history = due_at (now_of history) (first_due history)

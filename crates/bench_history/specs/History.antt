@@ -27,7 +27,7 @@ use Rattle.uvm_object.specs.declared.acts.Act.TheVariants.{Create, Add, Override
 use Rattle.uvm_object.specs.declared.entries.Outcome.{Outcome}
 use Rattle.uvm_object.specs.declared.entries.Outcome.TheVariants.{Done, Made}
 use Rattle.uvm_object.specs.declared.entries.Entry.{Entry}
-use Rattle.uvm_object.specs.declared.entries.Entry.TheVariants.{Begin, End, Heard, Did, Note, Over}
+use Rattle.uvm_object.specs.declared.entries.Entry.TheVariants.{Time, Begin, End, Heard, Did, Note, Over}
 use Rattle.bench_script.specs.Scripts.{ScriptValue}
 use Rattle.bench_history.specs.declared.stages.Stage.{Stage}
 use Rattle.bench_history.specs.declared.stages.Stage.TheVariants.{Before, During, After, Ended}
@@ -40,9 +40,11 @@ stage_of (End phase ∷ before) = After phase
 stage_of (Over reason ∷ before) = Ended
 stage_of (entry ∷ before) = stage_of before
 
--- the present time in ticks, which stands still yet
+-- the present time in ticks: that to which time has passed last
 abbrev pub now_of : List Entry → ℕ
-now_of history = 0
+now_of [] = 0
+now_of (Time time ∷ before) = time
+now_of (entry ∷ before) = now_of before
 
 -- the phase that runs
 abbrev pub running : Stage → Option Phase

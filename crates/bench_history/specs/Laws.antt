@@ -20,7 +20,7 @@ use Rattle.bench_script.specs.Scripts.{ScriptValue}
 use Rattle.bench_history.specs.declared.needs.Need as declared
 use Rattle.bench_history.specs.declared.stages.Stage.{Stage}
 use Rattle.bench_history.specs.declared.stages.Stage.TheVariants.{Before, During, After, Ended}
-use Rattle.bench_history.specs.History.{stage_of, nodes_of, components_of, created_name, left_of, rest_of, speaker_of, is_over}
+use Rattle.bench_history.specs.History.{now_of, stage_of, nodes_of, components_of, created_name, left_of, rest_of, speaker_of, is_over}
 use Rattle.bench_history.specs.Dues.{ended_of, first_due}
 use Rattle.bench_history.specs.Reports.{report_commands}
 use Rattle.bench_history.specs.Refusals.{child_refusal}
@@ -121,3 +121,7 @@ NewNodesAreUnasked = (script : ScriptValue) (history : List Entry) (node : ℕ) 
 -- no more reports were issued than there are entries
 abbrev pub ReportsAreFew : Type 0
 ReportsAreFew = (script : ScriptValue) (history : List Entry) → issued_number (report_counts (report_commands script history)) ≤ length history
+
+-- time passes no limit
+abbrev pub TimeStaysWithin : Type 0
+TimeStaysWithin = (script : ScriptValue) (history : List Entry) → EachIsNext script history → now_of history ≤ script.time_limit

@@ -1,10 +1,14 @@
 -- How long a log and an answer may be.
-use Rattle.std.specs.Prelude.{ℕ}
+use Rattle.std.specs.Prelude.{◌^◌, ℕ}
 use Rattle.bench_script.specs.Scripts.{ScriptValue}
 
 -- the most entries of a log
 abbrev pub log_limit : ScriptValue → ℕ
 log_limit script = 1000000
+
+-- the most ticks of a wait
+abbrev pub most_ticks : ℕ
+most_ticks = 10 ^ 15
 
 -- the most acts of an answer
 abbrev pub most_acts : ℕ

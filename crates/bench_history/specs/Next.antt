@@ -27,7 +27,7 @@ next_of script history =
     ∷ first_act script history (left_of script history)
     ∷ call_due (due_now history)
     ∷ phase_call history (running (stage_of history))
-    ∷ phase_end history (running (stage_of history))
+    ∷ phase_end script history (running (stage_of history))
     ∷ phase_begin (phase_to_begin (stage_of history))
     ∷ finish
     ∷ [])

@@ -1,6 +1,6 @@
 -- Why acts are refused: for each sort of act the refusals in the order in which they are looked for. What is still refused after these is an
 -- object that nobody supplies (Next, `Allows`).
-use Rattle.std.specs.Prelude.{ℕ, Bool, false, not, List, [], ◌∷◌, ◌++◌, length, slice_get, Option, Some, None, option_map, option_and_then, is_none, nat_le, nat_lt}
+use Rattle.std.specs.Prelude.{ℕ, Bool, false, not, ◌&&◌, List, [], ◌∷◌, ◌++◌, length, slice_get, Option, Some, None, option_map, option_and_then, is_none, nat_le, nat_lt}
 use Rattle.uvm_glob.specs.Faults.{fault_if}
 use Rattle.uvm_glob.specs.Lists.{first_given}
 use Rattle.uvm_glob.specs.Paths.{path_text}
@@ -10,6 +10,7 @@ use Rattle.uvm_factory.specs.declared.overrides.Override.{Override}
 use Rattle.uvm_factory.specs.Faults.{Types, type_named, is_same_kind}
 use Rattle.uvm_factory.specs.Overrides.{made_type}
 use Rattle.uvm_config.specs.Answers.{most_settings}
+use Rattle.bench_history.specs.Limits.{most_ticks}
 use Rattle.uvm_phase.specs.declared.phases.Phase.{Phase}
 use Rattle.uvm_phase.specs.Phases.{is_task}
 use Rattle.uvm_tree.specs.declared.nodes.Node.{Node}
@@ -17,7 +18,7 @@ use Rattle.uvm_tree.specs.declared.faults.TreeFault.{TreeFault}
 use Rattle.uvm_tree.specs.declared.faults.TreeFault.TheVariants.{NameTaken}
 use Rattle.uvm_tree.specs.Nodes.{path_at, add_fault}
 use Rattle.uvm_object.specs.declared.fatals.Fatal.{Fatal}
-use Rattle.uvm_object.specs.declared.fatals.Fatal.TheVariants.{CreatedAfterBuild, InvalidType, ChildTaken, TreeLimit, OverrideLoop, TooManySettings, OutsideTask, ObjectionBelowZero}
+use Rattle.uvm_object.specs.declared.fatals.Fatal.TheVariants.{CreatedAfterBuild, InvalidType, ChildTaken, TreeLimit, OverrideLoop, TooManySettings, OutsideTask, ObjectionBelowZero, OutOfRange}
 
 -- a creation that is asked for below a node: of which type by name, under which name, and what it depends on, the overrides with the newest first
 pub record Creation : Type 0 where
@@ -100,3 +101,7 @@ raise_refusal running = fault_if (not (in_task running)) OutsideTask
 -- and dropped there, no more than was raised
 unfoldable pub drop_refusal : Option Phase → ℕ → ℕ → Option Fatal
 drop_refusal running raised count = first_given (fault_if (not (in_task running)) OutsideTask ∷ fault_if (nat_lt raised count) ObjectionBelowZero ∷ [])
+
+-- a wait is for such a phase, but one of no ticks is for any; and is not too long
+unfoldable pub wait_refusal : Option Phase → ℕ → Option Fatal
+wait_refusal running ticks = first_given (fault_if (nat_lt 0 ticks && not (in_task running)) OutsideTask ∷ fault_if (nat_lt most_ticks ticks) OutOfRange ∷ [])

@@ -1,7 +1,9 @@
 -- What a log asks of the report server, and what becomes of its reports (IEEE 1800.2-2020, Clause 6).
-use Rattle.std.specs.Prelude.{ℕ, Bool, true, false, List, [], ◌∷◌, ◌++◌, reverse, map, Option, Some, None, option_and_then, ◌==◌, if◌then◌else◌}
+use Rattle.std.specs.Prelude.{ℕ, Bool, false, List, [], ◌∷◌, ◌++◌, reverse, map, Option, Some, None, option_and_then, ◌==◌}
 use Rattle.std.specs.List.{list_any, cons_option}
 use Rattle.uvm_glob.specs.Paths.{path_text}
+use Rattle.uvm_glob.specs.Faults.{fault_if}
+use Rattle.uvm_glob.specs.Lists.{newest, first_given}
 use Rattle.uvm_report.specs.declared.severities.Severity.{Severity}
 use Rattle.uvm_report.specs.declared.messages.Fate.{Fate}
 use Rattle.uvm_report.specs.Fates.{displayed_as}
@@ -70,18 +72,20 @@ abbrev pub refuses_test : Entry → Bool
 refuses_test (Did performer (Refused fatal) act) = node_of performer == 0
 refuses_test entry = false
 
--- this entry notes that an objection stands, and nothing is due
-abbrev pub is_stall : Entry → Bool
-is_stall (Note fatal.Stall node) = true
-is_stall entry = false
+-- an entry notes why time does not pass
+abbrev pub noted_end : Entry → Option Reason
+noted_end (Note fatal.Timeout node) = Some reason.Timeout
+noted_end (Note fatal.Stall node) = Some reason.Stall
+noted_end entry = None
 
--- why the run is given up, if it is: an objection stands and nothing is due, the test was refused, or a report asked for exit
+-- why the run is given up, if it is: as the newest entry notes, since the test was refused, or since a report asked for exit
 abbrev pub reason_of : ScriptValue → List Entry → Option Reason
 reason_of script history =
-    if list_any is_stall history then Some reason.Stall
-    else if list_any refuses_test history then Some reason.NoTest
-    else if is_exit_asked (report_commands script history) then Some reason.Exit
-    else None
+    first_given (
+    option_and_then noted_end (newest history)
+    ∷ fault_if (list_any refuses_test history) reason.NoTest
+    ∷ fault_if (is_exit_asked (report_commands script history)) reason.Exit
+    ∷ [])
 
 -- what became of the report of the newest entry, if it has one
 abbrev pub newest_fate : ScriptValue → List Entry → Option Fate

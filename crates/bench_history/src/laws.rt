@@ -1,7 +1,7 @@
 //! What holds of all logs, or of all in which each entry was next, as in each legal one, and of what comes next in them. The functions do
 //! nothing that shows; their contracts are the laws (`specs/Laws.antt`), for all scripts.
 
-ghost use Rattle.bench_history.specs.Laws.{PhasesGoInOrder, AskedAreComponents, ComponentsAreNodes, DueCallsGoInOrder, ActsGoInOrder, NeedsAreCreations, NothingAfterOver, SomethingBeforeOver, MachineEntriesAreSilent, NodesStay, MadeObjectsAreNew, NewNodesAreUnasked, ReportsAreFew};
+ghost use Rattle.bench_history.specs.Laws.{PhasesGoInOrder, AskedAreComponents, ComponentsAreNodes, DueCallsGoInOrder, ActsGoInOrder, NeedsAreCreations, NothingAfterOver, SomethingBeforeOver, MachineEntriesAreSilent, NodesStay, MadeObjectsAreNew, NewNodesAreUnasked, ReportsAreFew, TimeStaysWithin};
 
 use uvm_object::{Call, Who};
 use uvm_phase::laws as agenda;
@@ -88,3 +88,9 @@ pub fn reports_are_few()
 {
     reports::commands_are_counted();
 }
+
+/// Time passes no further than the limit that the script sets to it.
+#[tactic(auto, using(crate::proofs::Timed::time_stays_within))]
+pub fn time_stays_within_its_limit()
+    ensures { TimeStaysWithin }
+{}

@@ -88,3 +88,11 @@ pub refused-attempt :
     → IfOk result (λ attempt. (place : ℕ) → IsAttempt act attempt place old new)
 refused-attempt (Ok attempt) old new act fatal is kept comes = λ place. rw is (record { comes = λ script history s. comes script history s.known; kept = refused-taken-in act fatal kept })
 refused-attempt (Err fault) old new act fatal is kept comes = tt
+
+-- whose entry would stand at a place
+pub refused-here :
+    (result : Result Attempt AllocError) (old new : Services) (act : Act) (fatal : Fatal) (place : ℕ) → IfOk result (λ attempt. attempt ≡ Became (Refused fatal)) → OnOk result (IsRefusing fatal old new)
+    → ((script : ScriptValue) (history : List Entry) → ServicesMatch script history old → by_act script history old.answer.speaker act ≡ Exactly (Did old.answer.speaker (Refused fatal) act))
+    → IfOk result (λ attempt. IsAttempt act attempt place old new)
+refused-here (Ok attempt) old new act fatal place is kept comes = refused-attempt (Ok attempt) old new act fatal is kept comes place
+refused-here (Err fault) old new act fatal place is kept comes = tt

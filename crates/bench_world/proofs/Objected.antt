@@ -1,19 +1,11 @@
 -- The objections of a log with one more entry.
-use Rattle.std.proofs.Common.{◌≡◌, ◌+◌, ◌*◌, ◌≤◌, ◌<◌, ◌^◌, ◌||◌, ◌==◌, ℕ, suc, zero, Bool, true, false, nat_lt, List, [], ◌∷◌, ◌++◌, length, map, refl, ap, sym, ◌∙◌, arith, if◌then◌else◌, length-append}
+use Rattle.std.proofs.Common.{◌≡◌, ◌≤◌, ◌<◌, ◌||◌, ◌==◌, ℕ, suc, zero, Bool, true, false, nat_lt, List, [], ◌∷◌, ◌++◌, length, refl, ap, sym, ◌∙◌, arith, length-append}
 use Rattle.std.proofs.lemmas.Bool.Decides.{nat_tests}
 use Rattle.std.proofs.lemmas.List.{length-map}
-use Rattle.std.specs.List.{list_any}
 use Rattle.uvm_objection.specs.Nodes as objection
 use Rattle.uvm_objection.specs.Nodes.{ObjectionValue, is_known, top, new_node}
 use Rattle.uvm_objection.specs.Laws.{places, AreNodes, PlacesStay, NodesGrow, GrowsBy}
-use Rattle.bench_script.specs.Scripts.{ScriptValue}
-use Rattle.uvm_object.specs.declared.entries.Entry.{Entry}
-use Rattle.bench_history.specs.Limits.{log_limit}
-use Rattle.bench_history.specs.Laws.{ReportsAreFew}
-use Rattle.bench_world.specs.declared.services.Services.{Services}
 use Rattle.bench_world.specs.Objectings.{AreNumbered, IsObjecting}
-use Rattle.bench_world.specs.Services.{ServicesMatch, CanPerform}
-use Rattle.bench_world.proofs.Reported.{can-report}
 
 -- the top alone
 pub objecting-first : (kept : ObjectionValue) → AreNodes (top ∷ []) → kept.nodes ≡ top ∷ [] → IsObjecting (top ∷ []) 1 0 kept
@@ -78,13 +70,3 @@ objecting-same new same o = record { are = same ∙ o.are; numbered = o.numbered
 -- the same nodes, with as much room
 pub same-objection : (old new : ObjectionValue) → new.nodes ≡ old.nodes → new.spare ≡ old.spare → new ≡ old
 same-objection old new nodes spare = ap (λ (n : List objection.Node). record { nodes = n; spare = new.spare }) nodes ∙ ap (λ (s : ℕ). record { nodes = old.nodes; spare = s }) spare
-
--- an act may be performed where the log is not full
-pub can-perform : {script : ScriptValue} {history : List Entry} {services : Services} → ReportsAreFew → length history < log_limit script → ServicesMatch script history services → CanPerform services
-can-perform {script} {history} few room m = record {
-  speaks = rw (m.answer.speaker, m.tree) m.speaks;
-  numbered = rw (m.objections.are, m.tree) m.objections.numbered;
-  report = can-report few room m;
-  few = rw m.objections.are (omega (arith, m.objections.few, room));
-  time = rw m.time (omega arith);
-}

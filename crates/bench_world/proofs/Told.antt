@@ -1,5 +1,5 @@
 -- What is due, over lists alone.
-use Rattle.std.proofs.Common.{◌≡◌, ℕ, ℤ, suc, ◌<◌, Bool, true, false, not, ◌&&◌, ◌||◌, List, [], ◌∷◌, ◌++◌, drop, filter, slice_get, Option, Some, All, refl, ap, ◌∙◌, sym, subst, arith, if◌then◌else◌}
+use Rattle.std.proofs.Common.{◌≡◌, ℕ, suc, ◌<◌, Bool, true, false, not, ◌&&◌, ◌||◌, List, [], ◌∷◌, ◌++◌, drop, filter, slice_get, Some, All, refl, ap, ◌∙◌, sym, subst, arith, if◌then◌else◌}
 use Rattle.std.proofs.lemmas.Bool.Decides.{nat_tests}
 use Rattle.std.specs.List.{list_any}
 use Rattle.std.proofs.lemmas.List.Elements.{All-cons, All-head, All-weaker, All-filter}
@@ -14,13 +14,10 @@ use Rattle.uvm_phase.specs.Dues.{same_cause, in_order}
 use Rattle.uvm_phase.specs.Laws.{OrderKeepsAll, OrderKeepsFilters, OrderLosesFirst}
 use Rattle.uvm_object.specs.declared.acts.Who.{Who}
 use Rattle.uvm_object.specs.declared.acts.Call.{Call}
-use Rattle.uvm_object.specs.declared.acts.Call.TheVariants as call
-use Rattle.uvm_object.specs.declared.acts.Act.TheVariants.{Get}
-use Rattle.uvm_object.specs.declared.entries.Outcome.TheVariants.{Value}
 use Rattle.bench_history.specs.declared.stages.Stage.{Stage}
 use Rattle.bench_history.specs.declared.stages.Stage.TheVariants.{Before, During, After, Ended}
 use Rattle.bench_history.specs.History.{running}
-use Rattle.bench_history.specs.Dues.{calls_from, is_open}
+use Rattle.bench_history.specs.Dues.{due_from, is_open}
 use Rattle.bench_history.specs.Laws.{next_number}
 use Rattle.bench_world.specs.Services.{IsAgenda}
 
@@ -85,16 +82,16 @@ agenda-caused caused heard ended dues more due a before is =
     }
 
 pub agenda-told :
-    (value : Option ℤ) (field : List ℕ) (performer : Who) (time : ℕ) (stage : Stage)
+    (notice : Call) (performer : Who) (time : ℕ) (stage : Stage)
     (caused : List (Due Who Call)) (heard : List Cause) (ended : List Phase) (count : ℕ) (dues more : List (Due Who Call))
     → All (λ phase. phase_number phase < next_number stage) ended → IsAgenda caused heard ended count dues
-    → more ≡ in_order (calls_from (Value value) (Get field) performer (running stage) time count ++ filter (is_open heard ended) caused)
-    → IsAgenda (calls_from (Value value) (Get field) performer (running stage) time count ++ caused) heard ended (suc count) more
-agenda-told value field performer time (During phase) caused heard ended count dues more phases a is =
-    agenda-caused caused heard ended dues more (record { time = time; cause = record { place = count; number = 0 }; phase = phase; owner = performer; notice = call.Config field value }) a phases is
-agenda-told value field performer time Before caused heard ended count dues more phases a is = rw (is, ← a.are) (agenda-later a)
-agenda-told value field performer time (After phase) caused heard ended count dues more phases a is = rw (is, ← a.are) (agenda-later a)
-agenda-told value field performer time Ended caused heard ended count dues more phases a is = rw (is, ← a.are) (agenda-later a)
+    → more ≡ in_order (due_from (Some notice) performer (running stage) time (record { place = count; number = 0 }) ++ filter (is_open heard ended) caused)
+    → IsAgenda (due_from (Some notice) performer (running stage) time (record { place = count; number = 0 }) ++ caused) heard ended (suc count) more
+agenda-told notice performer time (During phase) caused heard ended count dues more phases a is =
+    agenda-caused caused heard ended dues more (record { time = time; cause = record { place = count; number = 0 }; phase = phase; owner = performer; notice = notice }) a phases is
+agenda-told notice performer time Before caused heard ended count dues more phases a is = rw (is, ← a.are) (agenda-later a)
+agenda-told notice performer time (After phase) caused heard ended count dues more phases a is = rw (is, ← a.are) (agenda-later a)
+agenda-told notice performer time Ended caused heard ended count dues more phases a is = rw (is, ← a.are) (agenda-later a)
 
 -- what holds of all holds of the first
 first-holds : {A : Type 0} (P : A → Type 0) (xs : List A) (first : A) → All P xs → slice_get xs 0 ≡ Some first → P first

@@ -1,5 +1,5 @@
 -- What a world keeps of objections, and that it is what the log says.
-use Rattle.std.specs.Prelude.{◌≡◌, ◌+◌, ◌*◌, ◌≤◌, ◌<◌, ◌^◌, ℕ, Bool, nat_lt, List, length}
+use Rattle.std.specs.Prelude.{◌≡◌, ◌*◌, ◌≤◌, ℕ, nat_lt, List, length}
 use Rattle.uvm_objection.specs.Nodes as objection
 use Rattle.uvm_objection.specs.Nodes.{ObjectionValue, is_known}
 use Rattle.uvm_objection.specs.Totals.{total}

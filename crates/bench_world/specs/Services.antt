@@ -38,7 +38,7 @@ use Rattle.bench_history.specs.Configuration.{settings_of}
 use Rattle.bench_history.specs.Dues.{caused_of, heard_of, ended_of, is_open}
 use Rattle.bench_history.specs.History.{stage_of, now_of, nodes_of, components_of, called_of, had_call, opening, left_of, rest_of, speaker_of, overrides_of, ends_build}
 use Rattle.bench_history.specs.Objections.{objections_of}
-use Rattle.bench_history.specs.Reports.{report_commands, newest_fate, refuses_test, is_stall}
+use Rattle.bench_history.specs.Reports.{report_commands, newest_fate, refuses_test}
 use Rattle.bench_world.specs.Reportings.{CanReport, IsReporting, IsReported}
 use Rattle.bench_world.specs.Objectings.{AreNumbered, IsObjecting}
 use Rattle.uvm_objection.specs.Totals.{total}
@@ -127,6 +127,7 @@ pub record IsAgenda (caused : List (Due Who Call)) (heard : List Cause) (ended :
 pub record ServicesMatch (script : ScriptValue) (history : List Entry) (services : Services) : Type 0 where
   pub stage : services.stage ≡ stage_of history
   pub time : services.time ≡ now_of history
+  pub early : services.time ≤ 10 ^ 18
   pub tree : services.tree.nodes ≡ nodes_of history
   pub objections : IsObjecting (objections_of history) (length (nodes_of history)) (length history) services.objection
   pub factory : IsFactory script.types (overrides_of script history) services.factory
@@ -138,7 +139,6 @@ pub record ServicesMatch (script : ScriptValue) (history : List Entry) (services
   pub settings : IsSettings (settings_of script history) services.settings
   pub agenda : IsAgenda (caused_of history) (heard_of history) (ended_of history) (length history) services.agenda.dues
   pub test_refused : services.test_refused ≡ list_any refuses_test history
-  pub stalled : services.stalled ≡ list_any is_stall history
 
 -- an act may be performed: its performer stands at one of the nodes, which are known to the objections; one more report can be counted, and one more
 -- count raised

@@ -17,6 +17,7 @@ use crate::objecting::{drop, raise};
 use crate::performing::{add, override_inst, override_type};
 use crate::report_acts::{issue, set_action, set_severity, set_verbosity};
 use crate::services::Services;
+use crate::telling::wait;
 use bench_history::Need;
 use std::alloc::{AllocError, Global};
 use uvm_glob::Path;
@@ -64,6 +65,7 @@ pub(crate) fn perform(
         Act::Severity { from, id, to } => set_severity(services, alloc, *from, *id, *to),
         Act::RaiseObjection { count } => raise(services, alloc, *count),
         Act::DropObjection { count } => drop(services, alloc, *count),
+        Act::Wait { ticks, tag } => wait(services, alloc, place, *ticks, *tag),
     }
 }
 

@@ -5,29 +5,24 @@ ghost use Rattle.uvm_glob.specs.Limits.{most_names};
 ghost use Rattle.uvm_config.specs.Answers as config;
 ghost use Rattle.uvm_config.specs.Choice.{precedence_of};
 ghost use Rattle.uvm_config.specs.Observed.{accepted, value_at};
-ghost use Rattle.uvm_phase.specs.declared.agendas.Due.{Due};
-ghost use Rattle.uvm_phase.specs.Dues.{in_order};
 ghost use Rattle.uvm_tree.specs.Nodes.{path_at};
 ghost use Rattle.uvm_object.specs.declared.acts.Act.TheVariants.{Set, Get};
-ghost use Rattle.uvm_object.specs.declared.acts.Call.{Call};
-ghost use Rattle.uvm_object.specs.declared.acts.Who.{Who};
 ghost use Rattle.uvm_object.specs.declared.entries.Outcome.TheVariants.{Value};
-ghost use Rattle.bench_history.specs.History.{running};
 ghost use Rattle.bench_history.specs.Configuration.{given_setting, is_building};
-ghost use Rattle.bench_history.specs.Dues.{calls_from};
 ghost use Rattle.bench_world.specs.Reportings.{CanReport};
 ghost use Rattle.bench_world.specs.Services.{IsAttempt, IsSettings};
 
 use crate::attempts::{Attempt, done, refused};
 use crate::performing::scope_under;
 use crate::services::Services;
+use crate::telling::tell;
 use bench_history::Stage;
 use bench_script::Setting;
 use std::alloc::{AllocError, Global};
 use uvm_config::{Settings, laws};
 use uvm_glob::{Glob, Name, Path};
-use uvm_object::{Call, Fatal, LoggedOutcome, Who};
-use uvm_phase::{Cause, Phase};
+use uvm_object::{Call, Fatal, LoggedOutcome};
+use uvm_phase::Phase;
 use uvm_tree::{NodeId, Tree};
 
 // A field is set under the performer's path, unless there are too many settings.
@@ -64,7 +59,8 @@ pub(crate) fn get_field(
 {
     let node = services.answer.speaker.node();
     let value = value_at(alloc, services, node, &field);
-    tell(services, field, value, place)?;
+    let now = services.time;
+    tell(services, Call::Config { field, value }, now, place)?;
     services.reporting.newest = None;
     Ok(Attempt::Became(LoggedOutcome::value(value)))
 }
@@ -142,28 +138,4 @@ fn value_at(alloc: Global, services: &Services, node: NodeId, field: &Name) -> O
         Some(path) => services.settings.get(path, field),
         None => services.settings.get(&Path::top(alloc), field),
     }
-}
-
-// A value that was found is due at once, while a phase runs.
-fn tell(
-    services: &mut Services,
-    field: Name,
-    value: Option<i64>,
-    place: usize,
-) -> Result<(), AllocError>
-    ensures dues { OnOk result ((caused : List (Due Who Call)) → services.old.agenda.dues ≡ in_order caused →
-        services.new.agenda.dues ≡ in_order (calls_from (Value value) (Get field) services.old.answer.speaker (running services.old.stage) services.old.time place ++ caused)) }
-    ensures rest { services.new ≡ record services.old { agenda = services.new.agenda } }
-{
-    let Stage::During(phase) = services.stage else {
-        return Ok(());
-    };
-    let cause = Cause {
-        place: place as u64,
-        number: 0,
-    };
-    let call = Call::Config { field, value };
-    services
-        .agenda
-        .due(services.time, cause, phase, services.answer.speaker, call)
 }

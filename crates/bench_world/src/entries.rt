@@ -1,9 +1,9 @@
 //! The entries of a log that are no act's: one call for each kind.
 
-ghost use Rattle.std.specs.Prelude.{◌≡◌, ℕ, ◌||◌, ◌∷◌, ◌<◌, length, true, OnOk, OnErr, IsOk, Some, None};
-ghost use Rattle.uvm_object.specs.declared.entries.Entry.TheVariants.{Begin, End, Heard, Note, Over};
+ghost use Rattle.std.specs.Prelude.{◌≡◌, ◌||◌, ◌∷◌, ◌<◌, length, true, OnOk, OnErr, IsOk, Some, None};
+ghost use Rattle.uvm_object.specs.declared.entries.Entry.TheVariants.{Begin, End, Time, Heard, Note, Over};
 ghost use Rattle.bench_history.specs.History.{next_call, phase_order, ends_build};
-ghost use Rattle.bench_history.specs.Reports.{is_stall, reason_of};
+ghost use Rattle.bench_history.specs.Reports.{noted_end, reason_of};
 ghost use Rattle.uvm_glob.specs.Orders.{order_of};
 ghost use Rattle.uvm_tree.specs.Cursors.{is_before, least, sooner};
 ghost use Rattle.bench_world.specs.Services.{waiting_in};
@@ -52,6 +52,24 @@ impl World {
         self.services.stage = Stage::After(phase);
         self.services.agenda.clear(phase);
         self.services.built = is_built_with(phase, self.services.built);
+        self.sound = true;
+        Ok(())
+    }
+
+    /// Time passes to a moment, in ticks.
+    pub fn time(&mut self, time: u64) -> Result<(), AllocError>
+        requires { MayEnter self.old (Exactly (Time time)) }
+        ensures ok { OnOk result (self.new ≡ world_after (Time time) self.old) }
+        ensures err { OnErr result (self.new ≡ broken self.old) }
+    {
+        // It passes no limit, so that a wait can be added to it.
+        laws::time_stays_within_its_limit();
+        let _limit = self.script.time_limit();
+        self.sound = false;
+        self.waiting = None;
+        push(&mut self.log, Entry::Time(time))?;
+        self.services.reporting.newest = None;
+        self.services.time = time;
         self.sound = true;
         Ok(())
     }
@@ -132,7 +150,6 @@ impl World {
         report_at(&mut self.services, self.alloc, node, &report)?;
         push(&mut self.log, Entry::Note { fatal, node })?;
         self.services.answer.noted = true;
-        self.services.stalled = is_stalled_with(fatal, self.services.stalled);
         self.sound = true;
         Ok(())
     }
@@ -157,8 +174,12 @@ impl World {
         requires { self.now.sound ≡ true }
         ensures { result ≡ reason_of self.now.script self.now.history }
     {
-        if self.services.stalled {
-            Some(Reason::Stall)
+        let noted = match self.log.last() {
+            Some(entry) => noted_end(entry),
+            None => None,
+        };
+        if noted.is_some() {
+            noted
         } else if self.services.test_refused {
             Some(Reason::NoTest)
         } else if self.services.reporting.exit_asked {
@@ -190,11 +211,21 @@ fn is_built_with(phase: Phase, built: bool) -> bool
     matches!(phase, Phase::Build) || built
 }
 
-// Whether an objection stands and nothing is due, once the kernel has reported.
-fn is_stalled_with(fatal: Fatal, stalled: bool) -> bool
-    ensures { (node : ℕ) → result ≡ (is_stall (Note fatal node) || stalled) }
+// Why the run is given up, if an entry notes it.
+fn noted_end(entry: &Entry) -> Option<Reason>
+    ensures { result ≡ noted_end entry.now }
 {
-    matches!(fatal, Fatal::Stall) || stalled
+    match entry {
+        Entry::Note {
+            fatal: Fatal::Timeout,
+            ..
+        } => Some(Reason::Timeout),
+        Entry::Note {
+            fatal: Fatal::Stall,
+            ..
+        } => Some(Reason::Stall),
+        _ => None,
+    }
 }
 
 // The direction in which a phase goes.

@@ -13,6 +13,7 @@ mod report_acts;
 mod report_lines;
 mod reporting;
 mod services;
+mod telling;
 #[cfg(test)]
 mod tests;
 mod worlds;

@@ -55,7 +55,7 @@ pub(crate) fn drop(
 }
 
 // A phase runs that takes time.
-fn in_task(stage: Stage) -> bool
+pub(crate) fn in_task(stage: Stage) -> bool
     ensures { result ≡ in_task (running stage) }
 {
     match stage {

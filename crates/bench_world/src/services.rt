@@ -67,8 +67,6 @@ pub(crate) struct Services {
     pub(crate) answer: LastAnswer,
     pub(crate) built: bool,
     pub(crate) test_refused: bool,
-    // An objection stands, and nothing is due.
-    pub(crate) stalled: bool,
 }
 
 impl Services {
@@ -102,7 +100,6 @@ impl Services {
             },
             built: false,
             test_refused: false,
-            stalled: false,
         }
     }
 }

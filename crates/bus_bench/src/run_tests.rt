@@ -7,7 +7,7 @@ use bench_script::ScriptFault;
 use bus_objects::BusObject;
 use rand_core::SeedableRng;
 use rand_pcg::Pcg64;
-use std::alloc::AllocError;
+use std::alloc::{AllocError, Global};
 use std::test::Fail;
 use uvm_glob::Name;
 use uvm_object::Reason;
@@ -48,6 +48,21 @@ UVM_FATAL : 0
 ** Report counts by id
 [E] 2
 ";
+
+// It sleeps as long as is told behind this.
+const SLEEPER: &[u8] = b"version = 1\ntest = \"sleeper\"\ntime_limit = 100
+type = [{ name = \"sleeper\", kind = \"component\" }]
+set = [{ scope = \"*\", field = \"at\", value = ";
+
+const TIMED_OUT: &[u8] = b"UVM_FATAL @ 0: uvm_top [PH_TIMEOUT] time limit passed\n";
+
+const STALLED: &[u8] = b"UVM_FATAL @ 0: uvm_top [STALL] objection stands and nothing is due\n";
+
+const OUT_OF_RANGE: &[u8] = b"UVM_FATAL @ 0: uvm_test_top [ACTRNG] value out of range\n";
+
+// It waits for no ticks, again and again.
+const SPINNER: &[u8] =
+    b"version = 1\ntest = \"spinner\"\ntype = [{ name = \"spinner\", kind = \"component\" }]\n";
 
 // There is no quit limit.
 const LOUD_TO_THE_END: &[u8] =
@@ -186,6 +201,41 @@ fn errors_without_a_quit_limit_are_faulty(rt: HostRuntime) {
     let verdict = run_bench(rt.alloc(), LOUD_TO_THE_END, 1, None, false, &mut out);
     assert_eq!(rt; verdict, Verdict::Faulty);
     assert_eq!(rt; out.as_slice(), LOUD_RUN_TO_THE_END);
+}
+
+#[test]
+fn sleeper_keeps_run_from_ending_as_long_as_it_sleeps(rt: HostRuntime) -> Result<(), Fail> {
+    let (verdict, out) = sleeper_run(rt.alloc(), b"100")?;
+    assert_eq!(rt; verdict, Verdict::Clean);
+    assert_eq!(rt; out.as_slice(), SUMMARY);
+    for (at, line) in [
+        (b"101".as_slice(), TIMED_OUT),
+        (b"-1".as_slice(), STALLED),
+        (b"1000000000000001".as_slice(), OUT_OF_RANGE),
+    ] {
+        let (verdict, out) = sleeper_run(rt.alloc(), at)?;
+        assert_eq!(rt; verdict, Verdict::Faulty);
+        assert!(rt; out.as_slice().starts_with(line));
+    }
+    Ok(())
+}
+
+// A run of a test that sleeps for so many ticks, with a time limit of 100.
+fn sleeper_run(alloc: Global, at: &[u8]) -> Result<(Verdict, Vec<u8>), Fail> {
+    let mut script = SLEEPER.to_vec(alloc)?;
+    script.extend_from_slice(at)?;
+    script.extend_from_slice(b" }]\n")?;
+    let mut out = Vec::new(alloc);
+    let verdict = run_bench(alloc, script.as_slice(), 1, None, false, &mut out);
+    Ok((verdict, out))
+}
+
+#[test]
+fn spinner_fills_the_log(rt: HostRuntime) {
+    let mut out = Vec::new(rt.alloc());
+    let verdict = run_bench(rt.alloc(), SPINNER, 1, None, false, &mut out);
+    assert_eq!(rt; verdict, Verdict::Broken(Breakage::LogFull));
+    assert!(rt; out.is_empty());
 }
 
 #[test]

@@ -1,3 +1,5 @@
 pub mod Idle
 pub mod Loud
+pub mod Sleeper
+pub mod Spinner
 pub mod Objects

@@ -4,9 +4,13 @@
 mod idle;
 mod loud;
 mod objects;
+mod sleeper;
+mod spinner;
 #[cfg(test)]
 mod tests;
 
 pub use idle::Idle;
 pub use loud::Loud;
 pub use objects::BusObject;
+pub use sleeper::Sleeper;
+pub use spinner::Spinner;

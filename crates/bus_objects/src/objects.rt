@@ -4,6 +4,8 @@ ghost use Rattle.std.specs.Prelude.{◌≡◌};
 
 use crate::idle::Idle;
 use crate::loud::Loud;
+use crate::sleeper::Sleeper;
+use crate::spinner::Spinner;
 use std::alloc::{AllocError, Global};
 use uvm_glob::Name;
 use uvm_object::{Acts, Call, UvmObject};
@@ -15,6 +17,10 @@ pub enum BusObject {
     Idle(Idle),
     /// Of the type `loud`.
     Loud(Loud),
+    /// Of the type `sleeper`.
+    Sleeper(Sleeper),
+    /// Of the type `spinner`.
+    Spinner(Spinner),
 }
 
 impl BusObject {
@@ -24,10 +30,16 @@ impl BusObject {
     pub fn of_type(type_name: &Name) -> Option<BusObject>
         ensures { result ≡ object_named type_name.now }
     {
-        match Idle::of_type(type_name) {
-            Some(idle) => Some(BusObject::Idle(idle)),
-            None => Loud::of_type(type_name).map(BusObject::Loud),
+        if let Some(idle) = Idle::of_type(type_name) {
+            return Some(BusObject::Idle(idle));
         }
+        if let Some(loud) = Loud::of_type(type_name) {
+            return Some(BusObject::Loud(loud));
+        }
+        if let Some(sleeper) = Sleeper::of_type(type_name) {
+            return Some(BusObject::Sleeper(sleeper));
+        }
+        Spinner::of_type(type_name).map(BusObject::Spinner)
     }
 }
 
@@ -44,6 +56,8 @@ impl UvmObject for BusObject {
         match self {
             BusObject::Idle(idle) => idle.type_name(),
             BusObject::Loud(loud) => loud.type_name(),
+            BusObject::Sleeper(sleeper) => sleeper.type_name(),
+            BusObject::Spinner(spinner) => spinner.type_name(),
         }
     }
 
@@ -51,6 +65,8 @@ impl UvmObject for BusObject {
         match self {
             BusObject::Idle(idle) => idle.hear(alloc, call),
             BusObject::Loud(loud) => loud.hear(alloc, call),
+            BusObject::Sleeper(sleeper) => sleeper.hear(alloc, call),
+            BusObject::Spinner(spinner) => spinner.hear(alloc, call),
         }
     }
 }

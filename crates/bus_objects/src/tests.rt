@@ -37,6 +37,41 @@ fn loud_reports_three_errors_when_it_builds(rt: HostRuntime) -> Result<(), Fail>
 }
 
 #[test]
+fn sleeper_waits_for_the_value_that_it_is_told(rt: HostRuntime) -> Result<(), Fail> {
+    let name = Name::new(b"sleeper")?;
+    let mut sleeper = BusObject::of_type(&name).ok_or("no object")?;
+    assert_eq!(rt; *sleeper.type_name(), name);
+    for (value, count) in [(None, 2), (Some(7), 2), (Some(-1), 1)] {
+        let field = Name::new(b"at")?;
+        let told = sleeper.hear(rt.alloc(), &Call::Config { field, value })?;
+        assert!(rt; told.is_empty());
+        let acts = sleeper.hear(rt.alloc(), &Call::Phase(Phase::Run))?;
+        assert_eq!(rt; acts.len(), count, "at {value:?}");
+    }
+    let woken = sleeper.hear(rt.alloc(), &Call::Wake { tag: 1 })?;
+    assert!(rt; matches!(woken.get(0), Some(Act::DropObjection { count: 1 })));
+    Ok(())
+}
+
+#[test]
+fn spinner_waits_again_and_again(rt: HostRuntime) -> Result<(), Fail> {
+    let name = Name::new(b"spinner")?;
+    let mut spinner = BusObject::of_type(&name).ok_or("no object")?;
+    assert_eq!(rt; *spinner.type_name(), name);
+    assert!(rt;
+        spinner
+            .hear(rt.alloc(), &Call::Phase(Phase::Build))?
+            .is_empty()
+    );
+    for call in [Call::Phase(Phase::Run), Call::Wake { tag: 1 }] {
+        let acts = spinner.hear(rt.alloc(), &call)?;
+        assert_eq!(rt; acts.len(), 1);
+        assert!(rt; matches!(acts.get(0), Some(Act::Wait { ticks: 0, tag: 1 })));
+    }
+    Ok(())
+}
+
+#[test]
 fn other_types_have_no_object(rt: HostRuntime) -> Result<(), Fail> {
     for name in ["idl", "idles", "Idle", "other"] {
         let name = Name::new(name.as_bytes())?;

@@ -3,7 +3,7 @@ use Rattle.std.specs.Prelude.{ℕ, List, codes}
 use Rattle.uvm_report.specs.declared.severities.Severity.TheVariants as severity
 use Rattle.uvm_report.specs.declared.messages.Report.{Report}
 use Rattle.uvm_object.specs.declared.fatals.Fatal.{Fatal}
-use Rattle.uvm_object.specs.declared.fatals.Fatal.TheVariants.{CreatedAfterBuild, TooManyActs, InvalidType, ChildTaken, TreeLimit, OverrideLoop, NoObject, TooManySettings, OutsideTask, ObjectionBelowZero, Stall}
+use Rattle.uvm_object.specs.declared.fatals.Fatal.TheVariants.{CreatedAfterBuild, TooManyActs, InvalidType, ChildTaken, TreeLimit, OverrideLoop, NoObject, TooManySettings, OutsideTask, ObjectionBelowZero, OutOfRange, Timeout, Stall}
 
 abbrev pub id_of : Fatal → List ℕ
 id_of CreatedAfterBuild = codes "ILLCRT"
@@ -16,6 +16,8 @@ id_of NoObject = codes "FCTTYP"
 id_of TooManySettings = codes "CFGFULL"
 id_of OutsideTask = codes "NOTTASK"
 id_of ObjectionBelowZero = codes "OBJTN_ZERO"
+id_of OutOfRange = codes "ACTRNG"
+id_of Timeout = codes "PH_TIMEOUT"
 id_of Stall = codes "STALL"
 
 abbrev pub text_of : Fatal → List ℕ
@@ -29,6 +31,8 @@ text_of NoObject = codes "no object supplied"
 text_of TooManySettings = codes "too many settings"
 text_of OutsideTask = codes "act outside a task phase"
 text_of ObjectionBelowZero = codes "objection dropped below zero"
+text_of OutOfRange = codes "value out of range"
+text_of Timeout = codes "time limit passed"
 text_of Stall = codes "objection stands and nothing is due"
 
 -- the report itself

@@ -21,9 +21,9 @@ use Rattle.uvm_object.specs.declared.acts.Act.TheVariants as act
 use Rattle.uvm_object.specs.declared.entries.Outcome.{Outcome}
 use Rattle.uvm_object.specs.declared.entries.Outcome.TheVariants.{Done, Made, Value, Refused}
 use Rattle.uvm_object.specs.declared.entries.Reason.{Reason}
-use Rattle.uvm_object.specs.declared.entries.Reason.TheVariants.{Finished, Exit, NoTest, Stall}
+use Rattle.uvm_object.specs.declared.entries.Reason.TheVariants.{Finished, Exit, NoTest, Stall, Timeout}
 use Rattle.uvm_object.specs.declared.entries.Entry.{Entry}
-use Rattle.uvm_object.specs.declared.entries.Entry.TheVariants.{Begin, End, Heard, Did, Note, Over}
+use Rattle.uvm_object.specs.declared.entries.Entry.TheVariants.{Begin, End, Time, Heard, Did, Note, Over}
 use Rattle.uvm_object.specs.Fatals.{id_of}
 
 -- a path as it is printed: the top's own is `uvm_top`
@@ -42,6 +42,7 @@ value_text (Some value) = signed_decimal value
 abbrev pub call_text : Call → List ℕ
 call_text (call.Phase phase) = phase_name phase
 call_text (call.Config field value) = codes "config " ++ field ++ 32 ∷ value_text value
+call_text (call.Wake tag) = codes "wake " ++ decimal tag
 
 abbrev pub what_text : What → List ℕ
 what_text (Fifo size) = codes "fifo " ++ decimal size
@@ -85,6 +86,7 @@ act_text (act.Actions which actions) = codes "actions " ++ which_text which ++ 3
 act_text (act.Severity from id to) = codes "severity " ++ severity_name from ++ 32 ∷ id_text id ++ 32 ∷ severity_name to
 act_text (act.RaiseObjection count) = codes "raise " ++ decimal count
 act_text (act.DropObjection count) = codes "drop " ++ decimal count
+act_text (act.Wait ticks tag) = codes "wait " ++ decimal ticks ++ 32 ∷ decimal tag
 
 abbrev pub outcome_text : Outcome → List ℕ
 outcome_text Done = codes "done"
@@ -97,10 +99,12 @@ reason_text Finished = codes "finished"
 reason_text Exit = codes "exit"
 reason_text NoTest = codes "no_test"
 reason_text Stall = codes "stall"
+reason_text Timeout = codes "timeout"
 
 abbrev pub entry_text : List Node → Entry → List ℕ
 entry_text nodes (Begin phase) = codes "begin " ++ phase_name phase
 entry_text nodes (End phase) = codes "end " ++ phase_name phase
+entry_text nodes (Time time) = codes "time " ++ decimal time
 entry_text nodes (Heard who call cause acts) = codes "heard " ++ who_text nodes who ++ 32 ∷ call_text call ++ codes ": " ++ decimal (length acts)
 entry_text nodes (Did who outcome act) = codes "did " ++ who_text nodes who ++ 32 ∷ act_text act ++ codes ": " ++ outcome_text outcome
 entry_text nodes (Note fatal node) = codes "note " ++ id_of fatal ++ 32 ∷ shown_path (path_at nodes node)

@@ -1,5 +1,5 @@
 -- What contracts see of a log.
-use Rattle.std.specs.Prelude.{ℕ, List, [], ◌∷◌, Option, Some, None, codes}
+use Rattle.std.specs.Prelude.{ℕ, List, codes}
 use Rattle.uvm_object.specs.declared.entries.Entry.{Entry}
 use Rattle.uvm_object.specs.declared.logs.LogFault.{LogFault}
 use Rattle.uvm_object.specs.declared.logs.LogFault.TheVariants.{Full, Memory}

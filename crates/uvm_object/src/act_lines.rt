@@ -35,6 +35,7 @@ pub(crate) fn push_act(act: &Act, line: &mut Vec<u8>) -> Result<(), AllocError>
         Act::Severity { from, id, to } => push_change(*from, id, *to, line),
         Act::RaiseObjection { count } => push_count(b"raise ", *count, line),
         Act::DropObjection { count } => push_count(b"drop ", *count, line),
+        Act::Wait { ticks, tag } => push_wait(*ticks, *tag, line),
     }
 }
 
@@ -120,12 +121,21 @@ fn push_change(
     push_two(b" ", to.name(), line)
 }
 
+fn push_wait(ticks: u64, tag: u32, line: &mut Vec<u8>) -> Result<(), AllocError>
+    ensures { OnOk result (line.new.items ≡ line.old.items ++ act_text (act.Wait ticks tag)) }
+{
+    line.extend_from_slice(b"wait ")?;
+    push_number(ticks, line)?;
+    line.push(b' ')?;
+    push_number(u64::from(tag), line)
+}
+
 // A word and a number.
 fn push_count(word: &[u8], count: u16, line: &mut Vec<u8>) -> Result<(), AllocError>
     ensures { OnOk result (line.new.items ≡ line.old.items ++ (word.now ++ decimal count)) }
 {
     line.extend_from_slice(word)?;
-    push_number(usize::from(count), line)
+    push_number(u64::from(count), line)
 }
 
 // A word and some bytes.
@@ -202,7 +212,7 @@ fn push_what(what: What, line: &mut Vec<u8>) -> Result<(), AllocError>
     match what {
         What::Fifo { size } => {
             line.extend_from_slice(b"fifo ")?;
-            push_number(usize::from(size), line)
+            push_number(u64::from(size), line)
         }
     }
 }

@@ -50,6 +50,11 @@ pub enum Call {
         /// Its value at the performer's path, if one was set.
         value: Option<i64>,
     },
+    /// A wait has run out: after `Act::Wait`.
+    Wake {
+        /// What the wait was told by.
+        tag: u32,
+    },
 }
 
 /// What a component adds below itself.
@@ -149,6 +154,13 @@ pub enum Act {
         /// By how much.
         count: u16,
     },
+    /// Be called again after some time.
+    Wait {
+        /// After how many ticks, at most 10^15.
+        ticks: u64,
+        /// What the call is to tell.
+        tag: u32,
+    },
 }
 
 impl Act {
@@ -195,6 +207,7 @@ impl Act {
             Act::Severity { from, id, to } => Act::Severity { from, id, to },
             Act::RaiseObjection { count } => Act::RaiseObjection { count },
             Act::DropObjection { count } => Act::DropObjection { count },
+            Act::Wait { ticks, tag } => Act::Wait { ticks, tag },
         })
     }
 }

@@ -37,6 +37,8 @@ pub enum Reason {
     NoTest,
     /// An objection stood, and nothing was due any more.
     Stall,
+    /// What was due next was due beyond the time limit.
+    Timeout,
 }
 
 // What an entry of a call holds beside who was called.
@@ -209,6 +211,8 @@ pub enum Entry {
     Begin(Phase),
     /// A phase ends.
     End(Phase),
+    /// Time passes to this moment, in ticks.
+    Time(u64),
     /// An object was called and answered. A call that was due names its cause; a phase's call has none.
     Heard {
         /// Who was called.

@@ -30,6 +30,10 @@ pub enum Fatal {
     OutsideTask,
     /// OBJTN_ZERO: more is dropped than was raised.
     ObjectionBelowZero,
+    /// ACTRNG: a number of the act is out of range.
+    OutOfRange,
+    /// PH_TIMEOUT: what is due next is due beyond the time limit.
+    Timeout,
     /// STALL: an objection stands, and nothing is due any more.
     Stall,
 }
@@ -50,6 +54,8 @@ impl Fatal {
             Fatal::TooManySettings => "CFGFULL",
             Fatal::OutsideTask => "NOTTASK",
             Fatal::ObjectionBelowZero => "OBJTN_ZERO",
+            Fatal::OutOfRange => "ACTRNG",
+            Fatal::Timeout => "PH_TIMEOUT",
             Fatal::Stall => "STALL",
         }
     }
@@ -69,6 +75,8 @@ impl Fatal {
             Fatal::TooManySettings => "too many settings",
             Fatal::OutsideTask => "act outside a task phase",
             Fatal::ObjectionBelowZero => "objection dropped below zero",
+            Fatal::OutOfRange => "value out of range",
+            Fatal::Timeout => "time limit passed",
             Fatal::Stall => "objection stands and nothing is due",
         }
     }

@@ -29,6 +29,10 @@ fn push_entry(entry: &Entry, tree: &Tree, line: &mut Vec<u8>) -> Result<(), Allo
     match entry {
         Entry::Begin(phase) => push_two(b"begin ", phase.name(), line),
         Entry::End(phase) => push_two(b"end ", phase.name(), line),
+        Entry::Time(time) => {
+            line.extend_from_slice(b"time ")?;
+            push_number(*time, line)
+        }
         Entry::Heard {
             who,
             call,
@@ -40,7 +44,7 @@ fn push_entry(entry: &Entry, tree: &Tree, line: &mut Vec<u8>) -> Result<(), Allo
             line.push(b' ')?;
             push_call(call.get(), line)?;
             line.extend_from_slice(b": ")?;
-            push_number(acts.get().len(), line)
+            push_number(acts.get().len() as u64, line)
         }
         Entry::Did { who, outcome, act } => {
             line.extend_from_slice(b"did ")?;
@@ -96,6 +100,10 @@ fn push_call(call: &Call, line: &mut Vec<u8>) -> Result<(), AllocError>
 {
     match call {
         Call::Phase(phase) => line.extend_from_slice(phase.name().as_bytes()),
+        Call::Wake { tag } => {
+            line.extend_from_slice(b"wake ")?;
+            push_number(u64::from(*tag), line)
+        }
         Call::Config { field, value } => {
             line.extend_from_slice(b"config ")?;
             line.extend_from_slice(field.as_bytes())?;
@@ -139,10 +147,11 @@ fn reason_text(reason: Reason) -> &'static str
         Reason::Exit => "exit",
         Reason::NoTest => "no_test",
         Reason::Stall => "stall",
+        Reason::Timeout => "timeout",
     }
 }
 
-pub(crate) fn push_number(n: usize, line: &mut Vec<u8>) -> Result<(), AllocError>
+pub(crate) fn push_number(n: u64, line: &mut Vec<u8>) -> Result<(), AllocError>
     ensures { OnOk result (line.new.items ≡ line.old.items ++ decimal n) }
 {
     let digits = n.to_string(*line.allocator())?;

@@ -112,7 +112,7 @@ impl UvmObject for Asker {
         match call {
             Call::Phase(Phase::Build) => acts.push(get(b"f")?)?,
             Call::Config { .. } => acts.push(get(b"f")?)?,
-            Call::Phase(_) => (),
+            Call::Phase(_) | Call::Wake { .. } => (),
         }
         Ok(acts)
     }

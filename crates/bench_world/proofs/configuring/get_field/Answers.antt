@@ -6,6 +6,7 @@ use Rattle.uvm_object.specs.Acts.{node_of}
 use Rattle.bench_history.specs.Configuration.{settings_of}
 use Rattle.bench_history.specs.Dues.{caused_of, heard_of, ended_of, is_open}
 use Rattle.bench_history.specs.History.{stage_of, now_of, nodes_of}
+use Rattle.uvm_object.specs.declared.acts.Call.TheVariants as call
 use Rattle.bench_world.proofs.Configured.{value-found}
 use Rattle.bench_world.proofs.Later.{acted}
 use Rattle.bench_world.proofs.Told.{agenda-told}
@@ -26,7 +27,7 @@ returns c =
             let m = s.known in
             let left = s.left in
             let dues = rw (m.stage, m.time, ← s.place_is) at (told.dues (filter (is_open (heard_of history) (ended_of history)) (caused_of history)) m.agenda.are) in
-            let agenda = agenda-told value c.args.field c.args.services.now.answer.speaker (now_of history) (stage_of history) (caused_of history) (heard_of history) (ended_of history) _ _ _ s.in_order m.agenda dues in
+            let agenda = agenda-told (call.Config c.args.field value) c.args.services.now.answer.speaker (now_of history) (stage_of history) (caused_of history) (heard_of history) (ended_of history) _ _ _ s.in_order m.agenda dues in
             search (rules, acted);
       };
     })

@@ -1,4 +1,4 @@
-use Rattle.std.proofs.Common.{◌≡◌, ◌<◌, ◌≤◌, arith, [], ◌∷◌, ◌++◌, length, refl, rules}
+use Rattle.std.proofs.Common.{◌≡◌, ◌<◌, arith, [], ◌∷◌, ◌++◌, length, refl, rules}
 use Rattle.uvm_tree.specs.declared.nodes.NodeKind.TheVariants.{Component}
 use Rattle.uvm_tree.specs.Nodes.{child}
 use Rattle.uvm_object.specs.Acts.{node_of}

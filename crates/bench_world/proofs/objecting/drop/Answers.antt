@@ -1,4 +1,4 @@
-use Rattle.std.proofs.Common.{◌≡◌, ◌+◌, ◌≤◌, nat_lt, true, false, refl, sym, subst, ◌∙◌, arith, rules}
+use Rattle.std.proofs.Common.{◌≡◌, ◌≤◌, nat_lt, true, false, refl, sym, subst, ◌∙◌, arith, rules}
 use Rattle.std.proofs.lemmas.Bool.Decides.{nat_tests}
 use Rattle.uvm_object.specs.declared.acts.Act.TheVariants.{DropObjection}
 use Rattle.uvm_object.specs.declared.fatals.Fatal.TheVariants.{OutsideTask, ObjectionBelowZero}

@@ -1,4 +1,4 @@
-use Rattle.std.proofs.Common.{◌≡◌, ◌+◌, ◌≤◌, true, false, refl, sym, ◌∙◌, arith, rules}
+use Rattle.std.proofs.Common.{◌≡◌, ◌≤◌, true, false, refl, sym, ◌∙◌, arith, rules}
 use Rattle.uvm_object.specs.declared.acts.Act.TheVariants.{RaiseObjection}
 use Rattle.uvm_object.specs.declared.fatals.Fatal.TheVariants.{OutsideTask}
 use Rattle.uvm_object.specs.Acts.{node_of}

@@ -1,0 +1,36 @@
+-- Time stays within its limit.
+use Rattle.std.proofs.Common.{◌≡◌, ◌≤◌, ℕ, List, [], ◌∷◌, inl, inr, refl, subst, arith}
+use Rattle.uvm_object.specs.declared.entries.Entry.{Entry}
+use Rattle.uvm_object.specs.declared.entries.Entry.TheVariants.{Time}
+use Rattle.bench_script.specs.Scripts.{ScriptValue}
+use Rattle.bench_history.specs.History.{now_of}
+use Rattle.bench_history.specs.Cases.{Next, Exactly, Answer, Need, Nothing}
+use Rattle.bench_history.specs.Next.{next_of, Allows, IsNext}
+use Rattle.bench_history.specs.Laws.{TimeStaysWithin}
+use Rattle.bench_history.proofs.Inversion.{IsOwn, Case, AtEnd, ByOwn, ByNeed, ByDeed, ByDue, ByTurn, ByEnd, ByBegin, case-of}
+
+-- time that passes comes alone
+time-alone : (time : ℕ) (next : Next) → Allows next (Time time) → next ≡ Exactly (Time time)
+time-alone time (Exactly entry) allows = rw allows refl
+time-alone time (Answer performer call cause) allows = let other = allows.1 in cc
+time-alone time (Need need performer act) (inl made) = cc
+time-alone time (Need need performer act) (inr declined) = cc
+time-alone time Nothing allows = absurd allows
+
+time-case : (script : ScriptValue) (history : List Entry) (time : ℕ) (next : Next) → next ≡ Exactly (Time time) → Case script history next → time ≤ script.time_limit
+time-case script history time next is (AtEnd over e) = cc
+time-case script history time next is (ByOwn entry own e) = let same : entry ≡ Time time = cc in subst (IsOwn script) same own
+time-case script history time next is (ByNeed act need left upshot e) = cc
+time-case script history time next is (ByDeed act outcome left plain comes e) = cc
+time-case script history time next is (ByDue due now e) = cc
+time-case script history time next is (ByTurn running node turn e) = cc
+time-case script history time next is (ByEnd running runs e) = cc
+time-case script history time next is (ByBegin begins may e) = cc
+
+within-more : (script : ScriptValue) (before : List Entry) (entry : Entry) → IsNext script before entry → now_of before ≤ script.time_limit → now_of (entry ∷ before) ≤ script.time_limit
+within-more script before (Time time) next low = time-case script before time (next_of script before) (time-alone time (next_of script before) next) (case-of script before)
+within-more script before entry next low = low
+
+pub time_stays_within : TimeStaysWithin
+time_stays_within script [] each = omega arith
+time_stays_within script (entry ∷ before) each = within-more script before entry each.0 (time_stays_within script before each.1)

@@ -1,0 +1,80 @@
+//! Calls that acts cause, and waits.
+
+ghost use Rattle.std.specs.Prelude.{◌≡◌, ◌≤◌, ◌++◌, List, OnOk, IfOk, IfNone, Some};
+ghost use Rattle.uvm_phase.specs.declared.agendas.Due.{Due};
+ghost use Rattle.uvm_phase.specs.Dues.{in_order};
+ghost use Rattle.uvm_object.specs.declared.acts.Act.TheVariants.{Wait};
+ghost use Rattle.uvm_object.specs.declared.acts.Call.{Call};
+ghost use Rattle.uvm_object.specs.declared.acts.Who.{Who};
+ghost use Rattle.bench_history.specs.Dues.{due_from};
+ghost use Rattle.bench_history.specs.History.{running};
+ghost use Rattle.bench_history.specs.Limits.{most_ticks};
+ghost use Rattle.bench_history.specs.Refusals.{wait_refusal};
+ghost use Rattle.bench_world.specs.Services.{CanPerform, IsAttempt};
+
+use crate::attempts::{Attempt, done, refused};
+use crate::objecting::in_task;
+use crate::services::Services;
+use bench_history::Stage;
+use std::alloc::{AllocError, Global};
+use uvm_object::{Call, Fatal};
+use uvm_phase::Cause;
+
+// The most ticks of a wait.
+const MAX_TICKS: u64 = 1_000_000_000_000_000;
+
+// The performer is called again after some ticks, unless that is refused.
+pub(crate) fn wait(
+    services: &mut Services,
+    alloc: Global,
+    place: usize,
+    ticks: u64,
+    tag: u32,
+) -> Result<Attempt, AllocError>
+    requires { CanPerform services.old }
+    ensures { IfOk result (λ attempt. IsAttempt (Wait ticks tag) attempt place services.old services.new) }
+{
+    if let Some(fatal) = wait_refusal(services.stage, ticks) {
+        return refused(services, alloc, fatal);
+    }
+    let time = services.time + ticks;
+    tell(services, Call::Wake { tag }, time, place)?;
+    Ok(done(services))
+}
+
+// Why nobody waits, if so.
+#[tactic(auto, unfolding(bench_history::specs::Refusals::wait_refusal))]
+fn wait_refusal(stage: Stage, ticks: u64) -> Option<Fatal>
+    ensures refusal { result ≡ wait_refusal (running stage) ticks }
+    ensures few { IfNone result (ticks ≤ most_ticks) }
+{
+    if ticks > 0 && !in_task(stage) {
+        return Some(Fatal::OutsideTask);
+    }
+    if ticks > MAX_TICKS {
+        return Some(Fatal::OutOfRange);
+    }
+    None
+}
+
+// A call of the performer is due at a time, while a phase runs. The entry's place is its cause.
+pub(crate) fn tell(
+    services: &mut Services,
+    call: Call,
+    time: u64,
+    place: usize,
+) -> Result<(), AllocError>
+    ensures dues { OnOk result ((caused : List (Due Who Call)) → services.old.agenda.dues ≡ in_order caused →
+        services.new.agenda.dues ≡ in_order (due_from (Some call) services.old.answer.speaker (running services.old.stage) time (record { place = place; number = 0 }) ++ caused)) }
+    ensures rest { services.new ≡ record services.old { agenda = services.new.agenda } }
+{
+    let Stage::During(phase) = services.stage else {
+        return Ok(());
+    };
+    let cause = Cause {
+        place: place as u64,
+        number: 0,
+    };
+    let performer = services.answer.speaker;
+    services.agenda.due(time, cause, phase, performer, call)
+}

@@ -1,0 +1,48 @@
+-- What an object of the type `sleeper` is: it keeps the value that the field `at` has, and in run stands in the way of the end for so many ticks.
+use Rattle.std.specs.Prelude.{◌≡◌, ℕ, ℤ, pos, negsuc, List, [], ◌∷◌, Option, Some, None, codes, if◌then◌else◌, bytes_eq}
+use Rattle.uvm_phase.specs.declared.phases.Phase.TheVariants.{Build, Run}
+use Rattle.uvm_object.specs.Objects.{View}
+use Rattle.uvm_object.specs.declared.acts.Call.{Call}
+use Rattle.uvm_object.specs.declared.acts.Call.TheVariants.{Phase, Config, Wake}
+use Rattle.uvm_object.specs.declared.acts.Act.{Act}
+use Rattle.uvm_object.specs.declared.acts.Act.TheVariants.{Get, RaiseObjection, DropObjection, Wait}
+use Rattle.bus_objects.specs.declared.sleeper.Sleeper.{Sleeper}
+
+-- it shows the ticks that it keeps, if it keeps some
+abbrev pub shown : Option ℕ → View
+shown None = []
+shown (Some ticks) = ticks ∷ []
+
+abbrev pub sleeper_view : Sleeper → View
+sleeper_view sleeper = shown sleeper.ticks
+
+-- the ticks that it keeps of a value: 0 where there is none, and no ticks where it is negative
+abbrev pub ticks_kept : Option ℤ → View
+ticks_kept None = 0 ∷ []
+ticks_kept (Some (pos ticks)) = ticks ∷ []
+ticks_kept (Some (negsuc below)) = []
+
+abbrev pub at_act : Act
+at_act = Get (codes "at")
+
+-- to wait for the ticks that are kept
+abbrev pub waits_for : View → List Act
+waits_for [] = []
+waits_for (ticks ∷ view) = Wait ticks 1 ∷ []
+
+abbrev pub sleeper_acts : View → Call → List Act
+sleeper_acts view (Phase Build) = at_act ∷ []
+sleeper_acts view (Phase Run) = RaiseObjection 1 ∷ waits_for view
+sleeper_acts view (Wake tag) = DropObjection 1 ∷ []
+sleeper_acts view call = []
+
+abbrev pub sleeper_after : View → Call → View
+sleeper_after view (Config field value) = ticks_kept value
+sleeper_after view call = view
+
+abbrev pub SleeperSays : View → Call → List Act → View → Type 0
+SleeperSays before call acts after = (acts ≡ sleeper_acts before call) × (after ≡ sleeper_after before call)
+
+-- the new object of the type of this name, if it is that type
+abbrev pub sleeper_named : List ℕ → Option Sleeper
+sleeper_named name = if bytes_eq name (codes "sleeper") then Some (record { type_name = name; ticks = Some 0 }) else None

@@ -1,0 +1,90 @@
+//! The object `sleeper`.
+
+ghost use Rattle.std.specs.Prelude.{◌≡◌, IfOk};
+ghost use Rattle.bus_objects.specs.Sleeper.{shown, ticks_kept, at_act};
+
+use std::alloc::{AllocError, Global};
+use uvm_glob::Name;
+use uvm_object::{Act, Acts, Call, UvmObject};
+use uvm_phase::Phase;
+
+/// Asks for the field `at` when it builds, and keeps its value, which is 0 where there is none. In run it raises an objection, and where the
+/// value is not negative waits for so many ticks; when it wakes it drops the objection. It answers each other call with no acts. It
+/// shows the ticks, or nothing where the value is negative.
+#[derive(Drop)]
+pub struct Sleeper {
+    type_name: Name,
+    // None where the value is negative.
+    ticks: Option<u64>,
+}
+
+impl Sleeper {
+    ghost use Rattle.bus_objects.specs.Sleeper.{sleeper_named};
+
+    /// A new object, if the type is this one's. It keeps 0.
+    pub fn of_type(type_name: &Name) -> Option<Sleeper>
+        ensures { result ≡ sleeper_named type_name.now }
+    {
+        if type_name.as_bytes() == b"sleeper".as_slice() {
+            Some(Sleeper {
+                type_name: *type_name,
+                ticks: Some(0),
+            })
+        } else {
+            None
+        }
+    }
+}
+
+impl UvmObject for Sleeper {
+    ghost use Rattle.bus_objects.specs.Sleeper.{SleeperSays, sleeper_view};
+
+    ghost view = { sleeper_view };
+
+    ghost name = { λ sleeper. sleeper.type_name };
+
+    ghost says = { λ _. SleeperSays };
+
+    fn type_name(&self) -> &Name {
+        &self.type_name
+    }
+
+    fn hear(&mut self, alloc: Global, call: &Call) -> Result<Acts, AllocError> {
+        let mut acts = Acts::new(alloc);
+        match call {
+            Call::Phase(Phase::Build) => acts.push(at_act())?,
+            Call::Phase(Phase::Run) => {
+                acts.push(Act::RaiseObjection { count: 1 })?;
+                if let Some(ticks) = self.ticks {
+                    acts.push(Act::Wait { ticks, tag: 1 })?;
+                }
+            }
+            Call::Phase(_) => (),
+            Call::Config { value, .. } => self.ticks = ticks_kept(*value),
+            Call::Wake { .. } => acts.push(Act::DropObjection { count: 1 })?,
+        }
+        Ok(acts)
+    }
+}
+
+// To ask for the field `at`.
+#[tactic(auto, unfolding(uvm_glob::specs::Names::name_fault))]
+fn at_act() -> Act
+    ensures { result ≡ at_act }
+{
+    let Ok(field) = Name::new(b"at") else {
+        unreachable!()
+    };
+    Act::Get { field }
+}
+
+// The ticks for a value, unless it is negative.
+fn ticks_kept(value: Option<i64>) -> Option<u64>
+    ensures { shown result ≡ ticks_kept value }
+{
+    match value {
+        None => Some(0),
+        Some(value) if value.is_negative() => None,
+        Some(value) => Some(value.unsigned_abs()),
+    }
+}

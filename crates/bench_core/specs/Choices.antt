@@ -5,7 +5,7 @@ use Rattle.uvm_object.specs.declared.entries.Entry.TheVariants as entry
 use Rattle.bench_history.specs.Cases as next
 use Rattle.bench_history.specs.Next.{IsAct}
 use Rattle.bench_core.specs.declared.choices.Mark.{Mark}
-use Rattle.bench_core.specs.declared.choices.Mark.TheVariants.{Time, Begin, End, Note, Over}
+use Rattle.bench_core.specs.declared.choices.Mark.TheVariants.{Begin, End, Time, Drained, Note, Over}
 use Rattle.bench_core.specs.declared.choices.Choice.{Choice}
 use Rattle.bench_core.specs.declared.choices.Choice.TheVariants.{Nothing, Enter, Act, Ask}
 
@@ -14,6 +14,7 @@ abbrev pub entry_of : Mark → Entry
 entry_of (Begin phase) = entry.Begin phase
 entry_of (End phase) = entry.End phase
 entry_of (Time time) = entry.Time time
+entry_of (Drained node cause) = entry.Drained node cause
 entry_of (Note fatal node) = entry.Note fatal node
 entry_of (Over reason) = entry.Over reason
 

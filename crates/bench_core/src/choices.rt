@@ -4,15 +4,15 @@ ghost use Rattle.std.specs.Prelude.{◌≡◌, ◌&&◌, true, if◌then◌else�
 ghost use Rattle.uvm_phase.specs.Phases.{is_task};
 ghost use Rattle.uvm_object.specs.declared.entries.Entry.TheVariants.{End};
 ghost use Rattle.bench_history.specs.Dues.{first_due};
-ghost use Rattle.bench_history.specs.Cases.{time_passes};
+ghost use Rattle.bench_history.specs.Cases.{by_call, time_passes};
 ghost use Rattle.bench_history.specs.Objections.{objections_of, stands};
 ghost use Rattle.bench_history.specs.Next.{next_of};
 ghost use Rattle.bench_core.specs.Choices.{IsChoice, entry_of};
 
-use bench_history::Stage;
+use bench_history::{Owner, Stage};
 use bench_world::World;
 use uvm_object::{Call, Fatal, Reason, Who};
-use uvm_phase::{Cause, Phase, Schedule};
+use uvm_phase::{Cause, Due, Phase, Schedule};
 use uvm_tree::NodeId;
 
 /// An entry that the machine makes by itself.
@@ -24,6 +24,8 @@ pub(crate) enum Mark {
     End(Phase),
     /// Time passes.
     Time(u64),
+    /// The drain of a node, which began for a cause, ends.
+    Drained(NodeId, Cause),
     /// The kernel reports at a node.
     Note(Fatal, NodeId),
     /// The run is over.
@@ -64,7 +66,7 @@ pub(crate) fn choose(world: &World) -> Choice
         _ => return Choice::Act,
     }
     if let Some(due) = world.due_now() {
-        return Choice::Ask(due.owner.copy(), due.notice, Some(due.cause));
+        return happening(due);
     }
     match stage {
         Stage::Before => Choice::Enter(Mark::Begin(Phase::Build)),
@@ -80,6 +82,17 @@ pub(crate) fn choose(world: &World) -> Choice
     }
 }
 
+// The owner of an event hears its call, or its drain ends.
+fn happening(due: &Due<Owner, Option<Call>>) -> Choice
+    ensures { IsChoice (by_call due.now.owner due.now.notice due.now.cause) result }
+{
+    let who = due.owner.who();
+    match due.notice {
+        Some(call) => Choice::Ask(who, call, Some(due.cause)),
+        None => Choice::Enter(Mark::Drained(who.node(), due.cause)),
+    }
+}
+
 // Where each component had its call: the phase ends, or time passes while an objection stands in run.
 fn ending(world: &World, phase: Phase) -> Mark
     requires { world.now.sound ≡ true }
@@ -92,7 +105,7 @@ fn ending(world: &World, phase: Phase) -> Mark
     }
 }
 
-// Time passes to the first call that is due, unless none is, or only beyond the time limit.
+// Time passes to the first event that is due, unless none is, or only beyond the time limit.
 fn time_passes(world: &World) -> Mark
     requires { world.now.sound ≡ true }
     ensures { entry_of result ≡ time_passes world.now.script.time_limit (first_due world.now.history) }

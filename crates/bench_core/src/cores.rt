@@ -397,6 +397,7 @@ fn enter(world: &mut World, mark: Mark) -> Result<(), AllocError>
         Mark::Begin(phase) => world.begin(phase),
         Mark::End(phase) => world.end(phase),
         Mark::Time(time) => world.time(time),
+        Mark::Drained(node, cause) => world.drained(node, cause),
         Mark::Note(fatal, node) => world.note(fatal, node),
         Mark::Over(reason) => world.over(reason),
     }

@@ -1,5 +1,7 @@
 //! Whole runs with answers as values.
 
+mod objections;
+
 use crate::{Core, CoreFault, Turn};
 use rand_pcg::Pcg32;
 use std::alloc::Global;
@@ -48,15 +50,19 @@ enum Bench {
     Objecting(Phase, &'static [Objecting]),
     /// To run: an objection is raised, and dropped after so many ticks.
     Sleeping(u64),
+    /// To run the first, and to its wake by tag 1 the second.
+    Draining(&'static [Objecting], &'static [Objecting]),
     /// To build: a wait of no ticks.
     WaitingInBuild,
 }
 
-/// What is done to the objections of the test.
+/// What is done to the objections of the test, and waits.
 #[derive(Clone, Copy, PartialEq, Eq)]
 enum Objecting {
     Raise(u16),
     Drop(u16),
+    SetDrain(u64),
+    Wait(u64, u32),
 }
 
 impl Objecting {
@@ -64,6 +70,8 @@ impl Objecting {
         match *self {
             Objecting::Raise(count) => Act::RaiseObjection { count },
             Objecting::Drop(count) => Act::DropObjection { count },
+            Objecting::SetDrain(ticks) => Act::SetDrain { ticks },
+            Objecting::Wait(ticks, tag) => Act::Wait { ticks, tag },
         }
     }
 }
@@ -148,73 +156,6 @@ fn last_setting_prevails_after_build(rt: HostRuntime) -> Result<(), Fail> {
 fn due_call_goes_before_the_next_of_the_phase(rt: HostRuntime) -> Result<(), Fail> {
     let text = transcript(rt.alloc(), Bench::AskingParent)?;
     assert!(rt; text.as_slice().starts_with(ASKING_PARENT));
-    Ok(())
-}
-
-#[test]
-fn run_ends_where_all_that_was_raised_is_dropped(rt: HostRuntime) -> Result<(), Fail> {
-    const DROPPED: &[Objecting] = &[
-        Objecting::Raise(2),
-        Objecting::Drop(1),
-        Objecting::Raise(0),
-        Objecting::Drop(1),
-    ];
-    let text = transcript(rt.alloc(), Bench::Objecting(Phase::Run, DROPPED))?;
-    assert!(rt; text.as_slice().ends_with(DROPPED_END));
-    Ok(())
-}
-
-#[test]
-fn objection_stands_and_nothing_is_due(rt: HostRuntime) -> Result<(), Fail> {
-    const RAISED: &[Objecting] = &[Objecting::Raise(1)];
-    let text = transcript(rt.alloc(), Bench::Objecting(Phase::Run, RAISED))?;
-    assert!(rt; text.as_slice().ends_with(STALLED_END));
-    Ok(())
-}
-
-#[test]
-fn objections_are_no_acts_of_other_phases(rt: HostRuntime) -> Result<(), Fail> {
-    const RAISED: &[Objecting] = &[Objecting::Raise(1)];
-    let text = transcript(rt.alloc(), Bench::Objecting(Phase::Build, RAISED))?;
-    assert_eq!(rt; text.as_slice(), RAISED_IN_BUILD);
-    Ok(())
-}
-
-#[test]
-fn time_passes_to_the_first_call_that_is_due(rt: HostRuntime) -> Result<(), Fail> {
-    let (text, _) = counted(rt.alloc(), LIMITED_SCRIPT, Bench::Sleeping(100))?;
-    assert!(rt; text.as_slice().starts_with(SLEPT_BEGIN));
-    assert!(rt; text.as_slice().ends_with(b"over finished\n"));
-    Ok(())
-}
-
-#[test]
-fn time_passes_no_limit(rt: HostRuntime) -> Result<(), Fail> {
-    let (text, _) = counted(rt.alloc(), LIMITED_SCRIPT, Bench::Sleeping(101))?;
-    assert!(rt; text.as_slice().ends_with(TIMEOUT_END));
-    Ok(())
-}
-
-#[test]
-fn waits_are_limited(rt: HostRuntime) -> Result<(), Fail> {
-    let text = transcript(rt.alloc(), Bench::Sleeping(1_000_000_000_000_001))?;
-    assert!(rt; text.as_slice().ends_with(OUT_OF_RANGE_END));
-    Ok(())
-}
-
-#[test]
-fn wait_of_no_ticks_is_for_each_phase(rt: HostRuntime) -> Result<(), Fail> {
-    let text = transcript(rt.alloc(), Bench::WaitingInBuild)?;
-    assert!(rt; text.as_slice().starts_with(WAITED_IN_BUILD));
-    assert!(rt; text.as_slice().ends_with(b"over finished\n"));
-    Ok(())
-}
-
-#[test]
-fn no_more_is_dropped_than_was_raised(rt: HostRuntime) -> Result<(), Fail> {
-    const BELOW_ZERO: &[Objecting] = &[Objecting::Raise(1), Objecting::Drop(2)];
-    let text = transcript(rt.alloc(), Bench::Objecting(Phase::Run, BELOW_ZERO))?;
-    assert!(rt; text.as_slice().ends_with(BELOW_ZERO_END));
     Ok(())
 }
 
@@ -435,8 +376,10 @@ fn test_path(alloc: Global) -> Result<Path, Fail> {
 // What somebody answers: the test as the bench says, and all others nothing.
 fn acts_of(alloc: Global, bench: Bench, is_test: bool, call: Call) -> Result<Acts, Fail> {
     let mut acts = Acts::new(alloc);
-    if let (Bench::Sleeping(_), Call::Wake { .. }) = (bench, call) {
-        acts.push(Act::DropObjection { count: 1 })?;
+    match (bench, call) {
+        (Bench::Sleeping(_), Call::Wake { .. }) => acts.push(Act::DropObjection { count: 1 })?,
+        (Bench::Draining(_, answer), Call::Wake { tag: 1 }) => push_all(answer, &mut acts)?,
+        _ => (),
     }
     let (true, Call::Phase(phase)) = (is_test, call) else {
         return Ok(acts);
@@ -446,11 +389,8 @@ fn acts_of(alloc: Global, bench: Bench, is_test: bool, call: Call) -> Result<Act
             acts.push(set(alloc)?)?;
             acts.push(get()?)?;
         }
-        (Bench::Objecting(at, answer), phase) if at == phase => {
-            for act in answer {
-                acts.push(act.act())?;
-            }
-        }
+        (Bench::Objecting(at, answer), phase) if at == phase => push_all(answer, &mut acts)?,
+        (Bench::Draining(answer, _), Phase::Run) => push_all(answer, &mut acts)?,
         (Bench::Sleeping(ticks), Phase::Run) => {
             acts.push(Act::RaiseObjection { count: 1 })?;
             acts.push(Act::Wait { ticks, tag: 1 })?;
@@ -460,6 +400,13 @@ fn acts_of(alloc: Global, bench: Bench, is_test: bool, call: Call) -> Result<Act
         _ => (),
     }
     Ok(acts)
+}
+
+fn push_all(answer: &[Objecting], acts: &mut Acts) -> Result<(), Fail> {
+    for act in answer {
+        acts.push(act.act())?;
+    }
+    Ok(())
 }
 
 // What the test answers when it builds.
@@ -615,93 +562,6 @@ over exit
 const LATE_CHILD_END: &[u8] = b"heard uvm_test_top connect: 1
 did uvm_test_top create c b: refused ILLCRT
 UVM_FATAL @ 0: uvm_test_top [ILLCRT] created after build
-over exit
-";
-
-const DROPPED_END: &[u8] = b"begin run
-heard uvm_test_top run: 4
-did uvm_test_top raise 2: done
-did uvm_test_top drop 1: done
-did uvm_test_top raise 0: done
-did uvm_test_top drop 1: done
-end run
-begin extract
-heard uvm_test_top extract: 0
-end extract
-begin check
-heard uvm_test_top check: 0
-end check
-begin report
-heard uvm_test_top report: 0
-end report
-begin final
-heard uvm_test_top final: 0
-end final
-over finished
-";
-
-const STALLED_END: &[u8] = b"begin run
-heard uvm_test_top run: 1
-did uvm_test_top raise 1: done
-note STALL uvm_top
-UVM_FATAL @ 0: uvm_top [STALL] objection stands and nothing is due
-over stall
-";
-
-const SLEPT_BEGIN: &[u8] = b"did uvm_top create t uvm_test_top: made t
-begin build
-heard uvm_test_top build: 0
-end build
-begin connect
-heard uvm_test_top connect: 0
-end connect
-begin end_of_elaboration
-heard uvm_test_top end_of_elaboration: 0
-end end_of_elaboration
-begin start_of_simulation
-heard uvm_test_top start_of_simulation: 0
-end start_of_simulation
-begin run
-heard uvm_test_top run: 2
-did uvm_test_top raise 1: done
-did uvm_test_top wait 100 1: done
-time 100
-heard uvm_test_top wake 1: 1
-did uvm_test_top drop 1: done
-end run
-";
-
-const TIMEOUT_END: &[u8] = b"did uvm_test_top wait 101 1: done
-note PH_TIMEOUT uvm_top
-UVM_FATAL @ 0: uvm_top [PH_TIMEOUT] time limit passed
-over timeout
-";
-
-const OUT_OF_RANGE_END: &[u8] = b"did uvm_test_top raise 1: done
-did uvm_test_top wait 1000000000000001 1: refused ACTRNG
-UVM_FATAL @ 0: uvm_test_top [ACTRNG] value out of range
-over exit
-";
-
-const WAITED_IN_BUILD: &[u8] = b"did uvm_top create t uvm_test_top: made t
-begin build
-heard uvm_test_top build: 1
-did uvm_test_top wait 0 7: done
-heard uvm_test_top wake 7: 0
-end build
-";
-
-const RAISED_IN_BUILD: &[u8] = b"did uvm_top create t uvm_test_top: made t
-begin build
-heard uvm_test_top build: 1
-did uvm_test_top raise 1: refused NOTTASK
-UVM_FATAL @ 0: uvm_test_top [NOTTASK] act outside a task phase
-over exit
-";
-
-const BELOW_ZERO_END: &[u8] = b"did uvm_test_top raise 1: done
-did uvm_test_top drop 2: refused OBJTN_ZERO
-UVM_FATAL @ 0: uvm_test_top [OBJTN_ZERO] objection dropped below zero
 over exit
 ";
 

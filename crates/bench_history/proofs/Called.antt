@@ -1,12 +1,11 @@
 -- Who is called: a component, which is a node of the tree.
-use Rattle.std.proofs.Common.{◌≡◌, ℕ, ◌<◌, ◌≤◌, ◌==◌, ◌⊎◌, inl, inr, Bool, true, false, not, if◌then◌else◌, List, [], ◌∷◌, length, slice_get, Option, Some, None, IfSome, refl, ap, ◌∙◌, sym, subst, arith}
-use Rattle.std.specs.List.{All, Contains}
+use Rattle.std.proofs.Common.{◌≡◌, ℕ, ◌<◌, ◌≤◌, ◌==◌, ◌⊎◌, inl, inr, Bool, true, false, not, filter, if◌then◌else◌, List, [], ◌∷◌, length, slice_get, Option, Some, None, IfSome, OnSome, refl, ap, ◌∙◌, sym, subst, arith}
+use Rattle.std.specs.List.{All, Contains, flat_map}
 use Rattle.std.proofs.lemmas.Bool.Decides.{nat_tests}
 use Rattle.std.proofs.lemmas.List.Elements.{All-nil, All-cons, All-head, All-tail, All-push, All-append, All-weaker, All-filter, All-contains, All-contains_itself, Contains-append_left}
 use Rattle.std.proofs.lemmas.List.Sorted.{All-permutation}
 use Rattle.uvm_phase.specs.declared.phases.Phase.{Phase}
 use Rattle.uvm_phase.specs.declared.agendas.Cause.{Cause}
-use Rattle.uvm_phase.specs.declared.agendas.Due.{Due}
 use Rattle.uvm_phase.specs.Dues.{in_order}
 use Rattle.uvm_phase.specs.Laws.{OrderKeepsAll}
 use Rattle.uvm_tree.specs.Cursors.{is_before}
@@ -18,11 +17,17 @@ use Rattle.uvm_object.specs.declared.acts.Act.{Act}
 use Rattle.uvm_object.specs.declared.entries.Outcome.{Outcome}
 use Rattle.uvm_object.specs.declared.entries.Outcome.TheVariants.{Done, Made, Value}
 use Rattle.uvm_object.specs.declared.entries.Entry.{Entry}
-use Rattle.uvm_object.specs.declared.entries.Entry.TheVariants.{Heard, Did, Note}
+use Rattle.uvm_object.specs.declared.entries.Entry.TheVariants.{Heard, Did, Drained, Note}
 use Rattle.bench_script.specs.Scripts.{ScriptValue}
 use Rattle.bench_history.specs.declared.needs.Need as declared
+use Rattle.uvm_objection.specs.declared.objections.Due as drain
+use Rattle.uvm_objection.specs.Nodes as objection
+use Rattle.uvm_objection.specs.Totals.{drains_begun, drains_ended}
+use Rattle.bench_history.specs.declared.owners.Owner.{Owner}
+use Rattle.bench_history.specs.Owners.{Event, who_of, is_drain_of}
+use Rattle.bench_history.specs.Objections.{objections_of}
 use Rattle.bench_history.specs.History.{stage_of, now_of, running, nodes_of, components_of, left_of, rest_of, speaker_of, phase_order, called_of, had_call, next_call, opening}
-use Rattle.bench_history.specs.Dues.{told_by, due_after, due_from, calls_from, caused_of, heard_of, ended_of, is_open, due_calls, first_due, due_at, due_now}
+use Rattle.bench_history.specs.Dues.{told_by, due_after, due_from, calls_from, drain_from, with_drains, moves_drains, caused_at, caused_of, heard_of, ended_of, is_open, due_events, first_due, due_at, due_now}
 use Rattle.bench_history.specs.Cases.{Next, Exactly, Answer, Need, Nothing}
 use Rattle.bench_history.specs.Next.{next_of, Allows, IsNext, EachIsNext}
 use Rattle.bench_history.specs.Laws.{HasGrown, AskedAreComponents, ComponentsAreNodes, NewNodesAreUnasked}
@@ -67,9 +72,13 @@ contains-more entry before node has =
     let more = components-grow entry before in
     subst (λ (components : List ℕ). Contains components node) (sym more.1) (Contains-append_left (components_of before) more.0 node has)
 
+-- whoever is to hear the call of an event is one of the components
+abbrev IsCallTo : List ℕ → Event → Type 0
+IsCallTo components event = OnSome event.notice (Contains components (node_of (who_of event.owner)))
+
 -- whoever waits for a call is a component, and so is whoever spoke last, unless nobody did and the answer is the script's
 record Known (script : ScriptValue) (history : List Entry) : Type 0 where
-  owners : All (λ due. Contains (components_of history) (node_of due.owner)) (caused_of history)
+  owners : All (IsCallTo (components_of history)) (caused_of history)
   speaker : Contains (components_of history) (node_of (speaker_of history)) ⊎ All (λ act. act ≡ opening script) (left_of script history)
 
 -- who is asked is a component
@@ -85,34 +94,37 @@ turn-one history phase =
     least-holds (Contains components) (is_before (phase_order phase) (nodes_of history)) _
     (All-filter (λ node. not (had_call (called_of history) node)) (Contains components) components (All-contains_itself components))
 
--- what holds of each call holds of the one that is due
-first-of : (P : Due Who Call → Type 0) (dues : List (Due Who Call)) → All P dues → IfSome (slice_get dues 0) P
+-- what holds of each event holds of the one that is due
+first-of : (P : Event → Type 0) (dues : List Event) → All P dues → IfSome (slice_get dues 0) P
 first-of P [] all = tt
 first-of P (due ∷ dues) all = All-head P due dues all
 
 -- or of none, by a test
-due-tested : (P : Due Who Call → Type 0) (due : Due Who Call) (b : Bool) → P due → IfSome (if b then Some due else None) P
+due-tested : (P : Event → Type 0) (due : Event) (b : Bool) → P due → IfSome (if b then Some due else None) P
 due-tested P due true holds = holds
 due-tested P due false holds = tt
 
 -- at the present time
-due-holds : (P : Due Who Call → Type 0) (now : ℕ) (first : Option (Due Who Call)) → IfSome first P → IfSome (due_at now first) P
+due-holds : (P : Event → Type 0) (now : ℕ) (first : Option Event) → IfSome first P → IfSome (due_at now first) P
 due-holds P now None holds = tt
 due-holds P now (Some due) holds = due-tested P due (due.time == now) holds
 
-module _ (keeps : OrderKeepsAll Who Call) where
-  -- of all calls that were caused, of the one that is due now
-  due-one : (history : List Entry) (P : Due Who Call → Type 0) → All P (caused_of history) → IfSome (due_now history) P
+module _ (keeps : OrderKeepsAll Owner (Option Call)) where
+  -- of all events that were caused, of the one that is due now
+  due-one : (history : List Entry) (P : Event → Type 0) → All P (caused_of history) → IfSome (due_now history) P
   unfolding due_now
   due-one history P all =
       due-holds P (now_of history) (first_due history)
-      (first-of P (in_order (due_calls history)) (All-permutation P (due_calls history) (in_order (due_calls history)) (keeps (due_calls history)) (All-filter (is_open (heard_of history) (ended_of history)) P (caused_of history) all)))
+      (first-of P (in_order (due_events history)) (All-permutation P (due_events history) (in_order (due_events history)) (keeps (due_events history)) (All-filter (is_open (heard_of history) (ended_of history)) P (caused_of history) all)))
 
   -- its owner is a component
-  asks-due : (history : List Entry) (due : Due Who Call) → All (λ due. Contains (components_of history) (node_of due.owner)) (caused_of history) → due_now history ≡ Some due → Contains (components_of history) (node_of due.owner)
-  asks-due history due owners now =
-      let P : Due Who Call → Type 0 = λ due. Contains (components_of history) (node_of due.owner) in
-      subst (λ (found : Option (Due Who Call)). IfSome found P) now (due-one history P owners)
+  asks-due :
+      (history : List Entry) (event : Event) (call : Call) → All (IsCallTo (components_of history)) (caused_of history) → due_now history ≡ Some event → event.notice ≡ Some call
+      → Contains (components_of history) (node_of (who_of event.owner))
+  asks-due history event call owners now is_call =
+      let P : Event → Type 0 = IsCallTo (components_of history) in
+      let here = subst (λ (found : Option Event). IfSome found P) now (due-one history P owners) in
+      subst (λ (notice : Option Call). OnSome notice (Contains (components_of history) (node_of (who_of event.owner)))) is_call here
 
   -- in each case of the machine a component is asked, if anybody is
   asks-case : (script : ScriptValue) (history : List Entry) (next : Next) → Known script history → Case script history next → AsksOne history next
@@ -120,7 +132,7 @@ module _ (keeps : OrderKeepsAll Who Call) where
   asks-case script history next known (ByOwn entry own e) = subst (AsksOne history) (sym e) tt
   asks-case script history next known (ByNeed act need left upshot e) = subst (AsksOne history) (sym e) tt
   asks-case script history next known (ByDeed act outcome left plain comes e) = subst (AsksOne history) (sym e) tt
-  asks-case script history next known (ByDue due now e) = subst (AsksOne history) (sym e) (asks-due history due known.owners now)
+  asks-case script history next known (ByDue event call now is_call e) = subst (AsksOne history) (sym e) (asks-due history event call known.owners now is_call)
   asks-case script history next known (ByTurn phase node turn e) = subst (AsksOne history) (sym e) (subst (λ (found : Option ℕ). IfSome found (Contains (components_of history))) turn (turn-one history phase))
   asks-case script history next known (ByEnd phase runs e) = subst (AsksOne history) (sym e) tt
   asks-case script history next known (ByBegin phase may e) = subst (AsksOne history) (sym e) tt
@@ -153,7 +165,7 @@ DeedIn script history (Exactly (Did performer outcome act)) = IsDeed script hist
 DeedIn script history next = Unit {0}
 
 -- what the machine writes by itself is no act's
-deed-own : (script : ScriptValue) (history : List Entry) (entry : Entry) → IsOwn script entry → DeedIn script history (Exactly entry)
+deed-own : (script : ScriptValue) (history : List Entry) (entry : Entry) → IsOwn script history entry → DeedIn script history (Exactly entry)
 deed-own script history (Did performer outcome act) own = absurd own
 deed-own script history entry own = tt
 
@@ -163,7 +175,7 @@ deed-case script history next (AtEnd ended e) = subst (DeedIn script history) (s
 deed-case script history next (ByOwn entry own e) = subst (DeedIn script history) (sym e) (deed-own script history entry own)
 deed-case script history next (ByNeed act need left upshot e) = subst (DeedIn script history) (sym e) tt
 deed-case script history next (ByDeed act outcome left plain comes e) = subst (DeedIn script history) (sym e) (record { performer_is = refl; left = left })
-deed-case script history next (ByDue due now e) = subst (DeedIn script history) (sym e) tt
+deed-case script history next (ByDue event call now is_call e) = subst (DeedIn script history) (sym e) tt
 deed-case script history next (ByTurn phase node turn e) = subst (DeedIn script history) (sym e) tt
 deed-case script history next (ByEnd phase runs e) = subst (DeedIn script history) (sym e) tt
 deed-case script history next (ByBegin phase may e) = subst (DeedIn script history) (sym e) tt
@@ -189,11 +201,33 @@ deed-next script history performer outcome act (Need need other deed) is (inr de
 deed-next script history performer outcome act Nothing is allows = absurd allows
 
 -- the call that an act causes is its performer's
-due-owner : (P : Who → Type 0) (notice : Option Call) (performer : Who) (phase : Option Phase) (time : ℕ) (cause : Cause) → (notice ≡ None) ⊎ P performer → All (λ due. P due.owner) (due_from notice performer phase time cause)
-due-owner P None performer phase time cause who = All-nil _
-due-owner P (Some notice) performer None time cause who = All-nil _
-due-owner P (Some notice) performer (Some phase) time cause (inl none) = cc
-due-owner P (Some notice) performer (Some phase) time cause (inr holds) = All-cons (λ due. P due.owner) _ [] holds (All-nil (λ due. P due.owner))
+due-owner :
+    (components : List ℕ) (notice : Option Call) (performer : Who) (phase : Option Phase) (time : ℕ) (cause : Cause) → (notice ≡ None) ⊎ Contains components (node_of performer)
+    → All (IsCallTo components) (due_from notice performer phase time cause)
+due-owner components None performer phase time cause who = All-nil _
+due-owner components (Some call) performer None time cause who = All-nil _
+due-owner components (Some call) performer (Some phase) time cause (inl none) = cc
+due-owner components (Some call) performer (Some phase) time cause (inr has) = All-cons (IsCallTo components) _ [] has (All-nil (IsCallTo components))
+
+-- and drains call nobody
+drain-calls : (components : List ℕ) (phase : Option Phase) (cause : Cause) (begun : drain.Due) → All (IsCallTo components) (drain_from phase cause begun)
+drain-calls components None cause begun = All-nil _
+drain-calls components (Some phase) cause begun = All-cons (IsCallTo components) _ [] tt (All-nil (IsCallTo components))
+
+drains-call : (components : List ℕ) (phase : Option Phase) (cause : Cause) (begun : List drain.Due) → All (IsCallTo components) (flat_map (drain_from phase cause) begun)
+drains-call components phase cause [] = All-nil _
+drains-call components phase cause (first ∷ begun) = All-append (IsCallTo components) (drain_from phase cause first) (flat_map (drain_from phase cause) begun) (drain-calls components phase cause first) (drains-call components phase cause begun)
+
+with-drains-call : (components : List ℕ) (phase : Option Phase) (cause : Cause) (earlier nodes : List objection.Node) (caused : List Event) → All (IsCallTo components) caused → All (IsCallTo components) (with_drains phase cause earlier nodes caused)
+with-drains-call components phase cause earlier nodes caused owners =
+    All-append (IsCallTo components) (flat_map (drain_from phase cause) (drains_begun earlier nodes)) (filter (λ event. not (is_drain_of (drains_ended earlier nodes) event.owner)) caused) (drains-call components phase cause (drains_begun earlier nodes))
+    (All-filter (λ event. not (is_drain_of (drains_ended earlier nodes) event.owner)) (IsCallTo components) caused owners)
+
+moved-call :
+    (components : List ℕ) (moves : Bool) (phase : Option Phase) (cause : Cause) (earlier nodes : List objection.Node) (caused : List Event) → All (IsCallTo components) caused
+    → All (IsCallTo components) (if moves then with_drains phase cause earlier nodes caused else caused)
+moved-call components true phase cause earlier nodes caused owners = with-drains-call components phase cause earlier nodes caused owners
+moved-call components false phase cause earlier nodes caused owners = owners
 
 -- the opening of the run is a creation, which causes no call
 opening-tells : (script : ScriptValue) (outcome : Outcome) → told_by outcome (opening script) ≡ None
@@ -202,9 +236,13 @@ opening-tells script Done = refl
 opening-tells script outcome = refl
 
 -- with one more entry the owners stay components
-owners-more : (script : ScriptValue) (before : List Entry) (entry : Entry) → Known script before → All (λ due. Contains (components_of (entry ∷ before)) (node_of due.owner)) (caused_of before)
+owners-more : (script : ScriptValue) (before : List Entry) (entry : Entry) → Known script before → All (IsCallTo (components_of (entry ∷ before))) (caused_of before)
 owners-more script before entry known =
-    All-weaker (λ due. Contains (components_of before) (node_of due.owner)) (λ due. Contains (components_of (entry ∷ before)) (node_of due.owner)) (λ due has. contains-more entry before (node_of due.owner) has) (caused_of before) known.owners
+    All-weaker (IsCallTo (components_of before)) (IsCallTo (components_of (entry ∷ before))) (λ event. some-more event.notice (node_of (who_of event.owner))) (caused_of before) known.owners
+  where
+    some-more : (notice : Option Call) (node : ℕ) → OnSome notice (Contains (components_of before) node) → OnSome notice (Contains (components_of (entry ∷ before)) node)
+    some-more None node has = tt
+    some-more (Some call) node has = contains-more entry before node has
 
 -- an act tells nobody, or its performer is a component
 deed-owner :
@@ -230,17 +268,19 @@ rest-all : (P : Act → Type 0) (acts : List Act) → All P acts → All P (rest
 rest-all P [] all = all
 rest-all P (act ∷ acts) all = All-tail P act acts all
 
-module _ (keeps : OrderKeepsAll Who Call) where
+module _ (keeps : OrderKeepsAll Owner (Option Call)) where
   -- an act keeps what is known
   known-did : (script : ScriptValue) (before : List Entry) (performer : Who) (outcome : Outcome) (act : Act) → Known script before → IsNext script before (Did performer outcome act) → Known script (Did performer outcome act ∷ before)
   known-did script before performer outcome act known next =
       let entry = Did performer outcome act in
       let deed = deed-next script before performer outcome act (next_of script before) refl next in
+      let components = components_of (entry ∷ before) in
+      let phase = running (stage_of before) in
       record {
         owners =
-            All-append (λ due. Contains (components_of (entry ∷ before)) (node_of due.owner)) (calls_from outcome act performer (running (stage_of before)) (now_of before) (length before)) (caused_of before)
-            (due-owner (λ who. Contains (components_of (entry ∷ before)) (node_of who)) (told_by outcome act) performer (running (stage_of before)) (due_after (now_of before) act) (record { place = length before; number = 0 }) (deed-owner script before entry performer outcome act deed known.speaker))
-            (owners-more script before entry known);
+            All-append (IsCallTo components) (calls_from outcome act performer phase (now_of before) (length before)) _
+            (due-owner components (told_by outcome act) performer phase (due_after (now_of before) act) (caused_at (length before)) (deed-owner script before entry performer outcome act deed known.speaker))
+            (moved-call components (moves_drains outcome act) phase (caused_at (length before)) (objections_of before) (objections_of (entry ∷ before)) (caused_of before) (owners-more script before entry known));
         speaker = speaker-more script before entry (rest-all (λ one. one ≡ opening script) (left_of script before)) known.speaker;
       }
 
@@ -248,6 +288,10 @@ module _ (keeps : OrderKeepsAll Who Call) where
   known-more : (script : ScriptValue) (before : List Entry) (entry : Entry) → Known script before → IsNext script before entry → Known script (entry ∷ before)
   known-more script before (Heard performer call cause acts) known next = record { owners = known.owners; speaker = inl (heard-one keeps script before performer call cause acts known next) }
   known-more script before (Did performer outcome act) known next = known-did script before performer outcome act known next
+  known-more script before (Drained node cause) known next = record {
+    owners = with-drains-call (components_of before) (running (stage_of before)) (caused_at (length before)) (objections_of before) (objections_of (Drained node cause ∷ before)) (caused_of before) known.owners;
+    speaker = known.speaker;
+  }
   known-more script before (Note fatal node) known next = record { owners = known.owners; speaker = speaker-more script before (Note fatal node) (λ opens. All-nil (λ one. one ≡ opening script)) known.speaker }
   known-more script before entry known next = record { owners = known.owners; speaker = known.speaker }
 

@@ -7,7 +7,7 @@ use Rattle.bench_history.specs.declared.stages.Stage.TheVariants.{Ended}
 use Rattle.bench_history.specs.History.{stage_of, running, left_of, is_over}
 use Rattle.bench_history.specs.Reports.{reason_of}
 use Rattle.bench_history.specs.Dues.{due_now}
-use Rattle.bench_history.specs.Cases.{Next, Nothing, end_reached, giving_up, long_answer, first_act, call_due, phase_call, phase_end, phase_begin, phase_to_begin, finish}
+use Rattle.bench_history.specs.Cases.{Next, Nothing, end_reached, giving_up, long_answer, first_act, event_due, phase_call, phase_end, phase_begin, phase_to_begin, finish}
 use Rattle.bench_history.specs.Next.{first_next, next_of, Allows, IsNext, EachIsNext}
 use Rattle.bench_history.specs.Laws.{IsSomething, NothingAfterOver, SomethingBeforeOver}
 use Rattle.bench_history.proofs.Inversion.{Case, AtEnd, ByOwn, ByNeed, ByDeed, ByDue, ByTurn, ByEnd, ByBegin, case-of}
@@ -21,7 +21,7 @@ nothing-comes script history e =
     ∷ giving_up (reason_of script history)
     ∷ long_answer history (left_of script history)
     ∷ first_act script history (left_of script history)
-    ∷ call_due (due_now history)
+    ∷ event_due (due_now history)
     ∷ phase_call history (running (stage_of history))
     ∷ phase_end script history (running (stage_of history))
     ∷ phase_begin (phase_to_begin (stage_of history))
@@ -33,7 +33,7 @@ some-case script history next on (AtEnd ended e) = absurd (on ended)
 some-case script history next on (ByOwn entry own e) = subst IsSomething (sym e) tt
 some-case script history next on (ByNeed act need left upshot e) = subst IsSomething (sym e) tt
 some-case script history next on (ByDeed act outcome left plain comes e) = subst IsSomething (sym e) tt
-some-case script history next on (ByDue due now e) = subst IsSomething (sym e) tt
+some-case script history next on (ByDue event call now is_call e) = subst IsSomething (sym e) tt
 some-case script history next on (ByTurn phase node turn e) = subst IsSomething (sym e) tt
 some-case script history next on (ByEnd phase runs e) = subst IsSomething (sym e) tt
 some-case script history next on (ByBegin phase may e) = subst IsSomething (sym e) tt

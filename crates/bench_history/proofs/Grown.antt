@@ -34,18 +34,18 @@ IsPlainNext (Exactly entry) = IsPlain entry
 IsPlainNext next = Unit {0}
 
 -- what the machine writes by itself is plain
-plain-own : (script : ScriptValue) (entry : Entry) → IsOwn script entry → IsPlain entry
-plain-own script (Heard performer call cause acts) own = own
-plain-own script (Did performer outcome act) own = absurd own
-plain-own script entry own = tt
+plain-own : (script : ScriptValue) (history : List Entry) (entry : Entry) → IsOwn script history entry → IsPlain entry
+plain-own script history (Heard performer call cause acts) own = own
+plain-own script history (Did performer outcome act) own = absurd own
+plain-own script history entry own = tt
 
 -- in each case of the machine
 plain-case : (script : ScriptValue) (history : List Entry) (next : Next) → Case script history next → IsPlainNext next
 plain-case script history next (AtEnd ended e) = subst IsPlainNext (sym e) tt
-plain-case script history next (ByOwn entry own e) = subst IsPlainNext (sym e) (plain-own script entry own)
+plain-case script history next (ByOwn entry own e) = subst IsPlainNext (sym e) (plain-own script history entry own)
 plain-case script history next (ByNeed act need left upshot e) = subst IsPlainNext (sym e) tt
 plain-case script history next (ByDeed act outcome left plain comes e) = subst IsPlainNext (sym e) plain
-plain-case script history next (ByDue due now e) = subst IsPlainNext (sym e) tt
+plain-case script history next (ByDue event call now is_call e) = subst IsPlainNext (sym e) tt
 plain-case script history next (ByTurn phase node turn e) = subst IsPlainNext (sym e) tt
 plain-case script history next (ByEnd phase runs e) = subst IsPlainNext (sym e) tt
 plain-case script history next (ByBegin phase may e) = subst IsPlainNext (sym e) tt

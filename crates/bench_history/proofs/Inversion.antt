@@ -1,8 +1,8 @@
 -- Which case of the machine gives what comes next.
-use Rattle.std.proofs.Common.{◌≡◌, ℕ, Bool, true, false, List, [], ◌∷◌, length, nat_lt, Option, Some, None, option_map, refl, ap, arith, ◌≤◌, ◌&&◌, if◌then◌else◌}
+use Rattle.std.proofs.Common.{◌≡◌, ℕ, Bool, true, false, List, [], ◌∷◌, length, nat_lt, Option, Some, None, option_map, refl, ap, subst, arith, ◌≤◌, ◌==◌, ◌&&◌, if◌then◌else◌}
 use Rattle.std.proofs.lemmas.Bool.Decides.{nat_tests}
 use Rattle.uvm_phase.specs.declared.phases.Phase.{Phase}
-use Rattle.uvm_phase.specs.declared.agendas.Due.{Due}
+use Rattle.uvm_phase.specs.declared.agendas.Cause.{Cause}
 use Rattle.uvm_phase.specs.Phases.{is_task}
 use Rattle.uvm_object.specs.declared.acts.Who.{Who}
 use Rattle.uvm_object.specs.declared.acts.Who.TheVariants as who
@@ -16,28 +16,33 @@ use Rattle.uvm_object.specs.declared.entries.Outcome.TheVariants.{Done, Made, Va
 use Rattle.uvm_object.specs.declared.entries.Reason.{Reason}
 use Rattle.uvm_object.specs.declared.entries.Reason.TheVariants.{Finished}
 use Rattle.uvm_object.specs.declared.entries.Entry.{Entry}
-use Rattle.uvm_object.specs.declared.entries.Entry.TheVariants.{Begin, End, Time, Heard, Did, Note, Over}
+use Rattle.uvm_object.specs.declared.entries.Entry.TheVariants.{Begin, End, Time, Heard, Did, Drained, Note, Over}
 use Rattle.bench_script.specs.Scripts.{ScriptValue}
 use Rattle.bench_history.specs.declared.needs.Need as declared
+use Rattle.bench_history.specs.declared.owners.Owner.{Owner}
 use Rattle.bench_history.specs.declared.stages.Stage.{Stage}
 use Rattle.bench_history.specs.declared.stages.Stage.TheVariants.{Before, During, After, Ended}
+use Rattle.bench_history.specs.Owners.{Event, who_of}
 use Rattle.bench_history.specs.Limits.{most_acts}
-use Rattle.bench_history.specs.History.{stage_of, running, next_call, left_of, rest_of, speaker_of}
+use Rattle.bench_history.specs.History.{stage_of, now_of, running, next_call, left_of, rest_of, speaker_of}
 use Rattle.bench_history.specs.Reports.{reason_of}
 use Rattle.bench_history.specs.Objections.{objections_of, stands}
-use Rattle.bench_history.specs.Dues.{first_due, due_now}
+use Rattle.bench_history.specs.Dues.{first_due, due_at, due_now}
 use Rattle.bench_history.specs.Upshots.{Upshot, Needs, Does, Finds, Refuses, upshot_of}
-use Rattle.bench_history.specs.Cases.{Next, Exactly, Answer, Need, Nothing, end_reached, giving_up, first_act, by_upshot, by_act, call_due, phase_call, phase_end, time_passes, phase_begin, phase_to_begin, finish}
+use Rattle.bench_history.specs.Cases.{Next, Exactly, Answer, Need, Nothing, end_reached, giving_up, first_act, by_upshot, by_act, by_call, event_due, phase_call, phase_end, time_passes, phase_begin, phase_to_begin, finish}
 use Rattle.bench_history.specs.Next.{first_next, next_of}
+use Rattle.bench_history.specs.Laws.{IsDue}
 
--- what the machine writes by itself, outside a phase's course: neither a mark, nor an answer, nor an act. Time stays within its limit
-abbrev pub IsOwn : ScriptValue → Entry → Type 0
-IsOwn script (Begin phase) = ⊥
-IsOwn script (End phase) = ⊥
-IsOwn script (Heard performer call cause acts) = ⊥
-IsOwn script (Did performer outcome act) = ⊥
-IsOwn script (Time time) = time ≤ script.time_limit
-IsOwn script entry = Unit {0}
+-- what the machine writes by itself, outside a phase's course: neither a mark, nor an answer, nor an act. Time stays within its limit, and a
+-- drain that ends is due
+abbrev pub IsOwn : ScriptValue → List Entry → Entry → Type 0
+IsOwn script history (Begin phase) = ⊥
+IsOwn script history (End phase) = ⊥
+IsOwn script history (Heard performer call cause acts) = ⊥
+IsOwn script history (Did performer outcome act) = ⊥
+IsOwn script history (Time time) = time ≤ script.time_limit
+IsOwn script history (Drained node cause) = IsDue history (who.Node node) None cause
+IsOwn script history entry = Unit {0}
 
 -- no object was made
 abbrev pub NotMade : Outcome → Type 0
@@ -48,13 +53,13 @@ pub data Case (script : ScriptValue) (history : List Entry) (next : Next) : Type
   -- the run is over
   AtEnd : stage_of history ≡ Ended → next ≡ Nothing → Case script history next
   -- or what comes is an entry of the machine's own
-  ByOwn : (entry : Entry) → IsOwn script entry → next ≡ Exactly entry → Case script history next
+  ByOwn : (entry : Entry) → IsOwn script history entry → next ≡ Exactly entry → Case script history next
   -- or an act that was not performed yet: it needs an object
   ByNeed : (act : Act) (need : declared.Need) → left_of script history ≡ act ∷ rest_of (left_of script history) → upshot_of script history (speaker_of history) act ≡ Needs need → next ≡ Need need (speaker_of history) act → Case script history next
   -- or comes to something at once, by which no object is made
   ByDeed : (act : Act) (outcome : Outcome) → left_of script history ≡ act ∷ rest_of (left_of script history) → NotMade outcome → by_act script history (speaker_of history) act ≡ Exactly (Did (speaker_of history) outcome act) → next ≡ Exactly (Did (speaker_of history) outcome act) → Case script history next
   -- or a call is due
-  ByDue : (due : Due Who Call) → due_now history ≡ Some due → next ≡ Answer due.owner due.notice (Some due.cause) → Case script history next
+  ByDue : (event : Event) (call : Call) → due_now history ≡ Some event → event.notice ≡ Some call → next ≡ Answer (who_of event.owner) call (Some event.cause) → Case script history next
   -- or it is somebody's turn in the phase that runs
   ByTurn : (phase : Phase) (node : ℕ) → next_call phase history ≡ Some node → next ≡ Answer (who.Node node) (call.Phase phase) None → Case script history next
   -- or that phase ends
@@ -68,20 +73,20 @@ phase_cases script history phase = phase_call history phase ∷ phase_end script
 
 -- and from the acts on
 abbrev act_cases : ScriptValue → List Entry → List (Option Next)
-act_cases script history = call_due (due_now history) ∷ phase_cases script history (running (stage_of history))
+act_cases script history = event_due (due_now history) ∷ phase_cases script history (running (stage_of history))
 
 case-begin : (script : ScriptValue) (history : List Entry) (next : Next) (begins : Option Phase) → phase_to_begin (stage_of history) ≡ begins → next ≡ first_next (phase_begin begins ∷ finish ∷ []) → Case script history next
 case-begin script history next (Some phase) is e = ByBegin phase is e
 case-begin script history next None is e = ByOwn (Over Finished) tt e
 
 -- where time would pass
-case-limit : (script : ScriptValue) (history : List Entry) (next : Next) (due : Due Who Call) (late : Bool) → nat_lt script.time_limit due.time ≡ late → next ≡ Exactly (if late then Note Timeout 0 else Time due.time) → Case script history next
-case-limit script history next due true is e = ByOwn (Note Timeout 0) tt e
-case-limit script history next due false is e = ByOwn (Time due.time) (grind (arith, nat_tests)) e
+case-limit : (script : ScriptValue) (history : List Entry) (next : Next) (event : Event) (late : Bool) → nat_lt script.time_limit event.time ≡ late → next ≡ Exactly (if late then Note Timeout 0 else Time event.time) → Case script history next
+case-limit script history next event true is e = ByOwn (Note Timeout 0) tt e
+case-limit script history next event false is e = ByOwn (Time event.time) (grind (arith, nat_tests)) e
 
-case-time : (script : ScriptValue) (history : List Entry) (next : Next) (first : Option (Due Who Call)) → next ≡ Exactly (time_passes script.time_limit first) → Case script history next
+case-time : (script : ScriptValue) (history : List Entry) (next : Next) (first : Option Event) → next ≡ Exactly (time_passes script.time_limit first) → Case script history next
 case-time script history next None e = ByOwn (Note Stall 0) tt e
-case-time script history next (Some due) e = case-limit script history next due (nat_lt script.time_limit due.time) refl e
+case-time script history next (Some event) e = case-limit script history next event (nat_lt script.time_limit event.time) refl e
 
 -- where each component had its call
 case-ended : (script : ScriptValue) (history : List Entry) (next : Next) (phase : Phase) (standing : Bool) → stage_of history ≡ During phase → next ≡ Exactly (if standing then time_passes script.time_limit (first_due history) else End phase) → Case script history next
@@ -103,8 +108,39 @@ case-phase : (script : ScriptValue) (history : List Entry) (next : Next) (phase 
 case-phase script history next (Some phase) runs e = case-turn script history next phase (next_call phase history) (runs-during (stage_of history) phase runs) refl e
 case-phase script history next None runs e = case-begin script history next (phase_to_begin (stage_of history)) refl e
 
-case-due : (script : ScriptValue) (history : List Entry) (next : Next) (due : Option (Due Who Call)) → due_now history ≡ due → next ≡ first_next (call_due due ∷ phase_cases script history (running (stage_of history))) → Case script history next
-case-due script history next (Some due) is e = ByDue due is e
+-- an event that is due now is due first
+record IsFirst (now : ℕ) (first : Option Event) (event : Event) : Type 0 where
+  first_is : first ≡ Some event
+  time : event.time ≡ now
+
+first-at : (now : ℕ) (first : Option Event) (event : Event) → due_at now first ≡ Some event → IsFirst now first event
+first-at now None event e = cc
+first-at now (Some other) event e = first-tested (other.time == now) refl e
+  where
+    first-tested : (b : Bool) → (other.time == now) ≡ b → (if b then Some other else None) ≡ Some event → IsFirst now (Some other) event
+    first-tested true at e = let same : other ≡ event = cc in record { first_is = e; time = rw (← same) (grind (arith, nat_tests)) }
+    first-tested false at e = cc
+
+pub due-first : (history : List Entry) (event : Event) → due_now history ≡ Some event → IsDue history (who_of event.owner) event.notice event.cause
+unfolding due_now
+due-first history event e =
+    let f = first-at (now_of history) (first_due history) event e in
+    record { event = event; first = f.first_is; time = f.time; hearer_is = refl; notice_is = refl; cause_is = refl }
+
+-- somebody hears its call, or a drain ends
+case-event :
+    (script : ScriptValue) (history : List Entry) (next : Next) (event : Event) (notice : Option Call) → due_now history ≡ Some event → event.notice ≡ notice
+    → next ≡ by_call event.owner notice event.cause → Case script history next
+case-event script history next event (Some call) now is e = ByDue event call now is e
+case-event script history next event None now is e =
+    let I : Option Call → Type 0 = λ notice. IsDue history (who_of event.owner) notice event.cause in
+    ByOwn (Drained (node_of (who_of event.owner)) event.cause) (at-node (who_of event.owner) (subst I is (due-first history event now))) e
+  where
+    at-node : (hearer : Who) → IsDue history hearer None event.cause → IsDue history (who.Node (node_of hearer)) None event.cause
+    at-node (who.Node node) due = due
+
+case-due : (script : ScriptValue) (history : List Entry) (next : Next) (due : Option Event) → due_now history ≡ due → next ≡ first_next (event_due due ∷ phase_cases script history (running (stage_of history))) → Case script history next
+case-due script history next (Some event) is e = case-event script history next event event.notice is refl e
 case-due script history next None is e = case-phase script history next (running (stage_of history)) refl e
 
 case-upshot : (script : ScriptValue) (history : List Entry) (next : Next) (act : Act) (upshot : Upshot) → left_of script history ≡ act ∷ rest_of (left_of script history) → upshot_of script history (speaker_of history) act ≡ upshot → next ≡ by_upshot (speaker_of history) act upshot → Case script history next

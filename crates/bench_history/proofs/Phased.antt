@@ -44,10 +44,10 @@ begin-on Ended phase may ended = cc
 
 begin-case : (script : ScriptValue) (history : List Entry) (phase : Phase) (next : Next) → next ≡ Exactly (Begin phase) → Case script history next → (phase_number phase ≡ next_number (stage_of history)) × (stage_of history ≡ Ended → ⊥)
 begin-case script history phase next is (AtEnd over e) = cc
-begin-case script history phase next is (ByOwn entry own e) = let same : entry ≡ Begin phase = cc in absurd (subst (IsOwn script) same own)
+begin-case script history phase next is (ByOwn entry own e) = let same : entry ≡ Begin phase = cc in absurd (subst (IsOwn script history) same own)
 begin-case script history phase next is (ByNeed act need left upshot e) = cc
 begin-case script history phase next is (ByDeed act outcome left plain comes e) = cc
-begin-case script history phase next is (ByDue due now e) = cc
+begin-case script history phase next is (ByDue event call now is_call e) = cc
 begin-case script history phase next is (ByTurn running node turn e) = cc
 begin-case script history phase next is (ByEnd running runs e) = cc
 begin-case script history phase next is (ByBegin begins may e) = let same : begins ≡ phase = cc in rw (← same) (begin-number (stage_of history) begins may, begin-on (stage_of history) begins may)
@@ -55,10 +55,10 @@ begin-case script history phase next is (ByBegin begins may e) = let same : begi
 -- a phase that ends is the one that runs
 end-case : (script : ScriptValue) (history : List Entry) (phase : Phase) (next : Next) → next ≡ Exactly (End phase) → Case script history next → stage_of history ≡ During phase
 end-case script history phase next is (AtEnd over e) = cc
-end-case script history phase next is (ByOwn entry own e) = let same : entry ≡ End phase = cc in absurd (subst (IsOwn script) same own)
+end-case script history phase next is (ByOwn entry own e) = let same : entry ≡ End phase = cc in absurd (subst (IsOwn script history) same own)
 end-case script history phase next is (ByNeed act need left upshot e) = cc
 end-case script history phase next is (ByDeed act outcome left plain comes e) = cc
-end-case script history phase next is (ByDue due now e) = cc
+end-case script history phase next is (ByDue event call now is_call e) = cc
 end-case script history phase next is (ByTurn running node turn e) = cc
 end-case script history phase next is (ByEnd running runs e) = let same : running ≡ phase = cc in rw (← same) runs
 end-case script history phase next is (ByBegin begins may e) = cc

@@ -19,10 +19,10 @@ time-alone time Nothing allows = absurd allows
 
 time-case : (script : ScriptValue) (history : List Entry) (time : ℕ) (next : Next) → next ≡ Exactly (Time time) → Case script history next → time ≤ script.time_limit
 time-case script history time next is (AtEnd over e) = cc
-time-case script history time next is (ByOwn entry own e) = let same : entry ≡ Time time = cc in subst (IsOwn script) same own
+time-case script history time next is (ByOwn entry own e) = let same : entry ≡ Time time = cc in subst (IsOwn script history) same own
 time-case script history time next is (ByNeed act need left upshot e) = cc
 time-case script history time next is (ByDeed act outcome left plain comes e) = cc
-time-case script history time next is (ByDue due now e) = cc
+time-case script history time next is (ByDue event call now is_call e) = cc
 time-case script history time next is (ByTurn running node turn e) = cc
 time-case script history time next is (ByEnd running runs e) = cc
 time-case script history time next is (ByBegin begins may e) = cc

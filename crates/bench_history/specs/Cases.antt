@@ -4,7 +4,6 @@ use Rattle.std.specs.Prelude.{ℕ, ◌&&◌, List, [], ◌∷◌, length, nat_lt
 use Rattle.uvm_phase.specs.declared.phases.Phase.{Phase}
 use Rattle.uvm_phase.specs.declared.phases.Phase.TheVariants.{Build}
 use Rattle.uvm_phase.specs.declared.agendas.Cause.{Cause}
-use Rattle.uvm_phase.specs.declared.agendas.Due.{Due}
 use Rattle.uvm_phase.specs.Phases.{phase_after, is_task}
 use Rattle.uvm_object.specs.Acts.{node_of}
 use Rattle.uvm_object.specs.declared.acts.Who.{Who}
@@ -17,11 +16,13 @@ use Rattle.uvm_object.specs.declared.entries.Outcome.TheVariants.{Done, Value, R
 use Rattle.uvm_object.specs.declared.entries.Reason.{Reason}
 use Rattle.uvm_object.specs.declared.entries.Reason.TheVariants.{Finished}
 use Rattle.uvm_object.specs.declared.entries.Entry.{Entry}
-use Rattle.uvm_object.specs.declared.entries.Entry.TheVariants.{Begin, End, Time, Did, Note, Over}
+use Rattle.uvm_object.specs.declared.entries.Entry.TheVariants.{Begin, End, Time, Did, Drained, Note, Over}
 use Rattle.bench_script.specs.Scripts.{ScriptValue}
 use Rattle.bench_history.specs.declared.needs.Need as declared
+use Rattle.bench_history.specs.declared.owners.Owner.{Owner}
 use Rattle.bench_history.specs.declared.stages.Stage.{Stage}
 use Rattle.bench_history.specs.declared.stages.Stage.TheVariants.{Before, After, Ended}
+use Rattle.bench_history.specs.Owners.{Event, who_of}
 use Rattle.bench_history.specs.Limits.{most_acts}
 use Rattle.bench_history.specs.History.{next_call, speaker_of}
 use Rattle.bench_history.specs.Objections.{objections_of, stands}
@@ -63,19 +64,24 @@ abbrev pub first_act : ScriptValue → List Entry → List Act → Option Next
 first_act script history [] = None
 first_act script history (act ∷ acts) = Some (by_act script history (speaker_of history) act)
 
--- the call that is due is heard by its owner
-abbrev pub call_due : Option (Due Who Call) → Option Next
-call_due due = option_map (λ due. Answer due.owner due.notice (Some due.cause)) due
+-- the owner of an event hears its call, or its drain ends
+abbrev pub by_call : Owner → Option Call → Cause → Next
+by_call owner (Some call) cause = Answer (who_of owner) call (Some cause)
+by_call owner None cause = Exactly (Drained (node_of (who_of owner)) cause)
+
+-- the event that is due happens
+abbrev pub event_due : Option Event → Option Next
+event_due due = option_map (λ event. by_call event.owner event.notice event.cause) due
 
 -- the phase that runs is heard by the node whose turn it is
 abbrev pub phase_call : List Entry → Option Phase → Option Next
 phase_call history None = None
 phase_call history (Some phase) = option_map (λ node. Answer (who.Node node) (call.Phase phase) None) (next_call phase history)
 
--- time passes to the first call that is due. Where none is, nothing can happen any more; or it is due beyond the time limit
-abbrev pub time_passes : ℕ → Option (Due Who Call) → Entry
+-- time passes to the first event that is due. Where none is, nothing can happen any more; or it is due beyond the time limit
+abbrev pub time_passes : ℕ → Option Event → Entry
 time_passes limit None = Note Stall 0
-time_passes limit (Some due) = if nat_lt limit due.time then Note Timeout 0 else Time due.time
+time_passes limit (Some event) = if nat_lt limit event.time then Note Timeout 0 else Time event.time
 
 -- the phase that runs ends: each component had its call. In run time passes while an objection stands
 abbrev pub phase_end : ScriptValue → List Entry → Option Phase → Option Next

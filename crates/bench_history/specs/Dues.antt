@@ -1,21 +1,36 @@
--- The calls that a log has caused and that nobody has heard yet.
-use Rattle.std.specs.Prelude.{ℕ, Bool, not, ◌+◌, ◌&&◌, ◌==◌, List, [], ◌∷◌, ◌++◌, length, filter, slice_get, Option, Some, None, if◌then◌else◌}
+-- The events that a log has caused and that have not happened yet: calls, and the ends of drains.
+use Rattle.std.specs.Prelude.{ℕ, Bool, true, false, not, ◌+◌, ◌&&◌, ◌==◌, List, [], ◌∷◌, ◌++◌, length, filter, slice_get, Option, Some, None, if◌then◌else◌}
 use Rattle.std.specs.List.{flat_map, list_any}
 use Rattle.uvm_phase.specs.declared.phases.Phase.{Phase}
 use Rattle.uvm_phase.specs.declared.agendas.Cause.{Cause}
 use Rattle.uvm_phase.specs.declared.agendas.Due.{Due}
 use Rattle.uvm_phase.specs.Phases.{same_phase}
 use Rattle.uvm_phase.specs.Dues.{same_cause, in_order}
+use Rattle.uvm_objection.specs.declared.objections.Due as drain
+use Rattle.uvm_objection.specs.Nodes.{Node}
+use Rattle.uvm_objection.specs.Totals.{drains_begun, drains_ended}
 use Rattle.uvm_object.specs.declared.acts.Who.{Who}
 use Rattle.uvm_object.specs.declared.acts.Call.{Call}
 use Rattle.uvm_object.specs.declared.acts.Call.TheVariants as call
 use Rattle.uvm_object.specs.declared.acts.Act.{Act}
-use Rattle.uvm_object.specs.declared.acts.Act.TheVariants.{Get, Wait}
+use Rattle.uvm_object.specs.declared.acts.Act.TheVariants.{Get, RaiseObjection, DropObjection, Wait}
 use Rattle.uvm_object.specs.declared.entries.Outcome.{Outcome}
 use Rattle.uvm_object.specs.declared.entries.Outcome.TheVariants.{Done, Value}
 use Rattle.uvm_object.specs.declared.entries.Entry.{Entry}
-use Rattle.uvm_object.specs.declared.entries.Entry.TheVariants.{End, Heard, Did}
+use Rattle.uvm_object.specs.declared.entries.Entry.TheVariants.{End, Heard, Did, Drained}
+use Rattle.bench_history.specs.declared.owners.Owner.TheVariants.{Object, Drain}
+use Rattle.bench_history.specs.Owners.{Event, is_drain_of}
 use Rattle.bench_history.specs.History.{stage_of, now_of, running}
+use Rattle.bench_history.specs.Objections.{objections_of}
+
+-- an event is due while a phase runs
+abbrev pub event_in : {O N : Type 0} → Option Phase → ℕ → Cause → O → N → List (Due O N)
+event_in None time cause owner notice = []
+event_in (Some phase) time cause owner notice = record { time = time; cause = cause; phase = phase; owner = owner; notice = notice } ∷ []
+
+-- its cause is an entry at a place, which causes no other
+abbrev pub caused_at : ℕ → Cause
+caused_at place = record { place = place; number = 0 }
 
 -- the call that an act causes: a Get that its performer is told the value that was found, a wait that it is called again. No other act causes one
 abbrev pub told_by : Outcome → Act → Option Call
@@ -28,21 +43,39 @@ abbrev pub due_after : ℕ → Act → ℕ
 due_after time (Wait ticks tag) = time + ticks
 due_after time act = time
 
--- it is due to the performer, while a phase runs
-abbrev pub due_from : Option Call → Who → Option Phase → ℕ → Cause → List (Due Who Call)
-due_from (Some notice) performer (Some phase) time cause = record { time = time; cause = cause; phase = phase; owner = performer; notice = notice } ∷ []
-due_from (Some notice) performer None time cause = []
+-- it is due to the performer
+abbrev pub due_from : Option Call → Who → Option Phase → ℕ → Cause → List Event
 due_from None performer phase time cause = []
+due_from (Some call) performer phase time cause = event_in phase time cause (Object performer) (Some call)
 
 -- the calls that the entry of an act causes, which stands at a place
-abbrev pub calls_from : Outcome → Act → Who → Option Phase → ℕ → ℕ → List (Due Who Call)
-calls_from outcome act performer phase time place = due_from (told_by outcome act) performer phase (due_after time act) (record { place = place; number = 0 })
+abbrev pub calls_from : Outcome → Act → Who → Option Phase → ℕ → ℕ → List Event
+calls_from outcome act performer phase time place = due_from (told_by outcome act) performer phase (due_after time act) (caused_at place)
 
--- all calls that were caused; the place of an entry is the number of those before it
-abbrev pub caused_of : List Entry → List (Due Who Call)
+-- the end of a drain is due at its time
+abbrev pub drain_from : Option Phase → Cause → drain.Due → List Event
+drain_from phase cause begun = event_in phase begun.at cause (Drain begun.node) None
+
+-- what was caused, once an entry has changed what is held back: the drains that ended are out, and the ends of those that began are due
+abbrev pub with_drains : Option Phase → Cause → List Node → List Node → List Event → List Event
+with_drains phase cause earlier nodes caused =
+    flat_map (drain_from phase cause) (drains_begun earlier nodes) ++ filter (λ event. not (is_drain_of (drains_ended earlier nodes) event.owner)) caused
+
+-- whether an act may have changed that: no other act does
+abbrev pub moves_drains : Outcome → Act → Bool
+moves_drains Done (RaiseObjection count) = true
+moves_drains Done (DropObjection count) = true
+moves_drains outcome act = false
+
+-- all events that were caused, without the drains that have ended; the place of an entry is the number of those before it
+abbrev pub caused_of : List Entry → List Event
 caused_of [] = []
 caused_of (Did performer outcome act ∷ before) =
-    calls_from outcome act performer (running (stage_of before)) (now_of before) (length before) ++ caused_of before
+    calls_from outcome act performer (running (stage_of before)) (now_of before) (length before)
+    ++ (if moves_drains outcome act then with_drains (running (stage_of before)) (caused_at (length before)) (objections_of before) (objections_of (Did performer outcome act ∷ before)) (caused_of before)
+    else caused_of before)
+caused_of (Drained node cause ∷ before) =
+    with_drains (running (stage_of before)) (caused_at (length before)) (objections_of before) (objections_of (Drained node cause ∷ before)) (caused_of before)
 caused_of (entry ∷ before) = caused_of before
 
 abbrev pub heard_in : Entry → List Cause
@@ -61,23 +94,23 @@ ended_in entry = []
 abbrev pub ended_of : List Entry → List Phase
 ended_of history = flat_map ended_in history
 
--- neither was the call heard, nor has its phase ended
-abbrev pub is_open : List Cause → List Phase → Due Who Call → Bool
-is_open heard ended due = not (list_any (same_cause due.cause) heard) && not (list_any (same_phase due.phase) ended)
+-- neither was the call heard, nor has the event's phase ended
+abbrev pub is_open : List Cause → List Phase → Event → Bool
+is_open heard ended event = not (list_any (same_cause event.cause) heard) && not (list_any (same_phase event.phase) ended)
 
--- the calls that are due: those that were caused and are open
-abbrev pub due_calls : List Entry → List (Due Who Call)
-due_calls history = filter (is_open (heard_of history) (ended_of history)) (caused_of history)
+-- the events that are due: those that were caused and are open
+abbrev pub due_events : List Entry → List Event
+due_events history = filter (is_open (heard_of history) (ended_of history)) (caused_of history)
 
--- of the calls that are due the first, by time, then by the place of the entry that caused it, then by its number among the calls of that entry
-abbrev pub first_due : List Entry → Option (Due Who Call)
-first_due history = slice_get (in_order (due_calls history)) 0
+-- of the events that are due the first, by time, then by the place of the entry that caused it, then by its number among the events of that entry
+abbrev pub first_due : List Entry → Option Event
+first_due history = slice_get (in_order (due_events history)) 0
 
--- a call, if it is due at the present time
-abbrev pub due_at : ℕ → Option (Due Who Call) → Option (Due Who Call)
+-- an event, if it is due at the present time
+abbrev pub due_at : ℕ → Option Event → Option Event
 due_at now None = None
-due_at now (Some due) = if due.time == now then Some due else None
+due_at now (Some event) = if event.time == now then Some event else None
 
--- the first call, if it is due now
-unfoldable pub due_now : List Entry → Option (Due Who Call)
+-- the first event, if it is due now
+unfoldable pub due_now : List Entry → Option Event
 due_now history = due_at (now_of history) (first_due history)

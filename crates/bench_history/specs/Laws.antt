@@ -1,7 +1,6 @@
 -- What holds of all logs, or of all in which each entry was next, as in each legal one, and of what comes next in them.
 use Rattle.std.specs.Prelude.{◌≡◌, ◌<◌, ◌≤◌, ◌+◌, ℕ, suc, true, false, List, [], ◌∷◌, ◌++◌, length, reverse, take, Option, Some, None, IsSome, All, Contains}
 use Rattle.uvm_phase.specs.declared.agendas.Cause.{Cause}
-use Rattle.uvm_phase.specs.declared.agendas.Due.{Due}
 use Rattle.uvm_phase.specs.Phases.{phases, phase_number}
 use Rattle.uvm_tree.specs.declared.nodes.Node.{Node}
 use Rattle.uvm_tree.specs.Nodes.{node_at, path_at}
@@ -10,16 +9,18 @@ use Rattle.uvm_report.specs.Commands.{report_counts}
 use Rattle.uvm_object.specs.Acts.{node_of}
 use Rattle.uvm_object.specs.Objects.{exchanged_in, life_of}
 use Rattle.uvm_object.specs.declared.acts.Who.{Who}
+use Rattle.uvm_object.specs.declared.acts.Who.TheVariants as who
 use Rattle.uvm_object.specs.declared.acts.Call.{Call}
 use Rattle.uvm_object.specs.declared.acts.Act.{Act}
 use Rattle.uvm_object.specs.declared.acts.Act.TheVariants.{Create}
 use Rattle.uvm_object.specs.declared.entries.Outcome.TheVariants.{Made}
 use Rattle.uvm_object.specs.declared.entries.Entry.{Entry}
-use Rattle.uvm_object.specs.declared.entries.Entry.TheVariants.{Did}
+use Rattle.uvm_object.specs.declared.entries.Entry.TheVariants.{Did, Drained}
 use Rattle.bench_script.specs.Scripts.{ScriptValue}
 use Rattle.bench_history.specs.declared.needs.Need as declared
 use Rattle.bench_history.specs.declared.stages.Stage.{Stage}
 use Rattle.bench_history.specs.declared.stages.Stage.TheVariants.{Before, During, After, Ended}
+use Rattle.bench_history.specs.Owners.{Event, who_of}
 use Rattle.bench_history.specs.History.{now_of, stage_of, nodes_of, components_of, created_name, left_of, rest_of, speaker_of, is_over}
 use Rattle.bench_history.specs.Dues.{ended_of, first_due}
 use Rattle.bench_history.specs.Reports.{report_commands}
@@ -51,9 +52,21 @@ AskedAreComponents = (script : ScriptValue) (history : List Entry) (hearer : Who
 abbrev pub ComponentsAreNodes : Type 0
 ComponentsAreNodes = (script : ScriptValue) (history : List Entry) → EachIsNext script history → All (λ node. node < length (nodes_of history)) (components_of history)
 
--- a call with a cause is the one that is due first
+-- what happens is the event that is due first, at its time
+pub record IsDue (history : List Entry) (hearer : Who) (notice : Option Call) (cause : Cause) : Type 0 where
+  pub event : Event
+  pub first : first_due history ≡ Some event
+  pub time : event.time ≡ now_of history
+  pub hearer_is : who_of event.owner ≡ hearer
+  pub notice_is : event.notice ≡ notice
+  pub cause_is : event.cause ≡ cause
+
+-- so does a call with a cause, and the end of a drain
 abbrev pub DueCallsGoInOrder : Type 0
-DueCallsGoInOrder = (script : ScriptValue) (history : List Entry) (hearer : Who) (call : Call) (cause : Cause) → next_of script history ≡ Answer hearer call (Some cause) → (due : Due Who Call) × (first_due history ≡ Some due) × (due.cause ≡ cause) × (due.owner ≡ hearer) × (due.notice ≡ call)
+DueCallsGoInOrder = (script : ScriptValue) (history : List Entry) (hearer : Who) (call : Call) (cause : Cause) → next_of script history ≡ Answer hearer call (Some cause) → IsDue history hearer (Some call) cause
+
+abbrev pub DrainsGoInOrder : Type 0
+DrainsGoInOrder = (script : ScriptValue) (history : List Entry) (node : ℕ) (cause : Cause) → next_of script history ≡ Exactly (Drained node cause) → IsDue history (who.Node node) None cause
 
 -- where an act is next, it is the first of those that are left
 pub record IsFirstAct (script : ScriptValue) (history : List Entry) (act : Act) : Type 0 where

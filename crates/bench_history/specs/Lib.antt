@@ -4,6 +4,7 @@
 -- A word of Rust, as `Entry`, is the type of that name in the `src/` of the crate that its `use` line names. A name or a glob is seen as its
 -- bytes, a path as the list of its names, somebody (`Who`) by the node at which it stands.
 pub mod Limits
+pub mod Owners
 pub mod History
 pub mod Configuration
 pub mod Dues

@@ -6,7 +6,7 @@ use Rattle.bench_script.specs.Scripts.{ScriptValue}
 abbrev pub log_limit : ScriptValue → ℕ
 log_limit script = 1000000
 
--- the most ticks of a wait
+-- the most ticks of a wait and of a drain time
 abbrev pub most_ticks : ℕ
 most_ticks = 10 ^ 15
 

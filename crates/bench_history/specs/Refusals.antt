@@ -102,6 +102,10 @@ raise_refusal running = fault_if (not (in_task running)) OutsideTask
 unfoldable pub drop_refusal : Option Phase → ℕ → ℕ → Option Fatal
 drop_refusal running raised count = first_given (fault_if (not (in_task running)) OutsideTask ∷ fault_if (nat_lt raised count) ObjectionBelowZero ∷ [])
 
+-- a drain time is set in any, and is not too long
+unfoldable pub drain_refusal : ℕ → Option Fatal
+drain_refusal ticks = fault_if (nat_lt most_ticks ticks) OutOfRange
+
 -- a wait is for such a phase, but one of no ticks is for any; and is not too long
 unfoldable pub wait_refusal : Option Phase → ℕ → Option Fatal
 wait_refusal running ticks = first_given (fault_if (nat_lt 0 ticks && not (in_task running)) OutsideTask ∷ fault_if (nat_lt most_ticks ticks) OutOfRange ∷ [])

@@ -9,7 +9,7 @@ use Rattle.uvm_objection.specs.Nodes.{source_of}
 use Rattle.uvm_object.specs.Acts.{node_of}
 use Rattle.uvm_object.specs.declared.acts.Who.{Who}
 use Rattle.uvm_object.specs.declared.acts.Act.{Act}
-use Rattle.uvm_object.specs.declared.acts.Act.TheVariants.{Create, Add, Set, Get, OverrideType, OverrideInst, Report, Verbosity, Actions, Severity, RaiseObjection, DropObjection, Wait}
+use Rattle.uvm_object.specs.declared.acts.Act.TheVariants.{Create, Add, Set, Get, OverrideType, OverrideInst, Report, Verbosity, Actions, Severity, RaiseObjection, DropObjection, SetDrain, Wait}
 use Rattle.uvm_object.specs.declared.fatals.Fatal.{Fatal}
 use Rattle.uvm_object.specs.declared.entries.Entry.{Entry}
 use Rattle.bench_script.specs.Scripts.{ScriptValue}
@@ -17,7 +17,7 @@ use Rattle.bench_history.specs.declared.needs.Need.{Need}
 use Rattle.bench_history.specs.History.{stage_of, running, nodes_of, overrides_of, is_built, type_name_or}
 use Rattle.bench_history.specs.Configuration.{settings_of}
 use Rattle.bench_history.specs.Objections.{objections_of}
-use Rattle.bench_history.specs.Refusals.{Creation, created_path, type_made, creation_refusal, addition_refusal, setting_refusal, overriding_refusal, raise_refusal, drop_refusal, wait_refusal}
+use Rattle.bench_history.specs.Refusals.{Creation, created_path, type_made, creation_refusal, addition_refusal, setting_refusal, overriding_refusal, raise_refusal, drop_refusal, drain_refusal, wait_refusal}
 
 -- what an act comes to: an object is needed first; or at once it is performed, or finds a value, or is refused
 pub data Upshot : Type 0 where
@@ -57,6 +57,7 @@ upshot_of script history performer (Actions which actions) = Does
 upshot_of script history performer (Severity from id to) = Does
 upshot_of script history performer (RaiseObjection count) = unless_refused (raise_refusal (running (stage_of history))) Does
 upshot_of script history performer (DropObjection count) = unless_refused (drop_refusal (running (stage_of history)) (source_of (node_of performer) (objections_of history)) count) Does
+upshot_of script history performer (SetDrain ticks) = unless_refused (drain_refusal ticks) Does
 upshot_of script history performer (Wait ticks tag) = unless_refused (wait_refusal (running (stage_of history)) ticks) Does
 
 -- why an act is refused, if it is

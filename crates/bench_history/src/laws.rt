@@ -1,9 +1,10 @@
 //! What holds of all logs, or of all in which each entry was next, as in each legal one, and of what comes next in them. The functions do
 //! nothing that shows; their contracts are the laws (`specs/Laws.antt`), for all scripts.
 
-ghost use Rattle.bench_history.specs.Laws.{PhasesGoInOrder, AskedAreComponents, ComponentsAreNodes, DueCallsGoInOrder, ActsGoInOrder, NeedsAreCreations, NothingAfterOver, SomethingBeforeOver, MachineEntriesAreSilent, NodesStay, MadeObjectsAreNew, NewNodesAreUnasked, ReportsAreFew, TimeStaysWithin};
+ghost use Rattle.bench_history.specs.Laws.{PhasesGoInOrder, AskedAreComponents, ComponentsAreNodes, DueCallsGoInOrder, DrainsGoInOrder, ActsGoInOrder, NeedsAreCreations, NothingAfterOver, SomethingBeforeOver, MachineEntriesAreSilent, NodesStay, MadeObjectsAreNew, NewNodesAreUnasked, ReportsAreFew, TimeStaysWithin};
 
-use uvm_object::{Call, Who};
+use crate::owners::Owner;
+use uvm_object::Call;
 use uvm_phase::laws as agenda;
 use uvm_report::laws as reports;
 
@@ -18,7 +19,7 @@ pub fn phases_go_in_order()
 pub fn asked_are_components()
     ensures { AskedAreComponents }
 {
-    agenda::order_keeps_all::<Who, Call>();
+    agenda::order_keeps_all::<Owner, Option<Call>>();
 }
 
 /// Each component is a node of the tree.
@@ -27,10 +28,16 @@ pub fn components_are_nodes()
     ensures { ComponentsAreNodes }
 {}
 
-/// A call that has a cause is the one that is due first, and its owner's.
+/// A call that has a cause is that of the event which is due first, now, and its owner's.
 #[tactic(auto, using(crate::proofs::Performed::due_calls_go_in_order))]
 pub fn due_calls_go_in_order()
     ensures { DueCallsGoInOrder }
+{}
+
+/// A drain that ends is the event which is due first, now.
+#[tactic(auto, using(crate::proofs::Performed::drains_go_in_order))]
+pub fn drains_go_in_order()
+    ensures { DrainsGoInOrder }
 {}
 
 /// Where an act is next, it is the first of the last answer's that are left.
@@ -78,7 +85,7 @@ pub fn made_objects_are_new()
 pub fn new_nodes_are_unasked()
     ensures { NewNodesAreUnasked }
 {
-    agenda::order_keeps_all::<Who, Call>();
+    agenda::order_keeps_all::<Owner, Option<Call>>();
 }
 
 /// No more reports were issued than there are entries.

@@ -4,7 +4,9 @@
 
 pub mod laws;
 mod needs;
+mod owners;
 mod stages;
 
 pub use needs::Need;
+pub use owners::Owner;
 pub use stages::Stage;

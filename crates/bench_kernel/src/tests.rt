@@ -8,7 +8,7 @@ ghost use Rattle.bench_kernel.specs.Kernels.{is_done};
 
 use crate::{Kernel, Misfit, Step, Unfit};
 use bench_core::{Core, CoreFault};
-use objects::{AnyObject, Asker, Builder, Builds, Idle, Mute};
+use objects::{AnyObject, Builder, Builds, Idle, Mute, Spinner};
 use rand_pcg::Pcg32;
 use std::alloc::{AllocError, Global};
 use std::test::Fail;
@@ -35,7 +35,7 @@ enum Row {
     NoAnswer,
     /// An answer of 65 acts is noted, and is no want of memory.
     LongAnswer,
-    /// A test that asks again and again fills the log, and is given back.
+    /// A test that waits for no ticks, again and again, fills the log, and is given back.
     FullLog,
 }
 
@@ -49,7 +49,7 @@ impl Row {
                 type_name,
                 builds: Builds::TooMuch,
             }),
-            Row::FullLog => AnyObject::Asker(Asker { type_name }),
+            Row::FullLog => AnyObject::Spinner(Spinner { type_name }),
             Row::NoAnswer => AnyObject::Mute(Mute { type_name }),
             Row::Idle => AnyObject::Idle(Idle { type_name }),
         }
@@ -112,13 +112,13 @@ fn long_answer_is_noted(rt: HostRuntime) -> Result<(), Fail> {
 }
 
 #[test]
-fn boxed_objects_come_back_after_a_full_log(rt: HostRuntime) -> Result<(), Fail> {
+fn boxed_spinner_comes_back_after_a_full_log(rt: HostRuntime) -> Result<(), Fail> {
     assert!(rt; runs_in_boxes(rt.alloc(), Row::FullLog)?);
     Ok(())
 }
 
 #[test]
-fn objects_of_an_enum_come_back_after_a_full_log(rt: HostRuntime) -> Result<(), Fail> {
+fn spinner_of_an_enum_comes_back_after_a_full_log(rt: HostRuntime) -> Result<(), Fail> {
     assert!(rt; runs_in_an_enum(rt.alloc(), Row::FullLog)?);
     Ok(())
 }
@@ -287,11 +287,7 @@ fn ends_full<O: UvmObject, F: Fn(Name) -> Result<O, AllocError> + Drop>(
     Ok(
         refusal(kernel, make)? == Some(CoreFault::LogFull)
             && kernel.log().len() == 1_000_000
-            && writes_last(
-                alloc,
-                kernel.core(),
-                b"did uvm_test_top get f: value none\n",
-            )?
+            && writes_last(alloc, kernel.core(), b"did uvm_test_top wait 0 1: done\n")?
             && fails(kernel)
             && kernel.live() == 1
             && gives_back(alloc, kernel, TEST_ALONE)?

@@ -2,6 +2,7 @@ pub mod Acting
 pub mod Answered
 pub mod Configured
 pub mod Creating
+pub mod Drained
 pub mod Entered
 pub mod Heard
 pub mod Later

@@ -1,5 +1,5 @@
 -- What is due, over lists alone.
-use Rattle.std.proofs.Common.{◌≡◌, ℕ, suc, ◌<◌, Bool, true, false, not, ◌&&◌, ◌||◌, List, [], ◌∷◌, ◌++◌, drop, filter, slice_get, Some, All, refl, ap, ◌∙◌, sym, subst, arith, if◌then◌else◌}
+use Rattle.std.proofs.Common.{◌≡◌, ℕ, suc, ◌<◌, Bool, true, false, not, ◌&&◌, ◌||◌, List, [], ◌∷◌, ◌++◌, drop, filter, slice_get, Option, Some, All, refl, ap, ◌∙◌, sym, subst, arith, if◌then◌else◌}
 use Rattle.std.proofs.lemmas.Bool.Decides.{nat_tests}
 use Rattle.std.specs.List.{list_any}
 use Rattle.std.proofs.lemmas.List.Elements.{All-cons, All-head, All-weaker, All-filter}
@@ -8,16 +8,16 @@ use Rattle.std.proofs.lemmas.List.Sorted.{All-permutation}
 use Rattle.std.proofs.lemmas.List.Kept.{AllPairs-cons, AllPairs-filter}
 use Rattle.uvm_phase.specs.declared.phases.Phase.{Phase}
 use Rattle.uvm_phase.specs.declared.agendas.Cause.{Cause}
-use Rattle.uvm_phase.specs.declared.agendas.Due.{Due}
 use Rattle.uvm_phase.specs.Phases.{phase_number, same_phase}
 use Rattle.uvm_phase.specs.Dues.{same_cause, in_order}
 use Rattle.uvm_phase.specs.Laws.{OrderKeepsAll, OrderKeepsFilters, OrderLosesFirst}
-use Rattle.uvm_object.specs.declared.acts.Who.{Who}
 use Rattle.uvm_object.specs.declared.acts.Call.{Call}
+use Rattle.bench_history.specs.declared.owners.Owner.{Owner}
 use Rattle.bench_history.specs.declared.stages.Stage.{Stage}
 use Rattle.bench_history.specs.declared.stages.Stage.TheVariants.{Before, During, After, Ended}
 use Rattle.bench_history.specs.History.{running}
-use Rattle.bench_history.specs.Dues.{due_from, is_open}
+use Rattle.bench_history.specs.Dues.{event_in, caused_at, is_open}
+use Rattle.bench_history.specs.Owners.{Event}
 use Rattle.bench_history.specs.Laws.{next_number}
 use Rattle.bench_world.specs.Services.{IsAgenda}
 
@@ -26,11 +26,11 @@ filter-tested : {A : Type 0} (p : A → Bool) (x : A) (rest known : List A) (b :
 filter-tested p x rest known false e = e
 filter-tested p x rest known true e = rw e refl
 
-filter-twice : {A : Type 0} (p q both : A → Bool) → ((x : A) → both x ≡ (q x && p x)) → (xs : List A) → filter both xs ≡ filter p (filter q xs)
+pub filter-twice : {A : Type 0} (p q both : A → Bool) → ((x : A) → both x ≡ (q x && p x)) → (xs : List A) → filter both xs ≡ filter p (filter q xs)
 filter-twice p q both same [] = refl
 filter-twice p q both same (x ∷ xs) = rw (same x) (filter-tested p x (filter both xs) (filter q xs) (q x) (filter-twice p q both same xs))
 
-one-heard : (a b e : Bool) → (not (a || b) && e) ≡ ((not b && e) && not a)
+pub one-heard : (a b e : Bool) → (not (a || b) && e) ≡ ((not b && e) && not a)
 one-heard true true true = refl
 one-heard true true false = refl
 one-heard true false true = refl
@@ -40,7 +40,7 @@ one-heard false true false = refl
 one-heard false false true = refl
 one-heard false false false = refl
 
-one-ended : (h a b : Bool) → (h && not (a || b)) ≡ ((h && not b) && not a)
+pub one-ended : (h a b : Bool) → (h && not (a || b)) ≡ ((h && not b) && not a)
 one-ended true true true = refl
 one-ended true true false = refl
 one-ended true false true = refl
@@ -58,7 +58,7 @@ runs ended phase within =
     list_any_none (same_phase phase) ended (All-weaker (λ other. phase_number other < phase_number phase) (λ other. same_phase phase other ≡ false) (λ other lt. grind (arith, nat_tests)) ended within)
 
 -- one more entry
-pub agenda-later : {caused : List (Due Who Call)} {heard : List Cause} {ended : List Phase} {count : ℕ} {dues : List (Due Who Call)} → IsAgenda caused heard ended count dues → IsAgenda caused heard ended (suc count) dues
+pub agenda-later : {caused : List Event} {heard : List Cause} {ended : List Phase} {count : ℕ} {dues : List Event} → IsAgenda caused heard ended count dues → IsAgenda caused heard ended (suc count) dues
 agenda-later {caused} {heard} {ended} {count} a = record {
   are = a.are;
   distinct = a.distinct;
@@ -66,9 +66,9 @@ agenda-later {caused} {heard} {ended} {count} a = record {
   heard_within = All-weaker (λ cause. cause.place < count) (λ cause. cause.place < suc count) (λ cause lt. omega (arith, lt)) heard a.heard_within;
 }
 
--- one that causes a call
+-- one that causes an event
 agenda-caused :
-    (caused : List (Due Who Call)) (heard : List Cause) (ended : List Phase) (dues more : List (Due Who Call)) (due : Due Who Call)
+    (caused : List Event) (heard : List Cause) (ended : List Phase) (dues more : List Event) (due : Event)
     → IsAgenda caused heard ended due.cause.place dues → All (λ other. phase_number other < phase_number due.phase) ended
     → more ≡ in_order (due ∷ filter (is_open heard ended) caused)
     → IsAgenda (due ∷ caused) heard ended (suc due.cause.place) more
@@ -81,27 +81,28 @@ agenda-caused caused heard ended dues more due a before is =
       heard_within = l.heard_within;
     }
 
-pub agenda-told :
-    (notice : Call) (performer : Who) (time : ℕ) (stage : Stage)
-    (caused : List (Due Who Call)) (heard : List Cause) (ended : List Phase) (count : ℕ) (dues more : List (Due Who Call))
+-- an event is due, while a phase runs
+pub agenda-event :
+    (owner : Owner) (notice : Option Call) (time : ℕ) (stage : Stage)
+    (caused : List Event) (heard : List Cause) (ended : List Phase) (count : ℕ) (dues more : List Event)
     → All (λ phase. phase_number phase < next_number stage) ended → IsAgenda caused heard ended count dues
-    → more ≡ in_order (due_from (Some notice) performer (running stage) time (record { place = count; number = 0 }) ++ filter (is_open heard ended) caused)
-    → IsAgenda (due_from (Some notice) performer (running stage) time (record { place = count; number = 0 }) ++ caused) heard ended (suc count) more
-agenda-told notice performer time (During phase) caused heard ended count dues more phases a is =
-    agenda-caused caused heard ended dues more (record { time = time; cause = record { place = count; number = 0 }; phase = phase; owner = performer; notice = notice }) a phases is
-agenda-told notice performer time Before caused heard ended count dues more phases a is = rw (is, ← a.are) (agenda-later a)
-agenda-told notice performer time (After phase) caused heard ended count dues more phases a is = rw (is, ← a.are) (agenda-later a)
-agenda-told notice performer time Ended caused heard ended count dues more phases a is = rw (is, ← a.are) (agenda-later a)
+    → more ≡ in_order (event_in (running stage) time (caused_at count) owner notice ++ filter (is_open heard ended) caused)
+    → IsAgenda (event_in (running stage) time (caused_at count) owner notice ++ caused) heard ended (suc count) more
+agenda-event owner notice time (During phase) caused heard ended count dues more phases a is =
+    agenda-caused caused heard ended dues more (record { time = time; cause = caused_at count; phase = phase; owner = owner; notice = notice }) a phases is
+agenda-event owner notice time Before caused heard ended count dues more phases a is = rw (is, ← a.are) (agenda-later a)
+agenda-event owner notice time (After phase) caused heard ended count dues more phases a is = rw (is, ← a.are) (agenda-later a)
+agenda-event owner notice time Ended caused heard ended count dues more phases a is = rw (is, ← a.are) (agenda-later a)
 
 -- what holds of all holds of the first
-first-holds : {A : Type 0} (P : A → Type 0) (xs : List A) (first : A) → All P xs → slice_get xs 0 ≡ Some first → P first
+pub first-holds : {A : Type 0} (P : A → Type 0) (xs : List A) (first : A) → All P xs → slice_get xs 0 ≡ Some first → P first
 first-holds P [] first all e = cc
 first-holds P (x ∷ xs) first all e = let same : x ≡ first = cc in subst P same (All-head P x xs all)
 
 -- one call is heard
 pub agenda-heard :
-    (caused : List (Due Who Call)) (heard : List Cause) (ended : List Phase) (count : ℕ) (dues left : List (Due Who Call)) (due : Due Who Call)
-    → OrderKeepsAll Who Call → OrderLosesFirst Who Call
+    (caused : List Event) (heard : List Cause) (ended : List Phase) (count : ℕ) (dues left : List Event) (due : Event)
+    → OrderKeepsAll Owner (Option Call) → OrderLosesFirst Owner (Option Call)
     → IsAgenda caused heard ended count dues → slice_get dues 0 ≡ Some due → left ≡ drop 1 dues
     → IsAgenda caused (due.cause ∷ heard) ended (suc count) left
 agenda-heard caused heard ended count dues left due keeps loses a first is =
@@ -120,8 +121,8 @@ agenda-heard caused heard ended count dues left due keeps loses a first is =
 
 -- a phase ends
 pub agenda-ended :
-    (caused : List (Due Who Call)) (heard : List Cause) (ended : List Phase) (count : ℕ) (dues left : List (Due Who Call)) (phase : Phase)
-    → OrderKeepsFilters Who Call → IsAgenda caused heard ended count dues → left ≡ filter (λ due. not (same_phase due.phase phase)) dues
+    (caused : List Event) (heard : List Cause) (ended : List Phase) (count : ℕ) (dues left : List Event) (phase : Phase)
+    → OrderKeepsFilters Owner (Option Call) → IsAgenda caused heard ended count dues → left ≡ filter (λ due. not (same_phase due.phase phase)) dues
     → IsAgenda caused heard (phase ∷ ended) (suc count) left
 agenda-ended caused heard ended count dues left phase keeps a is =
     let known = filter (is_open heard ended) caused in

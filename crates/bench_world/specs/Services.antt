@@ -11,14 +11,12 @@ use Rattle.uvm_config.specs.Answers.{Setting, strongest_answer}
 use Rattle.uvm_config.specs.Observed as config
 use Rattle.uvm_phase.specs.declared.phases.Phase.{Phase}
 use Rattle.uvm_phase.specs.declared.agendas.Cause.{Cause}
-use Rattle.uvm_phase.specs.declared.agendas.Due.{Due}
 use Rattle.uvm_phase.specs.Phases.{phase_number}
 use Rattle.uvm_phase.specs.Dues.{same_cause, in_order}
 use Rattle.uvm_tree.specs.Nodes.{path_at}
 use Rattle.uvm_object.specs.Acts.{node_of}
 use Rattle.uvm_object.specs.Fatals.{fatal_report}
 use Rattle.uvm_object.specs.declared.acts.Who.{Who}
-use Rattle.uvm_object.specs.declared.acts.Call.{Call}
 use Rattle.uvm_object.specs.declared.acts.Act.{Act}
 use Rattle.uvm_object.specs.declared.fatals.Fatal.{Fatal}
 use Rattle.uvm_object.specs.declared.fatals.Fatal.TheVariants.{OverrideLoop}
@@ -35,12 +33,13 @@ use Rattle.bench_world.specs.declared.services.LastAnswer.{LastAnswer}
 use Rattle.bench_world.specs.declared.services.Component.{Component}
 use Rattle.bench_world.specs.declared.services.Services.{Services}
 use Rattle.bench_history.specs.Configuration.{settings_of}
-use Rattle.bench_history.specs.Dues.{caused_of, heard_of, ended_of, is_open}
+use Rattle.bench_history.specs.Owners.{Event}
+use Rattle.bench_history.specs.Dues.{caused_of, heard_of, ended_of, is_open, due_events}
 use Rattle.bench_history.specs.History.{stage_of, now_of, nodes_of, components_of, called_of, had_call, opening, left_of, rest_of, speaker_of, overrides_of, ends_build}
 use Rattle.bench_history.specs.Objections.{objections_of}
 use Rattle.bench_history.specs.Reports.{report_commands, newest_fate, refuses_test}
 use Rattle.bench_world.specs.Reportings.{CanReport, IsReporting, IsReported}
-use Rattle.bench_world.specs.Objectings.{AreNumbered, IsObjecting}
+use Rattle.bench_world.specs.Objectings.{AreNumbered, IsObjecting, AreEvents}
 use Rattle.uvm_objection.specs.Totals.{total}
 use Rattle.bench_history.specs.Cases.{Exactly, Need, by_act}
 use Rattle.bench_history.specs.Laws.{next_number}
@@ -116,8 +115,8 @@ pub record IsSettings (settings : List Setting) (kept : config.Kept) : Type 0 wh
   pub answers : (path : List (List ℕ)) (asked : List ℕ) → config.answer_at kept path asked ≡ strongest_answer settings (path_text path) asked
   pub count : config.accepted kept ≡ length settings
 
--- what is due, in its order: the calls that were caused and are open. Each has a cause of its own, an earlier entry
-pub record IsAgenda (caused : List (Due Who Call)) (heard : List Cause) (ended : List Phase) (count : ℕ) (dues : List (Due Who Call)) : Type 0 where
+-- what is due, in its order: the events that were caused and are open. Each has a cause of its own, an earlier entry
+pub record IsAgenda (caused : List Event) (heard : List Cause) (ended : List Phase) (count : ℕ) (dues : List Event) : Type 0 where
   pub are : dues ≡ in_order (filter (is_open heard ended) caused)
   pub distinct : AllPairs (λ due other. same_cause due.cause other.cause ≡ false) caused
   pub caused_within : All (λ due. due.cause.place < count) caused
@@ -138,6 +137,7 @@ pub record ServicesMatch (script : ScriptValue) (history : List Entry) (services
   pub reporting : IsReporting (report_commands script history) (newest_fate script history) services.reporting
   pub settings : IsSettings (settings_of script history) services.settings
   pub agenda : IsAgenda (caused_of history) (heard_of history) (ended_of history) (length history) services.agenda.dues
+  pub events : AreEvents (objections_of history) (due_events history)
   pub test_refused : services.test_refused ≡ list_any refuses_test history
 
 -- an act may be performed: its performer stands at one of the nodes, which are known to the objections; one more report can be counted, and one more

@@ -13,7 +13,7 @@ ghost use Rattle.bench_world.specs.Services.{CanPerform, IsAttempt, IsRefusing, 
 use crate::configuring::{get_field, set_field};
 use crate::entries::push;
 use crate::making::create;
-use crate::objecting::{drop, raise};
+use crate::objecting::{drop, raise, set_drain};
 use crate::performing::{add, override_inst, override_type};
 use crate::report_acts::{issue, set_action, set_severity, set_verbosity};
 use crate::services::Services;
@@ -63,8 +63,9 @@ pub(crate) fn perform(
         Act::Verbosity { which, level } => set_verbosity(services, alloc, *which, *level),
         Act::Actions { which, actions } => set_action(services, alloc, *which, *actions),
         Act::Severity { from, id, to } => set_severity(services, alloc, *from, *id, *to),
-        Act::RaiseObjection { count } => raise(services, alloc, *count),
-        Act::DropObjection { count } => drop(services, alloc, *count),
+        Act::RaiseObjection { count } => raise(services, alloc, place, *count),
+        Act::DropObjection { count } => drop(services, alloc, place, *count),
+        Act::SetDrain { ticks } => set_drain(services, alloc, *ticks),
         Act::Wait { ticks, tag } => wait(services, alloc, place, *ticks, *tag),
     }
 }

@@ -1,7 +1,7 @@
 //! The entries of a log that are no act's: one call for each kind.
 
 ghost use Rattle.std.specs.Prelude.{◌≡◌, ◌||◌, ◌∷◌, ◌<◌, length, true, OnOk, OnErr, IsOk, Some, None};
-ghost use Rattle.uvm_object.specs.declared.entries.Entry.TheVariants.{Begin, End, Time, Heard, Note, Over};
+ghost use Rattle.uvm_object.specs.declared.entries.Entry.TheVariants.{Begin, End, Time, Heard, Drained, Note, Over};
 ghost use Rattle.bench_history.specs.History.{next_call, phase_order, ends_build};
 ghost use Rattle.bench_history.specs.Reports.{noted_end, reason_of};
 ghost use Rattle.uvm_glob.specs.Orders.{order_of};
@@ -12,12 +12,14 @@ ghost use Rattle.bench_history.specs.Next.{next_of};
 ghost use Rattle.bench_world.specs.Worlds.{MayEnter, world_after, broken};
 
 use crate::attempts::report_at;
+use crate::objecting::move_drains;
 use crate::services::{Component, LastAnswer, clear_calls, mark_call};
 use crate::worlds::World;
-use bench_history::{Stage, laws};
+use bench_history::{Owner, Stage, laws};
 use std::alloc::AllocError;
 use uvm_glob::Direction;
 use uvm_object::{Acts, Call, Entry, Fatal, Log, Reason, Who};
+use uvm_objection::laws as objections;
 use uvm_phase::{Cause, Phase, laws as agenda};
 use uvm_tree::{NodeId, Tree};
 
@@ -44,7 +46,7 @@ impl World {
         ensures ok { OnOk result (self.new ≡ world_after (End phase) self.old) }
         ensures err { OnErr result (self.new ≡ broken self.old) }
     {
-        agenda::order_keeps_filters::<Who, Call>();
+        agenda::order_keeps_filters::<Owner, Option<Call>>();
         self.sound = false;
         self.waiting = None;
         push(&mut self.log, Entry::End(phase))?;
@@ -117,8 +119,8 @@ impl World {
         laws::due_calls_go_in_order();
         // Its owner is a component.
         laws::asked_are_components();
-        agenda::order_keeps_all::<Who, Call>();
-        agenda::order_loses_first::<Who, Call>();
+        agenda::order_keeps_all::<Owner, Option<Call>>();
+        agenda::order_loses_first::<Owner, Option<Call>>();
         self.sound = false;
         self.waiting = None;
         let (place, count) = (self.log.len(), acts.len());
@@ -133,6 +135,31 @@ impl World {
             done: 0,
             noted: false,
         };
+        self.sound = true;
+        Ok(())
+    }
+
+    /// The drain of a node ends: what was held back is passed up (IEEE 1800.2-2020, 10.5).
+    pub fn drained(&mut self, node: NodeId, cause: Cause) -> Result<(), AllocError>
+        requires { MayEnter self.old (Exactly (Drained node cause)) }
+        ensures ok { OnOk result (self.new ≡ world_after (Drained node cause) self.old) }
+        ensures err { OnErr result (self.new ≡ broken self.old) }
+    {
+        // It is the first event of the agenda, so that something is held back, and due now.
+        laws::drains_go_in_order();
+        agenda::order_keeps_all::<Owner, Option<Call>>();
+        // What it begins is due in a phase that has not ended.
+        laws::phases_go_in_order();
+        objections::places_stay();
+        objections::nodes_grow();
+        objections::begun_drains_are_held();
+        self.sound = false;
+        self.waiting = None;
+        let place = self.log.len();
+        let began = self.services.objection.drained(node);
+        move_drains(&mut self.services, place, began, Some(node))?;
+        push(&mut self.log, Entry::Drained { node, cause })?;
+        self.services.reporting.newest = None;
         self.sound = true;
         Ok(())
     }

@@ -9,7 +9,7 @@ ghost use Rattle.bench_world.specs.Reportings.{IsReporting};
 ghost use Rattle.bench_world.specs.Services.{IsFactory, IsSettings, ServicesMatch, cleared, with_call};
 
 use crate::reporting::Reporting;
-use bench_history::Stage;
+use bench_history::{Owner, Stage};
 use std::alloc::Global;
 use uvm_config::Settings;
 use uvm_factory::Factory;
@@ -60,8 +60,8 @@ pub(crate) struct Services {
     pub(crate) factory: Factory,
     pub(crate) settings: Settings,
     pub(crate) reporting: Reporting,
-    // The calls that are due.
-    pub(crate) agenda: Agenda<Who, Call>,
+    // The events that are due.
+    pub(crate) agenda: Agenda<Owner, Option<Call>>,
     // In the order in which they were made.
     pub(crate) components: Vec<Component>,
     pub(crate) answer: LastAnswer,

@@ -1,27 +1,26 @@
-//! Calls that acts cause, and waits.
+//! What acts cause: calls, waits, and the ends of drains.
 
 ghost use Rattle.std.specs.Prelude.{◌≡◌, ◌≤◌, ◌++◌, List, OnOk, IfOk, IfNone, Some};
 ghost use Rattle.uvm_phase.specs.declared.agendas.Due.{Due};
 ghost use Rattle.uvm_phase.specs.Dues.{in_order};
 ghost use Rattle.uvm_object.specs.declared.acts.Act.TheVariants.{Wait};
-ghost use Rattle.uvm_object.specs.declared.acts.Call.{Call};
-ghost use Rattle.uvm_object.specs.declared.acts.Who.{Who};
-ghost use Rattle.bench_history.specs.Dues.{due_from};
+ghost use Rattle.bench_history.specs.Dues.{caused_at, due_from, event_in};
 ghost use Rattle.bench_history.specs.History.{running};
 ghost use Rattle.bench_history.specs.Limits.{most_ticks};
+ghost use Rattle.bench_history.specs.Owners.{Event};
 ghost use Rattle.bench_history.specs.Refusals.{wait_refusal};
 ghost use Rattle.bench_world.specs.Services.{CanPerform, IsAttempt};
 
 use crate::attempts::{Attempt, done, refused};
 use crate::objecting::in_task;
 use crate::services::Services;
-use bench_history::Stage;
+use bench_history::{Owner, Stage};
 use std::alloc::{AllocError, Global};
 use uvm_object::{Call, Fatal};
-use uvm_phase::Cause;
+use uvm_phase::{Agenda, Cause};
 
-// The most ticks of a wait.
-const MAX_TICKS: u64 = 1_000_000_000_000_000;
+// The most ticks of a wait and of a drain time.
+pub(crate) const MAX_TICKS: u64 = 1_000_000_000_000_000;
 
 // The performer is called again after some ticks, unless that is refused.
 pub(crate) fn wait(
@@ -64,17 +63,33 @@ pub(crate) fn tell(
     time: u64,
     place: usize,
 ) -> Result<(), AllocError>
-    ensures dues { OnOk result ((caused : List (Due Who Call)) → services.old.agenda.dues ≡ in_order caused →
-        services.new.agenda.dues ≡ in_order (due_from (Some call) services.old.answer.speaker (running services.old.stage) time (record { place = place; number = 0 }) ++ caused)) }
+    ensures dues { OnOk result ((caused : List Event) → services.old.agenda.dues ≡ in_order caused →
+        services.new.agenda.dues ≡ in_order (due_from (Some call) services.old.answer.speaker (running services.old.stage) time (caused_at place) ++ caused)) }
     ensures rest { services.new ≡ record services.old { agenda = services.new.agenda } }
 {
-    let Stage::During(phase) = services.stage else {
+    let performer = Owner::Object(services.answer.speaker);
+    let agenda = &mut services.agenda;
+    add_event(agenda, services.stage, time, place, performer, Some(call))
+}
+
+// An event is due at a time, while a phase runs. The entry's place is its cause.
+pub(crate) fn add_event<O: Drop, N: Drop>(
+    agenda: &mut Agenda<O, N>,
+    stage: Stage,
+    time: u64,
+    place: usize,
+    owner: O,
+    notice: N,
+) -> Result<(), AllocError>
+    ensures { OnOk result ((caused : List (Due O N)) → agenda.old.dues ≡ in_order caused →
+        agenda.new.dues ≡ in_order (event_in (running stage) time (caused_at place) owner notice ++ caused)) }
+{
+    let Stage::During(phase) = stage else {
         return Ok(());
     };
     let cause = Cause {
         place: place as u64,
         number: 0,
     };
-    let performer = services.answer.speaker;
-    services.agenda.due(time, cause, phase, performer, call)
+    agenda.due(time, cause, phase, owner, notice)
 }

@@ -15,7 +15,7 @@ ghost use Rattle.bench_world.specs.Services.{IsFactory, IsSettings};
 ghost use Rattle.uvm_glob.specs.Paths.{path_text};
 ghost use Rattle.uvm_config.specs.Answers.{config_answer};
 ghost use Rattle.bench_history.specs.Configuration.{settings_of};
-ghost use Rattle.bench_history.specs.Dues.{due_calls, due_now};
+ghost use Rattle.bench_history.specs.Dues.{due_events, due_now};
 ghost use Rattle.bench_history.specs.Next.{IsLegal};
 ghost use Rattle.bench_world.specs.Worlds.{WorldValue};
 
@@ -23,14 +23,14 @@ use crate::configuring::given_settings;
 use crate::making::Waiting;
 use crate::reporting::given_reporting;
 use crate::services::Services;
-use bench_history::Stage;
+use bench_history::{Owner, Stage};
 use bench_script::Script;
 use std::alloc::{AllocError, Global};
 use std::marker::Model;
 use uvm_config::Settings;
 use uvm_factory::Factory;
 use uvm_glob::{Name, Path};
-use uvm_object::{Act, Call, Deed, Log, Who};
+use uvm_object::{Act, Call, Deed, Log};
 use uvm_objection::Objection;
 use uvm_phase::{Agenda, Due, Phase};
 use uvm_report::{Fate, Reports};
@@ -178,9 +178,9 @@ impl World {
         self.services.settings.get(path, field)
     }
 
-    /// The call that is due at the present time, of several the first.
+    /// The event that is due at the present time, of several the first: somebody is to hear a call, or a drain ends.
     #[tactic(auto, unfolding(bench_history::specs::Dues::due_now))]
-    pub fn due_now(&self) -> Option<&Due<Who, Call>>
+    pub fn due_now(&self) -> Option<&Due<Owner, Option<Call>>>
         requires { self.now.sound ≡ true }
         ensures { option_copied result ≡ due_now self.now.history }
     {
@@ -206,10 +206,10 @@ impl World {
         &self.services.settings
     }
 
-    /// The agenda: the calls that are due, in their order.
-    pub fn agenda(&self) -> &Agenda<Who, Call>
+    /// The agenda: the events that are due, in their order.
+    pub fn agenda(&self) -> &Agenda<Owner, Option<Call>>
         requires { self.now.sound ≡ true }
-        ensures { result.now.dues ≡ in_order (due_calls self.now.history) }
+        ensures { result.now.dues ≡ in_order (due_events self.now.history) }
     {
         &self.services.agenda
     }

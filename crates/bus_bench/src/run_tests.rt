@@ -60,6 +60,44 @@ const STALLED: &[u8] = b"UVM_FATAL @ 0: uvm_top [STALL] objection stands and not
 
 const OUT_OF_RANGE: &[u8] = b"UVM_FATAL @ 0: uvm_test_top [ACTRNG] value out of range\n";
 
+// It raises again while its first drop is held back.
+const PULSE: &[u8] =
+    b"version = 1\ntest = \"pulse\"\ntype = [{ name = \"pulse\", kind = \"component\" }]\n";
+
+const PULSE_RUN: &[u8] = b"did uvm_top create pulse uvm_test_top: made pulse
+begin build
+heard uvm_test_top build: 0
+end build
+begin connect
+heard uvm_test_top connect: 0
+end connect
+begin end_of_elaboration
+heard uvm_test_top end_of_elaboration: 0
+end end_of_elaboration
+begin start_of_simulation
+heard uvm_test_top start_of_simulation: 0
+end start_of_simulation
+begin run
+heard uvm_test_top run: 3
+did uvm_test_top set_drain 5: done
+did uvm_test_top raise 1: done
+did uvm_test_top wait 10 1: done
+time 10
+heard uvm_test_top wake 1: 2
+did uvm_test_top drop 1: done
+did uvm_test_top wait 2 2: done
+time 12
+heard uvm_test_top wake 2: 2
+did uvm_test_top raise 1: done
+did uvm_test_top wait 8 3: done
+time 20
+heard uvm_test_top wake 3: 1
+did uvm_test_top drop 1: done
+time 25
+drained uvm_test_top
+end run
+";
+
 // It waits for no ticks, again and again.
 const SPINNER: &[u8] =
     b"version = 1\ntest = \"spinner\"\ntype = [{ name = \"spinner\", kind = \"component\" }]\n";
@@ -228,6 +266,14 @@ fn sleeper_run(alloc: Global, at: &[u8]) -> Result<(Verdict, Vec<u8>), Fail> {
     let mut out = Vec::new(alloc);
     let verdict = run_bench(alloc, script.as_slice(), 1, None, false, &mut out);
     Ok((verdict, out))
+}
+
+#[test]
+fn pulse_is_over_when_its_second_drain_is(rt: HostRuntime) {
+    let mut out = Vec::new(rt.alloc());
+    let verdict = run_bench(rt.alloc(), PULSE, 1, None, true, &mut out);
+    assert_eq!(rt; verdict, Verdict::Clean);
+    assert!(rt; out.as_slice().starts_with(PULSE_RUN));
 }
 
 #[test]

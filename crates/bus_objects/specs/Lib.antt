@@ -1,5 +1,6 @@
 pub mod Idle
 pub mod Loud
+pub mod Pulse
 pub mod Sleeper
 pub mod Spinner
 pub mod Objects

@@ -4,6 +4,7 @@
 mod idle;
 mod loud;
 mod objects;
+mod pulse;
 mod sleeper;
 mod spinner;
 #[cfg(test)]
@@ -12,5 +13,6 @@ mod tests;
 pub use idle::Idle;
 pub use loud::Loud;
 pub use objects::BusObject;
+pub use pulse::Pulse;
 pub use sleeper::Sleeper;
 pub use spinner::Spinner;

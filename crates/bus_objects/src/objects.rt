@@ -4,6 +4,7 @@ ghost use Rattle.std.specs.Prelude.{◌≡◌};
 
 use crate::idle::Idle;
 use crate::loud::Loud;
+use crate::pulse::Pulse;
 use crate::sleeper::Sleeper;
 use crate::spinner::Spinner;
 use std::alloc::{AllocError, Global};
@@ -17,6 +18,8 @@ pub enum BusObject {
     Idle(Idle),
     /// Of the type `loud`.
     Loud(Loud),
+    /// Of the type `pulse`.
+    Pulse(Pulse),
     /// Of the type `sleeper`.
     Sleeper(Sleeper),
     /// Of the type `spinner`.
@@ -35,6 +38,9 @@ impl BusObject {
         }
         if let Some(loud) = Loud::of_type(type_name) {
             return Some(BusObject::Loud(loud));
+        }
+        if let Some(pulse) = Pulse::of_type(type_name) {
+            return Some(BusObject::Pulse(pulse));
         }
         if let Some(sleeper) = Sleeper::of_type(type_name) {
             return Some(BusObject::Sleeper(sleeper));
@@ -56,6 +62,7 @@ impl UvmObject for BusObject {
         match self {
             BusObject::Idle(idle) => idle.type_name(),
             BusObject::Loud(loud) => loud.type_name(),
+            BusObject::Pulse(pulse) => pulse.type_name(),
             BusObject::Sleeper(sleeper) => sleeper.type_name(),
             BusObject::Spinner(spinner) => spinner.type_name(),
         }
@@ -65,6 +72,7 @@ impl UvmObject for BusObject {
         match self {
             BusObject::Idle(idle) => idle.hear(alloc, call),
             BusObject::Loud(loud) => loud.hear(alloc, call),
+            BusObject::Pulse(pulse) => pulse.hear(alloc, call),
             BusObject::Sleeper(sleeper) => sleeper.hear(alloc, call),
             BusObject::Spinner(spinner) => spinner.hear(alloc, call),
         }

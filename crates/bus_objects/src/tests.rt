@@ -37,6 +37,24 @@ fn loud_reports_three_errors_when_it_builds(rt: HostRuntime) -> Result<(), Fail>
 }
 
 #[test]
+fn pulse_wakes_three_times(rt: HostRuntime) -> Result<(), Fail> {
+    let name = Name::new(b"pulse")?;
+    let mut pulse = BusObject::of_type(&name).ok_or("no object")?;
+    assert_eq!(rt; *pulse.type_name(), name);
+    assert_eq!(rt; pulse.hear(rt.alloc(), &Call::Phase(Phase::Run))?.len(), 3);
+    for (tag, count) in [(1, 2), (2, 2), (3, 1), (4, 0)] {
+        let acts = pulse.hear(rt.alloc(), &Call::Wake { tag })?;
+        assert_eq!(rt; acts.len(), count, "at tag {tag}");
+    }
+    assert!(rt;
+        pulse
+            .hear(rt.alloc(), &Call::Phase(Phase::Build))?
+            .is_empty()
+    );
+    Ok(())
+}
+
+#[test]
 fn sleeper_waits_for_the_value_that_it_is_told(rt: HostRuntime) -> Result<(), Fail> {
     let name = Name::new(b"sleeper")?;
     let mut sleeper = BusObject::of_type(&name).ok_or("no object")?;

@@ -23,7 +23,7 @@ use Rattle.uvm_object.specs.declared.entries.Outcome.TheVariants.{Done, Made, Va
 use Rattle.uvm_object.specs.declared.entries.Reason.{Reason}
 use Rattle.uvm_object.specs.declared.entries.Reason.TheVariants.{Finished, Exit, NoTest, Stall, Timeout}
 use Rattle.uvm_object.specs.declared.entries.Entry.{Entry}
-use Rattle.uvm_object.specs.declared.entries.Entry.TheVariants.{Begin, End, Time, Heard, Did, Note, Over}
+use Rattle.uvm_object.specs.declared.entries.Entry.TheVariants.{Begin, End, Time, Heard, Did, Drained, Note, Over}
 use Rattle.uvm_object.specs.Fatals.{id_of}
 
 -- a path as it is printed: the top's own is `uvm_top`
@@ -86,6 +86,7 @@ act_text (act.Actions which actions) = codes "actions " ++ which_text which ++ 3
 act_text (act.Severity from id to) = codes "severity " ++ severity_name from ++ 32 ∷ id_text id ++ 32 ∷ severity_name to
 act_text (act.RaiseObjection count) = codes "raise " ++ decimal count
 act_text (act.DropObjection count) = codes "drop " ++ decimal count
+act_text (act.SetDrain ticks) = codes "set_drain " ++ decimal ticks
 act_text (act.Wait ticks tag) = codes "wait " ++ decimal ticks ++ 32 ∷ decimal tag
 
 abbrev pub outcome_text : Outcome → List ℕ
@@ -107,6 +108,7 @@ entry_text nodes (End phase) = codes "end " ++ phase_name phase
 entry_text nodes (Time time) = codes "time " ++ decimal time
 entry_text nodes (Heard who call cause acts) = codes "heard " ++ who_text nodes who ++ 32 ∷ call_text call ++ codes ": " ++ decimal (length acts)
 entry_text nodes (Did who outcome act) = codes "did " ++ who_text nodes who ++ 32 ∷ act_text act ++ codes ": " ++ outcome_text outcome
+entry_text nodes (Drained node cause) = codes "drained " ++ shown_path (path_at nodes node)
 entry_text nodes (Note fatal node) = codes "note " ++ id_of fatal ++ 32 ∷ shown_path (path_at nodes node)
 entry_text nodes (Over reason) = codes "over " ++ reason_text reason
 

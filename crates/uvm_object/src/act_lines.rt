@@ -6,7 +6,7 @@ ghost use Rattle.uvm_object.specs.declared.acts.Act.TheVariants as act;
 ghost use Rattle.uvm_object.specs.Lines.{act_text, actions_text, id_text, what_text, which_text};
 
 use crate::acts::{Act, What};
-use crate::lines::{push_integer, push_number, push_two};
+use crate::lines::{push_integer, push_number, push_ticks, push_two};
 use std::alloc::AllocError;
 use uvm_glob::{Glob, Name};
 use uvm_report::{Actions, Report, Severity, Which};
@@ -35,6 +35,7 @@ pub(crate) fn push_act(act: &Act, line: &mut Vec<u8>) -> Result<(), AllocError>
         Act::Severity { from, id, to } => push_change(*from, id, *to, line),
         Act::RaiseObjection { count } => push_count(b"raise ", *count, line),
         Act::DropObjection { count } => push_count(b"drop ", *count, line),
+        Act::SetDrain { ticks } => push_ticks(b"set_drain ", *ticks, line),
         Act::Wait { ticks, tag } => push_wait(*ticks, *tag, line),
     }
 }
@@ -124,18 +125,16 @@ fn push_change(
 fn push_wait(ticks: u64, tag: u32, line: &mut Vec<u8>) -> Result<(), AllocError>
     ensures { OnOk result (line.new.items ≡ line.old.items ++ act_text (act.Wait ticks tag)) }
 {
-    line.extend_from_slice(b"wait ")?;
-    push_number(ticks, line)?;
+    push_ticks(b"wait ", ticks, line)?;
     line.push(b' ')?;
     push_number(u64::from(tag), line)
 }
 
-// A word and a number.
+// A word and a count.
 fn push_count(word: &[u8], count: u16, line: &mut Vec<u8>) -> Result<(), AllocError>
     ensures { OnOk result (line.new.items ≡ line.old.items ++ (word.now ++ decimal count)) }
 {
-    line.extend_from_slice(word)?;
-    push_number(u64::from(count), line)
+    push_ticks(word, u64::from(count), line)
 }
 
 // A word and some bytes.

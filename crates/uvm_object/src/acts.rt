@@ -154,6 +154,11 @@ pub enum Act {
         /// By how much.
         count: u16,
     },
+    /// Set the drain time of the performer's node: so long a total that falls to zero there is held back (Clause 10.5).
+    SetDrain {
+        /// How many ticks, at most 10^15.
+        ticks: u64,
+    },
     /// Be called again after some time.
     Wait {
         /// After how many ticks, at most 10^15.
@@ -207,6 +212,7 @@ impl Act {
             Act::Severity { from, id, to } => Act::Severity { from, id, to },
             Act::RaiseObjection { count } => Act::RaiseObjection { count },
             Act::DropObjection { count } => Act::DropObjection { count },
+            Act::SetDrain { ticks } => Act::SetDrain { ticks },
             Act::Wait { ticks, tag } => Act::Wait { ticks, tag },
         })
     }

@@ -233,6 +233,13 @@ pub enum Entry {
         /// The act.
         act: Deed,
     },
+    /// The drain of a node is over: what was held back is passed up (Clause 10.5).
+    Drained {
+        /// The node.
+        node: NodeId,
+        /// Why its drain had begun.
+        cause: Cause,
+    },
     /// The kernel reports at a node.
     Note {
         /// The report.

@@ -29,10 +29,7 @@ fn push_entry(entry: &Entry, tree: &Tree, line: &mut Vec<u8>) -> Result<(), Allo
     match entry {
         Entry::Begin(phase) => push_two(b"begin ", phase.name(), line),
         Entry::End(phase) => push_two(b"end ", phase.name(), line),
-        Entry::Time(time) => {
-            line.extend_from_slice(b"time ")?;
-            push_number(*time, line)
-        }
+        Entry::Time(time) => push_ticks(b"time ", *time, line),
         Entry::Heard {
             who,
             call,
@@ -54,9 +51,12 @@ fn push_entry(entry: &Entry, tree: &Tree, line: &mut Vec<u8>) -> Result<(), Allo
             line.extend_from_slice(b": ")?;
             push_outcome(&outcome.get(), line)
         }
+        Entry::Drained { node, .. } => {
+            line.extend_from_slice(b"drained ")?;
+            push_path(*node, tree, line)
+        }
         Entry::Note { fatal, node } => {
-            line.extend_from_slice(b"note ")?;
-            line.extend_from_slice(fatal.id().as_bytes())?;
+            push_two(b"note ", fatal.id(), line)?;
             line.push(b' ')?;
             push_path(*node, tree, line)
         }
@@ -149,6 +149,14 @@ fn reason_text(reason: Reason) -> &'static str
         Reason::Stall => "stall",
         Reason::Timeout => "timeout",
     }
+}
+
+// A word and a number.
+pub(crate) fn push_ticks(word: &[u8], ticks: u64, line: &mut Vec<u8>) -> Result<(), AllocError>
+    ensures { OnOk result (line.new.items ≡ line.old.items ++ (word.now ++ decimal ticks)) }
+{
+    line.extend_from_slice(word)?;
+    push_number(ticks, line)
 }
 
 pub(crate) fn push_number(n: u64, line: &mut Vec<u8>) -> Result<(), AllocError>

@@ -70,11 +70,11 @@ tree_push node parent (e ∷ newer) tree unknown above =
     (tree.0, tree.1, new_push e.node node parent newer (not_same e.node node parts.0) tree.2, under_push known node parent newer tree.3 parts.1 above)
 
 -- one more
-pub added : (o next : Inside) (node parent : ℕ) → IsObjection o → is_known node (map node_of (o.top ∷ o.entries.items)) ≡ false → is_known parent (map node_of (o.top ∷ o.entries.items)) ≡ true → next.top ≡ o.top → next.entries.items ≡ o.entries.items ++ new_entry node parent ∷ [] → IsObjection next
-added o next node parent keeps unknown above same is =
+pub added : (o next : Inside) (node parent : ℕ) (new : Entry) → IsObjection o → is_known node (map node_of (o.top ∷ o.entries.items)) ≡ false → is_known parent (map node_of (o.top ∷ o.entries.items)) ≡ true → new ≡ new_entry node parent → next.top ≡ o.top → next.entries.items ≡ o.entries.items ++ new ∷ [] → IsObjection next
+added o next node parent new keeps unknown above made same is =
     let es = o.top ∷ o.entries.items in
     let more = es ++ new_entry node parent ∷ [] in
-    let all : next.top ∷ next.entries.items ≡ more = ap (λ e. e ∷ next.entries.items) same ∙ ap (λ l. o.top ∷ l) is in
+    let all : next.top ∷ next.entries.items ≡ more = ap (λ e. e ∷ next.entries.items) same ∙ ap (λ l. o.top ∷ l) (is ∙ ap (λ e. o.entries.items ++ e ∷ []) made) in
     let T : List Entry → Type 0 = λ l. IsTree (shape l) in
     let K : List Entry → Type 0 = Kept in
     let F : List Entry → Type 0 = Fits in

@@ -2,7 +2,6 @@
 use Rattle.std.proofs.Common.{◌≡◌, ◌<◌, ◌≤◌, ℕ, ◌+◌, Bool, true, false, ◌||◌, ◌==◌, List, [], ◌∷◌, ◌++◌, map, Option, refl, sym, ap, ◌∙◌, subst, arith}
 use Rattle.uvm_objection.specs.declared.nodes.Entry.{Entry}
 use Rattle.uvm_objection.specs.declared.nodes.Change.{Change}
-use Rattle.uvm_objection.specs.declared.nodes.ChangeKind.{ChangeKind}
 use Rattle.uvm_objection.specs.declared.nodes.ChangeKind.TheVariants.{Raise, Drop, Release, SetDrain}
 use Rattle.uvm_objection.specs.Nodes.{Node, top, new_node, is_known, held_of}
 use Rattle.uvm_objection.specs.Totals.{total, settled}
@@ -15,7 +14,7 @@ use Rattle.uvm_objection.proofs.Trees.{Distinct, distinct_of, shape, same_node, 
 use Rattle.uvm_objection.proofs.Sums.{agree, add_up}
 use Rattle.uvm_objection.proofs.Settling.{IsSettled, walk_settles, few_after}
 use Rattle.uvm_objection.proofs.Adding.{new_entry, kept_push, tree_push}
-use Rattle.uvm_objection.proofs.Objecting.{holds_nothing, timely, before_kept, map_changed, settled_steady}
+use Rattle.uvm_objection.proofs.Objecting.{holds_nothing, timely, same_time, before_kept, map_changed, settled_steady}
 
 -- the nodes with their totals
 abbrev entries_at : List Node → List Entry
@@ -82,13 +81,7 @@ grown es ys count tree apart sums tree' apart' sums' most =
 
 most_after : (c : Change) (es : List Entry) → Distinct es → AddUp es → first_total_of (walked c es).entries ≤ first_total_of es + most_raised c.kind
 most_after c [] apart sums = omega arith
-most_after c (e ∷ newer) apart sums = (few_after c (walked c newer).walk e newer (walked c newer).entries (walk_settles c newer apart.1 sums.2) apart sums).1
-
-same_time : (kind : ChangeKind) (time : ℕ) → IsSteady kind → IsTimely kind time time
-same_time (Raise count) time steady = tt
-same_time (Drop count) time steady = refl
-same_time Release time steady = refl
-same_time (SetDrain drain) time steady = refl
+most_after c (e ∷ newer) apart sums = (few_after c (walked c newer).walk e newer (walked c newer).entries (walk_settles c newer apart.1 sums.2) apart sums).0
 
 map_push : (node parent : ℕ) (es : List Entry) → map node_of (es ++ new_entry node parent ∷ []) ≡ map node_of es ++ new_node node parent ∷ []
 map_push node parent [] = refl
@@ -127,7 +120,7 @@ module _ (nodes : List Node) (are : AreNodes nodes) where
       let S : List Node → Type 0 = λ ns. settled c.time (total ns) (nodes_changed c.node c.kind ns) ≡ nodes_changed c.node c.kind ns in
       let same = settled_steady c steady (total (map node_of es)) es apart sums (before_kept (map node_of es) es (agree es apart sums)) in
       let G : List Node → Type 0 = GrowsBy (most_raised c.kind) nodes in
-      subst G (subst S (same_nodes nodes) same) (changed_grows c c.time (same_time c.kind c.time steady))
+      subst G (subst S (same_nodes nodes) same) (changed_grows c c.time (same_time c.kind c.time))
 
   added_grows : (node parent : ℕ) → is_known node nodes ≡ false → is_known parent nodes ≡ true → GrowsBy 0 nodes (nodes ++ new_node node parent ∷ [])
   added_grows node parent unknown above =

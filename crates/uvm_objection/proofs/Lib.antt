@@ -1,6 +1,7 @@
 pub mod Passed
 pub mod Trees
 pub mod Sums
+pub mod ByTotals
 pub mod Settling
 pub mod Drains
 pub mod Passing

@@ -7,10 +7,10 @@ use Rattle.uvm_objection.specs.declared.nodes.ChangeKind.{ChangeKind}
 use Rattle.uvm_objection.specs.declared.nodes.ChangeKind.TheVariants.{Raise, Drop, Release, SetDrain}
 use Rattle.uvm_objection.specs.declared.walks.Walk.{Walk}
 use Rattle.uvm_objection.specs.declared.objections.Objection.TheInside.{Inside}
-use Rattle.uvm_objection.specs.Nodes.{Node, held_of}
+use Rattle.uvm_objection.specs.Nodes.{Node, held_of, changed_at}
 use Rattle.uvm_objection.specs.Totals.{total, settled, settled_node, drains_begun, drains_ended}
 use Rattle.uvm_objection.specs.Laws.{IsTree, AreNodes}
-use Rattle.uvm_objection.specs.Changes.{source_changed, held_changed, drain_changed, entry_changed, node_changed, nodes_changed, most_raised, IsWithin, IsTimely, IsSteady}
+use Rattle.uvm_objection.specs.Changes.{source_changed, held_changed, drain_changed, entry_changed, node_changed, nodes_changed, most_raised, IsWithin, IsTimely, IsSteady, TellsOf}
 use Rattle.uvm_objection.specs.Walks.{walked, CanWalk}
 use Rattle.uvm_objection.specs.Kept.{node_of, Kept, Fits, IsObjection}
 use Rattle.uvm_objection.proofs.Passed.{is_under, passed, when, AddUp}
@@ -69,6 +69,12 @@ timely node (Drop count) time now is = inl is
 timely node Release time now is = inl is
 timely node (SetDrain drain) time now is = inl is
 
+pub same_time : (kind : ChangeKind) (time : ℕ) → IsTimely kind time time
+same_time (Raise count) time = tt
+same_time (Drop count) time = refl
+same_time Release time = refl
+same_time (SetDrain drain) time = refl
+
 pub before_kept : (nodes : List Node) (es : List Entry) → Agree nodes es → Before (total nodes) es
 before_kept nodes [] agree = tt
 before_kept nodes (e ∷ newer) agree = (agree.0, before_kept nodes newer agree.1)
@@ -82,11 +88,40 @@ room (SetDrain drain) t low within = omega arith
 
 -- a change that changes no total leaves what is settled
 steady_one : (b : Bool) (kind : ChangeKind) (n : ℕ) → IsSteady kind → ((if b then source_changed kind n else n) ≡ n) × ((if b then held_changed kind n else n) ≡ n)
-steady_one true (Raise count) n steady = absurd steady
-steady_one true (Drop count) n steady = absurd steady
+steady_one true (Raise count) n steady = (omega arith, refl)
+steady_one true (Drop count) n steady = (omega arith, refl)
 steady_one true Release n steady = absurd steady
 steady_one true (SetDrain drain) n steady = (refl, refl)
 steady_one false kind n steady = (refl, refl)
+
+steady_rises : (node : ℕ) (kind : ChangeKind) (time : ℕ) → IsSteady kind → let c : Change = record { node = node; kind = kind; time = time } in Rises c
+steady_rises node kind time steady b n = let same = (steady_one b kind n steady).0 in (omega (arith, same), (steady_one b kind n steady).1)
+
+-- which drains the walk of each kind of change tells of
+drop_falls : (count : ℕ) (b : Bool) (n : ℕ) → (if b then held_changed (Drop count) n else n) ≡ n
+drop_falls count true n = refl
+drop_falls count false n = refl
+
+tells : (node : ℕ) (kind : ChangeKind) (time : ℕ) (held : ℕ → ℕ) (w : Walk) (was ys : List Entry) → IsTold (record { node = node; kind = kind; time = time }) held w was ys → TellsOf kind node (held_of node (map node_of was)) w
+tells node (Raise count) time held w was ys told = told.rises (raise_rises count)
+tells node (Drop count) time held w was ys told = told.falls (refl, drop_falls count)
+tells node Release time held w was ys told = told.releases refl
+tells node (SetDrain drain) time held w was ys told = (told.rises (steady_rises node (SetDrain drain) time tt), told.falls (refl, λ b n. (steady_one b (SetDrain drain) n tt).1))
+
+-- a change that changes nothing at any node
+changed_same : (node : ℕ) (change : Node → Node) (nodes : List Node) → ((e : Node) → change e ≡ e) → changed_at node change nodes ≡ nodes
+changed_same node change [] same = refl
+changed_same node change (e ∷ newer) same = ap (λ n. n ∷ changed_at node change newer) (one (node == e.node)) ∙ ap (λ ns. e ∷ ns) (changed_same node change newer same)
+  where
+    one : (b : Bool) → (if b then change e else e) ≡ e
+    one true = same e
+    one false = refl
+
+pub none_raised : (node count : ℕ) (nodes : List Node) → count ≡ 0 → nodes_changed node (Raise count) nodes ≡ nodes
+none_raised node count nodes none = changed_same node (node_changed (Raise count)) nodes (λ e. ap (λ n. let f : Node = record e { source = n } in f) (omega arith))
+
+pub none_dropped : (node count : ℕ) (nodes : List Node) → count ≡ 0 → nodes_changed node (Drop count) nodes ≡ nodes
+none_dropped node count nodes none = changed_same node (node_changed (Drop count)) nodes (λ e. ap (λ n. let f : Node = record e { source = n } in f) (omega arith))
 
 passed_changed : (c : Change) → IsSteady c.kind → (es : List Entry) (k : ℕ) → passed (map (entry_changed c) es) k ≡ passed es k
 passed_changed c steady [] k = refl
@@ -159,7 +194,7 @@ module _ (o : Inside) (c : Change) (keeps : IsObjection o) (within : IsWithin c.
   settled_all : IsSettled c (walked c (entries_of o)).walk (entries_of o) (walked c (entries_of o)).entries
   settled_all = walk_settles c (entries_of o) distinct sums
 
-  told_all : IsTold (λ k. held_of k (nodes_of o)) (walked c (entries_of o)).walk (walked c (entries_of o)).entries
+  told_all : IsTold c (λ k. held_of k (nodes_of o)) (walked c (entries_of o)).walk (entries_of o) (walked c (entries_of o)).entries
   told_all = walk_tells c (λ k. held_of k (nodes_of o)) (entries_of o) distinct sums (was_held (entries_of o) distinct)
 
   module _ (next : Inside) (w : Walk) (entries : entries_of next ≡ (walked c (entries_of o)).entries) (walk : w ≡ (walked c (entries_of o)).walk) where
@@ -186,13 +221,12 @@ module _ (o : Inside) (c : Change) (keeps : IsObjection o) (within : IsWithin c.
     pub ended_after : drains_ended (nodes_of o) (nodes_of next) ≡ option_to_list w.ended
     ended_after = ap (λ es. drains_ended (nodes_of o) (map node_of es)) entries ∙ told_all.ended ∙ ap (λ v. option_to_list v.ended) (sym walk)
 
+    pub told_after : TellsOf c.kind c.node (held_of c.node (nodes_of o)) w
+    told_after =
+        let T : Walk → Type 0 = TellsOf c.kind c.node (held_of c.node (nodes_of o)) in
+        subst T (sym walk) (tells c.node c.kind c.time (λ k. held_of k (nodes_of o)) _ (entries_of o) _ told_all)
+
     pub steady_after : IsSteady c.kind → nodes_of next ≡ nodes_changed c.node c.kind (nodes_of o)
     steady_after steady =
-        nodes_after c.time (same_time c.kind steady)
+        nodes_after c.time (same_time c.kind c.time)
         ∙ settled_steady c steady (total (nodes_of o)) (entries_of o) distinct sums (before_kept (nodes_of o) (entries_of o) agrees)
-      where
-        same_time : (kind : ChangeKind) → IsSteady kind → IsTimely kind c.time c.time
-        same_time (Raise count) steady = tt
-        same_time (Drop count) steady = refl
-        same_time Release steady = refl
-        same_time (SetDrain drain) steady = refl

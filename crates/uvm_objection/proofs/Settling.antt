@@ -75,7 +75,7 @@ begins_same : (t d : ℕ) → begins t t d ≡ false
 begins_same t d = grind (arith, nat_tests)
 
 -- nothing changes where the total stays
-held_same : (t d h : ℕ) → (0 < t → h ≡ 0) → held_after t t d h ≡ h
+pub held_same : (t d h : ℕ) → (0 < t → h ≡ 0) → held_after t t d h ≡ h
 held_same zero d h good = refl
 held_same (suc t) d h good = rw (positive (suc t) (omega arith)) (sym (good (omega arith)))
 
@@ -161,7 +161,7 @@ module _ (c : Change) (w : Walk) (e : Entry) (newer ys : List Entry) (so_far : I
   still : (c.node == e.node) ≡ true → w ≡ start_of c
   still same = let D : ℕ → Type 0 = λ k. Differs k newer in so_far.waits (subst D (sym (true_node c.node e.node same)) apart.0)
 
-  other : is_at w e ≡ false → (c.node == e.node) ≡ false
+  pub other : is_at w e ≡ false → (c.node == e.node) ≡ false
   other away = by_test (c.node == e.node) refl
     where
       by_test : (b : Bool) → (c.node == e.node) ≡ b → b ≡ false
@@ -282,9 +282,9 @@ module _ (c : Change) (w : Walk) (e : Entry) (newer ys : List Entry) (so_far : I
       same_walk true = refl
       same_walk false = refl
 
-  -- the entry is the same node, and its total grows by no more than what is raised
-  pub few_after : let g : Entry = entry_after c w e in (g.node ≡ e.node) × (g.total ≤ e.total + most_raised c.kind)
-  few_after = let P : Entry → Type 0 = λ g. (g.node ≡ e.node) × (g.total ≤ e.total + most_raised c.kind) in subst P (sym (settles (is_at w e) refl)) (refl, few)
+  -- its total grows by no more than what is raised, and where nothing may fall it does not fall to zero
+  pub few_after : let g : Entry = entry_after c w e in (g.total ≤ e.total + most_raised c.kind) × (Rises c → g.total ≡ 0 → e.total ≡ 0)
+  few_after = let P : Entry → Type 0 = λ g. (g.total ≤ e.total + most_raised c.kind) × (Rises c → g.total ≡ 0 → e.total ≡ 0) in subst P (sym (settles (is_at w e) refl)) (few, none)
 
   -- the numbers of the step fit
   pub can_here : (t : ℕ) → IsWithin c.kind t → (m : ℕ) → m + most_raised c.kind ≤ 10 ^ 18 → Under m (e ∷ newer) → Fits (e ∷ newer) → c.time ≤ 10 ^ 18 → is_at w e ≡ true → CanStep c w e

@@ -1,7 +1,8 @@
 -- A change of one node.
-use Rattle.std.specs.Prelude.{◌≡◌, ℕ, ◌==◌, ◌+◌, ◌-◌, ◌^◌, ◌≤◌, List, if◌then◌else◌}
+use Rattle.std.specs.Prelude.{◌≡◌, ℕ, ◌==◌, ◌+◌, ◌-◌, ◌^◌, ◌<◌, ◌≤◌, List, Some, None, if◌then◌else◌}
 use Rattle.uvm_objection.specs.Nodes.{Node, changed_at}
 use Rattle.uvm_objection.specs.declared.nodes.Entry.{Entry}
+use Rattle.uvm_objection.specs.declared.walks.Walk.{Walk}
 use Rattle.uvm_objection.specs.declared.nodes.Change.{Change}
 use Rattle.uvm_objection.specs.declared.nodes.ChangeKind.{ChangeKind}
 use Rattle.uvm_objection.specs.declared.nodes.ChangeKind.TheVariants.{Raise, Drop, Release, SetDrain}
@@ -66,7 +67,15 @@ IsTimely (SetDrain drain) time now = now ≡ time
 
 -- it changes no total
 abbrev pub IsSteady : ChangeKind → Type 0
-IsSteady (Raise count) = ⊥
-IsSteady (Drop count) = ⊥
+IsSteady (Raise count) = count ≡ 0
+IsSteady (Drop count) = count ≡ 0
 IsSteady Release = ⊥
 IsSteady (SetDrain drain) = Unit {0}
+
+-- which drains the walk of a change at a node tells of: a raise begins none, a drop ends none, a release ends that of its node,
+-- where this held something, and a drain time does neither
+abbrev pub TellsOf : ChangeKind → ℕ → ℕ → Walk → Type 0
+TellsOf (Raise count) node held walk = walk.began ≡ None
+TellsOf (Drop count) node held walk = walk.ended ≡ None
+TellsOf Release node held walk = 0 < held → walk.ended ≡ Some node
+TellsOf (SetDrain drain) node held walk = (walk.began ≡ None) × (walk.ended ≡ None)

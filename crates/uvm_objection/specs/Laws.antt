@@ -1,8 +1,8 @@
 -- What holds of the nodes of every objection, and what follows.
 use Rattle.std.specs.Prelude.{◌≡◌, ◌≢◌, ℕ, Bool, true, false, ◌||◌, ◌==◌, ◌+◌, ◌<◌, ◌≤◌, List, [], ◌∷◌, ◌++◌, map, filter, sum_by, All, Option, None, IsTrue}
 use Rattle.std.specs.Option.{option_map_or}
-use Rattle.uvm_objection.specs.Nodes.{Node, top, new_node, is_known, source_of, held_of, due_of, raised, dropped, released, with_drain}
-use Rattle.uvm_objection.specs.Totals.{total, is_child, settled, drains_begun}
+use Rattle.uvm_objection.specs.Nodes.{Node, top, new_node, is_known, source_of, drain_of, held_of, due_of, raised, dropped, released, with_drain}
+use Rattle.uvm_objection.specs.Totals.{total, is_child, held_after, due_after, settled, drains_begun}
 use Rattle.uvm_objection.specs.declared.objections.Due.{Due}
 
 -- each node with its parent
@@ -37,6 +37,17 @@ PositiveTotalHoldsNothing = (nodes : List Node) → AreNodes nodes → (node : �
 -- the total of a node is its source, and of each of its children the total and what it holds back
 abbrev pub TotalIsSum : Type 0
 TotalIsSum = (nodes : List Node) → AreNodes nodes → (node : ℕ) → IsTrue (is_known node nodes) → total nodes node ≡ source_of node nodes + sum_by (λ child. total nodes child.node + child.held) (filter (is_child node) nodes)
+
+-- what stands at a node once all are settled goes by its totals before and after: its source and its drain time stay, and what it
+-- holds, and when that is due, are as said of the two totals
+pub record GoesByTotals (time : ℕ) (before : ℕ → ℕ) (nodes after : List Node) (node : ℕ) : Type 0 where
+  pub source : source_of node after ≡ source_of node nodes
+  pub drain : drain_of node after ≡ drain_of node nodes
+  pub held : held_of node after ≡ held_after (before node) (total after node) (drain_of node nodes) (held_of node nodes)
+  pub due : due_of node after ≡ due_after time (before node) (total after node) (drain_of node nodes) (due_of node nodes)
+
+abbrev pub SettledGoByTotals : Type 0
+SettledGoByTotals = (time : ℕ) (before : ℕ → ℕ) (nodes : List Node) (node : ℕ) → GoesByTotals time before nodes (settled time before nodes) node
 
 -- a drain is that of its node: it is due when that says, and the node holds something
 pub record IsHeldUntilDue (nodes : List Node) (drain : Due) : Type 0 where

@@ -33,6 +33,9 @@ is_known node nodes = list_any (λ e. e.node == node) nodes
 abbrev pub source_of : ℕ → List Node → ℕ
 source_of node nodes = option_map_or (λ e. e.source) (find (λ e. e.node == node) nodes) 0
 
+abbrev pub drain_of : ℕ → List Node → ℕ
+drain_of node nodes = option_map_or (λ e. e.drain) (find (λ e. e.node == node) nodes) 0
+
 abbrev pub held_of : ℕ → List Node → ℕ
 held_of node nodes = option_map_or (λ e. e.held) (find (λ e. e.node == node) nodes) 0
 

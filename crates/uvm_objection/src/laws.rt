@@ -1,6 +1,6 @@
 //! Laws of the definitions. The functions do nothing; their contracts are the laws.
 
-ghost use Rattle.uvm_objection.specs.Laws.{BegunDrainsAreHeld, NodesGrow, PlacesStay, PositiveTotalHoldsNothing, TotalIsSum};
+ghost use Rattle.uvm_objection.specs.Laws.{BegunDrainsAreHeld, NodesGrow, PlacesStay, PositiveTotalHoldsNothing, SettledGoByTotals, TotalIsSum};
 
 /// The total of a node is its source, and of each of its children the total and what it holds back.
 #[tactic(auto, using(crate::proofs::Summing::total_is_sum))]
@@ -11,6 +11,13 @@ pub fn total_is_sum()
 /// A node with a positive total holds nothing back.
 pub fn positive_total_holds_nothing()
     ensures { PositiveTotalHoldsNothing }
+{}
+
+/// What stands at a node once all are settled goes by its total before and after: where that is positive the node holds nothing,
+/// where it fell to zero under a drain time the node holds the whole of it, due that time later, and else it holds what it held.
+/// Its source and its drain time stay.
+pub fn settled_go_by_totals()
+    ensures { SettledGoByTotals }
 {}
 
 /// A drain that began is due at its node when it was said to be, and the node holds something: so it can be `drained` then.

@@ -2,7 +2,7 @@
 
 ghost use Rattle.std.specs.Prelude.{◌≡◌, ◌+◌, ◌<◌, ◌≤◌, ◌^◌, ◌++◌, ◌∷◌, [], ◌==◌, ℕ, false, find, IsTrue, IsOk, IfOk, OnOk, OnErr, Some};
 ghost use Rattle.std.specs.Option.{option_to_list};
-ghost use Rattle.uvm_objection.specs.Changes.{nodes_changed, IsWithin, IsTimely, IsSteady};
+ghost use Rattle.uvm_objection.specs.Changes.{nodes_changed, IsWithin, IsTimely, IsSteady, TellsOf};
 ghost use Rattle.uvm_objection.specs.Kept.{node_of};
 ghost use Rattle.uvm_objection.specs.Nodes.{top, new_node, is_known, source_of, held_of, due_of, raised, dropped, released, with_drain};
 ghost use Rattle.uvm_objection.specs.Totals.{total, settled, drains_begun, drains_ended};
@@ -83,23 +83,27 @@ impl Objection {
     }
 
     /// Sets the drain time of a node, in ticks, at most 10^15 (the standard's `set_drain_time`). A drain that has begun stays
-    /// due when it was.
+    /// due when it was; none begins, and none ends.
     pub fn set_drain(&mut self, node: NodeId, drain: u64)
         requires known { IsTrue (is_known node self.old.nodes) }
         requires limit { drain ≤ 10 ^ 15 }
         ensures nodes { self.new.nodes ≡ with_drain node drain self.old.nodes }
+        ensures began { drains_begun self.old.nodes self.new.nodes ≡ [] }
+        ensures ended { drains_ended self.old.nodes self.new.nodes ≡ [] }
         ensures spare { self.new.spare ≡ self.old.spare }
     {
         let _ = self.pass_up(node, ChangeKind::SetDrain(drain), 0);
     }
 
     /// Raises a count at a node (`raise_objection`), and answers the node whose drain this ended, if it ended one: then only
-    /// the difference to what was held goes up. A count of zero changes nothing. The total of the top is at most 10^18 after
-    /// it. It begins no drain, so that its nodes are settled at any time.
+    /// the difference to what was held goes up. It begins no drain, so that its time does not matter. A count of zero changes
+    /// nothing. The total of the top may come to 10^18 at most.
     pub fn raise(&mut self, node: NodeId, count: u16) -> Option<NodeId>
         requires known { IsTrue (is_known node self.old.nodes) }
         requires limit { total self.old.nodes 0 + count ≤ 10 ^ 18 }
         ensures nodes { (time : ℕ) → self.new.nodes ≡ settled time (total self.old.nodes) (raised node count self.old.nodes) }
+        ensures zero { count ≡ 0 → self.new.nodes ≡ self.old.nodes }
+        ensures began { drains_begun self.old.nodes self.new.nodes ≡ [] }
         ensures ended { drains_ended self.old.nodes self.new.nodes ≡ option_to_list result }
         ensures spare { self.new.spare ≡ self.old.spare }
     {
@@ -107,13 +111,16 @@ impl Objection {
     }
 
     /// Drops a count at a node at a time of at most 10^18 ticks (`drop_objection`), and answers the drain that this began, if it
-    /// began one. `BelowZero` comes where the count is above the source of the node; then nothing has changed.
+    /// began one; it ends none. A count of zero changes nothing. `BelowZero` comes where the count is above the source of the
+    /// node; then nothing has changed.
     pub fn drop(&mut self, node: NodeId, count: u16, now: u64) -> Result<Option<Due>, BelowZero>
         requires known { IsTrue (is_known node self.old.nodes) }
         requires limit { now ≤ 10 ^ 18 }
         ensures ok { OnOk result (count ≤ source_of node self.old.nodes) }
         ensures nodes { OnOk result (self.new.nodes ≡ settled now (total self.old.nodes) (dropped node count self.old.nodes)) }
+        ensures zero { count ≡ 0 → self.new.nodes ≡ self.old.nodes }
         ensures began { IfOk result (λ due. drains_begun self.old.nodes self.new.nodes ≡ option_to_list due) }
+        ensures ended { OnOk result (drains_ended self.old.nodes self.new.nodes ≡ []) }
         ensures err { OnErr result (source_of node self.old.nodes < count) }
         ensures unchanged { OnErr result (self.new.nodes ≡ self.old.nodes) }
         ensures spare { self.new.spare ≡ self.old.spare }
@@ -124,14 +131,16 @@ impl Objection {
         Ok(self.pass_up(node, ChangeKind::Drop(count), now).began)
     }
 
-    /// Ends a drain that is due, at a time of at most 10^18 ticks: what was held is passed up (the standard's `all_dropped`).
-    /// Answers the drain that this began above, if it began one; its time counts from the moment at which the first was due.
+    /// Ends the drain of a node, and no other, which is due at a time of at most 10^18 ticks: what was held is passed up (the
+    /// standard's `all_dropped`). Answers the drain that this began above, if it began one; its time counts from the moment at
+    /// which the first was due.
     pub fn drained(&mut self, node: NodeId) -> Option<Due>
         requires known { IsTrue (is_known node self.old.nodes) }
         requires held { 0 < held_of node self.old.nodes }
         requires limit { due_of node self.old.nodes ≤ 10 ^ 18 }
         ensures nodes { self.new.nodes ≡ settled (due_of node self.old.nodes) (total self.old.nodes) (released node self.old.nodes) }
         ensures began { drains_begun self.old.nodes self.new.nodes ≡ option_to_list result }
+        ensures ended { drains_ended self.old.nodes self.new.nodes ≡ node ∷ [] }
         ensures spare { self.new.spare ≡ self.old.spare }
     {
         let due = self.entry(node).due;
@@ -172,6 +181,7 @@ impl Objection {
         ensures steady { IsSteady kind → self.new.nodes ≡ nodes_changed node kind self.old.nodes }
         ensures began { drains_begun self.old.nodes self.new.nodes ≡ option_to_list result.began }
         ensures ended { drains_ended self.old.nodes self.new.nodes ≡ option_to_list result.ended }
+        ensures told { TellsOf kind node (held_of node self.old.nodes) result }
         ensures spare { self.new.spare ≡ self.old.spare }
     {
         let change = Change { node, kind, time };

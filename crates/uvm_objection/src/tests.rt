@@ -172,3 +172,10 @@ fn a_drain_of_zero_passes_up_at_once(rt: HostRuntime) -> Result<(), Fail> {
     );
     Ok(())
 }
+
+#[test]
+fn the_fault_tells_that_too_much_was_dropped(rt: HostRuntime) -> Result<(), Fail> {
+    let text = format!(in rt.alloc(); "{}", BelowZero)?;
+    assert_eq!(rt; text.as_str(), "objection dropped below zero");
+    Ok(())
+}

@@ -88,18 +88,18 @@ impl Builds {
     }
 }
 
-/// Asks for a field when it builds, and again whenever it is told the value.
+/// Waits for no ticks in run, and again whenever that is over.
 #[derive(Drop)]
-pub(crate) struct Asker {
+pub(crate) struct Spinner {
     pub(crate) type_name: Name,
 }
 
-impl UvmObject for Asker {
+impl UvmObject for Spinner {
     ghost use Rattle.std.specs.Prelude.{◌≡◌, []};
 
     ghost view = { λ _. [] };
 
-    ghost name = { λ asker. asker.type_name };
+    ghost name = { λ spinner. spinner.type_name };
 
     ghost says = { λ _ before _ _ after. after ≡ before };
 
@@ -110,9 +110,9 @@ impl UvmObject for Asker {
     fn hear(&mut self, alloc: Global, call: &Call) -> Result<Acts, AllocError> {
         let mut acts = Acts::new(alloc);
         match call {
-            Call::Phase(Phase::Build) => acts.push(get(b"f")?)?,
-            Call::Config { .. } => acts.push(get(b"f")?)?,
-            Call::Phase(_) | Call::Wake { .. } => (),
+            Call::Phase(Phase::Run) => acts.push(Act::Wait { ticks: 0, tag: 1 })?,
+            Call::Wake { .. } => acts.push(Act::Wait { ticks: 0, tag: 1 })?,
+            Call::Phase(_) | Call::Config { .. } => (),
         }
         Ok(acts)
     }
@@ -147,7 +147,7 @@ impl UvmObject for Mute {
 pub(crate) enum AnyObject {
     Idle(Idle),
     Builder(Builder),
-    Asker(Asker),
+    Spinner(Spinner),
     Mute(Mute),
 }
 
@@ -160,7 +160,7 @@ impl UvmObject for AnyObject {
     ghost name = { λ object. elim object [
       | any.Idle idle ↦ idle.type_name
       | any.Builder builder ↦ builder.type_name
-      | any.Asker asker ↦ asker.type_name
+      | any.Spinner spinner ↦ spinner.type_name
       | any.Mute mute ↦ mute.type_name
     ] };
 
@@ -170,7 +170,7 @@ impl UvmObject for AnyObject {
         match self {
             AnyObject::Idle(idle) => idle.type_name(),
             AnyObject::Builder(builder) => builder.type_name(),
-            AnyObject::Asker(asker) => asker.type_name(),
+            AnyObject::Spinner(spinner) => spinner.type_name(),
             AnyObject::Mute(mute) => mute.type_name(),
         }
     }
@@ -179,7 +179,7 @@ impl UvmObject for AnyObject {
         match self {
             AnyObject::Idle(idle) => idle.hear(alloc, call),
             AnyObject::Builder(builder) => builder.hear(alloc, call),
-            AnyObject::Asker(asker) => asker.hear(alloc, call),
+            AnyObject::Spinner(spinner) => spinner.hear(alloc, call),
             AnyObject::Mute(mute) => mute.hear(alloc, call),
         }
     }
@@ -196,12 +196,6 @@ fn add(name: &[u8]) -> Result<Act, AllocError> {
     Ok(Act::Add {
         name: known(name)?,
         what: What::Fifo { size: 1 },
-    })
-}
-
-fn get(field: &[u8]) -> Result<Act, AllocError> {
-    Ok(Act::Get {
-        field: known(field)?,
     })
 }
 

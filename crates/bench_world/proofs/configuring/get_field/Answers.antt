@@ -1,15 +1,18 @@
-use Rattle.std.proofs.Common.{◌≡◌, refl, ◌∙◌, filter, rules}
+use Rattle.std.proofs.Common.{length, ◌≡◌, Some, refl, ◌∙◌, filter, rules}
 use Rattle.uvm_glob.specs.Paths.{path_text}
 use Rattle.uvm_config.specs.Answers.{config_answer}
 use Rattle.uvm_tree.specs.Nodes.{path_at}
 use Rattle.uvm_object.specs.Acts.{node_of}
 use Rattle.bench_history.specs.Configuration.{settings_of}
-use Rattle.bench_history.specs.Dues.{caused_of, heard_of, ended_of, is_open}
-use Rattle.bench_history.specs.History.{stage_of, now_of, nodes_of}
+use Rattle.bench_history.specs.Dues.{caused_at, caused_of, heard_of, ended_of, is_open}
+use Rattle.bench_history.specs.History.{stage_of, now_of, nodes_of, running}
 use Rattle.uvm_object.specs.declared.acts.Call.TheVariants as call
 use Rattle.bench_world.proofs.Configured.{value-found}
 use Rattle.bench_world.proofs.Later.{acted}
-use Rattle.bench_world.proofs.Told.{agenda-told}
+use Rattle.bench_world.proofs.Told.{agenda-event}
+use Rattle.bench_world.proofs.Drained.{events-told}
+use Rattle.bench_history.specs.declared.owners.Owner.TheVariants.{Object}
+use Rattle.bench_history.specs.Objections.{objections_of}
 use Rattle.bench_world.proofs.configuring.get_field.Goals as goal
 
 pub returns : goal.returns
@@ -27,7 +30,8 @@ returns c =
             let m = s.known in
             let left = s.left in
             let dues = rw (m.stage, m.time, ← s.place_is) at (told.dues (filter (is_open (heard_of history) (ended_of history)) (caused_of history)) m.agenda.are) in
-            let agenda = agenda-told (call.Config c.args.field value) c.args.services.now.answer.speaker (now_of history) (stage_of history) (caused_of history) (heard_of history) (ended_of history) _ _ _ s.in_order m.agenda dues in
+            let events = events-told (objections_of history) (is_open (heard_of history) (ended_of history)) (running (stage_of history)) (now_of history) (caused_at (length history)) c.args.services.now.answer.speaker (call.Config c.args.field value) (caused_of history) m.events in
+            let agenda = agenda-event (Object c.args.services.now.answer.speaker) (Some (call.Config c.args.field value)) (now_of history) (stage_of history) (caused_of history) (heard_of history) (ended_of history) _ _ _ s.in_order m.agenda dues in
             search (rules, acted);
       };
     })

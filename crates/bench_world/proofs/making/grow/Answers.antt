@@ -4,7 +4,9 @@ use Rattle.uvm_tree.specs.Nodes.{child}
 use Rattle.uvm_object.specs.Acts.{node_of}
 use Rattle.uvm_objection.specs.Nodes.{new_node}
 use Rattle.bench_history.specs.History.{nodes_of, components_of, called_of, created_name, speaker_of}
+use Rattle.bench_history.specs.Dues.{due_events}
 use Rattle.bench_history.specs.Objections.{objections_of}
+use Rattle.bench_world.proofs.Drained.{events-all, held-more}
 use Rattle.bench_world.specs.Services.{AreTurns}
 use Rattle.bench_world.proofs.Answered.{length-snoc}
 use Rattle.bench_world.proofs.Later.{acted}
@@ -27,6 +29,7 @@ returns-clause-kept c = λ type_name place. record {
       let speaks : node_of (speaker_of history) < length (nodes_of history ++ made ∷ []) = omega (arith, m.speaks, longer) in
       let below : speaker < length (nodes_of history) = rw m.answer.speaker m.speaks in
       let is : c.add.new.self.nodes ≡ objections_of history ++ new_node (length (nodes_of history)) speaker ∷ [] = rw (c.node-parent.ensures, c.in-Ok.ensures.id, m.tree, m.objections.are) at c.in-Ok-add.ensures.ok in
+      let events = events-all (objections_of history) (objections_of history ++ new_node (length (objections_of history)) speaker ∷ []) (due_events history) (λ node at. held-more (length (objections_of history)) speaker node at (objections_of history)) m.events in
       let objections = objecting-more c.add.new.self speaker c.nodes_grow.ensures below m.objections longer is in
       search (rules, acted);
 }

@@ -4,7 +4,9 @@ use Rattle.uvm_object.specs.Acts.{node_of}
 use Rattle.uvm_object.specs.declared.acts.Act.TheVariants.{Add}
 use Rattle.uvm_objection.specs.Nodes.{new_node}
 use Rattle.bench_history.specs.History.{nodes_of, kind_of, is_built, speaker_of}
+use Rattle.bench_history.specs.Dues.{due_events}
 use Rattle.bench_history.specs.Objections.{objections_of}
+use Rattle.bench_world.proofs.Drained.{events-all, held-more}
 use Rattle.bench_history.specs.Refusals.{addition_refusal}
 use Rattle.bench_world.proofs.Answered.{turns-more, one-longer, length-snoc}
 use Rattle.bench_world.proofs.Objected.{objecting-more}
@@ -34,6 +36,7 @@ returns c = λ place. rw (c.done.ensures.attempt, c.done.ensures.services) (reco
         let speaks : node_of (speaker_of history) < length (nodes_of history ++ added ∷ []) = omega (arith, m.speaks, longer) in
         let below : speaker < length (nodes_of history) = rw m.answer.speaker m.speaks in
         let is : c.add.new.self.nodes ≡ objections_of history ++ new_node (length (nodes_of history)) speaker ∷ [] = rw (c.node-parent.ensures, c.in_ok-node.ensures.id, m.tree, m.objections.are) at c.in_ok-add.ensures.ok in
+        let events = events-all (objections_of history) (objections_of history ++ new_node (length (objections_of history)) speaker ∷ []) (due_events history) (λ node at. held-more (length (objections_of history)) speaker node at (objections_of history)) m.events in
         let objections = objecting-more c.add.new.self speaker c.nodes_grow.ensures below m.objections longer is in
         search (rules, acted);
   };

@@ -1,10 +1,10 @@
 use Rattle.std.proofs.Common.{◌≡◌, ◌∷◌, map, sym, subst}
 use Rattle.std.specs.Option.{option_to_list}
-use Rattle.uvm_objection.specs.Nodes.{ObjectionValue}
+use Rattle.uvm_objection.specs.Nodes.{ObjectionValue, held_of}
 use Rattle.uvm_objection.specs.Totals.{total, drains_begun, drains_ended}
-use Rattle.uvm_objection.specs.Changes.{IsWithin}
+use Rattle.uvm_objection.specs.Changes.{IsWithin, TellsOf}
 use Rattle.uvm_objection.specs.Kept.{node_of}
-use Rattle.uvm_objection.proofs.Objecting.{can_pass, kept_after, nodes_after, begun_after, ended_after, steady_after}
+use Rattle.uvm_objection.proofs.Objecting.{can_pass, kept_after, nodes_after, begun_after, ended_after, told_after, steady_after}
 use Rattle.uvm_objection.proofs.objections.Objection.pass_up.Goals as goal
 
 pub over-requires : goal.over-requires
@@ -42,3 +42,10 @@ returns-clause-ended c =
     let Told : ObjectionValue → Type 0 = λ v. drains_ended v.nodes (node_of c.over.new.top ∷ map node_of c.over.new.entries.items) ≡ option_to_list c.over.result.ended in
     subst Told c.self.view_is
     (ended_after c.self.inside (record { node = c.args.node; kind = c.args.kind; time = c.args.time }) c.self.invariant (subst W (sym c.self.view_is) c.requires.within) (record { top = c.over.new.top; entries = c.over.new.entries }) c.over.result c.over.ensures.entries c.over.ensures.walk)
+
+pub returns-clause-told : goal.returns-clause-told
+returns-clause-told c =
+    let W : ObjectionValue → Type 0 = λ v. IsWithin c.args.kind (total v.nodes 0) in
+    let Told : ObjectionValue → Type 0 = λ v. TellsOf c.args.kind c.args.node (held_of c.args.node v.nodes) c.over.result in
+    subst Told c.self.view_is
+    (told_after c.self.inside (record { node = c.args.node; kind = c.args.kind; time = c.args.time }) c.self.invariant (subst W (sym c.self.view_is) c.requires.within) (record { top = c.over.new.top; entries = c.over.new.entries }) c.over.result c.over.ensures.entries c.over.ensures.walk)

@@ -1,0 +1,28 @@
+//! Whose an event is.
+
+ghost use Rattle.std.specs.Prelude.{◌≡◌};
+ghost use Rattle.bench_history.specs.Owners.{who_of};
+
+use uvm_object::Who;
+use uvm_tree::NodeId;
+
+/// Whose an event of the agenda is. The drain of a node is not its component's, so that taking out the one leaves the other.
+#[derive(Clone, Copy, Debug, PartialEq, Eq)]
+pub enum Owner {
+    /// Who is to be called.
+    Object(Who),
+    /// The node whose drain is to end (IEEE 1800.2-2020, 10.5).
+    Drain(NodeId),
+}
+
+impl Owner {
+    /// Who is to be called, or stands at the node of the drain.
+    pub fn who(&self) -> Who
+        ensures { result ≡ who_of self.now }
+    {
+        match self {
+            Owner::Object(who) => *who,
+            Owner::Drain(node) => Who::Node(*node),
+        }
+    }
+}

@@ -1,0 +1,34 @@
+-- What an object of the type `pulse` is: in run it raises and drops an objection twice, the second time before the first has drained, and stays as it
+-- is.
+use Rattle.std.specs.Prelude.{◌≡◌, ℕ, ◌==◌, List, [], ◌∷◌, Option, Some, None, codes, if◌then◌else◌, bytes_eq}
+use Rattle.uvm_phase.specs.declared.phases.Phase.TheVariants.{Run}
+use Rattle.uvm_object.specs.Objects.{View}
+use Rattle.uvm_object.specs.declared.acts.Call.{Call}
+use Rattle.uvm_object.specs.declared.acts.Call.TheVariants.{Phase, Wake}
+use Rattle.uvm_object.specs.declared.acts.Act.{Act}
+use Rattle.uvm_object.specs.declared.acts.Act.TheVariants.{RaiseObjection, DropObjection, SetDrain, Wait}
+use Rattle.bus_objects.specs.declared.pulse.Pulse.{Pulse}
+
+-- it shows nothing of itself
+abbrev pub pulse_view : Pulse → View
+pulse_view pulse = []
+
+-- what it does when it wakes, by what its wait was told by
+abbrev pub woken_acts : ℕ → List Act
+woken_acts tag =
+    if tag == 1 then DropObjection 1 ∷ Wait 2 2 ∷ []
+    else if tag == 2 then RaiseObjection 1 ∷ Wait 8 3 ∷ []
+    else if tag == 3 then DropObjection 1 ∷ []
+    else []
+
+abbrev pub pulse_acts : Call → List Act
+pulse_acts (Phase Run) = SetDrain 5 ∷ RaiseObjection 1 ∷ Wait 10 1 ∷ []
+pulse_acts (Wake tag) = woken_acts tag
+pulse_acts call = []
+
+abbrev pub PulseSays : View → Call → List Act → View → Type 0
+PulseSays before call acts after = (acts ≡ pulse_acts call) × (after ≡ before)
+
+-- the new object of the type of this name, if it is that type
+abbrev pub pulse_named : List ℕ → Option Pulse
+pulse_named name = if bytes_eq name (codes "pulse") then Some (record { type_name = name }) else None

@@ -2,7 +2,6 @@
 use Rattle.std.proofs.Common.{◌≡◌, ℕ, Bool, true, false, List, [], ◌∷◌, length, nat_lt, Option, Some, None, option_map, refl, ap, subst, arith, ◌≤◌, ◌==◌, ◌&&◌, if◌then◌else◌}
 use Rattle.std.proofs.lemmas.Bool.Decides.{nat_tests}
 use Rattle.uvm_phase.specs.declared.phases.Phase.{Phase}
-use Rattle.uvm_phase.specs.declared.agendas.Cause.{Cause}
 use Rattle.uvm_phase.specs.Phases.{is_task}
 use Rattle.uvm_object.specs.declared.acts.Who.{Who}
 use Rattle.uvm_object.specs.declared.acts.Who.TheVariants as who
@@ -19,7 +18,6 @@ use Rattle.uvm_object.specs.declared.entries.Entry.{Entry}
 use Rattle.uvm_object.specs.declared.entries.Entry.TheVariants.{Begin, End, Time, Heard, Did, Drained, Note, Over}
 use Rattle.bench_script.specs.Scripts.{ScriptValue}
 use Rattle.bench_history.specs.declared.needs.Need as declared
-use Rattle.bench_history.specs.declared.owners.Owner.{Owner}
 use Rattle.bench_history.specs.declared.stages.Stage.{Stage}
 use Rattle.bench_history.specs.declared.stages.Stage.TheVariants.{Before, During, After, Ended}
 use Rattle.bench_history.specs.Owners.{Event, who_of}

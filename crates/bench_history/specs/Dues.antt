@@ -56,12 +56,16 @@ calls_from outcome act performer phase time place = due_from (told_by outcome ac
 abbrev pub drain_from : Option Phase → Cause → drain.Due → List Event
 drain_from phase cause begun = event_in phase begun.at cause (Drain begun.node) None
 
--- what was caused, once an entry has changed what is held back: the drains that ended are out, and the ends of those that began are due
+-- what was caused, once what is held back has changed: the drains that ended are out, and the ends of those that began are due
 abbrev pub with_drains : Option Phase → Cause → List Node → List Node → List Event → List Event
 with_drains phase cause earlier nodes caused =
     flat_map (drain_from phase cause) (drains_begun earlier nodes) ++ filter (λ event. not (is_drain_of (drains_ended earlier nodes) event.owner)) caused
 
--- whether an act may have changed that: no other act does
+-- an entry has changed it
+abbrev pub with_drains_of : Entry → List Entry → List Event → List Event
+with_drains_of entry before caused = with_drains (running (stage_of before)) (caused_at (length before)) (objections_of before) (objections_of (entry ∷ before)) caused
+
+-- whether an act may have: a raise or a drop, and no other
 abbrev pub moves_drains : Outcome → Act → Bool
 moves_drains Done (RaiseObjection count) = true
 moves_drains Done (DropObjection count) = true
@@ -72,10 +76,8 @@ abbrev pub caused_of : List Entry → List Event
 caused_of [] = []
 caused_of (Did performer outcome act ∷ before) =
     calls_from outcome act performer (running (stage_of before)) (now_of before) (length before)
-    ++ (if moves_drains outcome act then with_drains (running (stage_of before)) (caused_at (length before)) (objections_of before) (objections_of (Did performer outcome act ∷ before)) (caused_of before)
-    else caused_of before)
-caused_of (Drained node cause ∷ before) =
-    with_drains (running (stage_of before)) (caused_at (length before)) (objections_of before) (objections_of (Drained node cause ∷ before)) (caused_of before)
+    ++ (if moves_drains outcome act then with_drains_of (Did performer outcome act) before (caused_of before) else caused_of before)
+caused_of (Drained node cause ∷ before) = with_drains_of (Drained node cause) before (caused_of before)
 caused_of (entry ∷ before) = caused_of before
 
 abbrev pub heard_in : Entry → List Cause

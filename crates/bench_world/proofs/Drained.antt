@@ -1,5 +1,5 @@
 -- Drains that begin and end, with the events that are due.
-use Rattle.std.proofs.Common.{◌≡◌, ℕ, zero, suc, ◌+◌, ◌-◌, ◌<◌, Bool, true, false, not, ◌&&◌, ◌||◌, ◌==◌, nat_lt, List, [], ◌∷◌, ◌++◌, map, filter, find, Option, Some, None, All, refl, ap, ◌∙◌, sym, subst, arith, if◌then◌else◌}
+use Rattle.std.proofs.Common.{◌≡◌, ℕ, zero, suc, ◌+◌, ◌-◌, ◌<◌, Bool, true, false, not, ◌&&◌, ◌||◌, ◌==◌, nat_lt, List, [], ◌∷◌, ◌++◌, map, filter, find, Option, Some, None, All, refl, ap, ◌∙◌, sym, arith, if◌then◌else◌}
 use Rattle.std.specs.List.{list_any, flat_map}
 use Rattle.std.specs.Option.{option_map_or, option_to_list}
 use Rattle.std.proofs.lemmas.Bool.Decides.{nat_tests}
@@ -14,8 +14,8 @@ use Rattle.uvm_phase.specs.Dues.{same_cause, in_order}
 use Rattle.uvm_phase.specs.Laws.{OrderKeepsAll}
 use Rattle.uvm_objection.specs.declared.objections.Due as drain
 use Rattle.uvm_objection.specs.Nodes.{Node, is_known, held_of, due_of, changed_at, new_node, raised, dropped, released, with_drain}
-use Rattle.uvm_objection.specs.Totals.{total, settled, settled_node, drains_begun, drains_ended}
-use Rattle.uvm_objection.specs.Laws.{places, AreNodes, PlacesStay, IsHeldUntilDue}
+use Rattle.uvm_objection.specs.Totals.{total, settled, drains_begun, drains_ended}
+use Rattle.uvm_objection.specs.Laws.{places, AreNodes, PlacesStay, SettledGoByTotals, IsHeldUntilDue}
 use Rattle.uvm_object.specs.declared.acts.Who.{Who}
 use Rattle.uvm_object.specs.declared.acts.Who.TheVariants as who
 use Rattle.uvm_object.specs.declared.acts.Call.{Call}
@@ -164,18 +164,8 @@ at-changed f change node k (e ∷ nodes) same keeps = ap (λ n. option_map_or f 
     tested false rest = rest
 
 -- when a drain is due stays, where the total was 0
-due-settled : (time : ℕ) (before : ℕ → ℕ) (nodes : List Node) (k : ℕ) → before k ≡ 0 → due_of k (settled time before nodes) ≡ due_of k nodes
-due-settled time before [] k none = refl
-due-settled time before (e ∷ newer) k none = tested (e.node == k) refl (due-settled time before newer k none)
-  where
-    tested :
-        (b : Bool) → (e.node == k) ≡ b → due_of k (settled time before newer) ≡ due_of k newer
-        → option_map_or (λ e. e.due) (if b then Some (settled_node time (before e.node) (total (e ∷ settled time before newer) e.node) e) else find (λ e. e.node == k) (settled time before newer)) 0 ≡ option_map_or (λ e. e.due) (if b then Some e else find (λ e. e.node == k) newer) 0
-    tested true at rest =
-        let here : e.node ≡ k = grind (arith, nat_tests) in
-        let was : before e.node ≡ 0 = ap before here ∙ none in
-        rw was refl
-    tested false at rest = rest
+due-settled : SettledGoByTotals → (time : ℕ) (before : ℕ → ℕ) (nodes : List Node) (k : ℕ) → before k ≡ 0 → due_of k (settled time before nodes) ≡ due_of k nodes
+due-settled settles time before nodes k none = rw none at ((settles time before nodes k).due)
 
 -- what was held is, unless its drain has ended
 held-unless-ended :
@@ -214,10 +204,10 @@ known-held k (e ∷ nodes) some = tested (e.node == k) some (known-held k nodes)
 
 -- what was changed, and settled since, holds what it held, unless its drain has ended
 held-settled :
-    (time k at : ℕ) (nodes changed others : List Node) → PlacesStay → AreNodes nodes → places others ≡ places nodes → others ≡ settled time (total nodes) changed → due_of k changed ≡ due_of k nodes
+    (time k at : ℕ) (nodes changed others : List Node) → SettledGoByTotals → PlacesStay → AreNodes nodes → places others ≡ places nodes → others ≡ settled time (total nodes) changed → due_of k changed ≡ due_of k nodes
     → list_any (λ other. other == k) (drains_ended nodes others) ≡ false → IsHeldUntilDue nodes (record { node = k; at = at }) → IsHeldUntilDue others (record { node = k; at = at })
-held-settled time k at nodes changed others stay are same is keeps goes held = record {
-  due = ap (due_of k) is ∙ due-settled time (total nodes) changed k (total-none (total nodes k) (held_of k nodes) (are.positive k) held.held) ∙ keeps ∙ held.due;
+held-settled time k at nodes changed others settles stay are same is keeps goes held = record {
+  due = ap (due_of k) is ∙ due-settled settles time (total nodes) changed k (total-none (total nodes k) (held_of k nodes) (are.positive k) held.held) ∙ keeps ∙ held.due;
   held = held-unless-ended (λ node. held_of node nodes) k others held.held (stay.known k nodes others same ∙ known-held k nodes held.held) goes;
 }
 
@@ -229,12 +219,12 @@ pub record HasMoved (nodes others : List Node) (stage : Stage) (caused : List Ev
 pub moved :
     (time : ℕ) (nodes changed others : List Node) (stage : Stage) (began : Option drain.Due) (ends : Option ℕ)
     (caused : List Event) (heard : List Cause) (ended : List Phase) (count : ℕ) (dues more : List Event)
-    → PlacesStay → AreNodes nodes → places others ≡ places nodes → others ≡ settled time (total nodes) changed → ((k : ℕ) → due_of k changed ≡ due_of k nodes)
+    → SettledGoByTotals → PlacesStay → AreNodes nodes → places others ≡ places nodes → others ≡ settled time (total nodes) changed → ((k : ℕ) → due_of k changed ≡ due_of k nodes)
     → drains_begun nodes others ≡ option_to_list began → drains_ended nodes others ≡ option_to_list ends → All (IsHeldUntilDue others) (option_to_list began)
     → All (λ phase. phase_number phase < next_number stage) ended → IsAgenda caused heard ended count dues → AreEvents nodes (filter (is_open heard ended) caused)
     → more ≡ in_order (flat_map (drain_from (running stage) (caused_at count)) (option_to_list began) ++ filter (λ event. not (is_drain_of (option_to_list ends) event.owner)) (filter (is_open heard ended) caused))
     → HasMoved nodes others stage caused heard ended count more
-moved time nodes changed others stage began ends caused heard ended count dues more stay are same is keeps begun over held phases a events due =
+moved time nodes changed others stage began ends caused heard ended count dues more settles stay are same is keeps begun over held phases a events due =
     let kept : Event → Bool = λ event. not (is_drain_of (option_to_list ends) event.owner) in
     record {
       agenda = rw (begun, over) (agenda-moved stage began caused heard ended count dues more kept phases a due);
@@ -245,7 +235,7 @@ moved time nodes changed others stage began ends caused heard ended count dues m
     one : (owner : Owner) (notice : Option Call) (at : ℕ) → not (is_drain_of (option_to_list ends) owner) ≡ true → IsEvent nodes owner notice at → IsEvent others owner notice at
     one (Object who) (Some call) at goes holds = tt
     one (Object who) None at goes holds = holds
-    one (Drain node) None at goes holds = held-settled time node at nodes changed others stay are same is (keeps node) (rw over (not-true _ goes)) holds
+    one (Drain node) None at goes holds = held-settled time node at nodes changed others settles stay are same is (keeps node) (rw over (not-true _ goes)) holds
       where
         not-true : (b : Bool) → not b ≡ true → b ≡ false
         not-true true e = cc

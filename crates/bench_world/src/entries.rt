@@ -152,6 +152,7 @@ impl World {
         laws::phases_go_in_order();
         objections::places_stay();
         objections::nodes_grow();
+        objections::settled_go_by_totals();
         objections::begun_drains_are_held();
         self.sound = false;
         self.waiting = None;

@@ -34,9 +34,10 @@ pub(crate) fn raise(
     if !in_task(services.stage) {
         return refused(services, alloc, Fatal::OutsideTask);
     }
-    // The nodes stand where they stood, and raises alone let the total of the top grow.
+    // The nodes stand where they stood, and raises alone let the total of the top grow. What goes on to be held stays due when it was.
     laws::places_stay();
     laws::nodes_grow();
+    laws::settled_go_by_totals();
     let node = services.answer.speaker.node();
     let ended = services.objection.raise(node, count);
     move_drains(services, place, None, ended)?;
@@ -58,6 +59,7 @@ pub(crate) fn drop(
     }
     laws::places_stay();
     laws::nodes_grow();
+    laws::settled_go_by_totals();
     laws::begun_drains_are_held();
     let node = services.answer.speaker.node();
     match services.objection.drop(node, count, services.time) {

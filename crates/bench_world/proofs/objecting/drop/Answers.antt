@@ -70,7 +70,7 @@ returns-in_ok-move_drains-in-Ok c =
             let dues = rw (m.stage, ← s.place_is) at (due.dues (filter (is_open (heard_of history) (ended_of history)) (caused_of history)) m.agenda.are) in
             let held : All (IsHeldUntilDue others) (option_to_list c.in-Ok.began) = rw (← begun) (c.begun_drains_are_held.ensures nodes others grown.nodes) in
             let drains = moved (now_of history) nodes changed others (stage_of history) c.in-Ok.began None (caused_of history) (heard_of history) (ended_of history) (length history) _ _
-            stay m.objections.are_nodes same refl (due-dropped speaker c.args.count nodes) begun over held s.in_order m.agenda m.events dues in
+            c.settled_go_by_totals.ensures stay m.objections.are_nodes same refl (due-dropped speaker c.args.count nodes) begun over held s.in_order m.agenda m.events dues in
             let agenda = drains.agenda in
             let events = drains.events in
             search (rules, acted);

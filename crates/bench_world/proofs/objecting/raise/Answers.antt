@@ -1,4 +1,4 @@
-use Rattle.std.proofs.Common.{◌≡◌, ◌≤◌, true, false, List, [], All, Some, None, refl, sym, ◌∙◌, arith, rules, length, filter}
+use Rattle.std.proofs.Common.{◌≡◌, ◌≤◌, true, false, [], All, None, refl, sym, ◌∙◌, arith, rules, length, filter}
 use Rattle.std.proofs.lemmas.List.Elements.{All-nil}
 use Rattle.uvm_object.specs.declared.acts.Act.TheVariants.{RaiseObjection}
 use Rattle.uvm_object.specs.declared.fatals.Fatal.TheVariants.{OutsideTask}
@@ -49,7 +49,7 @@ returns c =
             let dues = due.dues (filter (is_open (heard_of history) (ended_of history)) (caused_of history)) m.agenda.are in
             let held : All (IsHeldUntilDue others) [] = All-nil (IsHeldUntilDue others) in
             let drains = moved (now_of history) nodes changed others (stage_of history) None c.raise-ended.result (caused_of history) (heard_of history) (ended_of history) (length history) _ _
-            stay m.objections.are_nodes same refl (due-raised speaker c.args.count nodes) begun over held s.in_order m.agenda m.events dues in
+            c.settled_go_by_totals.ensures stay m.objections.are_nodes same refl (due-raised speaker c.args.count nodes) begun over held s.in_order m.agenda m.events dues in
             let agenda = drains.agenda in
             let events = drains.events in
             search (rules, acted);

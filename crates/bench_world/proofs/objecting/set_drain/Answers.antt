@@ -1,4 +1,4 @@
-use Rattle.std.proofs.Common.{◌≡◌, ◌≤◌, nat_lt, true, false, refl, ◌∙◌, arith, rules}
+use Rattle.std.proofs.Common.{◌≡◌, ◌≤◌, nat_lt, true, false, refl, arith, rules}
 use Rattle.std.proofs.lemmas.Bool.Decides.{nat_tests}
 use Rattle.uvm_object.specs.declared.acts.Act.TheVariants.{SetDrain}
 use Rattle.uvm_object.specs.declared.fatals.Fatal.TheVariants.{OutOfRange}

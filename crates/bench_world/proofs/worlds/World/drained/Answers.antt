@@ -1,4 +1,4 @@
-use Rattle.std.proofs.Common.{◌≡◌, ◌≤◌, ◌+◌, ℕ, All, Some, filter, length, refl, ◌∙◌, sym, arith, rules}
+use Rattle.std.proofs.Common.{◌≡◌, ◌≤◌, All, Some, filter, length, refl, ◌∙◌, arith, rules}
 use Rattle.std.specs.Option.{option_to_list}
 use Rattle.uvm_object.specs.declared.entries.Entry.TheVariants.{Drained}
 use Rattle.uvm_objection.specs.Laws.{IsHeldUntilDue}
@@ -58,7 +58,7 @@ invariant_of-self-2 c =
     let dues = rw (m.stage, c.len-place.ensures) at (due.dues (filter (is_open (heard_of before) (ended_of before)) (caused_of before)) m.agenda.are) in
     let begun_held : All (IsHeldUntilDue others) (option_to_list c.drained-began.result) = rw (← begun) (c.begun_drains_are_held.ensures nodes others grown.nodes) in
     let drains = moved (now_of before) nodes changed others (stage_of before) c.drained-began.result (Some c.args.node) (caused_of before) (heard_of before) (ended_of before) (length before) _ _
-    stay m.objections.are_nodes same refl (due-released c.args.node nodes) begun over begun_held phases m.agenda m.events dues in
+    c.settled_go_by_totals.ensures stay m.objections.are_nodes same refl (due-released c.args.node nodes) begun over begun_held phases m.agenda m.events dues in
     let agenda = drains.agenda in
     let events = drains.events in
     rw due.rest (search (rules, later)))

@@ -59,6 +59,9 @@ created_name act = []
 -- what an addition adds to the tree
 abbrev pub kind_of : What → NodeKind
 kind_of (what.Fifo size) = kind.Fifo
+kind_of (what.Port port) = kind.Port
+kind_of (what.Export port) = kind.Export
+kind_of what.Imp = kind.Imp
 
 abbrev pub nodes_after : List Node → Who → Outcome → Act → List Node
 nodes_after nodes performer (Made type_name) act = nodes ++ child nodes (node_of performer) (created_name act) kind.Component ∷ []

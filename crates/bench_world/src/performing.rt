@@ -100,6 +100,9 @@ fn kind_of(what: What) -> NodeKind
 {
     match what {
         What::Fifo { .. } => NodeKind::Fifo,
+        What::Port { .. } => NodeKind::Port,
+        What::Export { .. } => NodeKind::Export,
+        What::Imp => NodeKind::Imp,
     }
 }
 

@@ -1,4 +1,5 @@
 pub mod Acts
+pub mod Copies
 pub mod Fatals
 pub mod Lines
 pub mod Logs

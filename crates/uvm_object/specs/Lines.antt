@@ -8,6 +8,8 @@ use Rattle.uvm_report.specs.declared.severities.Actions.{Actions}
 use Rattle.uvm_report.specs.declared.settings.Which.{Which}
 use Rattle.uvm_report.specs.declared.settings.Which.TheVariants as which
 use Rattle.uvm_report.specs.Severities.{severity_name, is_empty}
+use Rattle.uvm_tlm.specs.declared.ends.PortKind.{PortKind}
+use Rattle.uvm_tlm.specs.declared.ends.PortKind.TheVariants.{Put, Get, Analysis, Seq}
 use Rattle.uvm_tree.specs.declared.nodes.Node.{Node}
 use Rattle.uvm_tree.specs.Nodes.{path_at}
 use Rattle.uvm_object.specs.declared.acts.Who.{Who}
@@ -15,7 +17,7 @@ use Rattle.uvm_object.specs.declared.acts.Who.TheVariants as who
 use Rattle.uvm_object.specs.declared.acts.Call.{Call}
 use Rattle.uvm_object.specs.declared.acts.Call.TheVariants as call
 use Rattle.uvm_object.specs.declared.acts.What.{What}
-use Rattle.uvm_object.specs.declared.acts.What.TheVariants.{Fifo}
+use Rattle.uvm_object.specs.declared.acts.What.TheVariants as what
 use Rattle.uvm_object.specs.declared.acts.Act.{Act}
 use Rattle.uvm_object.specs.declared.acts.Act.TheVariants as act
 use Rattle.uvm_object.specs.declared.entries.Outcome.{Outcome}
@@ -44,8 +46,18 @@ call_text (call.Phase phase) = phase_name phase
 call_text (call.Config field value) = codes "config " ++ field ++ 32 ∷ value_text value
 call_text (call.Wake tag) = codes "wake " ++ decimal tag
 
+-- what a port or an export passes on
+abbrev pub kind_text : PortKind → List ℕ
+kind_text Put = codes "put"
+kind_text Get = codes "get"
+kind_text Analysis = codes "analysis"
+kind_text Seq = codes "seq"
+
 abbrev pub what_text : What → List ℕ
-what_text (Fifo size) = codes "fifo " ++ decimal size
+what_text (what.Fifo size) = codes "fifo " ++ decimal size
+what_text (what.Port kind) = codes "port " ++ kind_text kind
+what_text (what.Export kind) = codes "export " ++ kind_text kind
+what_text what.Imp = codes "imp"
 
 abbrev pub replace_text : Bool → List ℕ
 replace_text true = codes " replace"

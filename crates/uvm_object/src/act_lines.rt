@@ -3,13 +3,14 @@
 ghost use Rattle.std.specs.Prelude.{◌≡◌, ◌++◌, ◌∷◌, OnOk};
 ghost use Rattle.std.specs.Fmt.{decimal};
 ghost use Rattle.uvm_object.specs.declared.acts.Act.TheVariants as act;
-ghost use Rattle.uvm_object.specs.Lines.{act_text, actions_text, id_text, what_text, which_text};
+ghost use Rattle.uvm_object.specs.Lines.{act_text, actions_text, id_text, kind_text, what_text, which_text};
 
 use crate::acts::{Act, What};
 use crate::lines::{push_integer, push_number, push_ticks, push_two};
 use std::alloc::AllocError;
 use uvm_glob::{Glob, Name};
 use uvm_report::{Actions, Report, Severity, Which};
+use uvm_tlm::PortKind;
 
 pub(crate) fn push_act(act: &Act, line: &mut Vec<u8>) -> Result<(), AllocError>
     ensures { OnOk result (line.new.items ≡ line.old.items ++ act_text act.now) }
@@ -209,9 +210,20 @@ fn push_what(what: What, line: &mut Vec<u8>) -> Result<(), AllocError>
     ensures { OnOk result (line.new.items ≡ line.old.items ++ what_text what) }
 {
     match what {
-        What::Fifo { size } => {
-            line.extend_from_slice(b"fifo ")?;
-            push_number(u64::from(size), line)
-        }
+        What::Fifo { size } => push_count(b"fifo ", size, line),
+        What::Port { kind } => push_two(b"port ", kind_text(kind), line),
+        What::Export { kind } => push_two(b"export ", kind_text(kind), line),
+        What::Imp => line.extend_from_slice(b"imp"),
+    }
+}
+
+fn kind_text(kind: PortKind) -> &'static str
+    ensures { result.now ≡ kind_text kind }
+{
+    match kind {
+        PortKind::Put => "put",
+        PortKind::Get => "get",
+        PortKind::Analysis => "analysis",
+        PortKind::Seq => "seq",
     }
 }

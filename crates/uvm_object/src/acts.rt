@@ -1,7 +1,8 @@
 //! Calls to an object, and the acts that it answers.
 
-ghost use Rattle.std.specs.Prelude.{◌≡◌, ◌==◌, ◌++◌, ◌∷◌, [], length, slice_get, OnOk, OnErr, IfOk, option_copied};
+ghost use Rattle.std.specs.Prelude.{◌≡◌, false, ◌==◌, ◌++◌, ◌∷◌, [], length, slice_get, OnOk, OnErr, IfOk, option_copied};
 ghost use Rattle.uvm_object.specs.Acts.{node_of};
+ghost use Rattle.uvm_object.specs.Copies.{holds_memory};
 
 use std::alloc::{AllocError, Global};
 use std::iter::FusedIterator;
@@ -11,6 +12,7 @@ use std::slice;
 use uvm_glob::{Glob, Name};
 use uvm_phase::Phase;
 use uvm_report::{Actions, Report, Severity, Which};
+use uvm_tlm::PortKind;
 use uvm_tree::NodeId;
 
 /// Who is called, and performs what it answers.
@@ -65,6 +67,18 @@ pub enum What {
         /// How many items it holds at most, 0 for any number.
         size: u16,
     },
+    /// A port, which asks what it is connected to (Clause 12).
+    Port {
+        /// What it passes on.
+        kind: PortKind,
+    },
+    /// An export, which passes on what is asked of it (Clause 12).
+    Export {
+        /// What it passes on.
+        kind: PortKind,
+    },
+    /// An implementation, to which ports write (Clause 12).
+    Imp,
 }
 
 /// What an object asks for in its answer to a call. Globs are taken under the path of the performer.
@@ -174,8 +188,6 @@ impl Act {
         ensures { IfOk result (λ act. act ≡ self.now) }
     {
         Ok(match *self {
-            Act::Create { type_name, name } => Act::Create { type_name, name },
-            Act::Add { name, what } => Act::Add { name, what },
             Act::Set {
                 ref glob,
                 field,
@@ -184,16 +196,6 @@ impl Act {
                 glob: glob.copy()?,
                 field,
                 value,
-            },
-            Act::Get { field } => Act::Get { field },
-            Act::OverrideType {
-                original,
-                new,
-                replace,
-            } => Act::OverrideType {
-                original,
-                new,
-                replace,
             },
             Act::OverrideInst {
                 original,
@@ -207,6 +209,28 @@ impl Act {
             Act::Report { ref report } => Act::Report {
                 report: report.copy()?,
             },
+            _ => self.plain_copy(),
+        })
+    }
+
+    // An equal act, of one that holds no memory.
+    fn plain_copy(&self) -> Act
+        requires { holds_memory self.now ≡ false }
+        ensures { result ≡ self.now }
+    {
+        match *self {
+            Act::Create { type_name, name } => Act::Create { type_name, name },
+            Act::Add { name, what } => Act::Add { name, what },
+            Act::Get { field } => Act::Get { field },
+            Act::OverrideType {
+                original,
+                new,
+                replace,
+            } => Act::OverrideType {
+                original,
+                new,
+                replace,
+            },
             Act::Verbosity { which, level } => Act::Verbosity { which, level },
             Act::Actions { which, actions } => Act::Actions { which, actions },
             Act::Severity { from, id, to } => Act::Severity { from, id, to },
@@ -214,7 +238,8 @@ impl Act {
             Act::DropObjection { count } => Act::DropObjection { count },
             Act::SetDrain { ticks } => Act::SetDrain { ticks },
             Act::Wait { ticks, tag } => Act::Wait { ticks, tag },
-        })
+            Act::Set { .. } | Act::OverrideInst { .. } | Act::Report { .. } => unreachable!(),
+        }
     }
 }
 

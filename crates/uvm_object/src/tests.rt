@@ -10,6 +10,7 @@ use std::test::Fail;
 use uvm_glob::{Glob, Name};
 use uvm_phase::{Cause, Phase};
 use uvm_report::{Actions, Report, Severity, Text, Which};
+use uvm_tlm::PortKind;
 use uvm_tree::{NodeId, NodeKind, Tree};
 
 // A tree of `uvm_test_top` and `a` below it, and their nodes.
@@ -263,6 +264,42 @@ fn override_lines_are_right(
                 "did uvm_test_top.a override x y at (*.b): done\n",
             )?,
     )
+}
+
+#[test]
+fn lines_of_additions_say_what_is_added(rt: HostRuntime) -> Result<(), Fail> {
+    let (tree, test, _) = small_tree(rt.alloc())?;
+    let port = |kind| What::Port { kind };
+    let export = |kind| What::Export { kind };
+    for (what, line) in [
+        (
+            port(PortKind::Put),
+            "did uvm_test_top add p port put: done\n",
+        ),
+        (
+            port(PortKind::Seq),
+            "did uvm_test_top add p port seq: done\n",
+        ),
+        (
+            export(PortKind::Get),
+            "did uvm_test_top add p export get: done\n",
+        ),
+        (
+            export(PortKind::Analysis),
+            "did uvm_test_top add p export analysis: done\n",
+        ),
+        (What::Imp, "did uvm_test_top add p imp: done\n"),
+    ] {
+        let name = Name::new(b"p")?;
+        let added = did(
+            rt.alloc(),
+            test,
+            LoggedOutcome::done(),
+            Act::Add { name, what },
+        )?;
+        assert!(rt; line_is(rt.alloc(), &tree, added, line)?);
+    }
+    Ok(())
 }
 
 #[test]

@@ -1,0 +1,9 @@
+pub mod Lists
+pub mod Leads
+pub mod Reached
+pub mod Sources
+pub mod Noted
+pub mod Wired
+pub mod Routes
+pub mod Targets
+pub mod Drivers

@@ -1,0 +1,8 @@
+use Rattle.std.proofs.Common.{◌≡◌, ℕ, take}
+use Rattle.uvm_tlm.specs.NodeLists.{list_of}
+use Rattle.uvm_tlm.specs.Graphs.{has, is_connected}
+use Rattle.uvm_tlm.proofs.graphs.starts.Given as goal
+
+-- the starts of the connections so far
+abbrev pub invariant-loop-connection : goal.invariant-loop-connection
+invariant-loop-connection l = (from to : ℕ) → has (list_of l.starts to) from ≡ is_connected (take l.connection-index l.connections) from to

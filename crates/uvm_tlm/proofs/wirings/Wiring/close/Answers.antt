@@ -1,0 +1,24 @@
+use Rattle.std.proofs.Common.{◌≡◌, ℕ, nat_eq, reverse, ap, sym, subst, ◌∙◌}
+use Rattle.std.specs.HashMap.{get}
+use Rattle.uvm_tlm.specs.Kept.{value_of}
+use Rattle.uvm_tlm.specs.NodeLists.{list_of}
+use Rattle.uvm_tlm.specs.Wirings.{IsPathOrder, driver_in, targets_in}
+use Rattle.uvm_tlm.proofs.Wired.{closed, for_some}
+use Rattle.uvm_tlm.proofs.wirings.Wiring.close.Goals as goal
+
+pub invariant_of-self : goal.invariant_of-self
+invariant_of-self c =
+    let inside = c.self.inside in
+    let order : c.in_ok-order.order.items ≡ c.args.order.now = c.in_ok-order.ensures.items_if_clones_equal (λ x y same. same) in
+    let whole : IsPathOrder c.in_ok-order.order.items (value_of inside).ends =
+    subst (λ v. IsPathOrder c.in_ok-order.order.items v.ends) (sym c.self.view_is) (subst (λ l. IsPathOrder l c.args.self.now.ends) (sym order) c.requires) in
+    let graph : c.in_ok-graph.graph ≡ record { ends = reverse inside.ends.entries; connections = reverse inside.connections.items } =
+    c.in_ok-graph.ensures ∙ ap (λ l. record { ends = reverse inside.ends.entries; connections = reverse l }) c.as_slice.ensures.value in
+    record {
+      is_wiring = closed (value_of inside) c.in_ok-order.order.items whole c.self.invariant.is_wiring;
+      ends_found = c.self.invariant.ends_found;
+      targets_found = for_some (λ found. (n : ℕ) → list_of found.targets n ≡ targets_in (reverse inside.ends.entries) (reverse inside.connections.items) found.order.items n) _
+          (λ n. c.in_ok-targets.ensures n ∙ ap (λ g. targets_in g.ends g.connections c.args.order.now n) graph ∙ ap (λ l. targets_in (reverse inside.ends.entries) (reverse inside.connections.items) l n) (sym order));
+      drivers_found = for_some (λ found. (n : ℕ) → get nat_eq found.drivers n ≡ driver_in (reverse inside.ends.entries) (reverse inside.connections.items) found.order.items n) _
+          (λ n. c.in_ok-drivers.ensures n ∙ ap (λ g. driver_in g.ends g.connections c.args.order.now n) graph ∙ ap (λ l. driver_in (reverse inside.ends.entries) (reverse inside.connections.items) l n) (sym order));
+    }

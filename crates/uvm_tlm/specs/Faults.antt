@@ -1,0 +1,21 @@
+-- What is told of each fault.
+use Rattle.std.specs.Prelude.{ℕ, List, Option, Some, None, codes}
+use Rattle.uvm_tlm.specs.declared.faults.WireFault.{WireFault}
+use Rattle.uvm_tlm.specs.declared.faults.WireFault.TheVariants.{KindDiffers, TooFew, TooMany, Unknown, Late, Memory}
+
+abbrev pub fault_text : WireFault → List ℕ
+fault_text KindDiffers = codes "kinds differ"
+fault_text TooFew = codes "too few connections"
+fault_text TooMany = codes "too many connections"
+fault_text Unknown = codes "unknown node"
+fault_text Late = codes "connected too late"
+fault_text Memory = codes "out of memory"
+
+-- what a fault says of a call: want of memory says that nothing is wrong with it
+abbrev pub refusal : WireFault → Option WireFault
+refusal KindDiffers = Some KindDiffers
+refusal TooFew = Some TooFew
+refusal TooMany = Some TooMany
+refusal Unknown = Some Unknown
+refusal Late = Some Late
+refusal Memory = None

@@ -1,0 +1,140 @@
+-- What is connected, which targets a port reaches over the connections, and what is wrong with a port.
+use Rattle.std.specs.Prelude.{◌≡◌, ℕ, Bool, true, false, ◌&&◌, ◌||◌, ◌==◌, nat_eq, not, List, [], ◌∷◌, map, filter, find, All, Contains, Option, Some, None, is_some, option_and_then}
+use Rattle.std.specs.List.{list_any, IsDistinct}
+use Rattle.std.specs.Map.{lookup}
+use Rattle.std.specs.Option.{option_map_or, ForSome}
+use Rattle.uvm_glob.specs.Faults.{fault_if}
+use Rattle.uvm_glob.specs.Lists.{first_given}
+use Rattle.uvm_tlm.specs.declared.ends.End.{End}
+use Rattle.uvm_tlm.specs.declared.ends.PortKind.{PortKind}
+use Rattle.uvm_tlm.specs.declared.ends.PortKind.TheVariants.{Put, Get, Analysis, Seq}
+use Rattle.uvm_tlm.specs.declared.faults.WireFault.{WireFault}
+use Rattle.uvm_tlm.specs.declared.faults.WireFault.TheVariants.{KindDiffers, TooFew, TooMany, Unknown, Late}
+use Rattle.uvm_tlm.specs.declared.wirings.Connection.{Connection}
+use Rattle.uvm_tlm.specs.Ends.{agrees, is_target, port_kind}
+
+-- the nodes with what stands there, the one added last first; the accepted connections, the newest first; and the path order
+-- of the nodes, once the wiring is closed
+pub record WiringValue : Type 0 where
+  pub ends : List (ℕ × End)
+  pub connections : List Connection
+  pub order : Option (List ℕ)
+
+-- nothing
+abbrev pub new_wiring : WiringValue
+new_wiring = record { ends = []; connections = []; order = None }
+
+-- what stands at a node
+abbrev pub end_at : List (ℕ × End) → ℕ → Option End
+end_at ends node = lookup (nat_eq node) ends
+
+-- with one more node
+abbrev pub with_end : ℕ → End → WiringValue → WiringValue
+with_end node end w = record w { ends = (node, end) ∷ w.ends }
+
+-- with one more connection
+abbrev pub with_connection : ℕ → ℕ → WiringValue → WiringValue
+with_connection from to w = record w { connections = record { from = from; to = to } ∷ w.connections }
+
+abbrev pub is_closed : WiringValue → Bool
+is_closed w = is_some w.order
+
+-- why nothing is added, and why nothing is closed
+abbrev pub late_fault : WiringValue → Option WireFault
+late_fault w = fault_if (is_closed w) Late
+
+-- whether something stands at both nodes
+abbrev pub are_known : Option End → Option End → Bool
+are_known from to = is_some from && is_some to
+
+-- whether a connection may go from what stands at a node to what stands at another
+abbrev pub may_connect : Option End → Option End → Bool
+may_connect (Some from) (Some to) = agrees from to
+may_connect (Some from) None = false
+may_connect None to = false
+
+-- why no connection goes from a node to another
+unfoldable pub connect_fault : WiringValue → ℕ → ℕ → Option WireFault
+connect_fault w from to =
+    first_given (
+    fault_if (is_closed w) Late
+    ∷ fault_if (not (are_known (end_at w.ends from) (end_at w.ends to))) Unknown
+    ∷ fault_if (not (may_connect (end_at w.ends from) (end_at w.ends to))) KindDiffers
+    ∷ [])
+
+-- a path order of nodes: each stands in it once, and every node that was added does
+pub record IsPathOrder (order : List ℕ) (ends : List (ℕ × End)) : Type 0 where
+  pub distinct : IsDistinct nat_eq order
+  pub whole : All (λ e. Contains order e.0) ends
+
+-- whether connections lead from a node to another: over none each leads to itself, and one more connection leads from what
+-- led to its start to what its end led to
+unfoldable pub leads : List Connection → ℕ → ℕ → Bool
+leads [] from to = from == to
+leads (c ∷ connections) from to = leads connections from to || (leads connections from c.from && leads connections c.to to)
+
+-- whether a node reaches another: over a connection, and any more from there
+unfoldable pub reaches : List Connection → ℕ → ℕ → Bool
+reaches connections from to = list_any (λ c. (from == c.from) && leads connections c.to to) connections
+
+-- whether a node is a target: an imp, a FIFO or a sequencer
+abbrev pub is_target_at : List (ℕ × End) → ℕ → Bool
+is_target_at ends node = option_map_or is_target (end_at ends node) false
+
+-- the targets that a node reaches, in path order
+unfoldable pub targets_in : List (ℕ × End) → List Connection → List ℕ → ℕ → List ℕ
+targets_in ends connections order node = filter (λ n. is_target_at ends n && reaches connections node n) order
+
+-- the targets that a port reaches, and none before the wiring is closed
+unfoldable pub targets_of : WiringValue → ℕ → List ℕ
+targets_of w node = option_map_or (λ order. targets_in w.ends w.connections order node) w.order []
+
+-- the kind of a port, which nothing else has
+abbrev pub kind_at : List (ℕ × End) → ℕ → Option PortKind
+kind_at ends node = option_and_then port_kind (end_at ends node)
+
+-- the sequencer that a port drives: the one target of a seq port
+abbrev pub driven_by : Option PortKind → List ℕ → Option ℕ
+driven_by (Some Seq) (target ∷ []) = Some target
+driven_by kind targets = None
+
+abbrev pub is_some_of : ℕ → Option ℕ → Bool
+is_some_of n None = false
+is_some_of n (Some m) = m == n
+
+-- the first port in path order that drives a sequencer
+unfoldable pub driver_in : List (ℕ × End) → List Connection → List ℕ → ℕ → Option ℕ
+driver_in ends connections order sequencer = find (λ port. is_some_of sequencer (driven_by (kind_at ends port) (targets_in ends connections order port))) order
+
+-- a put or get port needs one target
+abbrev pub count_fault : List ℕ → Option WireFault
+count_fault [] = Some TooFew
+count_fault (target ∷ []) = None
+count_fault (target ∷ other ∷ targets) = Some TooMany
+
+-- a seq port needs one target, which no port before it drives
+abbrev pub seq_fault : List ℕ → (ℕ → Option ℕ) → ℕ → Option WireFault
+seq_fault [] driver port = Some TooFew
+seq_fault (target ∷ []) driver port = fault_if (not (is_some_of port (driver target))) TooMany
+seq_fault (target ∷ other ∷ targets) driver port = Some TooMany
+
+-- what is wrong with a port; an analysis port may have any number of targets
+abbrev pub port_fault : Option PortKind → List ℕ → (ℕ → Option ℕ) → ℕ → Option WireFault
+port_fault (Some Put) targets driver port = count_fault targets
+port_fault (Some Get) targets driver port = count_fault targets
+port_fault (Some Seq) targets driver port = seq_fault targets driver port
+port_fault (Some Analysis) targets driver port = None
+port_fault None targets driver port = None
+
+abbrev pub fault_in : List (ℕ × End) → List Connection → List ℕ → ℕ → Option WireFault
+fault_in ends connections order port = port_fault (kind_at ends port) (targets_in ends connections order port) (driver_in ends connections order) port
+
+-- what is wrong with a port, and nothing before the wiring is closed
+unfoldable pub wire_fault : WiringValue → ℕ → Option WireFault
+wire_fault w port = option_and_then (λ order. fault_in w.ends w.connections order port) w.order
+
+-- what holds of every wiring: no node was added twice, each connection was allowed, and the order is a path order
+pub record IsWiring (w : WiringValue) : Type 0 where
+  pub apart : IsDistinct nat_eq (map (λ e. e.0) w.ends)
+  pub allowed : All (λ c. may_connect (end_at w.ends c.from) (end_at w.ends c.to) ≡ true) w.connections
+  pub ordered : ForSome w.order (λ order. IsPathOrder order w.ends)

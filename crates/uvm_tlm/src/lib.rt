@@ -1,0 +1,19 @@
+//! TLM 1 between components (IEEE 1800.2-2020, Clause 12): the FIFOs, and the ports, exports and imps that are connected.
+#![tactic(auto)]
+
+mod ends;
+mod faults;
+mod fifos;
+mod graphs;
+mod items;
+pub mod laws;
+mod node_lists;
+#[cfg(test)]
+mod tests;
+mod wirings;
+
+pub use ends::{End, PortKind};
+pub use faults::WireFault;
+pub use fifos::{Fifo, Move, MoveKind, Owner, WaitingPut, WaitingTake};
+pub use items::Item;
+pub use wirings::{Connection, Wiring};

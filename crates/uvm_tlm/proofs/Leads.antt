@@ -1,74 +1,67 @@
 -- What connections lead to.
-use Rattle.std.proofs.Common.{◌≡◌, ℕ, Bool, true, false, ◌||◌, ◌&&◌, List, [], ◌∷◌, All, refl, ap, ◌∙◌, arith}
-use Rattle.std.proofs.lemmas.Bool.Decides.{nat_tests}
+use Rattle.std.proofs.Common.{◌≡◌, ◌⊎◌, ℕ, Bool, true, ◌&&◌, eqb, List, [], ◌∷◌, All, inl, inr, ap, ◌∙◌}
+use Rattle.std.proofs.lemmas.Bool.{and_from, and_parts, eqb-true, or_cases, or_left, or_right}
 use Rattle.std.proofs.lemmas.List.Elements.{All-nil, All-cons, All-head, All-tail, All-weaker}
 use Rattle.uvm_tlm.specs.declared.wirings.Connection.{Connection}
 use Rattle.uvm_tlm.specs.Wirings.{leads}
+use Rattle.uvm_tlm.proofs.Lists.{eqb-same}
 
-or_left : (a b : Bool) → a ≡ true → a || b ≡ true
-or_left true b h = refl
-or_left false b h = absurd cc
-
-or_both : (a b c : Bool) → b ≡ true → c ≡ true → a || (b && c) ≡ true
-or_both true b c h k = refl
-or_both false true true h k = refl
-or_both false false c h k = absurd cc
-or_both false true false h k = absurd cc
-
-pub leads_itself : (connections : List Connection) (a : ℕ) → leads connections a a ≡ true
+pub leads_itself : (connections : List Connection) (n : ℕ) → leads connections n n ≡ true
 unfolding leads
-leads_itself [] a = grind (arith, nat_tests)
-leads_itself (link ∷ connections) a = or_left _ _ (leads_itself connections a)
+leads_itself [] n = eqb-same n
+leads_itself (first ∷ connections) n = or_left _ _ (leads_itself connections n)
 
--- the four ways through one more connection
-through : (ab af tb bc bf tc ac : Bool) → (ab ≡ true → bc ≡ true → ac ≡ true) → (ab ≡ true → bf ≡ true → af ≡ true) → (tb ≡ true → bc ≡ true → tc ≡ true) → ab || (af && tb) ≡ true → bc || (bf && tc) ≡ true → ac || (af && tc) ≡ true
-through true af tb true bf tc ac f g h p q = or_left _ _ (f refl refl)
-through true af tb false true true ac f g h p q = or_both ac af true (g refl refl) refl
-through true af tb false true false ac f g h p q = absurd cc
-through true af tb false false tc ac f g h p q = absurd cc
-through false true true true bf tc ac f g h p q = or_both ac true tc refl (h refl refl)
-through false true true false true true ac f g h p q = or_both ac true true refl refl
-through false true true false true false ac f g h p q = absurd cc
-through false true true false false tc ac f g h p q = absurd cc
-through false true false bc bf tc ac f g h p q = absurd cc
-through false false tb bc bf tc ac f g h p q = absurd cc
+-- a way past the first connection, or over it
+pub ways : (first : Connection) (connections : List Connection) (from to : ℕ) → leads (first ∷ connections) from to ≡ true
+    → (leads connections from to ≡ true) ⊎ ((leads connections from first.from ≡ true) × (leads connections first.to to ≡ true))
+unfolding leads
+ways first connections from to h = elim (or_cases (leads connections from to) (leads connections from first.from && leads connections first.to to) h) [
+  | inl past ↦ inl past
+  | inr over ↦ inr (and_parts (leads connections from first.from) (leads connections first.to to) over)
+]
+
+past : (first : Connection) (connections : List Connection) (from to : ℕ) → leads connections from to ≡ true → leads (first ∷ connections) from to ≡ true
+unfolding leads
+past first connections from to h = or_left _ _ h
+
+over : (first : Connection) (connections : List Connection) (from to : ℕ) → leads connections from first.from ≡ true → leads connections first.to to ≡ true → leads (first ∷ connections) from to ≡ true
+unfolding leads
+over first connections from to before after = or_right _ _ (and_from _ _ before after)
 
 pub leads-leads : (connections : List Connection) (a b c : ℕ) → leads connections a b ≡ true → leads connections b c ≡ true → leads connections a c ≡ true
 unfolding leads
-leads-leads [] a b c p q = grind (arith, nat_tests)
-leads-leads (link ∷ connections) a b c p q =
-    through (leads connections a b) (leads connections a link.from) (leads connections link.to b) (leads connections b c) (leads connections b link.from) (leads connections link.to c) (leads connections a c)
-    (leads-leads connections a b c) (leads-leads connections a b link.from) (leads-leads connections link.to b c) p q
+leads-leads [] a b c p q = ap (λ n. eqb n c) (eqb-true a b p) ∙ q
+leads-leads (first ∷ connections) a b c p q = elim (ways first connections a b p) [
+  | inl ab ↦ elim (ways first connections b c q) [
+    | inl bc ↦ past first connections a c (leads-leads connections a b c ab bc)
+    | inr on ↦ over first connections a c (leads-leads connections a b first.from ab on.0) on.1
+  ]
+  | inr back ↦ elim (ways first connections b c q) [
+    | inl bc ↦ over first connections a c back.0 (leads-leads connections first.to b c back.1 bc)
+    | inr on ↦ over first connections a c back.0 on.1
+  ]
+]
 
 -- each connection leads from its start to its end
-pub leads_along : (connections : List Connection) → All (λ link. leads connections link.from link.to ≡ true) connections
-unfolding leads
-leads_along [] = All-nil (λ link. leads [] link.from link.to ≡ true)
+pub leads_along : (connections : List Connection) → All (λ c. leads connections c.from c.to ≡ true) connections
+leads_along [] = All-nil (λ c. leads [] c.from c.to ≡ true)
 leads_along (first ∷ connections) =
-    All-cons (λ link. leads (first ∷ connections) link.from link.to ≡ true) first connections
-    (or_both _ _ _ (leads_itself connections first.from) (leads_itself connections first.to))
-    (All-weaker (λ link. leads connections link.from link.to ≡ true) (λ link. leads (first ∷ connections) link.from link.to ≡ true)
-    (λ link h. or_left _ _ h) connections (leads_along connections))
+    All-cons (λ c. leads (first ∷ connections) c.from c.to ≡ true) first connections
+    (over first connections first.from first.to (leads_itself connections first.from) (leads_itself connections first.to))
+    (All-weaker (λ c. leads connections c.from c.to ≡ true) (λ c. leads (first ∷ connections) c.from c.to ≡ true)
+    (λ c h. past first connections c.from c.to h) connections (leads_along connections))
 
--- the start of a connection is in it where its end is
+-- the start of a connection is in where its end is
 abbrev pub is_closed_at : (ℕ → Bool) → Connection → Type 0
-is_closed_at p link = p link.to ≡ true → p link.from ≡ true
+is_closed_at p c = p c.to ≡ true → p c.from ≡ true
 
-cases : (ab af tb pa : Bool) → (ab ≡ true → pa ≡ true) → (af ≡ true → tb ≡ true → pa ≡ true) → ab || (af && tb) ≡ true → pa ≡ true
-cases true af tb pa f g h = f refl
-cases false true true pa f g h = g refl refl
-cases false true false pa f g h = absurd cc
-cases false false tb pa f g h = absurd cc
-
--- what is closed under connections has all that leads what it has
-pub leads_closed : (p : ℕ → Bool) (connections : List Connection) (a b : ℕ) → All (is_closed_at p) connections → p b ≡ true → leads connections a b ≡ true → p a ≡ true
+-- what is closed under connections has all that leads to what it has
+pub leads_closed : (p : ℕ → Bool) (connections : List Connection) (from to : ℕ) → All (is_closed_at p) connections → p to ≡ true → leads connections from to ≡ true → p from ≡ true
 unfolding leads
-leads_closed p [] a b closed has h =
-    let same : a ≡ b = grind (arith, nat_tests) in
-    ap p same ∙ has
-leads_closed p (link ∷ connections) a b closed has h =
-    let rest = All-tail (is_closed_at p) link connections closed in
-    cases (leads connections a b) (leads connections a link.from) (leads connections link.to b) (p a)
-    (λ k. leads_closed p connections a b rest has k)
-    (λ k l. leads_closed p connections a link.from rest (All-head (is_closed_at p) link connections closed (leads_closed p connections link.to b rest has l)) k)
-    h
+leads_closed p [] from to closed has h = ap p (eqb-true from to h) ∙ has
+leads_closed p (first ∷ connections) from to closed has h =
+    let rest = All-tail (is_closed_at p) first connections closed in
+    elim (ways first connections from to h) [
+      | inl way ↦ leads_closed p connections from to rest has way
+      | inr both ↦ leads_closed p connections from first.from rest (All-head (is_closed_at p) first connections closed (leads_closed p connections first.to to rest has both.1)) both.0
+    ]

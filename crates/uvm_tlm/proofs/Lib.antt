@@ -7,3 +7,4 @@ pub mod Wired
 pub mod Routes
 pub mod Targets
 pub mod Drivers
+pub mod Agreeing

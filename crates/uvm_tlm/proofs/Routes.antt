@@ -8,6 +8,7 @@ use Rattle.uvm_tlm.specs.declared.wirings.Connection.{Connection}
 use Rattle.uvm_tlm.specs.Laws.{Route, over, along}
 use Rattle.uvm_tlm.specs.Graphs.{is_connected}
 use Rattle.uvm_tlm.specs.Wirings.{leads, reaches}
+use Rattle.uvm_tlm.proofs.Leads.{ways}
 use Rattle.uvm_tlm.proofs.Lists.{eqb-same}
 use Rattle.uvm_tlm.proofs.Reached.{reaches_connected, reaches_through}
 
@@ -63,21 +64,13 @@ over_way connections c from to member before after = before_it before (after_it 
 way_of : (connections : List Connection) (from to : ℕ) → leads connections from to ≡ true → Way connections from to
 unfolding leads
 way_of [] from to h = inl (eqb-true from to h)
-way_of (first ∷ connections) from to h =
-    by (or_cases (leads connections from to) (leads connections from first.from && leads connections first.to to) h)
-    (λ k. wider_way first connections from to (way_of connections from to k))
-    (λ k. wider_way first connections from first.from (way_of connections from first.from k))
-    (λ k. wider_way first connections first.to to (way_of connections first.to to k))
-  where
-    by : (leads connections from to ≡ true) ⊎ ((leads connections from first.from && leads connections first.to to) ≡ true)
-        → (leads connections from to ≡ true → Way (first ∷ connections) from to)
-        → (leads connections from first.from ≡ true → Way (first ∷ connections) from first.from)
-        → (leads connections first.to to ≡ true → Way (first ∷ connections) first.to to)
-        → Way (first ∷ connections) from to
-    by (inl without) f g h = f without
-    by (inr over_it) f g h =
-        let parts = and_parts (leads connections from first.from) (leads connections first.to to) over_it in
-        inr (over_way (first ∷ connections) first from to (Contains-append_left (first ∷ []) connections first (Contains-push [] first)) (g parts.0) (h parts.1))
+way_of (first ∷ connections) from to h = elim (ways first connections from to h) [
+  | inl past ↦ wider_way first connections from to (way_of connections from to past)
+  | inr both ↦
+      inr (over_way (first ∷ connections) first from to (Contains-append_left (first ∷ []) connections first (Contains-push [] first))
+      (wider_way first connections from first.from (way_of connections from first.from both.0))
+      (wider_way first connections first.to to (way_of connections first.to to both.1)))
+]
 
 -- what is found is a route
 pub route_of : (connections : List Connection) (from to : ℕ) → reaches connections from to ≡ true → Route connections from to

@@ -1,10 +1,13 @@
 -- What the definitions say, in other words.
-use Rattle.std.specs.Prelude.{◌≡◌, ◌↔◌, ◌+◌, ℕ, IsTrue, List, Contains, nat_eq, Option, Some, None}
+use Rattle.std.specs.Prelude.{◌≡◌, ◌↔◌, ◌+◌, ℕ, Bool, false, IsTrue, List, All, Contains, nat_eq, Option, Some, None}
 use Rattle.std.specs.List.{IsDistinct}
-use Rattle.std.specs.Option.{ForSome}
+use Rattle.std.specs.Option.{ForSome, option_map_or}
+use Rattle.uvm_tlm.specs.declared.ends.End.{End}
+use Rattle.uvm_tlm.specs.declared.ends.PortKind.{PortKind}
 use Rattle.uvm_tlm.specs.declared.wirings.Connection.{Connection}
+use Rattle.uvm_tlm.specs.Ends.{accepts}
 use Rattle.uvm_tlm.specs.Fifos.{FifoValue, after_move, can_put, next_move, waiting_count}
-use Rattle.uvm_tlm.specs.Wirings.{WiringValue, IsWiring, driven_by, is_closed, is_target_at, kind_at, reaches, targets_of, wire_fault}
+use Rattle.uvm_tlm.specs.Wirings.{WiringValue, IsWiring, driven_by, end_at, is_closed, is_target_at, kind_at, reaches, targets_of, wire_fault}
 
 -- a route from a node to another: it goes over a connection, and perhaps on from its end
 pub data Route (connections : List Connection) : ℕ → ℕ → Type 0 where
@@ -23,6 +26,15 @@ pub record AreTargets (w : WiringValue) (node : ℕ) (targets : List ℕ) : Type
 -- the targets of each node are all those to which routes lead from it, each once
 abbrev pub TargetsAreReached : Type 0
 TargetsAreReached = (w : WiringValue) → IsWiring w → IsTrue (is_closed w) → (node : ℕ) → AreTargets w node (targets_of w node)
+
+-- whether what stands at a node accepts a kind
+abbrev pub accepts_at : List (ℕ × End) → PortKind → ℕ → Bool
+accepts_at ends kind node = option_map_or (λ end. accepts end kind) (end_at ends node) false
+
+-- each target of a port accepts its kind, so that an analysis port reaches imps and FIFOs without a limit, a put or get port
+-- FIFOs, and a seq port sequencers
+abbrev pub TargetsAcceptTheKind : Type 0
+TargetsAcceptTheKind = (w : WiringValue) → IsWiring w → (port : ℕ) (kind : PortKind) → kind_at w.ends port ≡ Some kind → All (λ target. IsTrue (accepts_at w.ends kind target)) (targets_of w port)
 
 -- the sequencer that a port drives
 abbrev pub driven_from : WiringValue → ℕ → Option ℕ

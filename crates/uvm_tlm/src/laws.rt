@@ -1,6 +1,6 @@
 //! Laws of the definitions. The functions do nothing; their contracts are the laws.
 
-ghost use Rattle.uvm_tlm.specs.Laws.{EachMoveEndsAWait, OneDriverIsSound, ReachesByRoutes, TargetsAreReached, UnboundedTakesAll};
+ghost use Rattle.uvm_tlm.specs.Laws.{EachMoveEndsAWait, OneDriverIsSound, ReachesByRoutes, TargetsAcceptTheKind, TargetsAreReached, UnboundedTakesAll};
 
 /// A node reaches another exactly where a route leads there, from connection to connection.
 pub fn reaches_by_routes()
@@ -10,6 +10,12 @@ pub fn reaches_by_routes()
 /// The targets of a node in a closed wiring are all those to which routes lead from it, each once.
 pub fn targets_are_reached()
     ensures { TargetsAreReached }
+{}
+
+/// Each target of a port accepts its kind: an analysis port reaches imps and FIFOs without a limit alone, a put or get port
+/// FIFOs, and a seq port sequencers.
+pub fn targets_accept_the_kind()
+    ensures { TargetsAcceptTheKind }
 {}
 
 /// Of the ports that drive a sequencer one is sound, and no other.

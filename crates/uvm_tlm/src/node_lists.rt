@@ -11,7 +11,7 @@ use uvm_tree::NodeId;
 #[derive(Drop)]
 pub(crate) struct NodeLists {
     alloc: Global,
-    pub(crate) lists: HashMap<NodeId, Vec<NodeId>>,
+    lists: HashMap<NodeId, Vec<NodeId>>,
 }
 
 impl NodeLists {

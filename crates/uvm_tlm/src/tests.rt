@@ -186,6 +186,7 @@ impl Bench {
     }
 
     fn close(&mut self) -> Result<(), WireFault> {
+        // Its clause says that no node was added twice.
         let _ = self.wiring.resolve(NodeId::TOP);
         self.wiring.close(self.order.as_slice())
     }

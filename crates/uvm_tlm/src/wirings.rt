@@ -1,6 +1,6 @@
 //! The connections of a testbench.
 
-ghost use Rattle.std.specs.Prelude.{◌≡◌, ℕ, ◌∷◌, ◌++◌, ◌==◌, [], nat_eq, reverse, Some, None, OnOk, OnErr, IfErr, if◌then◌else◌};
+ghost use Rattle.std.specs.Prelude.{◌≡◌, ℕ, ◌∷◌, ◌++◌, ◌==◌, [], nat_eq, Some, None, OnOk, OnErr, IfErr, if◌then◌else◌};
 ghost use Rattle.std.specs.HashMap.{get};
 ghost use Rattle.uvm_tlm.specs.NodeLists.{list_of};
 ghost use Rattle.uvm_tlm.specs.Faults.{refusal};
@@ -39,12 +39,12 @@ pub struct Wiring {
 
 // What is found when the wiring is closed.
 #[derive(Drop)]
-pub(crate) struct Closed {
+struct Closed {
     // Contracts say by it what was found.
-    pub(crate) order: Vec<NodeId>,
-    pub(crate) targets: NodeLists,
-    // The first port of each sequencer.
-    pub(crate) drivers: HashMap<NodeId, NodeId>,
+    order: Vec<NodeId>,
+    targets: NodeLists,
+    // The first port that drives each sequencer.
+    drivers: HashMap<NodeId, NodeId>,
 }
 
 impl Model for Wiring {

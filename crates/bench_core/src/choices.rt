@@ -1,16 +1,18 @@
 //! The choice of the next entry.
 
-ghost use Rattle.std.specs.Prelude.{◌≡◌, ◌&&◌, true, if◌then◌else◌};
+ghost use Rattle.std.specs.Prelude.{◌≡◌, ◌&&◌, true, [], ◌∷◌, Some, IfOk, if◌then◌else◌};
 ghost use Rattle.uvm_phase.specs.Phases.{is_task};
 ghost use Rattle.uvm_object.specs.declared.entries.Entry.TheVariants.{End};
 ghost use Rattle.bench_history.specs.Dues.{first_due};
-ghost use Rattle.bench_history.specs.Cases.{by_call, time_passes};
+ghost use Rattle.bench_history.specs.Cases.{Exactly, by_call, port_check, phase_end, time_passes};
 ghost use Rattle.bench_history.specs.Objections.{objections_of, stands};
-ghost use Rattle.bench_history.specs.Next.{next_of};
+ghost use Rattle.bench_history.specs.Laws.{is_at_check};
+ghost use Rattle.bench_history.specs.Next.{first_next, next_of};
 ghost use Rattle.bench_core.specs.Choices.{IsChoice, entry_of};
 
 use bench_history::{Owner, Stage};
 use bench_world::World;
+use std::alloc::AllocError;
 use uvm_object::{Call, Fatal, Reason, Who};
 use uvm_phase::{Cause, Due, Phase, Schedule};
 use uvm_tree::NodeId;
@@ -47,39 +49,56 @@ pub(crate) enum Choice {
 
 // What comes next after the log of a world.
 #[tactic(auto, unfolding(bench_history::specs::Next::next_of))]
-pub(crate) fn choose(world: &World) -> Choice
-    requires { world.now.sound ≡ true }
-    ensures { IsChoice (next_of world.now.script world.now.history) result }
+pub(crate) fn choose(world: &mut World) -> Result<Choice, AllocError>
+    requires { world.old.sound ≡ true }
+    ensures choice { IfOk result (IsChoice (next_of world.old.script world.old.history)) }
+    ensures unchanged { world.new ≡ world.old }
 {
     let stage = world.stage();
     if let Stage::Ended = stage {
-        return Choice::Nothing;
+        return Ok(Choice::Nothing);
     }
     if let Some(reason) = world.reason() {
-        return Choice::Enter(Mark::Over(reason));
+        return Ok(Choice::Enter(Mark::Over(reason)));
     }
     match world.acts_left() {
         0 => {}
         count if count > World::MAX_ACTS => {
-            return Choice::Enter(Mark::Note(Fatal::TooManyActs, world.speaker().node()));
+            let node = world.speaker().node();
+            return Ok(Choice::Enter(Mark::Note(Fatal::TooManyActs, node)));
         }
-        _ => return Choice::Act,
+        _ => return Ok(Choice::Act),
     }
     if let Some(due) = world.due_now() {
-        return happening(due);
+        return Ok(happening(due));
     }
-    match stage {
+    Ok(match stage {
         Stage::Before => Choice::Enter(Mark::Begin(Phase::Build)),
         Stage::During(phase) => match world.next_call(phase) {
             Some(node) => Choice::Ask(Who::Node(node), Call::Phase(phase), None),
-            None => Choice::Enter(ending(world, phase)),
+            None => Choice::Enter(done(world, phase)?),
         },
         Stage::After(phase) => match Schedule::next(phase) {
             Some(phase) => Choice::Enter(Mark::Begin(phase)),
             None => Choice::Enter(Mark::Over(Reason::Finished)),
         },
         Stage::Ended => Choice::Nothing,
+    })
+}
+
+// Where each component had its call: in connect the next unsound port is reported, and else the phase comes to its end.
+fn done(world: &mut World, phase: Phase) -> Result<Mark, AllocError>
+    requires sound { world.old.sound ≡ true }
+    requires at_check { phase ≡ Phase.Connect → is_at_check world.old.script world.old.history ≡ true }
+    ensures mark { IfOk result (λ mark. first_next (port_check world.old.history (Some phase) ∷ phase_end world.old.script world.old.history (Some phase) ∷ []) ≡ Exactly (entry_of mark)) }
+    ensures unchanged { world.new ≡ world.old }
+{
+    if let Phase::Connect = phase
+        && let Some((port, fatal)) = world.next_unsound()?
+    {
+        return Ok(Mark::Note(fatal, port));
     }
+    Ok(ending(world, phase))
 }
 
 // The owner of an event hears its call, or its drain ends.
@@ -93,7 +112,7 @@ fn happening(due: &Due<Owner, Option<Call>>) -> Choice
     }
 }
 
-// Where each component had its call: the phase ends, or time passes while an objection stands in run.
+// The phase ends, or time passes while an objection stands in run.
 fn ending(world: &World, phase: Phase) -> Mark
     requires { world.now.sound ≡ true }
     ensures { entry_of result ≡ (if is_task phase && stands (objections_of world.now.history) then time_passes world.now.script.time_limit (first_due world.now.history) else End phase) }

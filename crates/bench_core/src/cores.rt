@@ -351,7 +351,7 @@ impl Core {
         ensures err { OnErr result (self.new ≡ failed_from Health.Broken self.old) }
     {
         self.health = Health::Broken;
-        let turn = match choose(&self.world) {
+        let turn = match choose(&mut self.world)? {
             Choice::Nothing => Turn::Over,
             Choice::Enter(mark) => {
                 enter(&mut self.world, mark)?;

@@ -1,5 +1,6 @@
 //! Whole runs with answers as values.
 
+mod connections;
 mod objections;
 
 use crate::{Core, CoreFault, Turn};
@@ -54,6 +55,8 @@ enum Bench {
     Draining(&'static [Objecting], &'static [Objecting]),
     /// To build: a wait of no ticks.
     WaitingInBuild,
+    /// To build: these ends; and to this phase, also to build: they are connected.
+    Wired(Phase, connections::Wires),
 }
 
 /// What is done to the objections of the test, and waits.
@@ -385,6 +388,7 @@ fn acts_of(alloc: Global, bench: Bench, is_test: bool, call: Call) -> Result<Act
         return Ok(acts);
     };
     match (bench, phase) {
+        (Bench::Wired(at, wires), phase) => wired(alloc, at, phase, wires, &mut acts)?,
         (Bench::Setting(at), phase) if at == phase => {
             acts.push(set(alloc)?)?;
             acts.push(get()?)?;
@@ -400,6 +404,23 @@ fn acts_of(alloc: Global, bench: Bench, is_test: bool, call: Call) -> Result<Act
         _ => (),
     }
     Ok(acts)
+}
+
+// What the test answers whose ends are added in build and connected in a phase.
+fn wired(
+    alloc: Global,
+    at: Phase,
+    phase: Phase,
+    wires: connections::Wires,
+    acts: &mut Acts,
+) -> Result<(), Fail> {
+    if phase == Phase::Build {
+        wires.add(acts)?;
+    }
+    if phase == at {
+        wires.connect(alloc, acts)?;
+    }
+    Ok(())
 }
 
 fn push_all(answer: &[Objecting], acts: &mut Acts) -> Result<(), Fail> {

@@ -7,13 +7,13 @@ use Rattle.bench_history.specs.declared.stages.Stage.TheVariants.{Ended}
 use Rattle.bench_history.specs.History.{stage_of, running, left_of, is_over}
 use Rattle.bench_history.specs.Reports.{reason_of}
 use Rattle.bench_history.specs.Dues.{due_now}
-use Rattle.bench_history.specs.Cases.{Next, Nothing, end_reached, giving_up, long_answer, first_act, event_due, phase_call, phase_end, phase_begin, phase_to_begin, finish}
+use Rattle.bench_history.specs.Cases.{Next, Nothing, end_reached, giving_up, long_answer, first_act, event_due, phase_call, port_check, phase_end, phase_begin, phase_to_begin, finish}
 use Rattle.bench_history.specs.Next.{first_next, next_of, Allows, IsNext, EachIsNext}
 use Rattle.bench_history.specs.Laws.{IsSomething, NothingAfterOver, SomethingBeforeOver}
 use Rattle.bench_history.proofs.Inversion.{Case, AtEnd, ByOwn, ByNeed, ByDeed, ByDue, ByTurn, ByEnd, ByBegin, case-of}
 
 -- after the end nothing comes
-nothing-comes : (script : ScriptValue) (history : List Entry) → stage_of history ≡ Ended → next_of script history ≡ Nothing
+pub nothing-comes : (script : ScriptValue) (history : List Entry) → stage_of history ≡ Ended → next_of script history ≡ Nothing
 unfolding next_of
 nothing-comes script history e =
     ap (λ stage. first_next (
@@ -23,6 +23,7 @@ nothing-comes script history e =
     ∷ first_act script history (left_of script history)
     ∷ event_due (due_now history)
     ∷ phase_call history (running (stage_of history))
+    ∷ port_check history (running (stage_of history))
     ∷ phase_end script history (running (stage_of history))
     ∷ phase_begin (phase_to_begin (stage_of history))
     ∷ finish

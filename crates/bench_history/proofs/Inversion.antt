@@ -8,6 +8,7 @@ use Rattle.uvm_object.specs.declared.acts.Who.TheVariants as who
 use Rattle.uvm_object.specs.declared.acts.Call.{Call}
 use Rattle.uvm_object.specs.declared.acts.Call.TheVariants as call
 use Rattle.uvm_object.specs.declared.acts.Act.{Act}
+use Rattle.uvm_object.specs.declared.fatals.Fatal.{Fatal}
 use Rattle.uvm_object.specs.declared.fatals.Fatal.TheVariants.{TooManyActs, Timeout, Stall}
 use Rattle.uvm_object.specs.Acts.{node_of}
 use Rattle.uvm_object.specs.declared.entries.Outcome.{Outcome}
@@ -26,8 +27,9 @@ use Rattle.bench_history.specs.History.{stage_of, now_of, running, next_call, le
 use Rattle.bench_history.specs.Reports.{reason_of}
 use Rattle.bench_history.specs.Objections.{objections_of, stands}
 use Rattle.bench_history.specs.Dues.{first_due, due_at, due_now}
+use Rattle.bench_history.specs.Wires.{next_unsound}
 use Rattle.bench_history.specs.Upshots.{Upshot, Needs, Does, Finds, Refuses, upshot_of}
-use Rattle.bench_history.specs.Cases.{Next, Exactly, Answer, Need, Nothing, end_reached, giving_up, first_act, by_upshot, by_act, by_call, event_due, phase_call, phase_end, time_passes, phase_begin, phase_to_begin, finish}
+use Rattle.bench_history.specs.Cases.{Next, Exactly, Answer, Need, Nothing, end_reached, giving_up, first_act, by_upshot, by_act, by_call, event_due, phase_call, in_connect, port_check, phase_end, time_passes, phase_begin, phase_to_begin, finish}
 use Rattle.bench_history.specs.Next.{first_next, next_of}
 use Rattle.bench_history.specs.Laws.{IsDue}
 
@@ -67,7 +69,7 @@ pub data Case (script : ScriptValue) (history : List Entry) (next : Next) : Type
 
 -- the cases from the phases' course on
 abbrev phase_cases : ScriptValue → List Entry → Option Phase → List (Option Next)
-phase_cases script history phase = phase_call history phase ∷ phase_end script history phase ∷ phase_begin (phase_to_begin (stage_of history)) ∷ finish ∷ []
+phase_cases script history phase = phase_call history phase ∷ port_check history phase ∷ phase_end script history phase ∷ phase_begin (phase_to_begin (stage_of history)) ∷ finish ∷ []
 
 -- and from the acts on
 abbrev act_cases : ScriptValue → List Entry → List (Option Next)
@@ -86,14 +88,20 @@ case-time : (script : ScriptValue) (history : List Entry) (next : Next) (first :
 case-time script history next None e = ByOwn (Note Stall 0) tt e
 case-time script history next (Some event) e = case-limit script history next event (nat_lt script.time_limit event.time) refl e
 
--- where each component had its call
+-- where no port is unsound
 case-ended : (script : ScriptValue) (history : List Entry) (next : Next) (phase : Phase) (standing : Bool) → stage_of history ≡ During phase → next ≡ Exactly (if standing then time_passes script.time_limit (first_due history) else End phase) → Case script history next
 case-ended script history next phase true runs e = case-time script history next (first_due history) e
 case-ended script history next phase false runs e = ByEnd phase runs e
 
-case-turn : (script : ScriptValue) (history : List Entry) (next : Next) (phase : Phase) (turn : Option ℕ) → stage_of history ≡ During phase → next_call phase history ≡ turn → next ≡ first_next (option_map (λ node. Answer (who.Node node) (call.Phase phase) None) turn ∷ phase_end script history (Some phase) ∷ phase_begin (phase_to_begin (stage_of history)) ∷ finish ∷ []) → Case script history next
+-- where each component had its call
+case-check : (script : ScriptValue) (history : List Entry) (next : Next) (phase : Phase) (connects : Bool) (port : Option (ℕ × Fatal)) → stage_of history ≡ During phase → next ≡ first_next ((if connects then option_map (λ port. Exactly (Note port.1 port.0)) port else None) ∷ phase_end script history (Some phase) ∷ phase_begin (phase_to_begin (stage_of history)) ∷ finish ∷ []) → Case script history next
+case-check script history next phase true (Some port) runs e = ByOwn (Note port.1 port.0) tt e
+case-check script history next phase true None runs e = case-ended script history next phase (is_task phase && stands (objections_of history)) runs e
+case-check script history next phase false port runs e = case-ended script history next phase (is_task phase && stands (objections_of history)) runs e
+
+case-turn : (script : ScriptValue) (history : List Entry) (next : Next) (phase : Phase) (turn : Option ℕ) → stage_of history ≡ During phase → next_call phase history ≡ turn → next ≡ first_next (option_map (λ node. Answer (who.Node node) (call.Phase phase) None) turn ∷ port_check history (Some phase) ∷ phase_end script history (Some phase) ∷ phase_begin (phase_to_begin (stage_of history)) ∷ finish ∷ []) → Case script history next
 case-turn script history next phase (Some node) runs is e = ByTurn phase node is e
-case-turn script history next phase None runs is e = case-ended script history next phase (is_task phase && stands (objections_of history)) runs e
+case-turn script history next phase None runs is e = case-check script history next phase (in_connect (Some phase)) (next_unsound history) runs e
 
 -- a phase that runs is the stage
 runs-during : (stage : Stage) (phase : Phase) → running stage ≡ Some phase → stage ≡ During phase

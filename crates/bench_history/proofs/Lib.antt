@@ -8,3 +8,4 @@ mod Called
 mod Ended
 mod Reported
 mod Timed
+mod Wired

@@ -1,5 +1,5 @@
 -- Where an object is what comes next.
-use Rattle.std.proofs.Common.{◌≡◌, ℕ, List, [], ◌∷◌, ◌++◌, Option, Some, None, IsSome, is_none, refl, ◌∙◌, sym, subst}
+use Rattle.std.proofs.Common.{◌≡◌, ℕ, Bool, true, false, List, [], ◌∷◌, ◌++◌, Option, Some, None, IsSome, is_none, refl, ◌∙◌, sym, subst}
 use Rattle.uvm_glob.specs.Lists.{first_given}
 use Rattle.uvm_tree.specs.declared.nodes.Node.{Node}
 use Rattle.uvm_glob.specs.Faults.{fault_if}
@@ -39,7 +39,21 @@ third-not None (Some fatal) third fourth e = cc
 third-not None None (Some fatal) fourth e = cc
 third-not None None None fourth e = refl
 
--- what is created has a free name
+-- and the first is not
+first-not : (first : Option Fatal) (others : List (Option Fatal)) → first_given (first ∷ others) ≡ None → first ≡ None
+first-not (Some fatal) others e = cc
+first-not None others e = refl
+
+not-built : (built : Bool) → fault_if built CreatedAfterBuild ≡ None → built ≡ false
+not-built true e = cc
+not-built false e = refl
+
+-- what is created is created in build
+building-of : (creation : Creation) → creation_refusal creation ≡ None → creation.built ≡ false
+unfolding creation_refusal
+building-of creation e = not-built creation.built (first-not (fault_if creation.built CreatedAfterBuild) _ e)
+
+-- and has a free name
 free-of : (creation : Creation) → creation_refusal creation ≡ None → child_refusal creation.nodes creation.parent creation.name ≡ None
 unfolding creation_refusal
 free-of creation e = third-not (fault_if creation.built CreatedAfterBuild) (fault_if (is_none (type_asked creation)) InvalidType) _ (fault_if (is_none (type_made creation)) OverrideLoop) e
@@ -78,7 +92,7 @@ wanted-by : (script : ScriptValue) (history : List Entry) (act : Act) (need : de
 wanted-by script history act need upshot next =
     let c = creating-of script history (speaker_of history) act need upshot in
     let free = free-of (creation_now script history (speaker_of history) c.asked (created_name act)) c.unrefused.none in
-    record { need = need; next = next; creates = c.creates; path_is = c.unrefused.path_is; free = free; speaker = some-node (nodes_of history) (node_of (speaker_of history)) (created_name act) free }
+    record { need = need; next = next; creates = c.creates; path_is = c.unrefused.path_is; free = free; speaker = some-node (nodes_of history) (node_of (speaker_of history)) (created_name act) free; building = building-of (creation_now script history (speaker_of history) c.asked (created_name act)) c.unrefused.none }
 
 -- no object is needed elsewhere
 not-needed : {A : Type 0} (other next : Next) → next ≡ other → need_in other ≡ None → IsSome (need_in next) → A

@@ -1,8 +1,8 @@
 -- The machine's cases: for each what comes next, if the case is given. Each takes for granted that those that stand above it in `next_of` were
 -- not.
-use Rattle.std.specs.Prelude.{ℕ, ◌&&◌, List, [], ◌∷◌, length, nat_lt, Option, Some, None, option_map, if◌then◌else◌}
+use Rattle.std.specs.Prelude.{ℕ, Bool, true, false, ◌&&◌, List, [], ◌∷◌, length, nat_lt, Option, Some, None, option_map, if◌then◌else◌}
 use Rattle.uvm_phase.specs.declared.phases.Phase.{Phase}
-use Rattle.uvm_phase.specs.declared.phases.Phase.TheVariants.{Build}
+use Rattle.uvm_phase.specs.declared.phases.Phase.TheVariants.{Build, Connect}
 use Rattle.uvm_phase.specs.declared.agendas.Cause.{Cause}
 use Rattle.uvm_phase.specs.Phases.{phase_after, is_task}
 use Rattle.uvm_object.specs.Acts.{node_of}
@@ -27,6 +27,7 @@ use Rattle.bench_history.specs.Limits.{most_acts}
 use Rattle.bench_history.specs.History.{next_call, speaker_of}
 use Rattle.bench_history.specs.Objections.{objections_of, stands}
 use Rattle.bench_history.specs.Dues.{first_due}
+use Rattle.bench_history.specs.Wires.{next_unsound}
 use Rattle.bench_history.specs.Upshots.{Upshot, Needs, Does, Finds, Refuses, upshot_of}
 
 -- what comes next: this entry; the answer of a hearer to a call, caused or a phase's; an object for a performer's act, made or declined; or nothing
@@ -77,6 +78,14 @@ event_due due = option_map (λ event. by_call event.owner event.notice event.cau
 abbrev pub phase_call : List Entry → Option Phase → Option Next
 phase_call history None = None
 phase_call history (Some phase) = option_map (λ node. Answer (who.Node node) (call.Phase phase) None) (next_call phase history)
+
+-- in connect, once each component had its call, the next unsound port is reported
+abbrev pub in_connect : Option Phase → Bool
+in_connect (Some Connect) = true
+in_connect phase = false
+
+abbrev pub port_check : List Entry → Option Phase → Option Next
+port_check history phase = if in_connect phase then option_map (λ port. Exactly (Note port.1 port.0)) (next_unsound history) else None
 
 -- time passes to the first event that is due. Where none is, nothing can happen any more; or it is due beyond the time limit
 abbrev pub time_passes : ℕ → Option Event → Entry

@@ -1,6 +1,7 @@
 -- What holds of all logs, or of all in which each entry was next, as in each legal one, and of what comes next in them.
-use Rattle.std.specs.Prelude.{◌≡◌, ◌<◌, ◌≤◌, ◌+◌, ℕ, suc, true, false, List, [], ◌∷◌, ◌++◌, length, reverse, take, Option, Some, None, IsSome, All, Contains}
+use Rattle.std.specs.Prelude.{◌≡◌, ◌<◌, ◌≤◌, ◌+◌, ℕ, suc, Bool, true, false, ◌&&◌, is_none, List, [], ◌∷◌, ◌++◌, length, reverse, take, Option, Some, None, IsSome, All, Contains}
 use Rattle.uvm_phase.specs.declared.agendas.Cause.{Cause}
+use Rattle.uvm_phase.specs.declared.phases.Phase.TheVariants.{Connect}
 use Rattle.uvm_phase.specs.Phases.{phases, phase_number}
 use Rattle.uvm_tree.specs.declared.nodes.Node.{Node}
 use Rattle.uvm_tree.specs.Nodes.{node_at, path_at}
@@ -21,12 +22,13 @@ use Rattle.bench_history.specs.declared.needs.Need as declared
 use Rattle.bench_history.specs.declared.stages.Stage.{Stage}
 use Rattle.bench_history.specs.declared.stages.Stage.TheVariants.{Before, During, After, Ended}
 use Rattle.bench_history.specs.Owners.{Event, who_of}
-use Rattle.bench_history.specs.History.{now_of, stage_of, nodes_of, components_of, created_name, left_of, rest_of, speaker_of, is_over}
-use Rattle.bench_history.specs.Dues.{ended_of, first_due}
+use Rattle.bench_history.specs.History.{now_of, stage_of, nodes_of, components_of, created_name, left_of, head_of, rest_of, speaker_of, is_built, is_over, next_call}
+use Rattle.bench_history.specs.Dues.{ended_of, first_due, due_now}
+use Rattle.bench_history.specs.Wires.{is_past_connect}
 use Rattle.bench_history.specs.Reports.{report_commands}
 use Rattle.bench_history.specs.Refusals.{child_refusal}
 use Rattle.bench_history.specs.Cases.{Next, Exactly, Answer, Need, Nothing, by_act}
-use Rattle.bench_history.specs.Next.{next_of, need_in, IsAct, EachIsNext}
+use Rattle.bench_history.specs.Next.{next_of, need_in, IsAct, IsNext, EachIsNext}
 
 -- the number of the next phase that may begin, or of the one that runs; at the end that of all phases
 abbrev pub next_number : Stage → ℕ
@@ -89,9 +91,43 @@ pub record IsWanted (script : ScriptValue) (history : List Entry) (act : Act) : 
   pub path_is : need.path ≡ path_at (nodes_of history) (node_of (speaker_of history)) ++ created_name act ∷ []
   pub free : child_refusal (nodes_of history) (node_of (speaker_of history)) (created_name act) ≡ None
   pub speaker : IsSome (node_at (nodes_of history) (node_of (speaker_of history)))
+  pub building : is_built history ≡ false
 
 abbrev pub NeedsAreCreations : Type 0
 NeedsAreCreations = (script : ScriptValue) (history : List Entry) → IsSome (need_in (next_of script history)) → (act : Act) × (left_of script history ≡ act ∷ rest_of (left_of script history)) × IsWanted script history act
+
+-- connect is at its end: no act is left, no event is due now, and each component had its call
+abbrev pub runs_connect : Stage → Bool
+runs_connect (During Connect) = true
+runs_connect stage = false
+
+-- it runs, or the run is over
+abbrev pub is_connect_last : Stage → Bool
+is_connect_last (During Connect) = true
+is_connect_last Ended = true
+is_connect_last stage = false
+
+abbrev pub has_nothing_left : ScriptValue → List Entry → Bool
+has_nothing_left script history = is_none (head_of (left_of script history)) && is_none (due_now history) && is_none (next_call Connect history)
+
+abbrev pub is_at_check : ScriptValue → List Entry → Bool
+is_at_check script history = runs_connect (stage_of history) && has_nothing_left script history
+
+-- nothing is added or connected any more: build has ended, and connect has too, or else nothing is left in it
+pub record IsWired (script : ScriptValue) (history : List Entry) : Type 0 where
+  pub built : is_built history ≡ true
+  pub quiet : is_past_connect history ≡ false → is_connect_last (stage_of history) && has_nothing_left script history ≡ true
+
+-- this stays, whatever comes next
+pub record StaysWired (script : ScriptValue) (history : List Entry) (entry : Entry) : Type 0 where
+  pub stays : IsWired script history → IsWired script (entry ∷ history)
+
+abbrev pub WiringStays : Type 0
+WiringStays = (script : ScriptValue) (history : List Entry) (entry : Entry) → IsNext script history entry → StaysWired script history entry
+
+-- connect comes after build
+abbrev pub ConnectFollowsBuild : Type 0
+ConnectFollowsBuild = (script : ScriptValue) (history : List Entry) → EachIsNext script history → stage_of history ≡ During Connect → is_built history ≡ true
 
 -- something comes next
 abbrev pub IsSomething : Next → Type 0

@@ -10,6 +10,8 @@ use Rattle.uvm_factory.specs.declared.overrides.Override.{Override}
 use Rattle.uvm_factory.specs.Faults.{Types, type_named, is_same_kind}
 use Rattle.uvm_factory.specs.Overrides.{made_type}
 use Rattle.uvm_config.specs.Answers.{most_settings}
+use Rattle.uvm_tlm.specs.declared.ends.End.{End}
+use Rattle.uvm_tlm.specs.Wirings.{are_known, may_connect}
 use Rattle.bench_history.specs.Limits.{most_ticks}
 use Rattle.uvm_phase.specs.declared.phases.Phase.{Phase}
 use Rattle.uvm_phase.specs.Phases.{is_task}
@@ -18,7 +20,7 @@ use Rattle.uvm_tree.specs.declared.faults.TreeFault.{TreeFault}
 use Rattle.uvm_tree.specs.declared.faults.TreeFault.TheVariants.{NameTaken}
 use Rattle.uvm_tree.specs.Nodes.{path_at, add_fault}
 use Rattle.uvm_object.specs.declared.fatals.Fatal.{Fatal}
-use Rattle.uvm_object.specs.declared.fatals.Fatal.TheVariants.{CreatedAfterBuild, InvalidType, ChildTaken, TreeLimit, OverrideLoop, TooManySettings, OutsideTask, ObjectionBelowZero, OutOfRange}
+use Rattle.uvm_object.specs.declared.fatals.Fatal.TheVariants.{CreatedAfterBuild, InvalidType, ChildTaken, TreeLimit, OverrideLoop, TooManySettings, ConnectedTooLate, UnknownNode, KindsDiffer, OutsideTask, ObjectionBelowZero, OutOfRange}
 
 -- a creation that is asked for below a node: of which type by name, under which name, and what it depends on, the overrides with the newest first
 pub record Creation : Type 0 where
@@ -88,6 +90,15 @@ are_of_one_kind original new = false
 -- an override goes between known types of one kind
 unfoldable pub overriding_refusal : Types → List ℕ → List ℕ → Option Fatal
 overriding_refusal types original new = fault_if (not (are_of_one_kind (kind_named types original) (kind_named types new))) InvalidType
+
+-- nothing is connected after connect; what can be connected has to stand at both ends; and it has to agree
+unfoldable pub connection_refusal : Bool → Option End → Option End → Option Fatal
+connection_refusal connected from to =
+    first_given (
+    fault_if connected ConnectedTooLate
+    ∷ fault_if (not (are_known from to)) UnknownNode
+    ∷ fault_if (not (may_connect from to)) KindsDiffer
+    ∷ [])
 
 -- a phase runs that takes time
 abbrev pub in_task : Option Phase → Bool

@@ -9,7 +9,7 @@ use Rattle.uvm_objection.specs.Nodes.{source_of}
 use Rattle.uvm_object.specs.Acts.{node_of}
 use Rattle.uvm_object.specs.declared.acts.Who.{Who}
 use Rattle.uvm_object.specs.declared.acts.Act.{Act}
-use Rattle.uvm_object.specs.declared.acts.Act.TheVariants.{Create, Add, Set, Get, OverrideType, OverrideInst, Report, Verbosity, Actions, Severity, RaiseObjection, DropObjection, SetDrain, Wait}
+use Rattle.uvm_object.specs.declared.acts.Act.TheVariants.{Create, Add, Set, Get, OverrideType, OverrideInst, Connect, Report, Verbosity, Actions, Severity, RaiseObjection, DropObjection, SetDrain, Wait}
 use Rattle.uvm_object.specs.declared.fatals.Fatal.{Fatal}
 use Rattle.uvm_object.specs.declared.entries.Entry.{Entry}
 use Rattle.bench_script.specs.Scripts.{ScriptValue}
@@ -17,7 +17,8 @@ use Rattle.bench_history.specs.declared.needs.Need.{Need}
 use Rattle.bench_history.specs.History.{stage_of, running, nodes_of, overrides_of, is_built, type_name_or}
 use Rattle.bench_history.specs.Configuration.{settings_of}
 use Rattle.bench_history.specs.Objections.{objections_of}
-use Rattle.bench_history.specs.Refusals.{Creation, created_path, type_made, creation_refusal, addition_refusal, setting_refusal, overriding_refusal, raise_refusal, drop_refusal, drain_refusal, wait_refusal}
+use Rattle.bench_history.specs.Wires.{end_below, wiring_of, is_past_connect}
+use Rattle.bench_history.specs.Refusals.{Creation, created_path, type_made, creation_refusal, addition_refusal, setting_refusal, overriding_refusal, connection_refusal, raise_refusal, drop_refusal, drain_refusal, wait_refusal}
 
 -- what an act comes to: an object is needed first; or at once it is performed, or finds a value, or is refused
 pub data Upshot : Type 0 where
@@ -51,6 +52,8 @@ upshot_of script history performer (Set glob field value) = unless_refused (sett
 upshot_of script history performer (Get field) = Finds (config_answer (settings_of script history) (path_text (path_at (nodes_of history) (node_of performer))) field)
 upshot_of script history performer (OverrideType original new replace) = unless_refused (overriding_refusal script.types original new) Does
 upshot_of script history performer (OverrideInst original new glob) = unless_refused (overriding_refusal script.types original new) Does
+upshot_of script history performer (Connect from to) =
+    unless_refused (connection_refusal (is_past_connect history) (end_below (nodes_of history) (wiring_of history) performer from) (end_below (nodes_of history) (wiring_of history) performer to)) Does
 upshot_of script history performer (Report report) = Does
 upshot_of script history performer (Verbosity which level) = Does
 upshot_of script history performer (Actions which actions) = Does

@@ -1,7 +1,7 @@
 //! What holds of all logs, or of all in which each entry was next, as in each legal one, and of what comes next in them. The functions do
 //! nothing that shows; their contracts are the laws (`specs/Laws.antt`), for all scripts.
 
-ghost use Rattle.bench_history.specs.Laws.{PhasesGoInOrder, AskedAreComponents, ComponentsAreNodes, DueCallsGoInOrder, DrainsGoInOrder, ActsGoInOrder, NeedsAreCreations, NothingAfterOver, SomethingBeforeOver, MachineEntriesAreSilent, NodesStay, MadeObjectsAreNew, NewNodesAreUnasked, ReportsAreFew, TimeStaysWithin};
+ghost use Rattle.bench_history.specs.Laws.{PhasesGoInOrder, AskedAreComponents, ComponentsAreNodes, DueCallsGoInOrder, DrainsGoInOrder, ActsGoInOrder, NeedsAreCreations, NothingAfterOver, SomethingBeforeOver, MachineEntriesAreSilent, NodesStay, MadeObjectsAreNew, NewNodesAreUnasked, ReportsAreFew, TimeStaysWithin, WiringStays, ConnectFollowsBuild};
 
 use crate::owners::Owner;
 use uvm_object::Call;
@@ -100,4 +100,16 @@ pub fn reports_are_few()
 #[tactic(auto, using(crate::proofs::Timed::time_stays_within))]
 pub fn time_stays_within_its_limit()
     ensures { TimeStaysWithin }
+{}
+
+/// Once connect has nothing left to be done, nothing is added or connected any more, whatever comes next.
+#[tactic(auto, using(crate::proofs::Wired::wiring_stays))]
+pub fn wiring_stays()
+    ensures { WiringStays }
+{}
+
+/// Where connect runs, build has ended.
+#[tactic(auto, using(crate::proofs::Wired::connect_follows_build))]
+pub fn connect_follows_build()
+    ensures { ConnectFollowsBuild }
 {}

@@ -19,30 +19,40 @@ use Rattle.bench_history.specs.History.{left_of, rest_of, speaker_of}
 use Rattle.bench_history.specs.Reports.{report_commands, newest_fate}
 use Rattle.bench_history.specs.Cases.{Exactly, by_act}
 use Rattle.bench_history.specs.Next.{next_of, IsNext}
-use Rattle.bench_history.specs.Laws.{PhasesGoInOrder}
+use Rattle.bench_history.specs.Laws.{PhasesGoInOrder, StaysWired, WiringStays}
 use Rattle.bench_world.specs.Services.{ServicesMatch, TakesIn, IsPerformed, IsAttempt, IsRefusing, one_done}
 use Rattle.bench_world.specs.Worlds.{IsWorld}
 use Rattle.bench_world.proofs.Answered.{answer-later, answer-next, answer-noted}
 use Rattle.bench_world.proofs.Entered.{legal-more, sound-again}
 use Rattle.bench_world.proofs.Reported.{quiet}
 use Rattle.bench_world.proofs.Objected.{objecting-later}
+use Rattle.bench_world.proofs.Connected.{closing-later, closing-next}
 use Rattle.bench_world.proofs.Told.{agenda-later}
 
 -- what every entry leaves, but for what it changes
-pub ruleset later = (answer-later, answer-noted, agenda-later, quiet, objecting-later)
+pub ruleset later = (answer-later, answer-noted, agenda-later, quiet, objecting-later, closing-later)
 
 -- what an act leaves, but for what it changes
-pub ruleset acted = (answer-next, agenda-later, quiet, objecting-later)
+pub ruleset acted = (answer-next, agenda-later, quiet, objecting-later, closing-next)
 
 -- a world goes on with an entry that is next
-pub entered :
+goes-on :
     {P : Type 0} {sound : Bool} {script : ScriptValue} {log more : LogValue} {old services : Services} {waiting : Option Waiting} (entry : Entry)
     → P × IsWorld sound script log old waiting → sound ≡ true → length log.entries < log_limit script → IsNext script log.entries entry
     → more.entries ≡ entry ∷ log.entries → more.limit ≡ log.limit
     → (ServicesMatch script log.entries old → ServicesMatch script (entry ∷ log.entries) services)
     → P × IsWorld true script more services None
-entered {log} entry p sound room next is limit match =
+goes-on {log} entry p sound room next is limit match =
     (p.0, sound-again (entry ∷ log.entries) is (limit ∙ p.1.limit) (legal-more entry next room p.1.legal) (match (p.1.services_match sound)))
+
+-- with what the machine enters by itself, or somebody's answer
+pub entered :
+    {P : Type 0} {sound : Bool} {script : ScriptValue} {log more : LogValue} {old services : Services} {waiting : Option Waiting} (entry : Entry)
+    → P × IsWorld sound script log old waiting → sound ≡ true → length log.entries < log_limit script → IsNext script log.entries entry
+    → more.entries ≡ entry ∷ log.entries → more.limit ≡ log.limit → WiringStays
+    → (ServicesMatch script log.entries old → StaysWired script log.entries entry → ServicesMatch script (entry ∷ log.entries) services)
+    → P × IsWorld true script more services None
+entered {script = script} {log} entry p sound room next is limit stay match = goes-on entry p sound room next is limit (λ m. match m (stay script log.entries entry next))
 
 -- and with the entry of an act
 pub acted-on :
@@ -55,7 +65,7 @@ pub acted-on :
 acted-on {script = script} {log} {old = old} {new} outcome act p sound room left next order kept is limit done =
     let m = p.1.services_match sound in
     let match = kept.with_entry script log.entries (record { known = m; left = left; place_is = refl; in_order = (order script log.entries p.1.legal.each).before }) in
-    entered (Did old.answer.speaker outcome act) p sound room (rw m.answer.speaker next) (is ∙ ap (λ (s : Who). Did s outcome act ∷ log.entries) (ap (λ a. a.speaker) kept.same_answer)) limit (λ m. rw done match)
+    goes-on (Did old.answer.speaker outcome act) p sound room (rw m.answer.speaker next) (is ∙ ap (λ (s : Who). Did s outcome act ∷ log.entries) (ap (λ a. a.speaker) kept.same_answer)) limit (λ m. rw done match)
 
 -- what an act comes to by itself is next
 pub performed :

@@ -1,6 +1,8 @@
 pub mod Acting
 pub mod Answered
+pub mod Closed
 pub mod Configured
+pub mod Connected
 pub mod Creating
 pub mod Drained
 pub mod Entered

@@ -1,4 +1,5 @@
 pub mod Reportings
 pub mod Objectings
+pub mod Connectings
 pub mod Services
 pub mod Worlds

@@ -41,6 +41,9 @@ use Rattle.bench_history.specs.Reports.{report_commands, newest_fate, refuses_te
 use Rattle.bench_world.specs.Reportings.{CanReport, IsReporting, IsReported}
 use Rattle.bench_world.specs.Objectings.{AreNumbered, IsObjecting, AreEvents}
 use Rattle.uvm_objection.specs.Totals.{total}
+use Rattle.uvm_tlm.specs.Wirings.{end_at, is_closed, late_fault}
+use Rattle.bench_history.specs.Wires.{ends_connect, wiring_of}
+use Rattle.bench_world.specs.Connectings.{IsConnecting, IsClosing}
 use Rattle.bench_history.specs.Cases.{Exactly, Need, by_act}
 use Rattle.bench_history.specs.Laws.{next_number}
 use Rattle.bench_history.specs.Refusals.{Creation}
@@ -128,6 +131,9 @@ pub record ServicesMatch (script : ScriptValue) (history : List Entry) (services
   pub time : services.time ≡ now_of history
   pub early : services.time ≤ 10 ^ 18
   pub tree : services.tree.nodes ≡ nodes_of history
+  pub past_connect : services.past_connect ≡ list_any ends_connect history
+  pub connecting : IsConnecting (nodes_of history) (wiring_of history) services.wiring
+  pub closing : IsClosing script history (is_closed services.wiring)
   pub objections : IsObjecting (objections_of history) (length (nodes_of history)) (length history) services.objection
   pub factory : IsFactory script.types (overrides_of script history) services.factory
   pub turns : AreTurns (components_of history) (called_of history) (length (nodes_of history)) services.components.items
@@ -141,13 +147,16 @@ pub record ServicesMatch (script : ScriptValue) (history : List Entry) (services
   pub test_refused : services.test_refused ≡ list_any refuses_test history
 
 -- an act may be performed: its performer stands at one of the nodes, which are known to the objections; one more report can be counted, and one more
--- count raised
+-- count raised; what is added is added to an open wiring, as a new end, and what is connected is connected in an open one
 pub record CanPerform (services : Services) : Type 0 where
   pub speaks : node_of services.answer.speaker < length services.tree.nodes
   pub numbered : AreNumbered services.objection.nodes (length services.tree.nodes)
   pub report : CanReport services.reporting
   pub few : total services.objection.nodes 0 + 65535 ≤ 10 ^ 18
   pub time : services.time ≤ 10 ^ 18
+  pub building : services.built ≡ false → late_fault services.wiring ≡ None
+  pub connectable : services.past_connect ≡ false → late_fault services.wiring ≡ None
+  pub unused : end_at services.wiring.ends (length services.tree.nodes) ≡ None
 
 -- an act of the last answer is to be performed: what is kept is what the log says, the phases went in their order, and its entry will
 -- stand at a place

@@ -11,6 +11,7 @@ ghost use Rattle.bench_world.specs.Reportings.{CanReport, IsReported};
 ghost use Rattle.bench_world.specs.Services.{CanPerform, IsAttempt, IsRefusing, one_done, unreported};
 
 use crate::configuring::{get_field, set_field};
+use crate::connecting::connect;
 use crate::entries::push;
 use crate::making::create;
 use crate::objecting::{drop, raise, set_drain};
@@ -59,6 +60,7 @@ pub(crate) fn perform(
             new,
             glob,
         } => override_inst(services, alloc, original, new, glob),
+        Act::Connect { from, to } => connect(services, alloc, from, to),
         Act::Report { report } => issue(services, alloc, report),
         Act::Verbosity { which, level } => set_verbosity(services, alloc, *which, *level),
         Act::Actions { which, actions } => set_action(services, alloc, *which, *actions),

@@ -4,6 +4,7 @@ ghost use Rattle.std.specs.Prelude.{◌≡◌, ◌||◌, ◌∷◌, ◌<◌, len
 ghost use Rattle.uvm_object.specs.declared.entries.Entry.TheVariants.{Begin, End, Time, Heard, Drained, Note, Over};
 ghost use Rattle.bench_history.specs.History.{next_call, phase_order, ends_build};
 ghost use Rattle.bench_history.specs.Reports.{noted_end, reason_of};
+ghost use Rattle.bench_history.specs.Wires.{ends_connect};
 ghost use Rattle.uvm_glob.specs.Orders.{order_of};
 ghost use Rattle.uvm_tree.specs.Cursors.{is_before, least, sooner};
 ghost use Rattle.bench_world.specs.Services.{waiting_in};
@@ -30,6 +31,7 @@ impl World {
         ensures ok { OnOk result (self.new ≡ world_after (Begin phase) self.old) }
         ensures err { OnErr result (self.new ≡ broken self.old) }
     {
+        laws::wiring_stays();
         self.sound = false;
         self.waiting = None;
         push(&mut self.log, Entry::Begin(phase))?;
@@ -47,6 +49,7 @@ impl World {
         ensures err { OnErr result (self.new ≡ broken self.old) }
     {
         agenda::order_keeps_filters::<Owner, Option<Call>>();
+        laws::wiring_stays();
         self.sound = false;
         self.waiting = None;
         push(&mut self.log, Entry::End(phase))?;
@@ -54,6 +57,7 @@ impl World {
         self.services.stage = Stage::After(phase);
         self.services.agenda.clear(phase);
         self.services.built = is_built_with(phase, self.services.built);
+        self.services.past_connect = is_past_connect_with(phase, self.services.past_connect);
         self.sound = true;
         Ok(())
     }
@@ -67,6 +71,7 @@ impl World {
         // It passes no limit, so that a wait can be added to it.
         laws::time_stays_within_its_limit();
         let _limit = self.script.time_limit();
+        laws::wiring_stays();
         self.sound = false;
         self.waiting = None;
         push(&mut self.log, Entry::Time(time))?;
@@ -84,6 +89,7 @@ impl World {
     {
         // Who is asked is a component.
         laws::asked_are_components();
+        laws::wiring_stays();
         self.sound = false;
         self.waiting = None;
         let (place, count) = (self.log.len(), acts.len());
@@ -121,6 +127,7 @@ impl World {
         laws::asked_are_components();
         agenda::order_keeps_all::<Owner, Option<Call>>();
         agenda::order_loses_first::<Owner, Option<Call>>();
+        laws::wiring_stays();
         self.sound = false;
         self.waiting = None;
         let (place, count) = (self.log.len(), acts.len());
@@ -154,6 +161,7 @@ impl World {
         objections::nodes_grow();
         objections::settled_go_by_totals();
         objections::begun_drains_are_held();
+        laws::wiring_stays();
         self.sound = false;
         self.waiting = None;
         let place = self.log.len();
@@ -172,6 +180,7 @@ impl World {
         ensures err { OnErr result (self.new ≡ broken self.old) }
     {
         laws::reports_are_few();
+        laws::wiring_stays();
         self.sound = false;
         self.waiting = None;
         let report = fatal.report(self.alloc)?;
@@ -188,6 +197,7 @@ impl World {
         ensures ok { OnOk result (self.new ≡ world_after (Over reason) self.old) }
         ensures err { OnErr result (self.new ≡ broken self.old) }
     {
+        laws::wiring_stays();
         self.sound = false;
         self.waiting = None;
         push(&mut self.log, Entry::Over(reason))?;
@@ -237,6 +247,13 @@ fn is_built_with(phase: Phase, built: bool) -> bool
     ensures { result ≡ (ends_build (End phase) || built) }
 {
     matches!(phase, Phase::Build) || built
+}
+
+// Whether connect has ended, once a phase has.
+fn is_past_connect_with(phase: Phase, past: bool) -> bool
+    ensures { result ≡ (ends_connect (End phase) || past) }
+{
+    matches!(phase, Phase::Connect) || past
 }
 
 // Why the run is given up, if an entry notes it.

@@ -3,6 +3,7 @@
 
 mod attempts;
 mod configuring;
+mod connecting;
 mod creations;
 mod deeds;
 mod entries;

@@ -1,6 +1,6 @@
 //! Creations: an object is needed, and is made or declined.
 
-ghost use Rattle.std.specs.Prelude.{◌≡◌, ℕ, List, OnOk, IfOk, IfSome, IsSome, IsTrue, None, Some, length, ◌<◌, vec_len, vec_capacity};
+ghost use Rattle.std.specs.Prelude.{◌≡◌, ℕ, List, OnOk, IfOk, IfSome, IsSome, IsTrue, false, None, Some, length, ◌<◌, vec_len, vec_capacity};
 ghost use Rattle.std.specs.Option.{option_copied};
 ghost use Rattle.uvm_tree.specs.Nodes.{node_at};
 ghost use Rattle.uvm_object.specs.Acts.{node_of};
@@ -171,6 +171,7 @@ pub(crate) fn create(
 fn grow(services: &mut Services, act: &Act) -> NodeId
     requires creates { IsCreation act.now }
     requires free { child_refusal services.old.tree.nodes (node_of services.old.answer.speaker) (created_name act.now) ≡ None }
+    requires building { services.old.built ≡ false }
     requires tree { services.old.tree.spare ≡ Some (node_of services.old.answer.speaker) }
     requires speaks { node_of services.old.answer.speaker < length services.old.tree.nodes }
     requires numbered { AreNumbered services.old.objection.nodes (length services.old.tree.nodes) }

@@ -1,6 +1,6 @@
 //! Acts on the tree and on the factory.
 
-ghost use Rattle.std.specs.Prelude.{◌≡◌, ℕ, ◌∷◌, ◌++◌, [], List, length, None, Some, OnOk, IfOk, IfNone, IsOk};
+ghost use Rattle.std.specs.Prelude.{◌≡◌, ℕ, ◌∷◌, ◌++◌, [], List, length, false, None, Some, OnOk, IfOk, IfNone, IsOk};
 ghost use Rattle.uvm_glob.specs.Paths.{path_text, dotted};
 ghost use Rattle.uvm_factory.specs.declared.overrides.Override.{Override};
 ghost use Rattle.uvm_factory.specs.declared.overrides.Override.TheVariants.{Instance, Whole};
@@ -15,6 +15,7 @@ ghost use Rattle.bench_world.specs.Reportings.{CanReport};
 ghost use Rattle.bench_world.specs.Services.{CanPerform, IsAttempt, IsFactory};
 
 use crate::attempts::{Attempt, done, refused};
+use crate::connecting::add_end;
 use crate::creations::child_refusal;
 use crate::services::Services;
 use std::alloc::{AllocError, Global};
@@ -41,6 +42,7 @@ pub(crate) fn add(
     let parent = services.answer.speaker.node();
     let node = add_child(&mut services.tree, parent, name, kind_of(what))?;
     services.objection.add(node, parent)?;
+    add_end(&mut services.wiring, node, what)?;
     Ok(done(services))
 }
 
@@ -86,6 +88,7 @@ pub(crate) fn override_inst(
 #[tactic(auto, unfolding(bench_history::specs::Refusals::addition_refusal))]
 fn addition_refusal(services: &Services, name: &Name) -> Option<Fatal>
     ensures refusal { result ≡ addition_refusal services.now.built services.now.tree.nodes (node_of services.now.answer.speaker) name.now }
+    ensures building { IfNone result (services.now.built ≡ false) }
     ensures free { IfNone result (child_refusal services.now.tree.nodes (node_of services.now.answer.speaker) name.now ≡ None) }
 {
     if services.built {

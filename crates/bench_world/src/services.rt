@@ -16,6 +16,7 @@ use uvm_factory::Factory;
 use uvm_object::{Call, Who};
 use uvm_objection::{Objection, laws as objections};
 use uvm_phase::Agenda;
+use uvm_tlm::Wiring;
 use uvm_tree::{NodeId, Tree};
 
 /// A node that holds an object, and whether it had its call in the running phase.
@@ -57,6 +58,7 @@ pub(crate) struct Services {
     pub(crate) time: u64,
     pub(crate) tree: Tree,
     pub(crate) objection: Objection,
+    pub(crate) wiring: Wiring,
     pub(crate) factory: Factory,
     pub(crate) settings: Settings,
     pub(crate) reporting: Reporting,
@@ -66,6 +68,7 @@ pub(crate) struct Services {
     pub(crate) components: Vec<Component>,
     pub(crate) answer: LastAnswer,
     pub(crate) built: bool,
+    pub(crate) past_connect: bool,
     pub(crate) test_refused: bool,
 }
 
@@ -86,6 +89,7 @@ impl Services {
             time: 0,
             tree: Tree::new(alloc),
             objection: Objection::new(alloc),
+            wiring: Wiring::new(alloc),
             factory,
             settings,
             reporting,
@@ -99,6 +103,7 @@ impl Services {
                 noted: false,
             },
             built: false,
+            past_connect: false,
             test_refused: false,
         }
     }

@@ -11,6 +11,8 @@ ghost use Rattle.uvm_report.specs.Commands.{is_exit_asked};
 ghost use Rattle.uvm_report.specs.Changes.{Gives};
 ghost use Rattle.std.specs.Option.{option_copied};
 ghost use Rattle.uvm_phase.specs.Dues.{in_order};
+ghost use Rattle.bench_history.specs.Wires.{wiring_of};
+ghost use Rattle.bench_world.specs.Connectings.{IsConnecting};
 ghost use Rattle.bench_world.specs.Services.{IsFactory, IsSettings};
 ghost use Rattle.uvm_glob.specs.Paths.{path_text};
 ghost use Rattle.uvm_config.specs.Answers.{config_answer};
@@ -34,6 +36,7 @@ use uvm_object::{Act, Call, Deed, Log};
 use uvm_objection::Objection;
 use uvm_phase::{Agenda, Due, Phase};
 use uvm_report::{Fate, Reports};
+use uvm_tlm::Wiring;
 use uvm_tree::{NodeId, Tree};
 
 /// A legal log with the script of the run and the services. While `sound()` is true each service is what the log says.
@@ -220,6 +223,14 @@ impl World {
         ensures { result.now.nodes ≡ objections_of self.now.history }
     {
         &self.services.objection
+    }
+
+    /// The wiring: what can be connected, and the connections; once it is closed, in the path order of all nodes (Clause 12).
+    pub fn wiring(&self) -> &Wiring
+        requires { self.now.sound ≡ true }
+        ensures { IsConnecting (nodes_of self.now.history) (wiring_of self.now.history) result.now }
+    {
+        &self.services.wiring
     }
 
     /// What is raised at a node and below it, with what is held back below it. None where there is no such node.

@@ -3,7 +3,7 @@ use Rattle.std.specs.Prelude.{ℕ, List, codes}
 use Rattle.uvm_report.specs.declared.severities.Severity.TheVariants as severity
 use Rattle.uvm_report.specs.declared.messages.Report.{Report}
 use Rattle.uvm_object.specs.declared.fatals.Fatal.{Fatal}
-use Rattle.uvm_object.specs.declared.fatals.Fatal.TheVariants.{CreatedAfterBuild, TooManyActs, InvalidType, ChildTaken, TreeLimit, OverrideLoop, NoObject, TooManySettings, OutsideTask, ObjectionBelowZero, OutOfRange, Timeout, Stall}
+use Rattle.uvm_object.specs.declared.fatals.Fatal.TheVariants.{CreatedAfterBuild, TooManyActs, InvalidType, ChildTaken, TreeLimit, OverrideLoop, NoObject, TooManySettings, ConnectedTooLate, UnknownNode, KindsDiffer, TooFewConnections, TooManyConnections, OutsideTask, ObjectionBelowZero, OutOfRange, Timeout, Stall}
 
 abbrev pub id_of : Fatal → List ℕ
 id_of CreatedAfterBuild = codes "ILLCRT"
@@ -14,6 +14,11 @@ id_of TreeLimit = codes "TREELIM"
 id_of OverrideLoop = codes "OVRDLOOP"
 id_of NoObject = codes "FCTTYP"
 id_of TooManySettings = codes "CFGFULL"
+id_of ConnectedTooLate = codes "CONNERR"
+id_of UnknownNode = codes "CONNERR"
+id_of KindsDiffer = codes "CONNERR"
+id_of TooFewConnections = codes "CONNERR"
+id_of TooManyConnections = codes "CONNERR"
 id_of OutsideTask = codes "NOTTASK"
 id_of ObjectionBelowZero = codes "OBJTN_ZERO"
 id_of OutOfRange = codes "ACTRNG"
@@ -29,6 +34,11 @@ text_of TreeLimit = codes "tree limit reached"
 text_of OverrideLoop = codes "override loop"
 text_of NoObject = codes "no object supplied"
 text_of TooManySettings = codes "too many settings"
+text_of ConnectedTooLate = codes "connected too late"
+text_of UnknownNode = codes "unknown node"
+text_of KindsDiffer = codes "kinds differ"
+text_of TooFewConnections = codes "too few connections"
+text_of TooManyConnections = codes "too many connections"
 text_of OutsideTask = codes "act outside a task phase"
 text_of ObjectionBelowZero = codes "objection dropped below zero"
 text_of OutOfRange = codes "value out of range"

@@ -92,6 +92,7 @@ act_text (act.Set glob field value) = codes "set (" ++ glob ++ codes ") " ++ fie
 act_text (act.Get field) = codes "get " ++ field
 act_text (act.OverrideType original new replace) = codes "override " ++ original ++ 32 ∷ new ++ replace_text replace
 act_text (act.OverrideInst original new glob) = codes "override " ++ original ++ 32 ∷ new ++ codes " at (" ++ glob ++ codes ")"
+act_text (act.Connect from to) = codes "connect (" ++ path_text from ++ codes ") (" ++ path_text to ++ codes ")"
 act_text (act.Report report) = codes "report " ++ severity_name report.severity ++ 32 ∷ report.id
 act_text (act.Verbosity which level) = codes "verbosity " ++ which_text which ++ 32 ∷ decimal level
 act_text (act.Actions which actions) = codes "actions " ++ which_text which ++ 32 ∷ actions_text actions

@@ -8,7 +8,7 @@ ghost use Rattle.uvm_object.specs.Lines.{act_text, actions_text, id_text, kind_t
 use crate::acts::{Act, What};
 use crate::lines::{push_integer, push_number, push_ticks, push_two};
 use std::alloc::AllocError;
-use uvm_glob::{Glob, Name};
+use uvm_glob::{Glob, Name, Path};
 use uvm_report::{Actions, Report, Severity, Which};
 use uvm_tlm::PortKind;
 
@@ -30,6 +30,7 @@ pub(crate) fn push_act(act: &Act, line: &mut Vec<u8>) -> Result<(), AllocError>
             new,
             glob,
         } => push_override_at(original, new, glob, line),
+        Act::Connect { from, to } => push_connection(from, to, line),
         Act::Report { report } => push_report(report, line),
         Act::Verbosity { which, level } => push_level(which, *level, line),
         Act::Actions { which, actions } => push_actions(which, *actions, line),
@@ -83,6 +84,14 @@ fn push_override_at(
 {
     push_names(b"override ", original, new, line)?;
     push_bytes(b" at (", glob.as_bytes(), line)?;
+    line.extend_from_slice(b")")
+}
+
+fn push_connection(from: &Path, to: &Path, line: &mut Vec<u8>) -> Result<(), AllocError>
+    ensures { OnOk result (line.new.items ≡ line.old.items ++ act_text (act.Connect from.now to.now)) }
+{
+    push_bytes(b"connect (", from.as_bytes(), line)?;
+    push_bytes(b") (", to.as_bytes(), line)?;
     line.extend_from_slice(b")")
 }
 

@@ -9,7 +9,7 @@ use std::iter::FusedIterator;
 use std::marker::Model;
 use std::rc::Rc;
 use std::slice;
-use uvm_glob::{Glob, Name};
+use uvm_glob::{Glob, Name, Path};
 use uvm_phase::Phase;
 use uvm_report::{Actions, Report, Severity, Which};
 use uvm_tlm::PortKind;
@@ -81,7 +81,7 @@ pub enum What {
     Imp,
 }
 
-/// What an object asks for in its answer to a call. Globs are taken under the path of the performer.
+/// What an object asks for in its answer to a call. Globs and paths are taken under the path of the performer.
 #[derive(Debug, Drop)]
 pub enum Act {
     /// Create a component of a type as a child, by the factory (Clause 8).
@@ -129,6 +129,13 @@ pub enum Act {
         new: Name,
         /// The paths, as below the performer's.
         glob: Glob,
+    },
+    /// Connect a port or an export to another end (Clause 12), until the end of connect.
+    Connect {
+        /// The path of the port or export, as below the performer's.
+        from: Path,
+        /// The path of what it is connected to, as below the performer's.
+        to: Path,
     },
     /// Issue a report at the performer's path (Clause 6).
     Report {
@@ -206,6 +213,10 @@ impl Act {
                 new,
                 glob: glob.copy()?,
             },
+            Act::Connect { ref from, ref to } => Act::Connect {
+                from: from.copy()?,
+                to: to.copy()?,
+            },
             Act::Report { ref report } => Act::Report {
                 report: report.copy()?,
             },
@@ -238,7 +249,8 @@ impl Act {
             Act::DropObjection { count } => Act::DropObjection { count },
             Act::SetDrain { ticks } => Act::SetDrain { ticks },
             Act::Wait { ticks, tag } => Act::Wait { ticks, tag },
-            Act::Set { .. } | Act::OverrideInst { .. } | Act::Report { .. } => unreachable!(),
+            Act::Set { .. } | Act::OverrideInst { .. } | Act::Connect { .. } | Act::Report { .. } =>
+                unreachable!(),
         }
     }
 }
@@ -410,7 +422,9 @@ impl<'a> Model for ActsIter<'a> {
 }
 
 impl<'a> Iterator for ActsIter<'a> {
-    ghost use Rattle.std.specs.Iterator.{YieldsFirstRef, item_count};
+    ghost use Rattle.std.specs.Prelude.{◌≡◌, length, Some, IfSome};
+    ghost use Rattle.std.specs.Iterator.{YieldsFirstRef, UpTo, at_most, item_count};
+    ghost use Rattle.std.specs.Iterator.SizeHint.{IsWithinCount};
 
     type Item = &'a Act;
 
@@ -424,7 +438,11 @@ impl<'a> Iterator for ActsIter<'a> {
         Some(first.act())
     }
 
-    fn size_hint(&self) -> (usize, Option<usize>) {
+    fn size_hint(&self) -> (usize, Option<usize>)
+        ensures lower { IsWithinCount result.0 (at_most (length self.now)) }
+        ensures upper { IfSome result.1 (UpTo (at_most (length self.now))) }
+        ensures exact { (result.0 ≡ length self.now) × (result.1 ≡ Some (length self.now)) }
+    {
         let len = self.left.len();
         (len, Some(len))
     }

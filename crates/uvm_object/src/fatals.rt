@@ -26,6 +26,16 @@ pub enum Fatal {
     NoObject,
     /// CFGFULL: as many settings were accepted as there may be.
     TooManySettings,
+    /// CONNERR: something is connected after connect.
+    ConnectedTooLate,
+    /// CONNERR: nothing that can be connected stands at a path.
+    UnknownNode,
+    /// CONNERR: the kinds of the two ends differ, or no connection goes from the one to the other.
+    KindsDiffer,
+    /// CONNERR: a port reaches no target.
+    TooFewConnections,
+    /// CONNERR: a port reaches several targets, or an earlier port drives the sequencer that it reaches.
+    TooManyConnections,
     /// NOTTASK: the act is one of a phase that takes time.
     OutsideTask,
     /// OBJTN_ZERO: more is dropped than was raised.
@@ -52,6 +62,11 @@ impl Fatal {
             Fatal::OverrideLoop => "OVRDLOOP",
             Fatal::NoObject => "FCTTYP",
             Fatal::TooManySettings => "CFGFULL",
+            Fatal::ConnectedTooLate
+            | Fatal::UnknownNode
+            | Fatal::KindsDiffer
+            | Fatal::TooFewConnections
+            | Fatal::TooManyConnections => "CONNERR",
             Fatal::OutsideTask => "NOTTASK",
             Fatal::ObjectionBelowZero => "OBJTN_ZERO",
             Fatal::OutOfRange => "ACTRNG",
@@ -73,6 +88,11 @@ impl Fatal {
             Fatal::OverrideLoop => "override loop",
             Fatal::NoObject => "no object supplied",
             Fatal::TooManySettings => "too many settings",
+            Fatal::ConnectedTooLate => "connected too late",
+            Fatal::UnknownNode => "unknown node",
+            Fatal::KindsDiffer => "kinds differ",
+            Fatal::TooFewConnections => "too few connections",
+            Fatal::TooManyConnections => "too many connections",
             Fatal::OutsideTask => "act outside a task phase",
             Fatal::ObjectionBelowZero => "objection dropped below zero",
             Fatal::OutOfRange => "value out of range",

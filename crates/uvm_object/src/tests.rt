@@ -7,7 +7,7 @@ use crate::{
 use std::alloc::Global;
 use std::mem::size_of;
 use std::test::Fail;
-use uvm_glob::{Glob, Name};
+use uvm_glob::{Glob, Name, Path};
 use uvm_phase::{Cause, Phase};
 use uvm_report::{Actions, Report, Severity, Text, Which};
 use uvm_tlm::PortKind;
@@ -303,6 +303,39 @@ fn lines_of_additions_say_what_is_added(rt: HostRuntime) -> Result<(), Fail> {
 }
 
 #[test]
+fn the_line_of_a_connection_has_its_paths_as_given(rt: HostRuntime) -> Result<(), Fail> {
+    let (tree, test, _) = small_tree(rt.alloc())?;
+    let connection = Act::Connect {
+        from: Path::parse(rt.alloc(), b"agent.drv.req")?,
+        to: Path::parse(rt.alloc(), b"reqf")?,
+    };
+    let connected = did(rt.alloc(), test, LoggedOutcome::done(), connection)?;
+    assert!(rt;
+        line_is(
+            rt.alloc(),
+            &tree,
+            connected,
+            "did uvm_test_top connect (agent.drv.req) (reqf): done\n"
+        )?
+    );
+    Ok(())
+}
+
+#[test]
+fn a_connection_is_copied(rt: HostRuntime) -> Result<(), Fail> {
+    let connection = Act::Connect {
+        from: Path::parse(rt.alloc(), b"p")?,
+        to: Path::top(rt.alloc()),
+    };
+    let paths = match connection.copy()? {
+        Act::Connect { from, to } => Some((from.depth(), to.depth())),
+        _ => None,
+    };
+    assert_eq!(rt; paths, Some((1, 0)));
+    Ok(())
+}
+
+#[test]
 fn lines_of_settings_and_what_is_found(rt: HostRuntime) -> Result<(), Fail> {
     let (tree, test, _) = small_tree(rt.alloc())?;
     assert!(rt; setting_lines_are_right(rt.alloc(), &tree, test)?);
@@ -475,6 +508,11 @@ fn fatal_reports_have_ids_and_texts(rt: HostRuntime) {
         (Fatal::OverrideLoop, "OVRDLOOP", "override loop"),
         (Fatal::NoObject, "FCTTYP", "no object supplied"),
         (Fatal::TooManySettings, "CFGFULL", "too many settings"),
+        (Fatal::ConnectedTooLate, "CONNERR", "connected too late"),
+        (Fatal::UnknownNode, "CONNERR", "unknown node"),
+        (Fatal::KindsDiffer, "CONNERR", "kinds differ"),
+        (Fatal::TooFewConnections, "CONNERR", "too few connections"),
+        (Fatal::TooManyConnections, "CONNERR", "too many connections"),
     ] {
         assert_eq!(rt; fatal.id(), id);
         assert_eq!(rt; fatal.text(), text);

@@ -206,7 +206,11 @@ fn targets_stand_in_path_order_each_once(rt: HostRuntime) -> Result<(), Fail> {
     bench.connect(out, a)?;
     bench.connect(out, b)?;
     assert_eq!(rt; bench.wiring.resolve(out).len(), 0);
+    assert!(rt; !bench.wiring.is_closed());
+    assert_eq!(rt; bench.wiring.order().len(), 0);
     bench.close()?;
+    assert!(rt; bench.wiring.is_closed());
+    assert_eq!(rt; bench.wiring.order(), bench.order.as_slice());
     assert_eq!(rt; bench.wiring.resolve(out), [a, b].as_slice());
     assert_eq!(rt; bench.wiring.fault_of(out), None);
     assert_eq!(rt; bench.wiring.resolve(a).len(), 0);

@@ -1,6 +1,6 @@
 //! The connections of a testbench.
 
-ghost use Rattle.std.specs.Prelude.{◌≡◌, ℕ, ◌∷◌, ◌++◌, ◌==◌, [], nat_eq, Some, None, OnOk, OnErr, IfErr, if◌then◌else◌};
+ghost use Rattle.std.specs.Prelude.{◌≡◌, ℕ, ◌∷◌, ◌++◌, ◌==◌, [], nat_eq, unwrap_or, Some, None, OnOk, OnErr, IfErr, if◌then◌else◌};
 ghost use Rattle.std.specs.HashMap.{get};
 ghost use Rattle.uvm_tlm.specs.NodeLists.{list_of};
 ghost use Rattle.uvm_tlm.specs.Faults.{refusal};
@@ -194,6 +194,23 @@ impl Wiring {
         }
     }
 
+    /// The path order with which the wiring was closed. None before `close`.
+    pub fn order(&self) -> &[NodeId]
+        ensures { result.now ≡ unwrap_or self.now.order [] }
+    {
+        match &self.closed {
+            Some(closed) => closed.order.as_slice(),
+            None => &[],
+        }
+    }
+
+    /// Whether the wiring is closed.
+    pub fn is_closed(&self) -> bool
+        ensures { result ≡ is_closed self.now }
+    {
+        self.closed.is_some()
+    }
+
     /// The kind of a port, and none where the node is no port. Takes no memory.
     pub fn port_kind(&self, node: NodeId) -> Option<PortKind>
         ensures { result ≡ kind_at self.now.ends node }
@@ -209,13 +226,6 @@ impl Wiring {
         ensures { result ≡ end_at self.now.ends node }
     {
         self.ends.get(&node).copied()
-    }
-
-    // Whether the wiring is closed.
-    fn is_closed(&self) -> bool
-        ensures { result ≡ is_closed self.now }
-    {
-        self.closed.is_some()
     }
 
     // Why no connection goes from a node to another.

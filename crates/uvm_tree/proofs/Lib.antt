@@ -4,3 +4,4 @@ pub mod Left
 pub mod Ordered
 pub mod Places
 pub mod Scans
+pub mod Sorted

@@ -6,7 +6,7 @@ use Rattle.uvm_tree.specs.Cursors.{least, sooner}
 use Rattle.uvm_tree.specs.Scans.{scanned}
 
 -- one more number
-range-more : (a n : ℕ) → range_with_len a (suc n) ≡ range_with_len a n ++ (a + n) ∷ []
+pub range-more : (a n : ℕ) → range_with_len a (suc n) ≡ range_with_len a n ++ (a + n) ∷ []
 range-more a zero = ap (λ m. m ∷ []) (omega arith)
 range-more a (suc n) =
     let e : a + 1 + n ≡ a + suc n = omega arith in

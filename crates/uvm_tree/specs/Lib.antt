@@ -4,3 +4,4 @@ pub mod Faults
 pub mod Nodes
 mod Rooms
 pub mod Scans
+pub mod Sorted

@@ -2,6 +2,7 @@
 
 ghost use Rattle.uvm_tree.specs.Cursors.{AreNodesOrdered, LeastIsLeast, OneIsLeast};
 ghost use Rattle.uvm_tree.specs.Nodes.{AreSiblingsApart};
+ghost use Rattle.uvm_tree.specs.Sorted.{PathOrderIsInOrder};
 
 use uvm_glob::laws::orders_are_total;
 
@@ -29,3 +30,10 @@ pub fn nodes_are_ordered()
 pub fn one_is_least()
     ensures { OneIsLeast }
 {}
+
+/// The path order has each node besides the top once, and none in front of which stands one that comes after it.
+pub fn path_order_is_in_order()
+    ensures { PathOrderIsInOrder }
+{
+    orders_are_total();
+}

@@ -6,6 +6,7 @@ mod cursors;
 mod faults;
 pub mod laws;
 mod nodes;
+mod orders;
 #[cfg(test)]
 mod tests;
 mod trees;

@@ -72,6 +72,17 @@ fn walks_come_to_each_node_in_order(rt: HostRuntime) -> Result<(), Fail> {
 }
 
 #[test]
+fn path_order_lists_the_nodes_in_down(rt: HostRuntime) -> Result<(), Fail> {
+    let tree = small(rt.alloc())?;
+    let mut paths = Vec::new(rt.alloc());
+    for id in tree.path_order(rt.alloc())?.iter() {
+        write_path(&tree, *id, &mut paths)?;
+    }
+    assert_eq!(rt; paths.as_slice(), b" t t.a t.a.x t.b".as_slice());
+    Ok(())
+}
+
+#[test]
 fn walks_do_not_begin_at_a_missing_node(rt: HostRuntime) -> Result<(), Fail> {
     let tree = small(rt.alloc())?;
     let missing = missing(rt.alloc())?;

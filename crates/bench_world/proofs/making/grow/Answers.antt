@@ -1,4 +1,4 @@
-use Rattle.std.proofs.Common.{◌≡◌, ◌<◌, arith, [], ◌∷◌, ◌++◌, length, refl, rules}
+use Rattle.std.proofs.Common.{◌≡◌, ◌<◌, arith, [], ◌∷◌, ◌++◌, length, refl, sym, ◌∙◌, rules}
 use Rattle.uvm_tree.specs.declared.nodes.NodeKind.TheVariants.{Component}
 use Rattle.uvm_tree.specs.Nodes.{child}
 use Rattle.uvm_object.specs.Acts.{node_of}
@@ -11,6 +11,7 @@ use Rattle.bench_world.specs.Services.{AreTurns}
 use Rattle.bench_world.proofs.Answered.{length-snoc}
 use Rattle.bench_world.proofs.Later.{acted}
 use Rattle.bench_world.proofs.Objected.{objecting-more}
+use Rattle.bench_world.proofs.Connected.{building-open, connecting-grown}
 use Rattle.bench_world.proofs.Turns.{turns-made}
 use Rattle.bench_world.proofs.making.grow.Goals as goal
 
@@ -30,6 +31,8 @@ returns-clause-kept c = λ type_name place. record {
       let below : speaker < length (nodes_of history) = rw m.answer.speaker m.speaks in
       let is : c.add.new.self.nodes ≡ objections_of history ++ new_node (length (nodes_of history)) speaker ∷ [] = rw (c.node-parent.ensures, c.in-Ok.ensures.id, m.tree, m.objections.are) at c.in-Ok-add.ensures.ok in
       let events = events-all (objections_of history) (objections_of history ++ new_node (length (objections_of history)) speaker ∷ []) (due_events history) (λ node at. held-more (length (objections_of history)) speaker node at (objections_of history)) m.events in
+      let open_ = building-open c.args.services.now.wiring m.closing (sym m.built ∙ c.requires.building) in
+      let connecting = connecting-grown made open_ m.connecting in
       let objections = objecting-more c.add.new.self speaker c.nodes_grow.ensures below m.objections longer is in
       search (rules, acted);
 }

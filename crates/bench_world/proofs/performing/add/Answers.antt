@@ -10,6 +10,12 @@ use Rattle.bench_world.proofs.Drained.{events-all, held-more}
 use Rattle.bench_history.specs.Refusals.{addition_refusal}
 use Rattle.bench_world.proofs.Answered.{turns-more, one-longer, length-snoc}
 use Rattle.bench_world.proofs.Objected.{objecting-more}
+use Rattle.bench_world.proofs.Connected.{connecting-more, closing-next}
+use Rattle.bench_world.specs.Connectings.{IsClosing}
+use Rattle.bench_history.specs.Wires.{end_of}
+use Rattle.uvm_tlm.specs.Wirings.{is_closed}
+use Rattle.uvm_object.specs.declared.entries.Entry.TheVariants.{Did}
+use Rattle.uvm_object.specs.declared.entries.Outcome.TheVariants.{Done}
 use Rattle.bench_world.proofs.Later.{acted, refused-attempt}
 use Rattle.bench_world.proofs.performing.add.Goals as goal
 
@@ -37,6 +43,11 @@ returns c = λ place. rw (c.done.ensures.attempt, c.done.ensures.services) (reco
         let below : speaker < length (nodes_of history) = rw m.answer.speaker m.speaks in
         let is : c.add.new.self.nodes ≡ objections_of history ++ new_node (length (nodes_of history)) speaker ∷ [] = rw (c.node-parent.ensures, c.in_ok-node.ensures.id, m.tree, m.objections.are) at c.in_ok-add.ensures.ok in
         let events = events-all (objections_of history) (objections_of history ++ new_node (length (objections_of history)) speaker ∷ []) (due_events history) (λ node at. held-more (length (objections_of history)) speaker node at (objections_of history)) m.events in
+        let open_ = c.requires.building c.in_default.ensures.building in
+        let some : 0 < length (nodes_of history) = omega (arith, m.speaks) in
+        let wired = rw (c.in_ok-node.ensures.id, m.tree) at c.in_ok-add_end.ensures in
+        let connecting = connecting-more c.add_end.new.wiring added (end_of c.args.what) open_ some m.connecting wired in
+        let closing : IsClosing script (Did c.args.services.now.answer.speaker Done (Add c.args.name c.args.what) ∷ history) (is_closed c.add_end.new.wiring) = rw wired (closing-next left m.closing) in
         let objections = objecting-more c.add.new.self speaker c.nodes_grow.ensures below m.objections longer is in
         search (rules, acted);
   };

@@ -41,7 +41,7 @@ invariant_of-self-2 c =
     let r = rw (← c.self.view_is) at c.requires in
     let before = c.self.inside.log.entries in
     let due = c.in_ok-move_drains.ensures in
-    entered (Drained c.args.node c.args.cause) c.self.invariant r.sound r.room (rw r.next refl) c.in_ok-push.ensures.ok c.in_ok-push.ensures.limit (λ m.
+    entered (Drained c.args.node c.args.cause) c.self.invariant r.sound r.room (rw r.next refl) c.in_ok-push.ensures.ok c.in_ok-push.ensures.limit c.wiring_stays.ensures (λ m stays.
     let nodes = objections_of before in
     let held = due-is-held nodes before c.args.node c.args.cause c.order_keeps_all.ensures m.events (c.drains_go_in_order.ensures c.self.inside.script before c.args.node c.args.cause r.next) in
     let changed = released c.args.node nodes in

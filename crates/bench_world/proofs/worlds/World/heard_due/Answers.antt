@@ -13,7 +13,7 @@ pub invariant_of-self-2 : goal.invariant_of-self-2
 invariant_of-self-2 c =
     let r = rw (← c.self.view_is) at c.requires in
     let before = c.self.inside.log.entries in
-    entered (Heard c.args.who c.args.call (Some c.args.cause) c.args.acts) c.self.invariant r.sound r.room (rw r.next (_, refl)) (rw (c.in_ok-entry.ensures, c.copy.ensures) at c.in_ok-push.ensures.ok) c.in_ok-push.ensures.limit (λ m.
+    entered (Heard c.args.who c.args.call (Some c.args.cause) c.args.acts) c.self.invariant r.sound r.room (rw r.next (_, refl)) (rw (c.in_ok-entry.ensures, c.copy.ensures) at c.in_ok-push.ensures.ok) c.in_ok-push.ensures.limit c.wiring_stays.ensures (λ m stays.
     let d = c.due_calls_go_in_order.ensures c.self.inside.script before c.args.who c.args.call c.args.cause r.next in
     let first = ap (λ l. slice_get l 0) m.agenda.are ∙ d.first in
     let agenda = rw d.cause_is at (agenda-heard (caused_of before) (heard_of before) (ended_of before) _ _ _ d.event c.order_keeps_all.ensures c.order_loses_first.ensures m.agenda first c.take_first.ensures.rest) in

@@ -15,6 +15,14 @@ enter-requires-clause-open c =
     let ready = c.self.invariant.1.ready c.in-Some.waiting is in
     rw (c.grow-node.ensures.kept c.in-Some.waiting.need.type_name 0).same_answer (answer-open c.in-Some.waiting.deed ready.left m.answer)
 
+pub grow-node-requires-clause-building : goal.grow-node-requires-clause-building
+grow-node-requires-clause-building c =
+    let is = sym c.take.ensures.value ∙ c.in-Some.is in
+    let m = c.self.invariant.1.services_match (c.self.invariant.1.waits c.in-Some.waiting is) in
+    let ready = c.self.invariant.1.ready c.in-Some.waiting is in
+    let w = wanted c.needs_are_creations.ensures c.self.inside.script c.self.inside.log.entries c.in-Some.waiting.deed (rw ready.needed refl) ready.left in
+    m.built ∙ w.building
+
 pub invariant_of-self : goal.invariant_of-self
 invariant_of-self c =
     let is = sym c.take.ensures.value ∙ c.in-Some.is in

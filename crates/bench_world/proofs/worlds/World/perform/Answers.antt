@@ -1,6 +1,19 @@
+use Rattle.std.proofs.Common.{◌≡◌, false, None, length, sym, ◌∙◌, rules}
+use Rattle.uvm_tlm.specs.Wirings.{end_at, late_fault}
 use Rattle.bench_world.proofs.Later.{performed}
 use Rattle.bench_world.proofs.Waits.{waits}
+use Rattle.bench_world.proofs.Connected.{building-open, connectable-open, unused}
 use Rattle.bench_world.proofs.worlds.World.perform.Goals as goal
+
+pub perform-requires : goal.perform-requires
+perform-requires c =
+    let r = rw (← c.self.view_is) at c.requires in
+    let m = c.self.invariant.1.services_match r.sound in
+    let wiring = c.self.inside.services.wiring in
+    let building : c.self.inside.services.built ≡ false → late_fault wiring ≡ None = λ built. building-open wiring m.closing (sym m.built ∙ built) in
+    let connectable : c.self.inside.services.past_connect ≡ false → late_fault wiring ≡ None = λ past. connectable-open wiring r.left m.closing (sym m.past_connect ∙ past) in
+    let unused : end_at wiring.ends (length c.self.inside.services.tree.nodes) ≡ None = rw m.tree (unused m.connecting) in
+    search rules
 
 pub invariant_of-self-in-Became : goal.invariant_of-self-in-Became
 invariant_of-self-in-Became c =

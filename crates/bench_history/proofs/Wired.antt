@@ -1,0 +1,120 @@
+-- Once connect has nothing left, nothing is connected any more.
+use Rattle.std.proofs.Common.{◌≡◌, ℕ, Bool, true, false, not, ◌&&◌, ◌||◌, ◌==◌, List, [], ◌∷◌, ◌++◌, length, reverse, take, Option, Some, None, option_map, is_none, refl, ap, sym, ◌∙◌, subst, if◌then◌else◌}
+use Rattle.std.specs.List.{list_any, flat_map}
+use Rattle.uvm_phase.specs.declared.phases.Phase.{Phase}
+use Rattle.uvm_phase.specs.declared.phases.Phase.TheVariants.{Build, Connect}
+use Rattle.uvm_phase.specs.Phases.{phases}
+use Rattle.uvm_object.specs.declared.acts.Act.{Act}
+use Rattle.uvm_object.specs.declared.fatals.Fatal.{Fatal}
+use Rattle.uvm_object.specs.declared.entries.Reason.{Reason}
+use Rattle.uvm_object.specs.declared.entries.Entry.{Entry}
+use Rattle.uvm_object.specs.declared.entries.Entry.TheVariants.{Begin, End, Time, Heard, Did, Drained, Note, Over}
+use Rattle.bench_script.specs.Scripts.{ScriptValue}
+use Rattle.bench_history.specs.declared.stages.Stage.{Stage}
+use Rattle.bench_history.specs.declared.stages.Stage.TheVariants.{Before, During, After, Ended}
+use Rattle.bench_history.specs.Owners.{Event}
+use Rattle.bench_history.specs.History.{stage_of, running, left_of, head_of, next_call, is_built, ends_build}
+use Rattle.bench_history.specs.Reports.{reason_of}
+use Rattle.bench_history.specs.Dues.{due_now, ended_of, ended_in}
+use Rattle.bench_history.specs.Wires.{is_past_connect, ends_connect, next_unsound}
+use Rattle.bench_history.specs.Cases.{Next, Exactly, Nothing, end_reached, giving_up, long_answer, first_act, event_due, phase_call, port_check, phase_end, phase_begin, phase_to_begin, finish}
+use Rattle.bench_history.specs.Next.{first_next, next_of, Allows, IsNext}
+use Rattle.bench_history.specs.Laws.{PhasesGoInOrder, IsWired, StaysWired, WiringStays, ConnectFollowsBuild, is_connect_last, has_nothing_left, next_number}
+use Rattle.bench_history.proofs.Ended.{nothing-comes}
+use Rattle.bench_history.proofs.Phased.{phases_go_in_order}
+
+-- what it is to have nothing left
+record IsIdle (script : ScriptValue) (history : List Entry) : Type 0 where
+  left : left_of script history ≡ []
+  none_due : due_now history ≡ None
+  no_call : next_call Connect history ≡ None
+
+idle-of : (script : ScriptValue) (history : List Entry) (left : List Act) (due : Option Event) (call : Option ℕ) → left_of script history ≡ left → due_now history ≡ due → next_call Connect history ≡ call
+    → is_none (head_of left) && is_none due && is_none call ≡ true → IsIdle script history
+idle-of script history [] None None left due call e = record { left = left; none_due = due; no_call = call }
+idle-of script history [] None (Some node) left due call e = cc
+idle-of script history [] (Some event) None left due call e = cc
+idle-of script history [] (Some event) (Some node) left due call e = cc
+idle-of script history (act ∷ acts) event turn left due call e = cc
+
+idle-is : (script : ScriptValue) (history : List Entry) → IsIdle script history → has_nothing_left script history ≡ true
+idle-is script history idle = rw (idle.left, idle.none_due, idle.no_call) refl
+
+-- where connect runs, and nothing is left, the run is given up, or a port is reported, or connect ends
+abbrev end_or : Option Reason → Option (ℕ × Fatal) → Entry
+end_or (Some reason) port = Over reason
+end_or None (Some port) = Note port.1 port.0
+end_or None None = End Connect
+
+idle-next : (script : ScriptValue) (history : List Entry) → stage_of history ≡ During Connect → IsIdle script history → (reason : Option Reason) → reason_of script history ≡ reason → (port : Option (ℕ × Fatal)) → next_unsound history ≡ port
+    → next_of script history ≡ Exactly (end_or reason port)
+unfolding next_of
+idle-next script history runs idle (Some reason) given port is = rw (runs, given) refl
+idle-next script history runs idle None given (Some port) is = rw (runs, given, idle.left, idle.none_due, idle.no_call, is) refl
+idle-next script history runs idle None given None is = rw (runs, given, idle.left, idle.none_due, idle.no_call, is) refl
+
+-- and then it is still so
+idle-more : (script : ScriptValue) (history : List Entry) (reason : Option Reason) (port : Option (ℕ × Fatal)) → IsIdle script history → has_nothing_left script history ≡ true → is_past_connect (end_or reason port ∷ history) ≡ false
+    → is_connect_last (stage_of history) ≡ true → is_connect_last (stage_of (end_or reason port ∷ history)) && has_nothing_left script (end_or reason port ∷ history) ≡ true
+unfolding due_now next_call
+idle-more script history (Some reason) port idle nothing past last = nothing
+idle-more script history None (Some port) idle nothing past last = rw (last, idle.none_due, idle.no_call) refl
+idle-more script history None None idle nothing past last = cc
+
+-- what is built stays so
+built-more : (entry : Entry) (history : List Entry) → is_built history ≡ true → is_built (entry ∷ history) ≡ true
+built-more entry history built = or-true (ends_build entry) built
+  where
+    or-true : {x : Bool} (b : Bool) → x ≡ true → b || x ≡ true
+    or-true true e = refl
+    or-true false e = e
+
+past-before : (entry : Entry) (history : List Entry) → is_past_connect (entry ∷ history) ≡ false → is_past_connect history ≡ false
+past-before entry history past = or-false (ends_connect entry) past
+  where
+    or-false : {x : Bool} (b : Bool) → b || x ≡ false → x ≡ false
+    or-false true e = cc
+    or-false false e = e
+
+both : (a b : Bool) → a && b ≡ true → (a ≡ true) × (b ≡ true)
+both true b e = (refl, e)
+both false b e = cc
+
+quiet-more : (script : ScriptValue) (history : List Entry) (entry : Entry) (stage : Stage) → stage_of history ≡ stage → is_connect_last stage ≡ true → has_nothing_left script history ≡ true → IsNext script history entry → is_past_connect (entry ∷ history) ≡ false
+    → is_connect_last (stage_of (entry ∷ history)) && has_nothing_left script (entry ∷ history) ≡ true
+quiet-more script history entry Ended is last nothing next past = absurd (subst (λ (comes : Next). Allows comes entry) (nothing-comes script history is) next)
+quiet-more script history entry (During Connect) is last nothing next past =
+    let idle = idle-of script history (left_of script history) (due_now history) (next_call Connect history) refl refl refl nothing in
+    let comes = idle-next script history is idle (reason_of script history) refl (next_unsound history) refl in
+    let entry_is : entry ≡ end_or (reason_of script history) (next_unsound history) = subst (λ (comes : Next). Allows comes entry) comes next in
+    let past' : is_past_connect (end_or (reason_of script history) (next_unsound history) ∷ history) ≡ false = rw (← entry_is) past in
+    let last' : is_connect_last (stage_of history) ≡ true = rw is refl in
+    rw entry_is (idle-more script history (reason_of script history) (next_unsound history) idle nothing past' last')
+quiet-more script history entry stage is last nothing next past = cc
+
+pub wiring_stays : WiringStays
+wiring_stays script history entry next = record {
+  stays = λ wired. record {
+    built = built-more entry history wired.built;
+    quiet = λ past.
+        let before = past-before entry history past in
+        let q = both (is_connect_last (stage_of history)) (has_nothing_left script history) (wired.quiet before) in
+        quiet-more script history entry (stage_of history) refl q.0 q.1 next past;
+  };
+}
+
+-- build has ended where it is among the phases that have
+built-ended : (history : List Entry) → is_built history ≡ list_any (λ phase. ends_build (End phase)) (ended_of history)
+built-ended [] = refl
+built-ended (End phase ∷ history) = ap (λ b. ends_build (End phase) || b) (built-ended history)
+built-ended (entry ∷ history) = built-ended history
+
+-- the phases that have ended where connect runs
+ended-first : (stage : Stage) (ended : List Phase) → stage ≡ During Connect → ((stage ≡ Ended → ⊥) → ended ≡ reverse (take (next_number stage) phases)) → ended ≡ Build ∷ []
+ended-first (During Connect) ended runs are = are (λ e. cc)
+ended-first stage ended runs are = cc
+
+pub connect_follows_build : ConnectFollowsBuild
+connect_follows_build script history each runs =
+    built-ended history
+    ∙ ap (list_any (λ phase. ends_build (End phase))) (ended-first (stage_of history) (ended_of history) runs (phases_go_in_order script history each).are)

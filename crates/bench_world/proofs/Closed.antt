@@ -1,0 +1,46 @@
+-- A world whose wiring is closed.
+use Rattle.std.proofs.Common.{◌≡◌, Bool, true, Option, Some, refl, rules, unwrap_or}
+use Rattle.uvm_tree.specs.Sorted.{path_order}
+use Rattle.uvm_object.specs.Logs.{LogValue}
+use Rattle.bench_script.specs.Scripts.{ScriptValue}
+use Rattle.bench_history.specs.History.{nodes_of}
+use Rattle.bench_history.specs.Wires.{wiring_of}
+use Rattle.bench_history.specs.Next.{EachIsNext}
+use Rattle.bench_history.specs.Laws.{ConnectFollowsBuild, is_at_check}
+use Rattle.bench_world.specs.declared.making.Waiting.{Waiting}
+use Rattle.bench_world.specs.declared.services.Services.{Services}
+use Rattle.bench_world.specs.Connectings.{IsConnecting, IsClosing}
+use Rattle.bench_world.specs.Services.{ServicesMatch}
+use Rattle.bench_world.specs.Worlds.{IsWorld, IsReady}
+use Rattle.bench_world.proofs.Connected.{connecting-closed, closing-now}
+
+-- the services, with the wiring closed
+abbrev pub with_order : Services → Services
+with_order services = record services { wiring = record services.wiring { order = Some (unwrap_or services.wiring.order (path_order services.tree.nodes)) } }
+
+closed-match : {script : ScriptValue} {services : Services} (log : LogValue) → ConnectFollowsBuild → EachIsNext script log.entries → is_at_check script log.entries ≡ true → ServicesMatch script log.entries services → ServicesMatch script log.entries (with_order services)
+closed-match {script} {services} log follows each at_check m =
+    let connecting : IsConnecting (nodes_of log.entries) (wiring_of log.entries) (with_order services).wiring = rw m.tree (connecting-closed m.connecting) in
+    let closing : IsClosing script log.entries true = closing-now true follows each at_check in
+    search (rules, connecting, closing)
+
+closed-ready : {script : ScriptValue} {log : LogValue} {services : Services} {waiting : Waiting} → IsReady waiting script log services → IsReady waiting script log (with_order services)
+closed-ready r = record {
+  left = r.left;
+  needed = r.needed;
+  room = r.room;
+  log_spare = r.log_spare;
+  tree_spare = r.tree_spare;
+  objection_spare = r.objection_spare;
+  components = r.components;
+  declined = r.declined;
+  report_room = r.report_room;
+}
+
+-- it is as good as before
+pub world-closed :
+    {P : Type 0} {sound : Bool} {script : ScriptValue} {log : LogValue} {services : Services} {waiting : Option Waiting}
+    → P × IsWorld sound script log services waiting → ConnectFollowsBuild → is_at_check script log.entries ≡ true → P × IsWorld sound script log (with_order services) waiting
+world-closed {log = log} p follows at_check =
+    let w = p.1 in
+    (p.0, record { limit = w.limit; legal = w.legal; services_match = λ sound. closed-match log follows w.legal.each at_check (w.services_match sound); waits = w.waits; ready = λ waiting is. closed-ready (w.ready waiting is) })

@@ -1,0 +1,19 @@
+use Rattle.std.proofs.Common.{rules, refl}
+use Rattle.bench_history.specs.Wires.{wiring_of}
+use Rattle.bench_world.specs.Connectings.{IsConnecting}
+use Rattle.bench_world.proofs.Connected.{ends-ordered, closed-is}
+use Rattle.bench_world.proofs.Closed.{world-closed}
+use Rattle.bench_world.proofs.worlds.World.next_unsound.Goals as goal
+
+pub close_wiring-requires : goal.close_wiring-requires
+close_wiring-requires c =
+    let r = rw (← c.self.view_is) at c.requires in
+    let m = c.self.invariant.1.services_match r.sound in
+    let services = c.self.inside.services in
+    let connecting : IsConnecting services.tree.nodes (wiring_of c.self.inside.log.entries) services.wiring = rw m.tree m.connecting in
+    ends-ordered {nodes = services.tree.nodes} {wiring = wiring_of c.self.inside.log.entries} {kept = services.wiring} (c.path_order_is_in_order.ensures services.tree.nodes) connecting
+
+pub invariant_of-self-2 : goal.invariant_of-self-2
+invariant_of-self-2 c =
+    let r = rw (← c.self.view_is) at c.requires in
+    rw c.in_ok-close_wiring.ensures.ok (world-closed c.self.invariant c.connect_follows_build.ensures r.at_check)

@@ -1,0 +1,111 @@
+-- Numbers in an order.
+use Rattle.std.proofs.Common.{◌≡◌, ◌<◌, ℕ, zero, suc, ◌+◌, Bool, true, false, not, List, [], ◌∷◌, ◌++◌, fold, insert, refl, ap, sym, ◌∙◌, arith, if◌then◌else◌, IsPermutation, AllPairs, All, append-nil}
+use Rattle.std.proofs.lemmas.List.Elements.{All-nil, All-cons, All-weaker}
+use Rattle.std.proofs.lemmas.List.Kept.{AllPairs-cons}
+use Rattle.std.proofs.lemmas.List.Sorted.{IsPermutation-refl, IsPermutation-sym, IsPermutation-trans, IsPermutation-middle, IsPermutation-insert, IsPermutation-append_left, All-permutation}
+use Rattle.std.specs.declared.cmp.Ordering.{Ordering}
+use Rattle.std.specs.declared.cmp.Ordering.TheVariants.{Less, Equal, Greater}
+use Rattle.std.specs.Cmp.{IsTotalOrder}
+use Rattle.std.specs.Ordering.{is_lt, ordering_reverse}
+use Rattle.std.specs.List.{range_with_len, position_or_len}
+use Rattle.std.proofs.lemmas.Cmp.{on_total}
+use Rattle.uvm_glob.specs.declared.orders.Direction.{Direction}
+use Rattle.uvm_glob.specs.declared.orders.Direction.TheVariants.{Down}
+use Rattle.uvm_glob.specs.Orders.{order_of, down_cmp}
+use Rattle.uvm_tree.specs.Nodes.{path_at}
+use Rattle.uvm_tree.specs.Cursors.{is_before, node_cmp, numbers_of}
+use Rattle.uvm_tree.specs.Sorted.{inserted, sorted, path_order, PathOrderIsInOrder}
+use Rattle.uvm_tree.proofs.Scans.{range-more}
+
+fold-append : {A B : Type 0} (f : B → A → B) (a : B) (xs ys : List A) → fold f a (xs ++ ys) ≡ fold f (fold f a xs) ys
+fold-append f a [] ys = refl
+fold-append f a (x ∷ xs) ys = fold-append f (f a x) xs ys
+
+-- one more number
+pub sorted-more : (before : ℕ → ℕ → Bool) (n : ℕ) → sorted before (range_with_len 1 (n + 1)) ≡ inserted before (n + 1) (sorted before (range_with_len 1 n))
+sorted-more before n =
+    let e : n + 1 ≡ suc n = omega arith in
+    let f : 1 + n ≡ n + 1 = omega arith in
+    ap (λ k. sorted before (range_with_len 1 k)) e
+    ∙ ap (sorted before) (range-more 1 n)
+    ∙ fold-append (λ order k. inserted before k order) [] (range_with_len 1 n) ((1 + n) ∷ [])
+    ∙ ap (λ k. inserted before k (sorted before (range_with_len 1 n))) f
+
+-- an insertion moves numbers, and so does an order
+moved : (before : ℕ → ℕ → Bool) (order numbers : List ℕ) → IsPermutation (order ++ numbers) (fold (λ order n. inserted before n order) order numbers)
+moved before order [] = rw append-nil (IsPermutation-refl order)
+moved before order (n ∷ numbers) =
+    IsPermutation-trans (order ++ n ∷ numbers) (n ∷ (order ++ numbers)) _ (IsPermutation-middle order n numbers)
+    (IsPermutation-trans (n ∷ (order ++ numbers)) (inserted before n order ++ numbers) _
+    (IsPermutation-append_left numbers (n ∷ order) (inserted before n order) (IsPermutation-insert order (position_or_len (before n) order) n))
+    (moved before (inserted before n order) numbers))
+
+-- in front of the first of a list, or behind it
+inserted-tested : (before : ℕ → ℕ → Bool) (n m : ℕ) (others : List ℕ) (b : Bool) → before n m ≡ b → inserted before n (m ∷ others) ≡ (if b then n ∷ m ∷ others else m ∷ inserted before n others)
+inserted-tested before n m others true e = rw e refl
+inserted-tested before n m others false e =
+    let k = position_or_len (before n) others in
+    let s : 1 + k ≡ suc k = omega arith in
+    rw (e, s) refl
+
+-- a relation of each to those behind it, by recursion
+Behind : (ℕ → ℕ → Type 0) → List ℕ → Type 0
+Behind R [] = Unit {0}
+Behind R (n ∷ numbers) = All (R n) numbers × Behind R numbers
+
+AllPairs-from_behind : (R : ℕ → ℕ → Type 0) (numbers : List ℕ) → Behind R numbers → AllPairs R numbers
+unfolding Behind
+AllPairs-from_behind R [] each = λ i j d before within. absurd (omega arith)
+AllPairs-from_behind R (n ∷ numbers) each = AllPairs-cons R n numbers each.0 (AllPairs-from_behind R numbers each.1)
+
+-- one does not stand before another
+abbrev NotAfter : (ℕ → ℕ → Ordering) → ℕ → ℕ → Type 0
+NotAfter cmp m n = is_lt (cmp n m) ≡ false
+
+-- what stands before a number does not stand after those that do not stand before it
+first-of-two : (a b : Ordering) → a ≡ ordering_reverse b → is_lt b ≡ true → is_lt a ≡ false
+first-of-two Less Less e h = cc
+first-of-two Less Equal e h = cc
+first-of-two Less Greater e h = cc
+first-of-two Equal b e h = refl
+first-of-two Greater b e h = refl
+
+less : (a : Ordering) → is_lt a ≡ true → a ≡ Less
+less Less h = refl
+less Equal h = cc
+less Greater h = cc
+
+not-later : (cmp : ℕ → ℕ → Ordering) → IsTotalOrder cmp → (n m k : ℕ) → is_lt (cmp n m) ≡ true → is_lt (cmp k m) ≡ false → (b : Bool) → is_lt (cmp k n) ≡ b → b ≡ false
+not-later cmp total n m k first second false e = refl
+not-later cmp total n m k first second true e = let low = total.trans k n m (less (cmp k n) e) (less (cmp n m) first) in let f : is_lt (cmp k m) ≡ true = rw low refl in cc
+
+insert-ordered : (cmp : ℕ → ℕ → Ordering) → IsTotalOrder cmp → (n m : ℕ) (others : List ℕ) (b : Bool) → is_lt (cmp n m) ≡ b → Behind (NotAfter cmp) (m ∷ others) → Behind (NotAfter cmp) (inserted (λ i j. is_lt (cmp i j)) n others)
+    → Behind (NotAfter cmp) (if b then n ∷ m ∷ others else m ∷ inserted (λ i j. is_lt (cmp i j)) n others)
+unfolding Behind
+insert-ordered cmp total n m others true first ordered rest = (
+  All-cons (NotAfter cmp n) m others (first-of-two (cmp m n) (cmp n m) (total.antisymm m n) first)
+      (All-weaker (NotAfter cmp m) (NotAfter cmp n) (λ k h. not-later cmp total n m k first h (is_lt (cmp k n)) refl) others ordered.0),
+  ordered,
+)
+insert-ordered cmp total n m others false first ordered rest =
+    (All-permutation (NotAfter cmp m) (n ∷ others) (inserted (λ i j. is_lt (cmp i j)) n others) (IsPermutation-insert others (position_or_len (λ j. is_lt (cmp n j)) others) n) (All-cons (NotAfter cmp m) n others first ordered.0), rest)
+
+ordered-insert : (cmp : ℕ → ℕ → Ordering) → IsTotalOrder cmp → (n : ℕ) (numbers : List ℕ) → Behind (NotAfter cmp) numbers → Behind (NotAfter cmp) (inserted (λ i j. is_lt (cmp i j)) n numbers)
+unfolding Behind
+ordered-insert cmp total n [] ordered = (All-nil (NotAfter cmp n), tt)
+ordered-insert cmp total n (m ∷ others) ordered =
+    rw (inserted-tested (λ i j. is_lt (cmp i j)) n m others (is_lt (cmp n m)) refl)
+    (insert-ordered cmp total n m others (is_lt (cmp n m)) refl ordered (ordered-insert cmp total n others ordered.1))
+
+ordered-fold : (cmp : ℕ → ℕ → Ordering) → IsTotalOrder cmp → (order numbers : List ℕ) → Behind (NotAfter cmp) order → Behind (NotAfter cmp) (fold (λ order n. inserted (λ i j. is_lt (cmp i j)) n order) order numbers)
+ordered-fold cmp total order [] ordered = ordered
+ordered-fold cmp total order (n ∷ numbers) ordered = ordered-fold cmp total (inserted (λ i j. is_lt (cmp i j)) n order) numbers (ordered-insert cmp total n order ordered)
+
+pub path_order_is_in_order : ((direction : Direction) → IsTotalOrder (order_of direction)) → PathOrderIsInOrder
+unfolding path_order Behind
+path_order_is_in_order total nodes =
+    let cmp = node_cmp down_cmp nodes in
+    record {
+      whole = moved (is_before down_cmp nodes) [] (numbers_of nodes);
+      ordered = AllPairs-from_behind (NotAfter cmp) _ (ordered-fold cmp (on_total (path_at nodes) (total Down)) [] (numbers_of nodes) tt);
+    }

@@ -1,10 +1,11 @@
 //! What sequences ask of a sequencer.
 
-ghost use Rattle.std.specs.Prelude.{◌≡◌};
+ghost use Rattle.std.specs.Prelude.{◌≡◌, ◌∷◌, ◌++◌, [], OnOk, OnErr};
 ghost use Rattle.std.specs.List.{list_any};
 ghost use Rattle.uvm_sequencer.specs.Queues.{is_item, is_item_of, is_lock_of, is_of, priority_of, without, without_item, without_lock};
 
 use crate::starts::SeqId;
+use std::alloc::AllocError;
 
 /// What a sequence wants.
 #[derive(Clone, Copy, Debug, PartialEq, Eq)]
@@ -65,6 +66,24 @@ impl Request {
     {
         self.seq == seq && !self.is_item()
     }
+}
+
+// Puts what a sequence wants behind all others. Its error is want of memory, which changes nothing.
+pub(crate) fn put_last(queue: &mut Vec<Request>, seq: SeqId, want: Want) -> Result<(), AllocError>
+    ensures ok { OnOk result (queue.new.items ≡ queue.old.items ++ record { seq = seq; want = want } ∷ []) }
+    ensures err { OnErr result (queue.new.items ≡ queue.old.items) }
+{
+    queue.push(Request { seq, want })?;
+    Ok(())
+}
+
+// Puts what a sequence wants before all others. Its error is want of memory, which changes nothing.
+pub(crate) fn put_first(queue: &mut Vec<Request>, seq: SeqId, want: Want) -> Result<(), AllocError>
+    ensures ok { OnOk result (queue.new.items ≡ record { seq = seq; want = want } ∷ queue.old.items) }
+    ensures err { OnErr result (queue.new.items ≡ queue.old.items) }
+{
+    queue.insert(0, Request { seq, want })?;
+    Ok(())
 }
 
 // Whether an item request of a sequence waits.

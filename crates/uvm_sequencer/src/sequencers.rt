@@ -12,7 +12,9 @@ use crate::choices::Choices;
 use crate::drivers::{Asked, Driver, How};
 use crate::faults::SeqFault;
 use crate::modes::Mode;
-use crate::requests::{Request, Want, has_item, has_lock, take_all, take_item, take_lock};
+use crate::requests::{
+    Request, Want, has_item, has_lock, put_first, put_last, take_all, take_item, take_lock,
+};
 use crate::scans;
 use crate::starts::{SeqId, Sequences};
 use std::alloc::Global;
@@ -82,10 +84,7 @@ impl Sequencer {
         if has_item(self.queue.as_slice(), seq) || self.driver.grant(seq).is_some() {
             return Err(SeqFault::Twice);
         }
-        self.queue.push(Request {
-            seq,
-            want: Want::Item(priority),
-        })?;
+        put_last(&mut self.queue, seq, Want::Item(priority))?;
         Ok(())
     }
 
@@ -102,10 +101,7 @@ impl Sequencer {
         }
         // Room for each that waits, and for this one.
         self.holders.reserve(self.queue.len() + 1)?;
-        self.queue.push(Request {
-            seq,
-            want: Want::Lock,
-        })?;
+        put_last(&mut self.queue, seq, Want::Lock)?;
         Ok(())
     }
 
@@ -122,13 +118,7 @@ impl Sequencer {
         }
         // Room for each that waits, and for this one.
         self.holders.reserve(self.queue.len() + 1)?;
-        self.queue.insert(
-            0,
-            Request {
-                seq,
-                want: Want::Lock,
-            },
-        )?;
+        put_first(&mut self.queue, seq, Want::Lock)?;
         Ok(())
     }
 

@@ -8,6 +8,6 @@ invariant_of-self-2 c =
     let room : length c.reserve.new.self.items + (length c.self.inside.queue.items + 1) ≤ vec_capacity c.reserve.new.self =
     grind (arith, common_steps, c.in_ok-reserve.ensures.ok, c.len.ensures) in
     record {
-      room = rw c.in_ok-push.ensures.items (room-asked c.self.inside.queue.items _ c.reserve.new.self.items (vec_capacity c.reserve.new.self) room);
+      room = rw c.in_ok-put_last.ensures.ok (room-asked c.self.inside.queue.items _ c.reserve.new.self.items (vec_capacity c.reserve.new.self) room);
       priorities = grind (arith, common_steps);
     }

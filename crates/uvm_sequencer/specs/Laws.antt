@@ -82,6 +82,15 @@ pub record IsOut (s : SequencerValue) : Type 0 where
 abbrev pub OneItemOut : Type 0
 OneItemOut = (s : SequencerValue) → IsSome (hand_of s.driver) → IsOut s
 
+-- each that waits was started
+abbrev pub are_known : List Start → List Request → Bool
+are_known started queue = list_all (λ request. nat_le request.seq (length started)) queue
+
+-- one more start changes nothing for those that wait
+pub record StartsChangeNothing : Type 0 where
+  pub locks : (start : Start) (started : List Start) (s : SequencerValue) → IsTrue (are_known started s.queue) → lock_at (start ∷ started) s ≡ lock_at started s
+  pub items : (start : Start) (started : List Start) (s : SequencerValue) → IsTrue (are_known started s.queue) → candidates_at (start ∷ started) s ≡ candidates_at started s
+
 -- each grant ends a wait
 pub record EachGrantEndsAWait : Type 0 where
   pub locks : (started : List Start) (s : SequencerValue) (seq : ℕ) → lock_at started s ≡ Some seq → length (locked seq s).queue < length s.queue

@@ -1,6 +1,6 @@
 //! Laws of the definitions. The functions do nothing; their contracts are the laws.
 
-ghost use Rattle.uvm_sequencer.specs.Laws.{AncestorsByParents, EachGrantEndsAWait, FifoOrder, HoldersStayNested, LiveIsStarted, LockExcludes, OneItemOut, StepsChangeAlone, StrictPriority, WeightsShareTheDraws};
+ghost use Rattle.uvm_sequencer.specs.Laws.{AncestorsByParents, EachGrantEndsAWait, FifoOrder, HoldersStayNested, LiveIsStarted, LockExcludes, OneItemOut, StartsChangeNothing, StepsChangeAlone, StrictPriority, WeightsShareTheDraws};
 
 /// The ancestors of a sequence are its parent and the ancestors of that, whether they live or not.
 pub fn ancestors_by_parents()
@@ -47,6 +47,12 @@ pub fn weights_share_the_draws()
 /// While an item is in the driver's hand the driver cannot ask again, and nobody is granted or can send.
 pub fn one_item_out()
     ensures { OneItemOut }
+{}
+
+/// When a sequence is started, the lock that leads and the candidates stay what they were at every sequencer: so a queue that has
+/// not changed need not be looked at again.
+pub fn starts_change_nothing()
+    ensures { StartsChangeNothing }
 {}
 
 /// Each grant of a lock or of an item ends a wait, so that there are no more grants than waits.

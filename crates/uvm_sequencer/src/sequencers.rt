@@ -226,12 +226,19 @@ impl Sequencer {
         ensures some { IfSome result (λ seq. self.new ≡ locked seq self.old) }
         ensures none { IfNone result (self.new ≡ self.old) }
     {
-        let seq = scans::leading_lock(sequences, self.holders.as_slice(), self.queue.as_slice())?;
+        let seq = self.leading_lock(sequences)?;
         take_lock(&mut self.queue, seq);
         let Ok(()) = self.holders.push(seq) else {
             unreachable!()
         };
         Some(seq)
+    }
+
+    /// The sequence whose lock leads: the next that `settle` grants.
+    pub fn leading_lock(&self, sequences: &Sequences) -> Option<SeqId>
+        ensures { result ≡ lock_at sequences.now.started self.now }
+    {
+        scans::leading_lock(sequences, self.holders.as_slice(), self.queue.as_slice())
     }
 
     /// How many item requests and locks wait.

@@ -179,10 +179,12 @@ impl Sequences {
         self.sequence(id)?.step
     }
 
-    /// The sequence that started a sequence, if one did.
+    /// The sequence that started a sequence, if one did. It has a smaller number, so that the way up from parent to parent ends.
     pub fn parent(&self, id: SeqId) -> Option<SeqId>
-        ensures { result ≡ parent_of self.now.started id }
+        ensures parent { result ≡ parent_of self.now.started id }
+        ensures older { IfSome result (λ parent. parent < id) }
     {
+        let _ = &self.sequences;
         self.sequence(id)?.parent
     }
 
@@ -217,21 +219,12 @@ impl Sequences {
         let mut at = id;
         // A parent has a smaller number than its child.
         while at.number() > above.number() {
-            match self.older_parent(at) {
+            match self.parent(at) {
                 Some(parent) => at = parent,
                 None => return false,
             }
         }
         at == above
-    }
-
-    // The sequence that started a sequence, which is older.
-    fn older_parent(&self, id: SeqId) -> Option<SeqId>
-        ensures value { result ≡ parent_of self.now.started id }
-        ensures older { IfSome result (λ parent. parent < id) }
-    {
-        let _ = &self.sequences;
-        self.sequence(id)?.parent
     }
 
     // The sequence of a number.

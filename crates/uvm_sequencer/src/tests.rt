@@ -134,6 +134,7 @@ fn locks_and_grabs_keep_others_back(rt: HostRuntime) -> Result<(), Fail> {
     bench.sequencer.lock(s2)?;
     bench.sequencer.request(s3, 100)?;
     bench.sequencer.grab(s4)?;
+    assert_eq!(rt; bench.sequencer.leading_lock(&bench.sequences), Some(s4));
     assert_eq!(rt; bench.settle(), Some(s4));
     assert_eq!(rt; bench.ask(How::Next), Ok(Asked::Waits));
     assert_eq!(rt; (bench.candidates(), bench.ready()), (0, None));

@@ -3,7 +3,7 @@ use Rattle.std.specs.Option.{option_and_then}
 use Rattle.uvm_sequencer.specs.Sequences.{SequencesValue, Start, parent_of}
 use Rattle.uvm_sequencer.specs.Kept.{starts_of}
 use Rattle.uvm_sequencer.proofs.Unders.{parent-older}
-use Rattle.uvm_sequencer.proofs.starts.Sequences.older_parent.Goals as goal
+use Rattle.uvm_sequencer.proofs.starts.Sequences.parent.Goals as goal
 
 pub returns-clause-older : goal.returns-clause-older
 returns-clause-older c =

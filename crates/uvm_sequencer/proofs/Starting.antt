@@ -1,5 +1,5 @@
 -- A start changes nothing for those that wait.
-use Rattle.std.proofs.Common.{◌≡◌, ◌≤◌, ℕ, Bool, true, false, not, List, [], ◌∷◌, length, filter, Option, Some, None, refl, sym, ap, ◌∙◌, arith, if◌then◌else◌, nat_le}
+use Rattle.std.proofs.Common.{◌≡◌, ◌≤◌, ℕ, Bool, true, false, not, List, [], ◌∷◌, length, Some, refl, ap, ◌∙◌, arith, if◌then◌else◌, nat_le}
 use Rattle.std.specs.Prelude.{◌==◌, ◌||◌, ◌&&◌}
 use Rattle.std.proofs.lemmas.Bool.Decides.{nat_tests}
 use Rattle.std.specs.List.{list_any}
@@ -7,7 +7,6 @@ use Rattle.std.specs.Option.{option_and_then}
 use Rattle.uvm_sequencer.specs.declared.requests.Request.{Request}
 use Rattle.uvm_sequencer.specs.Sequences.{Start}
 use Rattle.uvm_sequencer.specs.Queues.{candidates, is_blocked, is_candidate, is_item, leading, lock_in}
-use Rattle.uvm_sequencer.specs.Sequencers.{SequencerValue, candidates_at, lock_at}
 use Rattle.uvm_sequencer.specs.Laws.{StartsChangeNothing, are_known}
 use Rattle.uvm_sequencer.proofs.Unders.{ancestors-older, is_among}
 

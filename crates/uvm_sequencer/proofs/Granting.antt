@@ -1,5 +1,5 @@
 -- Who is granted waits for it, and stands under all holders.
-use Rattle.std.proofs.Common.{◌≡◌, ◌≤◌, ◌<◌, ◌+◌, ◌%◌, ℕ, zero, suc, Bool, true, false, not, List, [], ◌∷◌, length, filter, sum_by, Option, Some, None, refl, ap, subst, ◌∙◌, arith, if◌then◌else◌, nat_lt}
+use Rattle.std.proofs.Common.{◌≡◌, ◌+◌, ◌%◌, ℕ, zero, suc, Bool, true, false, not, List, [], ◌∷◌, length, filter, sum_by, Option, Some, None, refl, ap, subst, ◌∙◌, arith, if◌then◌else◌, nat_lt}
 use Rattle.std.specs.Prelude.{◌==◌, ◌||◌, ◌&&◌, All, Contains}
 use Rattle.std.proofs.lemmas.Bool.Decides.{nat_tests}
 use Rattle.std.proofs.lemmas.List.Elements.{All-nil, All-cons, All-head, All-tail, All-contains, All-contains_itself, All-filter, All-weaker, filter_passes}
@@ -14,7 +14,8 @@ use Rattle.uvm_sequencer.specs.Sequences.{Start, is_under}
 use Rattle.uvm_sequencer.specs.Queues.{is_blocked, is_candidate, is_item, is_item_of, is_lock_of, leading, lock_in, lock_request, priority_of}
 use Rattle.uvm_sequencer.specs.Choices.{choice, contenders, drawn, first_over, is_greatest, is_strict}
 use Rattle.uvm_sequencer.specs.Sequencers.{SequencerValue, candidates_at, choice_at, granted, lock_at, locked}
-use Rattle.uvm_sequencer.specs.Laws.{IsFree, LockExcludes, EachGrantEndsAWait}
+use Rattle.uvm_sequencer.specs.Laws.{AreSingle, EachGrantEndsAWait, IsFree, LockExcludes}
+use Rattle.uvm_sequencer.proofs.Singles.{one-fewer}
 use Rattle.uvm_sequencer.proofs.Waiting.{leading-waits}
 
 -- what holds of each holds of the one at a place, and of the one that is first over a number
@@ -119,24 +120,6 @@ lock-free started s seq is = lock_by started s seq (leading started s.holders s.
 pub lock_excludes : LockExcludes
 lock_excludes = record { locks = lock-free; items = item-free }
 
--- where something passes a test, fewer are left that do not
-kept_by : {X : Type 0} (p : X → Bool) (x : X) (xs : List X) (b : Bool) → p x ≡ b → length (filter (λ y. not (p y)) xs) ≤ length xs → length (filter (λ y. not (p y)) (x ∷ xs)) ≤ length (x ∷ xs)
-kept_by p x xs true e rest = rw e (omega arith)
-kept_by p x xs false e rest = rw e (omega arith)
-
-kept-length : {X : Type 0} (p : X → Bool) (xs : List X) → length (filter (λ y. not (p y)) xs) ≤ length xs
-kept-length p [] = omega arith
-kept-length p (x ∷ xs) = kept_by p x xs (p x) refl (kept-length p xs)
-
-fewer_by : {X : Type 0} (p : X → Bool) (x : X) (xs : List X) (b : Bool) → p x ≡ b → (list_any p xs ≡ true → length (filter (λ y. not (p y)) xs) < length xs)
-    → (b || list_any p xs) ≡ true → length (filter (λ y. not (p y)) (x ∷ xs)) < length (x ∷ xs)
-fewer_by p x xs true e rest is = let few = kept-length p xs in rw e (omega arith)
-fewer_by p x xs false e rest is = let less = rest is in rw e (omega arith)
-
-fewer : {X : Type 0} (p : X → Bool) (xs : List X) → list_any p xs ≡ true → length (filter (λ y. not (p y)) xs) < length xs
-fewer p [] is = absurd cc
-fewer p (x ∷ xs) is = fewer_by p x xs (p x) refl (fewer p xs) is
-
 -- what is there and passes
 or_right : (a : Bool) {b : Bool} → b ≡ true → (a || b) ≡ true
 or_right true e = refl
@@ -155,20 +138,21 @@ same : (n : ℕ) → (n == n) ≡ true
 same n = grind (arith, nat_tests)
 
 module _ (started : List Start) (s : SequencerValue) where
-  lock-ends : (seq : ℕ) → lock_at started s ≡ Some seq → length (locked seq s).queue < length s.queue
-  lock-ends seq is = fewer (is_lock_of seq) s.queue (leading-waits started s.holders seq s.queue is)
+  lock-ends : (seq : ℕ) → AreSingle s.queue → lock_at started s ≡ Some seq → length (locked seq s).queue + 1 ≡ length s.queue
+  lock-ends seq single is = let one = single seq in one-fewer (is_lock_of seq) s.queue (leading-waits started s.holders seq s.queue is) one.1
 
-  item_by : (word : Option ℕ) (seq : ℕ) (found : Option Request) → choice s.mode (candidates_at started s) word ≡ found → option_map (λ (r : Request). r.seq) found ≡ Some seq → length (granted seq s).queue < length s.queue
-  item_by word seq None e is = absurd cc
-  item_by word seq (Some r) e is =
+  item_by : (word : Option ℕ) (seq : ℕ) (found : Option Request) → AreSingle s.queue → choice s.mode (candidates_at started s) word ≡ found → option_map (λ (r : Request). r.seq) found ≡ Some seq → length (granted seq s).queue + 1 ≡ length s.queue
+  item_by word seq None single e is = absurd cc
+  item_by word seq (Some r) single e is =
       let item = item_of (is_item r) (is_blocked started s.holders r.seq) (chosen-item started s word r e) in
       let own : is_item_of r.seq r ≡ true = ap (λ b. b && is_item r) (same r.seq) ∙ item in
       let told : r.seq ≡ seq = cc in
-      subst (λ n. length (granted n s).queue < length s.queue) told
-      (fewer (is_item_of r.seq) s.queue (any-contains (is_item_of r.seq) s.queue r (chosen-waits started s word r e) own))
+      let one = single r.seq in
+      subst (λ n. length (granted n s).queue + 1 ≡ length s.queue) told
+      (one-fewer (is_item_of r.seq) s.queue (any-contains (is_item_of r.seq) s.queue r (chosen-waits started s word r e) own) one.0)
 
-  item-ends : (word : Option ℕ) (seq : ℕ) → choice_at started s word ≡ Some seq → length (granted seq s).queue < length s.queue
-  item-ends word seq is = item_by word seq (choice s.mode (candidates_at started s) word) refl is
+  item-ends : (word : Option ℕ) (seq : ℕ) → AreSingle s.queue → choice_at started s word ≡ Some seq → length (granted seq s).queue + 1 ≡ length s.queue
+  item-ends word seq single is = item_by word seq (choice s.mode (candidates_at started s) word) single refl is
 
 pub each_grant_ends_a_wait : EachGrantEndsAWait
 each_grant_ends_a_wait = record { locks = lock-ends; items = item-ends }

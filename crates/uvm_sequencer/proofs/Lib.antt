@@ -5,6 +5,7 @@ pub mod Nesting
 pub mod Numbers
 pub mod Ordering
 pub mod Releases
+pub mod Singles
 pub mod Starting
 pub mod Steps
 pub mod Unders

@@ -7,9 +7,9 @@ use Rattle.uvm_sequencer.specs.declared.requests.Request.{Request}
 use Rattle.uvm_sequencer.specs.declared.starts.SeqStep.{SeqStep}
 use Rattle.uvm_sequencer.specs.Choices.{choice, first_over, is_strict}
 use Rattle.uvm_sequencer.specs.Drivers.{grant_of, hand_of, wait_of}
-use Rattle.uvm_sequencer.specs.Queues.{is_candidate, is_item, lock_request, priority_of}
+use Rattle.uvm_sequencer.specs.Queues.{is_candidate, is_item, is_item_of, is_lock_of, lock_request, priority_of}
 use Rattle.uvm_sequencer.specs.Sequences.{Start, SequencesValue, IsSequences, AreStarted, ancestors_of, is_under, numbered, parent_of, step_at, with_step}
-use Rattle.uvm_sequencer.specs.Sequencers.{SequencerValue, after_leave, ask_fault, candidates_at, choice_at, granted, lock_at, locked, unlocked}
+use Rattle.uvm_sequencer.specs.Sequencers.{SequencerValue, after_leave, ask_fault, candidates_at, choice_at, granted, lock_at, lock_fault, locked, request_fault, unlocked, with_grab, with_item, with_lock}
 
 -- the ancestors of a sequence are its parent and the ancestors of that
 abbrev pub AncestorsByParents : Type 0
@@ -91,7 +91,20 @@ pub record StartsChangeNothing : Type 0 where
   pub locks : (start : Start) (started : List Start) (s : SequencerValue) → IsTrue (are_known started s.queue) → lock_at (start ∷ started) s ≡ lock_at started s
   pub items : (start : Start) (started : List Start) (s : SequencerValue) → IsTrue (are_known started s.queue) → candidates_at (start ∷ started) s ≡ candidates_at started s
 
--- each grant ends a wait
+-- a sequence waits for one item and for one lock at most
+abbrev pub AreSingle : List Request → Type 0
+AreSingle queue = (seq : ℕ) → (length (filter (is_item_of seq) queue) ≤ 1) × (length (filter (is_lock_of seq) queue) ≤ 1)
+
+-- that stays so, whatever is asked for, granted or taken out
+pub record WaitsStaySingle : Type 0 where
+  pub requests : (s : SequencerValue) (seq priority : ℕ) → AreSingle s.queue → request_fault s seq ≡ None → AreSingle (with_item seq priority s).queue
+  pub locks : (s : SequencerValue) (seq : ℕ) → AreSingle s.queue → lock_fault s seq ≡ None → AreSingle (with_lock seq s).queue
+  pub grabs : (s : SequencerValue) (seq : ℕ) → AreSingle s.queue → lock_fault s seq ≡ None → AreSingle (with_grab seq s).queue
+  pub lock_grants : (s : SequencerValue) (seq : ℕ) → AreSingle s.queue → AreSingle (locked seq s).queue
+  pub item_grants : (s : SequencerValue) (seq : ℕ) → AreSingle s.queue → AreSingle (granted seq s).queue
+  pub leaves : (s : SequencerValue) (seq : ℕ) → AreSingle s.queue → AreSingle (after_leave seq s).queue
+
+-- each grant then ends one wait
 pub record EachGrantEndsAWait : Type 0 where
-  pub locks : (started : List Start) (s : SequencerValue) (seq : ℕ) → lock_at started s ≡ Some seq → length (locked seq s).queue < length s.queue
-  pub items : (started : List Start) (s : SequencerValue) (word : Option ℕ) (seq : ℕ) → choice_at started s word ≡ Some seq → length (granted seq s).queue < length s.queue
+  pub locks : (started : List Start) (s : SequencerValue) (seq : ℕ) → AreSingle s.queue → lock_at started s ≡ Some seq → length (locked seq s).queue + 1 ≡ length s.queue
+  pub items : (started : List Start) (s : SequencerValue) (word : Option ℕ) (seq : ℕ) → AreSingle s.queue → choice_at started s word ≡ Some seq → length (granted seq s).queue + 1 ≡ length s.queue

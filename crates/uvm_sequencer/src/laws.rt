@@ -1,6 +1,6 @@
 //! Laws of the definitions. The functions do nothing; their contracts are the laws.
 
-ghost use Rattle.uvm_sequencer.specs.Laws.{AncestorsByParents, EachGrantEndsAWait, FifoOrder, HoldersStayNested, LiveIsStarted, LockExcludes, OneItemOut, StartsChangeNothing, StepsChangeAlone, StrictPriority, WeightsShareTheDraws};
+ghost use Rattle.uvm_sequencer.specs.Laws.{AncestorsByParents, EachGrantEndsAWait, FifoOrder, HoldersStayNested, LiveIsStarted, LockExcludes, OneItemOut, StartsChangeNothing, StepsChangeAlone, StrictPriority, WaitsStaySingle, WeightsShareTheDraws};
 
 /// The ancestors of a sequence are its parent and the ancestors of that, whether they live or not.
 pub fn ancestors_by_parents()
@@ -55,7 +55,12 @@ pub fn starts_change_nothing()
     ensures { StartsChangeNothing }
 {}
 
-/// Each grant of a lock or of an item ends a wait, so that there are no more grants than waits.
+/// A sequence waits for one item and for one lock at most: so it was at the beginning, and so it stays, whatever is called.
+pub fn waits_stay_single()
+    ensures { WaitsStaySingle }
+{}
+
+/// Each grant of a lock or of an item ends one wait, so that there are no more grants than waits.
 pub fn each_grant_ends_a_wait()
     ensures { EachGrantEndsAWait }
 {}

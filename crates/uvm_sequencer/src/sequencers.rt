@@ -234,7 +234,7 @@ impl Sequencer {
         Some(seq)
     }
 
-    /// The sequence whose lock leads: the next that `settle` grants.
+    /// The sequence whose lock leads, which `settle` grants; none where no lock leads.
     pub fn leading_lock(&self, sequences: &Sequences) -> Option<SeqId>
         ensures { result ≡ lock_at sequences.now.started self.now }
     {

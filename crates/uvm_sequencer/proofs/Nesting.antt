@@ -102,6 +102,7 @@ nested-started start older (first ∷ later) nested =
 
 pub holders_stay_nested : HoldersStayNested
 holders_stay_nested = record {
+  begins = λ started mode. refl;
   locks = λ started s seq nested is. nested-push started s.holders seq nested (lock-free started s seq is).under;
   unlocks = λ started s seq nested. nested-released started seq s.holders nested;
   leaves = λ started s seq nested. nested-left started (λ holder. not (holder == seq)) s.holders nested;

@@ -98,6 +98,7 @@ single-last queue x single n =
 
 pub waits_stay_single : WaitsStaySingle
 waits_stay_single = record {
+  begins = λ mode seq. (omega arith, omega arith);
   requests = λ s seq priority single free. single-last s.queue (item_request seq priority) (single-item s.queue seq priority (first_false (list_any (is_item_of seq) s.queue) (is_some (grant_of seq s.driver)) free) single);
   locks = λ s seq single free. single-last s.queue (lock_request seq) (single-lock s.queue seq (free_of (list_any (is_lock_of seq) s.queue) free) single);
   grabs = λ s seq single free. single-lock s.queue seq (free_of (list_any (is_lock_of seq) s.queue) free) single;

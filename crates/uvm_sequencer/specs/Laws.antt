@@ -2,6 +2,7 @@
 use Rattle.std.specs.Prelude.{◌≡◌, ◌+◌, ◌<◌, ◌≤◌, ◌==◌, ◌&&◌, ℕ, Bool, true, IsTrue, nat_le, List, [], ◌∷◌, ◌++◌, length, filter, sum_by, All, Contains, Option, Some, None, IsSome, option_map, if◌then◌else◌}
 use Rattle.std.specs.List.{list_all}
 use Rattle.std.specs.Option.{option_map_or}
+use Rattle.uvm_sequencer.specs.declared.modes.Mode.{Mode}
 use Rattle.uvm_sequencer.specs.declared.modes.Mode.TheVariants.{Fifo, StrictFifo}
 use Rattle.uvm_sequencer.specs.declared.requests.Request.{Request}
 use Rattle.uvm_sequencer.specs.declared.starts.SeqStep.{SeqStep}
@@ -9,7 +10,7 @@ use Rattle.uvm_sequencer.specs.Choices.{choice, first_over, is_strict}
 use Rattle.uvm_sequencer.specs.Drivers.{grant_of, hand_of, wait_of}
 use Rattle.uvm_sequencer.specs.Queues.{is_candidate, is_item, is_item_of, is_lock_of, lock_request, priority_of}
 use Rattle.uvm_sequencer.specs.Sequences.{Start, SequencesValue, IsSequences, AreStarted, ancestors_of, is_under, numbered, parent_of, step_at, with_step}
-use Rattle.uvm_sequencer.specs.Sequencers.{SequencerValue, after_leave, ask_fault, candidates_at, choice_at, granted, lock_at, lock_fault, locked, request_fault, unlocked, with_grab, with_item, with_lock}
+use Rattle.uvm_sequencer.specs.Sequencers.{SequencerValue, after_leave, ask_fault, candidates_at, choice_at, granted, lock_at, lock_fault, locked, new_sequencer, request_fault, unlocked, with_grab, with_item, with_lock}
 
 -- the ancestors of a sequence are its parent and the ancestors of that
 abbrev pub AncestorsByParents : Type 0
@@ -39,8 +40,9 @@ abbrev pub are_nested : List Start → List ℕ → Bool
 are_nested started [] = true
 are_nested started (first ∷ later) = list_all (λ holder. is_under started holder first) later && are_nested started later
 
--- nested holders stay so, when a lock is granted or given back, a sequence leaves, or another is started
+-- the holders are nested at first, and stay so when a lock is granted or given back, a sequence leaves, or another is started
 pub record HoldersStayNested : Type 0 where
+  pub begins : (started : List Start) (mode : Mode) → IsTrue (are_nested started (new_sequencer mode).holders)
   pub locks : (started : List Start) (s : SequencerValue) (seq : ℕ) → IsTrue (are_nested started s.holders) → lock_at started s ≡ Some seq → IsTrue (are_nested started (locked seq s).holders)
   pub unlocks : (started : List Start) (s : SequencerValue) (seq : ℕ) → IsTrue (are_nested started s.holders) → IsTrue (are_nested started (unlocked seq s).holders)
   pub leaves : (started : List Start) (s : SequencerValue) (seq : ℕ) → IsTrue (are_nested started s.holders) → IsTrue (are_nested started (after_leave seq s).holders)
@@ -95,8 +97,9 @@ pub record StartsChangeNothing : Type 0 where
 abbrev pub AreSingle : List Request → Type 0
 AreSingle queue = (seq : ℕ) → (length (filter (is_item_of seq) queue) ≤ 1) × (length (filter (is_lock_of seq) queue) ≤ 1)
 
--- that stays so, whatever is asked for, granted or taken out
+-- that is so at first, and stays so, whatever is asked for, granted or taken out
 pub record WaitsStaySingle : Type 0 where
+  pub begins : (mode : Mode) → AreSingle (new_sequencer mode).queue
   pub requests : (s : SequencerValue) (seq priority : ℕ) → AreSingle s.queue → request_fault s seq ≡ None → AreSingle (with_item seq priority s).queue
   pub locks : (s : SequencerValue) (seq : ℕ) → AreSingle s.queue → lock_fault s seq ≡ None → AreSingle (with_lock seq s).queue
   pub grabs : (s : SequencerValue) (seq : ℕ) → AreSingle s.queue → lock_fault s seq ≡ None → AreSingle (with_grab seq s).queue

@@ -23,7 +23,8 @@ pub fn lock_excludes()
     ensures { LockExcludes }
 {}
 
-/// Of any two holders of a sequencer one is the other or one of its ancestors: nested holders stay so, whatever is called.
+/// Of any two holders of a sequencer one is the other or one of its ancestors: there is none at first, and nested holders stay
+/// so, whatever is called.
 pub fn holders_stay_nested()
     ensures { HoldersStayNested }
 {}

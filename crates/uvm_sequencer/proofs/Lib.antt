@@ -1,0 +1,12 @@
+pub mod Contenders
+pub mod Granting
+pub mod Living
+pub mod Nesting
+pub mod Numbers
+pub mod Ordering
+pub mod Releases
+pub mod Singles
+pub mod Starting
+pub mod Steps
+pub mod Unders
+pub mod Waiting

@@ -1,0 +1,44 @@
+-- A start changes nothing for those that wait.
+use Rattle.std.proofs.Common.{◌≡◌, ◌≤◌, ℕ, Bool, true, false, not, List, [], ◌∷◌, length, Some, refl, ap, ◌∙◌, arith, if◌then◌else◌, nat_le}
+use Rattle.std.specs.Prelude.{◌==◌, ◌||◌, ◌&&◌}
+use Rattle.std.proofs.lemmas.Bool.Decides.{nat_tests}
+use Rattle.std.specs.List.{list_any}
+use Rattle.std.specs.Option.{option_and_then}
+use Rattle.uvm_sequencer.specs.declared.requests.Request.{Request}
+use Rattle.uvm_sequencer.specs.Sequences.{Start}
+use Rattle.uvm_sequencer.specs.Queues.{candidates, is_blocked, is_candidate, is_item, leading, lock_in}
+use Rattle.uvm_sequencer.specs.Laws.{StartsChangeNothing, are_known}
+use Rattle.uvm_sequencer.proofs.Unders.{ancestors-older, is_among}
+
+le_of : (m n : ℕ) (b : Bool) → (nat_le m n && b) ≡ true → m ≤ n
+le_of m n b e = first (nat_le m n) b refl e
+  where
+    first : (a b : Bool) → nat_le m n ≡ a → (a && b) ≡ true → m ≤ n
+    first true b e f = grind (arith, nat_tests)
+    first false b e f = absurd cc
+
+rest_of : (a b : Bool) → (a && b) ≡ true → b ≡ true
+rest_of true b e = e
+rest_of false b e = absurd cc
+
+module _ (start : Start) (older : List Start) (holders : List ℕ) where
+  blocked-started : (id : ℕ) → id ≤ length older → is_blocked (start ∷ older) holders id ≡ is_blocked older holders id
+  blocked-started id old = ap (λ l. list_any (λ holder. not ((id == holder) || is_among holder l)) holders) (ancestors-older start older id old)
+
+  candidates-started : (queue : List Request) → are_known older queue ≡ true → candidates (start ∷ older) holders queue ≡ candidates older holders queue
+  candidates-started [] known = refl
+  candidates-started (r ∷ rs) known =
+      ap (λ b. if is_item r && not b then r ∷ candidates (start ∷ older) holders rs else candidates (start ∷ older) holders rs) (blocked-started r.seq (le_of r.seq (length older) (are_known older rs) known))
+      ∙ ap (λ l. if is_candidate older holders r then r ∷ l else l) (candidates-started rs (rest_of (nat_le r.seq (length older)) (are_known older rs) known))
+
+  leading-started : (queue : List Request) → are_known older queue ≡ true → leading (start ∷ older) holders queue ≡ leading older holders queue
+  leading-started [] known = refl
+  leading-started (r ∷ rs) known =
+      ap (λ b. if not b then Some r else leading (start ∷ older) holders rs) (blocked-started r.seq (le_of r.seq (length older) (are_known older rs) known))
+      ∙ ap (λ found. if not (is_blocked older holders r.seq) then Some r else found) (leading-started rs (rest_of (nat_le r.seq (length older)) (are_known older rs) known))
+
+pub starts_change_nothing : StartsChangeNothing
+starts_change_nothing = record {
+  locks = λ start started s known. ap (option_and_then lock_in) (leading-started start started s.holders s.queue known);
+  items = λ start started s known. candidates-started start started s.holders s.queue known;
+}

@@ -1,0 +1,47 @@
+use Rattle.std.proofs.Common.{◌∙◌, ◌<◌, ◌%◌, sym, ap, subst, IsSome, List, length, sum_by, refl}
+use Rattle.std.specs.List.{slice_get}
+use Rattle.std.specs.Option.{option_map}
+use Rattle.uvm_sequencer.specs.declared.requests.Request.{Request}
+use Rattle.uvm_sequencer.specs.Contending.{contending}
+use Rattle.uvm_sequencer.specs.Choices.{choice, contenders}
+use Rattle.uvm_sequencer.specs.Queues.{candidates, priority_of}
+use Rattle.uvm_sequencer.proofs.Contenders.{at-bar, sum-contenders, by-place}
+use Rattle.uvm_sequencer.proofs.choices.Choices.chosen.Goals as goal
+
+-- the first contender
+pub returns-in_default : goal.returns-in_default
+returns-in_default c =
+    let s = c.args.self.now in
+    let those = candidates s.sequences.now.started s.holders.now s.queue.now in
+    c.nth.ensures
+    ∙ ap (λ l. option_map (λ (r : Request). r.seq) (slice_get l 0)) (at-bar c.args.mode s.sequences.now.started s.holders.now s.queue.now c.bar-bar.result c.bar-bar.ensures)
+    ∙ ap (λ w. option_map (λ (r : Request). r.seq) (choice c.args.mode those w)) (sym c.in_default.is)
+
+pub nonzero_rem-from : goal.nonzero_rem-from
+nonzero_rem-from c =
+    let s = c.args.self.now in
+    let P : List Request → Type 0 = λ l. 0 < sum_by priority_of l in
+    let some : IsSome c.args.word = rw c.in-Some.is refl in
+    rw c.sum-sum.ensures
+    (subst P (sym (at-bar c.args.mode s.sequences.now.started s.holders.now s.queue.now c.bar-bar.result c.bar-bar.ensures))
+    (sum-contenders c.args.mode s.sequences.now.started s.holders.now s.queue.now c.requires.priorities (c.requires.some some)))
+
+pub nonzero_rem-word : goal.nonzero_rem-word
+nonzero_rem-word c =
+    let s = c.args.self.now in
+    let P : List Request → Type 0 = λ l. 0 < length l in
+    let some : IsSome c.args.word = rw c.in-Some.is refl in
+    rw c.count-count.ensures
+    (subst P (sym (at-bar c.args.mode s.sequences.now.started s.holders.now s.queue.now c.bar-bar.result c.bar-bar.ensures)) (c.requires.some some))
+
+-- by its place
+pub returns-in_default-mode : goal.returns-in_default-mode
+returns-in_default-mode c =
+    let s = c.args.self.now in
+    let those = candidates s.sequences.now.started s.holders.now s.queue.now in
+    let same = at-bar c.args.mode s.sequences.now.started s.holders.now s.queue.now c.bar-bar.result c.bar-bar.ensures in
+    c.nth-in_default-mode.ensures
+    ∙ ap (λ n. option_map (λ (r : Request). r.seq) (slice_get (contending s.sequences.now.started s.holders.now c.bar-bar.result s.queue.now) (c.in-Some.word % n))) c.count-count.ensures
+    ∙ ap (λ l. option_map (λ (r : Request). r.seq) (slice_get l (c.in-Some.word % length l))) same
+    ∙ ap (option_map (λ (r : Request). r.seq)) (sym (by-place c.args.mode (contenders c.args.mode those) c.in-Some.word c.in_default-mode.not-Weighted))
+    ∙ ap (λ w. option_map (λ (r : Request). r.seq) (choice c.args.mode those w)) (sym c.in-Some.is)

@@ -1,0 +1,8 @@
+use Rattle.std.proofs.Common.{◌≡◌, drop, max}
+use Rattle.uvm_sequencer.specs.Queues.{candidates}
+use Rattle.uvm_sequencer.specs.Contending.{highest}
+use Rattle.uvm_sequencer.proofs.choices.Choices.highest.Given as goal
+
+-- the greatest so far and of what is left
+abbrev pub invariant-loop-request : goal.invariant-loop-request
+invariant-loop-request l = max l.highest (highest (candidates l.self.sequences.now.started l.self.holders.now (drop l.request-index l.self.queue.now))) ≡ highest (candidates l.self.sequences.now.started l.self.holders.now l.self.queue.now)

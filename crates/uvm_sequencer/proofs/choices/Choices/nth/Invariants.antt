@@ -1,0 +1,8 @@
+use Rattle.std.proofs.Common.{◌≡◌, drop}
+use Rattle.std.specs.List.{slice_get}
+use Rattle.uvm_sequencer.specs.Contending.{contending}
+use Rattle.uvm_sequencer.proofs.choices.Choices.nth.Given as goal
+
+-- the one that is sought, among what is left
+abbrev pub invariant-loop-request : goal.invariant-loop-request
+invariant-loop-request l = slice_get (contending l.self.sequences.now.started l.self.holders.now l.bar l.self.queue.now) l.n ≡ slice_get (contending l.self.sequences.now.started l.self.holders.now l.bar (drop l.request-index l.self.queue.now)) l.left

@@ -1,0 +1,11 @@
+use Rattle.std.proofs.Common.{◌≡◌, ◌≤◌, ◌+◌, ◌*◌, drop, sum_by}
+use Rattle.uvm_sequencer.specs.Queues.{priority_of}
+use Rattle.uvm_sequencer.specs.Contending.{contending}
+use Rattle.uvm_sequencer.proofs.choices.Choices.sum.Given as goal
+
+-- the sum so far and of what is left
+abbrev pub invariant-loop-request : goal.invariant-loop-request
+invariant-loop-request l = record {
+  small : l.sum ≤ 65535 * l.request-index;
+  sum : l.sum + sum_by priority_of (contending l.self.sequences.now.started l.self.holders.now l.bar (drop l.request-index l.self.queue.now)) ≡ sum_by priority_of (contending l.self.sequences.now.started l.self.holders.now l.bar l.self.queue.now);
+}

@@ -1,0 +1,13 @@
+use Rattle.std.proofs.Common.{◌≤◌, ◌+◌, length, vec_capacity, arith}
+use Rattle.std.proofs.lemmas.Grind.{common_steps}
+use Rattle.uvm_sequencer.proofs.Waiting.{room-asked}
+use Rattle.uvm_sequencer.proofs.sequencers.Sequencer.lock.Goals as goal
+
+pub invariant_of-self-2 : goal.invariant_of-self-2
+invariant_of-self-2 c =
+    let room : length c.reserve.new.self.items + (length c.self.inside.queue.items + 1) ≤ vec_capacity c.reserve.new.self =
+    grind (arith, common_steps, c.in_ok-reserve.ensures.ok, c.len.ensures) in
+    record {
+      room = rw c.in_ok-put_last.ensures.ok (room-asked c.self.inside.queue.items _ c.reserve.new.self.items (vec_capacity c.reserve.new.self) room);
+      priorities = grind (arith, common_steps);
+    }

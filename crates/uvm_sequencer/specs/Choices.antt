@@ -1,0 +1,67 @@
+-- Which candidate is granted (IEEE 1800.2-2020, Clause 15, arbitration).
+use Rattle.std.specs.Prelude.{ℕ, Bool, true, false, ◌&&◌, ◌+◌, ◌%◌, nat_lt, nat_le, List, [], ◌∷◌, length, filter, sum_by, Option, Some, None, slice_get, if◌then◌else◌}
+use Rattle.std.specs.List.{list_all}
+use Rattle.uvm_sequencer.specs.declared.modes.Mode.{Mode}
+use Rattle.uvm_sequencer.specs.declared.modes.Mode.TheVariants.{Fifo, Weighted, Random, StrictFifo, StrictRandom}
+use Rattle.uvm_sequencer.specs.declared.requests.Request.{Request}
+use Rattle.uvm_sequencer.specs.declared.drivers.How.{How}
+use Rattle.uvm_sequencer.specs.Queues.{priority_of}
+
+-- whether only the greatest priority counts
+abbrev pub is_strict : Mode → Bool
+is_strict Fifo = false
+is_strict Weighted = false
+is_strict Random = false
+is_strict StrictFifo = true
+is_strict StrictRandom = true
+
+-- whether a word decides
+abbrev pub is_random : Mode → Bool
+is_random Fifo = false
+is_random Weighted = true
+is_random Random = true
+is_random StrictFifo = false
+is_random StrictRandom = true
+
+-- no request of a list has a greater priority
+abbrev pub is_greatest : List Request → Request → Bool
+is_greatest requests request = list_all (λ other. nat_le (priority_of other) (priority_of request)) requests
+
+-- the candidates among which it is chosen: those of greatest priority, or all
+abbrev pub contenders : Mode → List Request → List Request
+contenders mode candidates = if is_strict mode then filter (is_greatest candidates) candidates else candidates
+
+-- whether a word is drawn: where at least two remain to choose from
+abbrev pub is_drawn : Mode → List Request → Bool
+is_drawn mode candidates = is_random mode && nat_lt 1 (length (contenders mode candidates))
+
+-- the first at which the sum of the priorities, from a number on, exceeds another
+abbrev pub first_over : ℕ → ℕ → List Request → Option Request
+first_over sum n [] = None
+first_over sum n (request ∷ requests) =
+    if nat_lt n (sum + priority_of request) then Some request else first_over (sum + priority_of request) n requests
+
+-- the one that a word decides on by the priorities, or by the places from 0
+abbrev pub by_priority : List Request → ℕ → Option Request
+by_priority requests word = first_over 0 (word % sum_by priority_of requests) requests
+
+abbrev pub by_place : List Request → ℕ → Option Request
+by_place requests word = slice_get requests (word % length requests)
+
+abbrev pub drawn : Mode → List Request → ℕ → Option Request
+drawn Weighted requests word = by_priority requests word
+drawn Fifo requests word = by_place requests word
+drawn Random requests word = by_place requests word
+drawn StrictFifo requests word = by_place requests word
+drawn StrictRandom requests word = by_place requests word
+
+-- the one that is granted: without a word the first
+abbrev pub choice : Mode → List Request → Option ℕ → Option Request
+choice mode candidates None = slice_get (contenders mode candidates) 0
+choice mode candidates (Some word) = drawn mode (contenders mode candidates) word
+
+-- none where the driver does not wait or there is no candidate; else whether a word is drawn
+abbrev pub readiness : Mode → Option How → List Request → Option Bool
+readiness mode None candidates = None
+readiness mode (Some how) [] = None
+readiness mode (Some how) (request ∷ requests) = Some (is_drawn mode (request ∷ requests))

@@ -1,0 +1,72 @@
+-- What becomes of the driver of a sequencer.
+use Rattle.std.specs.Prelude.{ℕ, Bool, true, false, ◌==◌, Option, Some, None, if◌then◌else◌}
+use Rattle.uvm_sequencer.specs.declared.drivers.Asked.{Asked}
+use Rattle.uvm_sequencer.specs.declared.drivers.Asked.TheVariants.{Nothing, Waits}
+use Rattle.uvm_sequencer.specs.declared.drivers.How.{How}
+use Rattle.uvm_sequencer.specs.declared.drivers.How.TheVariants.{Next, Try, Get}
+use Rattle.uvm_sequencer.specs.declared.drivers.Driver.{Driver}
+use Rattle.uvm_sequencer.specs.declared.drivers.Driver.TheVariants.{Idle, Waiting, Granted, InHand}
+
+-- it may ask
+abbrev pub is_idle : Driver → Bool
+is_idle Idle = true
+is_idle (Waiting how) = false
+is_idle (Granted seq how) = false
+is_idle (InHand seq) = false
+
+-- how it asked, while nobody is granted
+abbrev pub wait_of : Driver → Option How
+wait_of Idle = None
+wait_of (Waiting how) = Some how
+wait_of (Granted seq how) = None
+wait_of (InHand seq) = None
+
+-- how it asked, while that sequence is granted and has not sent
+abbrev pub grant_of : ℕ → Driver → Option How
+grant_of seq Idle = None
+grant_of seq (Waiting how) = None
+grant_of seq (Granted other how) = if other == seq then Some how else None
+grant_of seq (InHand other) = None
+
+-- whose item it has in hand
+abbrev pub hand_of : Driver → Option ℕ
+hand_of Idle = None
+hand_of (Waiting how) = None
+hand_of (Granted seq how) = None
+hand_of (InHand seq) = Some seq
+
+-- after it asked: it waits, unless it has its answer
+abbrev pub asked_by : How → Asked → Driver → Driver
+asked_by how Nothing driver = driver
+asked_by how Waits driver = Waiting how
+
+-- after a sequence was granted, for which it waited
+abbrev pub granted_by : ℕ → Driver → Driver
+granted_by seq Idle = Idle
+granted_by seq (Waiting how) = Granted seq how
+granted_by seq (Granted other how) = Granted other how
+granted_by seq (InHand other) = InHand other
+
+-- after the granted sequence sent its item: it has it in hand, but for a `get`, which is done
+abbrev pub sent : ℕ → How → Driver
+sent seq Next = InHand seq
+sent seq Try = InHand seq
+sent seq Get = Idle
+
+-- after an unsent grant lapsed: a `try` has its answer, and the others wait again
+abbrev pub lapsed : How → Driver
+lapsed Next = Waiting Next
+lapsed Try = Idle
+lapsed Get = Waiting Get
+
+-- after a sequence left, of which an unsent grant lapses
+abbrev pub left_by : Option How → Driver → Driver
+left_by None driver = driver
+left_by (Some how) driver = lapsed how
+
+-- what lapsed was a `try`
+abbrev pub is_try : Option How → Bool
+is_try (Some Try) = true
+is_try (Some Next) = false
+is_try (Some Get) = false
+is_try None = false

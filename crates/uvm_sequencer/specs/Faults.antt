@@ -1,0 +1,26 @@
+-- What is told of each fault.
+use Rattle.std.specs.Prelude.{ℕ, List, Option, Some, None, Result, Ok, Err, codes}
+use Rattle.uvm_sequencer.specs.declared.faults.SeqFault.{SeqFault}
+use Rattle.uvm_sequencer.specs.declared.faults.SeqFault.TheVariants.{NoDriver, Twice, NothingOut, NotGranted, NotHeld, Memory}
+
+abbrev pub fault_text : SeqFault → List ℕ
+fault_text NoDriver = codes "no driver"
+fault_text Twice = codes "asked twice"
+fault_text NothingOut = codes "nothing out"
+fault_text NotGranted = codes "not granted"
+fault_text NotHeld = codes "not held"
+fault_text Memory = codes "out of memory"
+
+-- what a fault says of a call: want of memory says that nothing is wrong with it
+abbrev pub refusal : SeqFault → Option SeqFault
+refusal NoDriver = Some NoDriver
+refusal Twice = Some Twice
+refusal NothingOut = Some NothingOut
+refusal NotGranted = Some NotGranted
+refusal NotHeld = Some NotHeld
+refusal Memory = None
+
+-- the value that is there, and else a fault
+abbrev pub or_fault : {T : Type 0} → Option T → SeqFault → Result T SeqFault
+or_fault None fault = Err fault
+or_fault (Some value) fault = Ok value

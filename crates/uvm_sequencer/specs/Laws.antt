@@ -1,0 +1,113 @@
+-- What the definitions say, in other words.
+use Rattle.std.specs.Prelude.{◌≡◌, ◌+◌, ◌<◌, ◌≤◌, ◌==◌, ◌&&◌, ℕ, Bool, true, IsTrue, nat_le, List, [], ◌∷◌, ◌++◌, length, filter, sum_by, All, Contains, Option, Some, None, IsSome, option_map, if◌then◌else◌}
+use Rattle.std.specs.List.{list_all}
+use Rattle.std.specs.Option.{option_map_or}
+use Rattle.uvm_sequencer.specs.declared.modes.Mode.{Mode}
+use Rattle.uvm_sequencer.specs.declared.modes.Mode.TheVariants.{Fifo, StrictFifo}
+use Rattle.uvm_sequencer.specs.declared.requests.Request.{Request}
+use Rattle.uvm_sequencer.specs.declared.starts.SeqStep.{SeqStep}
+use Rattle.uvm_sequencer.specs.Choices.{choice, first_over, is_strict}
+use Rattle.uvm_sequencer.specs.Drivers.{grant_of, hand_of, wait_of}
+use Rattle.uvm_sequencer.specs.Queues.{is_candidate, is_item, is_item_of, is_lock_of, lock_request, priority_of}
+use Rattle.uvm_sequencer.specs.Sequences.{Start, SequencesValue, IsSequences, AreStarted, ancestors_of, is_under, numbered, parent_of, step_at, with_step}
+use Rattle.uvm_sequencer.specs.Sequencers.{SequencerValue, after_leave, ask_fault, candidates_at, choice_at, granted, lock_at, lock_fault, locked, new_sequencer, request_fault, unlocked, with_grab, with_item, with_lock}
+
+-- the ancestors of a sequence are its parent and the ancestors of that
+abbrev pub AncestorsByParents : Type 0
+AncestorsByParents = (started : List Start) → AreStarted started → (id : ℕ) → ancestors_of started id ≡ option_map_or (λ parent. parent ∷ ancestors_of started parent) (parent_of started id) []
+
+-- a live sequence was started
+abbrev pub LiveIsStarted : Type 0
+LiveIsStarted = (s : SequencesValue) → IsSequences s → (id : ℕ) → IsSome (step_at s.steps id) → IsSome (numbered s.started id)
+
+-- another step of one sequence is that of no other
+abbrev pub StepsChangeAlone : Type 0
+StepsChangeAlone = (steps : List (Option SeqStep)) (id : ℕ) (step : Option SeqStep) (other : ℕ) →
+    numbered (with_step id step steps) other ≡ (if other == id then option_map (λ _. step) (numbered steps other) else numbered steps other)
+
+-- a request waits, and its sequence is each holder or one of those under it
+pub record IsFree (started : List Start) (s : SequencerValue) (request : Request) : Type 0 where
+  pub waits : Contains s.queue request
+  pub under : IsTrue (list_all (λ holder. is_under started request.seq holder) s.holders)
+
+-- who is granted a lock, or an item, waited for it and stands under all who hold the sequencer
+pub record LockExcludes : Type 0 where
+  pub locks : (started : List Start) (s : SequencerValue) (seq : ℕ) → lock_at started s ≡ Some seq → IsFree started s (lock_request seq)
+  pub items : (started : List Start) (s : SequencerValue) (word : Option ℕ) (request : Request) → choice s.mode (candidates_at started s) word ≡ Some request → IsTrue (is_item request) × IsFree started s request
+
+-- each holder stands under those that were granted before: of any two one is the other, or one of its ancestors
+abbrev pub are_nested : List Start → List ℕ → Bool
+are_nested started [] = true
+are_nested started (first ∷ later) = list_all (λ holder. is_under started holder first) later && are_nested started later
+
+-- the holders are nested at first, and stay so when a lock is granted or given back, a sequence leaves, or another is started
+pub record HoldersStayNested : Type 0 where
+  pub begins : (started : List Start) (mode : Mode) → IsTrue (are_nested started (new_sequencer mode).holders)
+  pub locks : (started : List Start) (s : SequencerValue) (seq : ℕ) → IsTrue (are_nested started s.holders) → lock_at started s ≡ Some seq → IsTrue (are_nested started (locked seq s).holders)
+  pub unlocks : (started : List Start) (s : SequencerValue) (seq : ℕ) → IsTrue (are_nested started s.holders) → IsTrue (are_nested started (unlocked seq s).holders)
+  pub leaves : (started : List Start) (s : SequencerValue) (seq : ℕ) → IsTrue (are_nested started s.holders) → IsTrue (are_nested started (after_leave seq s).holders)
+  pub starts : (start : Start) (started : List Start) (holders : List ℕ) → IsTrue (are_nested started holders) → IsTrue (are_nested (start ∷ started) holders)
+
+-- a request of a list passes a test, and none before it does
+pub record IsFirst (test : Request → Bool) (requests : List Request) (request : Request) : Type 0 where
+  pub before : List Request
+  pub after : List Request
+  pub splits : requests ≡ before ++ request ∷ after
+  pub passes : IsTrue (test request)
+  pub none_before : filter test before ≡ []
+
+-- where the mode is FIFO, the first candidate of the queue is granted
+abbrev pub FifoOrder : Type 0
+FifoOrder = (started : List Start) (s : SequencerValue) (request : Request) → s.mode ≡ Fifo → choice s.mode (candidates_at started s) None ≡ Some request → IsFirst (is_candidate started s.holders) s.queue request
+
+-- a candidate with at least some priority
+abbrev pub is_as_urgent : List Start → List ℕ → ℕ → Request → Bool
+is_as_urgent started holders priority request = is_candidate started holders request && nat_le priority (priority_of request)
+
+-- in the strict modes no candidate has a greater priority than the one that is granted, and in strict FIFO that is the first of
+-- those with its priority
+pub record StrictPriority : Type 0 where
+  pub greatest : (started : List Start) (s : SequencerValue) (word : Option ℕ) (request : Request) → IsTrue (is_strict s.mode) → choice s.mode (candidates_at started s) word ≡ Some request → All (λ other. priority_of other ≤ priority_of request) (candidates_at started s)
+  pub first : (started : List Start) (s : SequencerValue) (request : Request) → s.mode ≡ StrictFifo → choice s.mode (candidates_at started s) None ≡ Some request → IsFirst (is_as_urgent started s.holders (priority_of request)) s.queue request
+
+-- a request is drawn by as many numbers as its priority says: those from the sum of the priorities before it on
+abbrev pub WeightsShareTheDraws : Type 0
+WeightsShareTheDraws = (before after : List Request) (request : Request) (n : ℕ) → sum_by priority_of before ≤ n → n < sum_by priority_of before + priority_of request → first_over 0 n (before ++ request ∷ after) ≡ Some request
+
+-- while an item is in hand the driver cannot ask, nobody is granted or can send, and it stays whoever leaves
+pub record IsOut (s : SequencerValue) : Type 0 where
+  pub asks : (port : ℕ) → IsSome (ask_fault s port)
+  pub waits : wait_of s.driver ≡ None
+  pub sends : (seq : ℕ) → grant_of seq s.driver ≡ None
+  pub stays : (seq : ℕ) → (after_leave seq s).driver ≡ s.driver
+
+abbrev pub OneItemOut : Type 0
+OneItemOut = (s : SequencerValue) → IsSome (hand_of s.driver) → IsOut s
+
+-- each that waits was started
+abbrev pub are_known : List Start → List Request → Bool
+are_known started queue = list_all (λ request. nat_le request.seq (length started)) queue
+
+-- one more start changes nothing for those that wait
+pub record StartsChangeNothing : Type 0 where
+  pub locks : (start : Start) (started : List Start) (s : SequencerValue) → IsTrue (are_known started s.queue) → lock_at (start ∷ started) s ≡ lock_at started s
+  pub items : (start : Start) (started : List Start) (s : SequencerValue) → IsTrue (are_known started s.queue) → candidates_at (start ∷ started) s ≡ candidates_at started s
+
+-- a sequence waits for one item and for one lock at most
+abbrev pub AreSingle : List Request → Type 0
+AreSingle queue = (seq : ℕ) → (length (filter (is_item_of seq) queue) ≤ 1) × (length (filter (is_lock_of seq) queue) ≤ 1)
+
+-- that is so at first, and stays so, whatever is asked for, granted or taken out
+pub record WaitsStaySingle : Type 0 where
+  pub begins : (mode : Mode) → AreSingle (new_sequencer mode).queue
+  pub requests : (s : SequencerValue) (seq priority : ℕ) → AreSingle s.queue → request_fault s seq ≡ None → AreSingle (with_item seq priority s).queue
+  pub locks : (s : SequencerValue) (seq : ℕ) → AreSingle s.queue → lock_fault s seq ≡ None → AreSingle (with_lock seq s).queue
+  pub grabs : (s : SequencerValue) (seq : ℕ) → AreSingle s.queue → lock_fault s seq ≡ None → AreSingle (with_grab seq s).queue
+  pub lock_grants : (s : SequencerValue) (seq : ℕ) → AreSingle s.queue → AreSingle (locked seq s).queue
+  pub item_grants : (s : SequencerValue) (seq : ℕ) → AreSingle s.queue → AreSingle (granted seq s).queue
+  pub leaves : (s : SequencerValue) (seq : ℕ) → AreSingle s.queue → AreSingle (after_leave seq s).queue
+
+-- each grant then ends one wait
+pub record EachGrantEndsAWait : Type 0 where
+  pub locks : (started : List Start) (s : SequencerValue) (seq : ℕ) → AreSingle s.queue → lock_at started s ≡ Some seq → length (locked seq s).queue + 1 ≡ length s.queue
+  pub items : (started : List Start) (s : SequencerValue) (word : Option ℕ) (seq : ℕ) → AreSingle s.queue → choice_at started s word ≡ Some seq → length (granted seq s).queue + 1 ≡ length s.queue

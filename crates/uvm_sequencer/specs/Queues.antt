@@ -1,0 +1,84 @@
+-- What sequences ask of a sequencer, in the order of its queue: grabs first, the latest foremost, then the others as they came. And
+-- who holds the sequencer, in the order of granting.
+use Rattle.std.specs.Prelude.{ℕ, Bool, true, false, ◌==◌, ◌&&◌, not, List, [], ◌∷◌, filter, find, Option, Some, None, option_and_then, if◌then◌else◌}
+use Rattle.std.specs.List.{list_any}
+use Rattle.uvm_sequencer.specs.declared.requests.Request.{Request}
+use Rattle.uvm_sequencer.specs.declared.requests.Want.{Want}
+use Rattle.uvm_sequencer.specs.declared.requests.Want.TheVariants.{Item, Lock}
+use Rattle.uvm_sequencer.specs.Sequences.{Start, is_under}
+
+-- a request to send an item, and one for a lock
+abbrev pub item_request : ℕ → ℕ → Request
+item_request seq priority = record { seq = seq; want = Item priority }
+
+abbrev pub lock_request : ℕ → Request
+lock_request seq = record { seq = seq; want = Lock }
+
+abbrev pub wants_item : Want → Bool
+wants_item (Item priority) = true
+wants_item Lock = false
+
+-- the priority of an item, 0 for a lock
+abbrev pub priority_in : Want → ℕ
+priority_in (Item priority) = priority
+priority_in Lock = 0
+
+abbrev pub is_item : Request → Bool
+is_item request = wants_item request.want
+
+abbrev pub priority_of : Request → ℕ
+priority_of request = priority_in request.want
+
+-- what a sequence asked for: anything, an item, a lock
+abbrev pub is_of : ℕ → Request → Bool
+is_of seq request = request.seq == seq
+
+abbrev pub is_item_of : ℕ → Request → Bool
+is_item_of seq request = is_of seq request && is_item request
+
+abbrev pub is_lock_of : ℕ → Request → Bool
+is_lock_of seq request = is_of seq request && not (is_item request)
+
+-- a queue without what a sequence asked for: anything, an item, a lock
+abbrev pub without : ℕ → List Request → List Request
+without seq queue = filter (λ request. not (is_of seq request)) queue
+
+abbrev pub without_item : ℕ → List Request → List Request
+without_item seq queue = filter (λ request. not (is_item_of seq request)) queue
+
+abbrev pub without_lock : ℕ → List Request → List Request
+without_lock seq queue = filter (λ request. not (is_lock_of seq request)) queue
+
+-- a sequence is blocked where some holder is neither itself nor one of its ancestors
+abbrev pub is_blocked : List Start → List ℕ → ℕ → Bool
+is_blocked started holders seq = list_any (λ holder. not (is_under started seq holder)) holders
+
+-- a candidate is an item request of a sequence that is not blocked
+abbrev pub is_candidate : List Start → List ℕ → Request → Bool
+is_candidate started holders request = is_item request && not (is_blocked started holders request.seq)
+
+abbrev pub candidates : List Start → List ℕ → List Request → List Request
+candidates started holders queue = filter (is_candidate started holders) queue
+
+-- the request that leads: the first of a sequence that is not blocked
+abbrev pub leading : List Start → List ℕ → List Request → Option Request
+leading started holders queue = find (λ request. not (is_blocked started holders request.seq)) queue
+
+-- the sequence that is granted its lock, where a lock leads
+abbrev pub lock_in : Request → Option ℕ
+lock_in request = if is_item request then None else Some request.seq
+
+abbrev pub leading_lock : List Start → List ℕ → List Request → Option ℕ
+leading_lock started holders queue = option_and_then lock_in (leading started holders queue)
+
+-- a sequence holds a lock
+abbrev pub is_held : ℕ → List ℕ → Bool
+is_held seq holders = list_any (λ holder. holder == seq) holders
+
+-- the holders without the last lock of a sequence, and without all of them
+abbrev pub released : ℕ → List ℕ → List ℕ
+released seq [] = []
+released seq (holder ∷ later) = if (holder == seq) && not (is_held seq later) then later else holder ∷ released seq later
+
+abbrev pub all_released : ℕ → List ℕ → List ℕ
+all_released seq holders = filter (λ holder. not (holder == seq)) holders

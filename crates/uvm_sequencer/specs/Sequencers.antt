@@ -1,0 +1,114 @@
+-- A sequencer, and what its calls answer and make of it.
+use Rattle.std.specs.Prelude.{ℕ, Bool, false, ◌==◌, ◌||◌, not, List, [], ◌∷◌, ◌++◌, Option, Some, None, is_some, Result, Ok, Err, option_map, if◌then◌else◌}
+use Rattle.std.specs.List.{list_any}
+use Rattle.std.specs.Option.{option_map_or}
+use Rattle.uvm_glob.specs.Faults.{fault_if}
+use Rattle.uvm_sequencer.specs.declared.modes.Mode.{Mode}
+use Rattle.uvm_sequencer.specs.declared.requests.Request.{Request}
+use Rattle.uvm_sequencer.specs.declared.drivers.How.{How}
+use Rattle.uvm_sequencer.specs.declared.drivers.How.TheVariants.{Next, Try, Get}
+use Rattle.uvm_sequencer.specs.declared.drivers.Asked.{Asked}
+use Rattle.uvm_sequencer.specs.declared.drivers.Asked.TheVariants.{Nothing, Waits}
+use Rattle.uvm_sequencer.specs.declared.drivers.Driver.{Driver}
+use Rattle.uvm_sequencer.specs.declared.drivers.Driver.TheVariants.{Idle}
+use Rattle.uvm_sequencer.specs.declared.faults.SeqFault.{SeqFault}
+use Rattle.uvm_sequencer.specs.declared.faults.SeqFault.TheVariants.{NoDriver, Twice, NothingOut, NotHeld}
+use Rattle.uvm_sequencer.specs.Choices.{choice, readiness}
+use Rattle.uvm_sequencer.specs.Drivers.{is_idle, asked_by, grant_of, granted_by, hand_of, left_by, sent, wait_of}
+use Rattle.uvm_sequencer.specs.Faults.{or_fault}
+use Rattle.uvm_sequencer.specs.Queues.{item_request, lock_request, is_item_of, is_lock_of, without, without_item, without_lock, candidates, leading_lock, is_held, released, all_released}
+use Rattle.uvm_sequencer.specs.Sequences.{Start}
+
+-- how it chooses, the port that drives it and where that driver stands, what was asked for in the order of the queue, and the
+-- holders in the order of granting: a sequence stands there once for each lock that it holds
+pub record SequencerValue : Type 0 where
+  pub mode : Mode
+  pub port : Option ℕ
+  pub driver : Driver
+  pub queue : List Request
+  pub holders : List ℕ
+
+abbrev pub new_sequencer : Mode → SequencerValue
+new_sequencer mode = record { mode = mode; port = None; driver = Idle; queue = []; holders = [] }
+
+-- with a driver
+abbrev pub with_port : ℕ → SequencerValue → SequencerValue
+with_port port s = record s { port = Some port }
+
+-- with an item request or a lock behind all others, and with a lock before them
+abbrev pub with_item : ℕ → ℕ → SequencerValue → SequencerValue
+with_item seq priority s = record s { queue = s.queue ++ item_request seq priority ∷ [] }
+
+abbrev pub with_lock : ℕ → SequencerValue → SequencerValue
+with_lock seq s = record s { queue = s.queue ++ lock_request seq ∷ [] }
+
+abbrev pub with_grab : ℕ → SequencerValue → SequencerValue
+with_grab seq s = record s { queue = lock_request seq ∷ s.queue }
+
+-- after the lock of a sequence was granted, and after it gave back its last
+abbrev pub locked : ℕ → SequencerValue → SequencerValue
+locked seq s = record s { queue = without_lock seq s.queue; holders = s.holders ++ seq ∷ [] }
+
+abbrev pub unlocked : ℕ → SequencerValue → SequencerValue
+unlocked seq s = record s { holders = released seq s.holders }
+
+-- after the driver asked, after a sequence was granted and sent its item, and once the driver is idle
+abbrev pub after_ask : How → Asked → SequencerValue → SequencerValue
+after_ask how asked s = record s { driver = asked_by how asked s.driver }
+
+abbrev pub granted : ℕ → SequencerValue → SequencerValue
+granted seq s = record s { driver = granted_by seq s.driver; queue = without_item seq s.queue }
+
+abbrev pub after_send : ℕ → How → SequencerValue → SequencerValue
+after_send seq how s = record s { driver = sent seq how }
+
+abbrev pub with_idle : SequencerValue → SequencerValue
+with_idle s = record s { driver = Idle }
+
+-- after a sequence left: what it asked for and held is gone, and its unsent grant lapses
+abbrev pub after_leave : ℕ → SequencerValue → SequencerValue
+after_leave seq s = record s { driver = left_by (grant_of seq s.driver) s.driver; queue = without seq s.queue; holders = all_released seq s.holders }
+
+-- the port drives the sequencer
+abbrev pub is_driver : Option ℕ → ℕ → Bool
+is_driver driver port = option_map_or (λ p. p == port) driver false
+
+-- why a sequence may not ask to send an item: an item request of it waits, or it was granted and has not sent
+abbrev pub request_fault : SequencerValue → ℕ → Option SeqFault
+request_fault s seq = fault_if (list_any (is_item_of seq) s.queue || is_some (grant_of seq s.driver)) Twice
+
+-- why a sequence may not ask for a lock: it waits for one
+abbrev pub lock_fault : SequencerValue → ℕ → Option SeqFault
+lock_fault s seq = fault_if (list_any (is_lock_of seq) s.queue) Twice
+
+-- why a port may not ask
+abbrev pub ask_fault : SequencerValue → ℕ → Option SeqFault
+ask_fault s port = if is_driver s.port port then fault_if (not (is_idle s.driver)) Twice else Some NoDriver
+
+-- what comes of asking, by the candidates: a `try` is told where there is none
+abbrev pub answer : How → List Request → Asked
+answer Try [] = Nothing
+answer Try (request ∷ requests) = Waits
+answer Next requests = Waits
+answer Get requests = Waits
+
+-- what `done` answers: whose item was in hand
+abbrev pub done_by : SequencerValue → ℕ → Result ℕ SeqFault
+done_by s port = if is_driver s.port port then or_fault (hand_of s.driver) NothingOut else Err NoDriver
+
+-- what `unlock` answers
+abbrev pub unlocked_by : SequencerValue → ℕ → Result (Unit {0}) SeqFault
+unlocked_by s seq = if is_held seq s.holders then Ok tt else Err NotHeld
+
+-- the candidates of a sequencer, the lock that leads there, whether one of the candidates can be granted, and who is
+abbrev pub candidates_at : List Start → SequencerValue → List Request
+candidates_at started s = candidates started s.holders s.queue
+
+abbrev pub lock_at : List Start → SequencerValue → Option ℕ
+lock_at started s = leading_lock started s.holders s.queue
+
+abbrev pub ready_at : List Start → SequencerValue → Option Bool
+ready_at started s = readiness s.mode (wait_of s.driver) (candidates_at started s)
+
+abbrev pub choice_at : List Start → SequencerValue → Option ℕ → Option ℕ
+choice_at started s word = option_map (λ request. request.seq) (choice s.mode (candidates_at started s) word)

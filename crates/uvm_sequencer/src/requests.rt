@@ -1,0 +1,122 @@
+//! What sequences ask of a sequencer.
+
+ghost use Rattle.std.specs.Prelude.{◌≡◌, ◌∷◌, ◌++◌, [], OnOk, OnErr};
+ghost use Rattle.std.specs.List.{list_any};
+ghost use Rattle.uvm_sequencer.specs.Queues.{is_item, is_item_of, is_lock_of, is_of, priority_of, without, without_item, without_lock};
+
+use crate::starts::SeqId;
+use std::alloc::AllocError;
+
+/// What a sequence wants.
+#[derive(Clone, Copy, Debug, PartialEq, Eq)]
+pub enum Want {
+    /// To send an item, with a priority of at least 1.
+    Item(u16),
+    /// To hold the sequencer.
+    Lock,
+}
+
+/// What a sequence waits for.
+#[derive(Clone, Copy, Debug, PartialEq, Eq)]
+pub struct Request {
+    /// The sequence.
+    pub seq: SeqId,
+    /// What it wants.
+    pub want: Want,
+}
+
+impl Request {
+    // Whether it is for an item.
+    pub(crate) fn is_item(&self) -> bool
+        ensures { result ≡ is_item self.now }
+    {
+        match self.want {
+            Want::Item(_) => true,
+            Want::Lock => false,
+        }
+    }
+
+    // The priority of the item, 0 for a lock.
+    pub(crate) fn priority(&self) -> u16
+        ensures { result ≡ priority_of self.now }
+    {
+        match self.want {
+            Want::Item(priority) => priority,
+            Want::Lock => 0,
+        }
+    }
+
+    // Whether a sequence asked for it.
+    fn is_of(&self, seq: SeqId) -> bool
+        ensures { result ≡ is_of seq self.now }
+    {
+        self.seq == seq
+    }
+
+    // Whether it is the item request of a sequence.
+    fn is_item_of(&self, seq: SeqId) -> bool
+        ensures { result ≡ is_item_of seq self.now }
+    {
+        self.seq == seq && self.is_item()
+    }
+
+    // Whether it is the lock request of a sequence.
+    fn is_lock_of(&self, seq: SeqId) -> bool
+        ensures { result ≡ is_lock_of seq self.now }
+    {
+        self.seq == seq && !self.is_item()
+    }
+}
+
+// Puts what a sequence wants behind all others. Its error is want of memory, which changes nothing.
+pub(crate) fn put_last(queue: &mut Vec<Request>, seq: SeqId, want: Want) -> Result<(), AllocError>
+    ensures ok { OnOk result (queue.new.items ≡ queue.old.items ++ record { seq = seq; want = want } ∷ []) }
+    ensures err { OnErr result (queue.new.items ≡ queue.old.items) }
+{
+    queue.push(Request { seq, want })?;
+    Ok(())
+}
+
+// Puts what a sequence wants before all others. Its error is want of memory, which changes nothing.
+pub(crate) fn put_first(queue: &mut Vec<Request>, seq: SeqId, want: Want) -> Result<(), AllocError>
+    ensures ok { OnOk result (queue.new.items ≡ record { seq = seq; want = want } ∷ queue.old.items) }
+    ensures err { OnErr result (queue.new.items ≡ queue.old.items) }
+{
+    queue.insert(0, Request { seq, want })?;
+    Ok(())
+}
+
+// Whether an item request of a sequence waits.
+pub(crate) fn has_item(queue: &[Request], seq: SeqId) -> bool
+    ensures { result ≡ list_any (is_item_of seq) queue.now }
+{
+    queue.iter().any(|request| request.is_item_of(seq))
+}
+
+// Whether a lock request of a sequence waits.
+pub(crate) fn has_lock(queue: &[Request], seq: SeqId) -> bool
+    ensures { result ≡ list_any (is_lock_of seq) queue.now }
+{
+    queue.iter().any(|request| request.is_lock_of(seq))
+}
+
+// Takes out the item request of a sequence.
+pub(crate) fn take_item(queue: &mut Vec<Request>, seq: SeqId)
+    ensures { queue.new.items ≡ without_item seq queue.old.items }
+{
+    queue.retain(|request| !request.is_item_of(seq));
+}
+
+// Takes out the lock request of a sequence.
+pub(crate) fn take_lock(queue: &mut Vec<Request>, seq: SeqId)
+    ensures { queue.new.items ≡ without_lock seq queue.old.items }
+{
+    queue.retain(|request| !request.is_lock_of(seq));
+}
+
+// Takes out what a sequence asked for.
+pub(crate) fn take_all(queue: &mut Vec<Request>, seq: SeqId)
+    ensures { queue.new.items ≡ without seq queue.old.items }
+{
+    queue.retain(|request| !request.is_of(seq));
+}

@@ -309,29 +309,12 @@ fn the_line_of_a_connection_has_its_paths_as_given(rt: HostRuntime) -> Result<()
         from: Path::parse(rt.alloc(), b"agent.drv.req")?,
         to: Path::parse(rt.alloc(), b"reqf")?,
     };
+    let line = "did uvm_test_top connect (agent.drv.req) (reqf): done\n";
+    // So has that of a copy.
+    let copied = did(rt.alloc(), test, LoggedOutcome::done(), connection.copy()?)?;
+    assert!(rt; line_is(rt.alloc(), &tree, copied, line)?);
     let connected = did(rt.alloc(), test, LoggedOutcome::done(), connection)?;
-    assert!(rt;
-        line_is(
-            rt.alloc(),
-            &tree,
-            connected,
-            "did uvm_test_top connect (agent.drv.req) (reqf): done\n"
-        )?
-    );
-    Ok(())
-}
-
-#[test]
-fn a_connection_is_copied(rt: HostRuntime) -> Result<(), Fail> {
-    let connection = Act::Connect {
-        from: Path::parse(rt.alloc(), b"p")?,
-        to: Path::top(rt.alloc()),
-    };
-    let paths = match connection.copy()? {
-        Act::Connect { from, to } => Some((from.depth(), to.depth())),
-        _ => None,
-    };
-    assert_eq!(rt; paths, Some((1, 0)));
+    assert!(rt; line_is(rt.alloc(), &tree, connected, line)?);
     Ok(())
 }
 

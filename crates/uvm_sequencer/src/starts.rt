@@ -145,9 +145,9 @@ impl Sequences {
         })
     }
 
-    /// Moves a live sequence to its next step, and answers that. In its last step nothing changes: there `finish` follows.
+    /// Moves a live sequence to its next step, and answers that. In its last step, where `finish` follows, and where the sequence
+    /// does not live, nothing changes.
     pub fn step(&mut self, id: SeqId) -> Option<SeqStep>
-        requires { IsSome (step_at self.old.steps id) }
         ensures value { result ≡ option_and_then step_after (step_at self.old.steps id) }
         ensures after { self.new ≡ stepped id result self.old }
     {

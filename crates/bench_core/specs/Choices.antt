@@ -7,7 +7,7 @@ use Rattle.bench_history.specs.Next.{IsAct}
 use Rattle.bench_core.specs.declared.choices.Mark.{Mark}
 use Rattle.bench_core.specs.declared.choices.Mark.TheVariants.{Begin, End, Time, Drained, Note, Over}
 use Rattle.bench_core.specs.declared.choices.Choice.{Choice}
-use Rattle.bench_core.specs.declared.choices.Choice.TheVariants.{Nothing, Enter, Act, Ask}
+use Rattle.bench_core.specs.declared.choices.Choice.TheVariants.{Nothing, Enter, Pass, Act, Ask}
 
 -- the entry of a mark
 abbrev pub entry_of : Mark → Entry
@@ -21,5 +21,6 @@ entry_of (Over reason) = entry.Over reason
 abbrev pub IsChoice : next.Next → Choice → Type 0
 IsChoice comes Nothing = comes ≡ next.Nothing
 IsChoice comes (Enter mark) = comes ≡ next.Exactly (entry_of mark)
+IsChoice comes (Pass fifo passage) = comes ≡ next.Exactly (entry.Passed fifo passage)
 IsChoice comes Act = IsAct comes
 IsChoice comes (Ask performer call cause) = comes ≡ next.Answer performer call cause

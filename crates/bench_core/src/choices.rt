@@ -13,7 +13,7 @@ ghost use Rattle.bench_core.specs.Choices.{IsChoice, entry_of};
 use bench_history::{Owner, Stage};
 use bench_world::World;
 use std::alloc::AllocError;
-use uvm_object::{Call, Fatal, Reason, Who};
+use uvm_object::{Call, Fatal, Passage, Reason, Who};
 use uvm_phase::{Cause, Due, Phase, Schedule};
 use uvm_tree::NodeId;
 
@@ -41,6 +41,8 @@ pub(crate) enum Choice {
     Nothing,
     /// This entry.
     Enter(Mark),
+    /// What somebody waits for at a FIFO comes to pass.
+    Pass(NodeId, Passage),
     /// An act of the last answer, which has its entry at once or needs an object.
     Act,
     /// The answer of somebody to a call, which is due for a cause, or is a phase's.
@@ -60,6 +62,9 @@ pub(crate) fn choose(world: &mut World) -> Result<Choice, AllocError>
     }
     if let Some(reason) = world.reason() {
         return Ok(Choice::Enter(Mark::Over(reason)));
+    }
+    if let Some((fifo, passage)) = world.next_passed() {
+        return Ok(Choice::Pass(fifo, passage));
     }
     match world.acts_left() {
         0 => {}

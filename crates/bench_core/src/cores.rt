@@ -12,6 +12,7 @@ ghost use Rattle.uvm_config.specs.Answers.{config_answer};
 ghost use Rattle.bench_history.specs.Configuration.{settings_of};
 ghost use Rattle.bench_history.specs.Objections.{objections_of};
 ghost use Rattle.uvm_objection.specs.Totals.{total};
+ghost use Rattle.bench_history.specs.Passing.{waiting_at};
 ghost use Rattle.bench_history.specs.Reports.{report_commands};
 ghost use Rattle.uvm_report.specs.Changes.{Gives};
 ghost use Rattle.bench_history.specs.Next.{next_of, made_in, declined_in, IsLegal};
@@ -276,6 +277,16 @@ impl Core {
         self.world.total(node)
     }
 
+    /// How many puts, takes and peeks wait at a FIFO (Clause 12). 0 at every other node, and once memory was refused.
+    pub fn waiting(&self, node: NodeId) -> usize
+        ensures { result ≡ (if is_sound self.now.health then waiting_at self.now.history node else 0) }
+    {
+        if !self.is_sound() {
+            return 0;
+        }
+        self.world.waiting(node)
+    }
+
     /// The report server (Clause 6). None once memory was refused.
     pub fn reports(&self) -> Option<&Reports>
         ensures given { IfSome result (λ reports. Gives reports.now (report_commands self.now.script self.now.history)) }
@@ -355,6 +366,10 @@ impl Core {
             Choice::Nothing => Turn::Over,
             Choice::Enter(mark) => {
                 enter(&mut self.world, mark)?;
+                Turn::Moved
+            }
+            Choice::Pass(fifo, passage) => {
+                self.world.passed(fifo, passage)?;
                 Turn::Moved
             }
             Choice::Act => {

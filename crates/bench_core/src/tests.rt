@@ -2,6 +2,7 @@
 
 mod connections;
 mod objections;
+mod passages;
 
 use crate::{Core, CoreFault, Turn};
 use rand_pcg::Pcg32;
@@ -26,7 +27,7 @@ const SILENCED_SCRIPT: &[u8] =
     b"version = 1\ntest = \"t\"\ntype = [{ name = \"t\", kind = \"component\" }]
 action = [{ scope = \"*\", severity = \"FATAL\", actions = [] }]\n";
 
-/// What the test answers, in a run of which all other calls get no acts.
+/// What the test answers, in a run of which all other calls get no acts but where items pass.
 #[derive(Clone, Copy, PartialEq, Eq)]
 enum Bench {
     /// To build: two children and a FIFO.
@@ -57,6 +58,8 @@ enum Bench {
     WaitingInBuild,
     /// To build: these ends; and to this phase, also to build: they are connected.
     Wired(Phase, connections::Wires),
+    /// Items go through FIFOs.
+    Passing(passages::Passing),
 }
 
 /// What is done to the objections of the test, and waits.
@@ -376,8 +379,11 @@ fn test_path(alloc: Global) -> Result<Path, Fail> {
     Ok(Path::parse(alloc, b"uvm_test_top")?)
 }
 
-// What somebody answers: the test as the bench says, and all others nothing.
+// What somebody answers: the test as the bench says, and all others nothing but where items pass.
 fn acts_of(alloc: Global, bench: Bench, is_test: bool, call: Call) -> Result<Acts, Fail> {
+    if let Bench::Passing(passing) = bench {
+        return passages::acts_of(alloc, passing, is_test, call);
+    }
     let mut acts = Acts::new(alloc);
     match (bench, call) {
         (Bench::Sleeping(_), Call::Wake { .. }) => acts.push(Act::DropObjection { count: 1 })?,

@@ -1,5 +1,5 @@
 -- Who is called: a component, which is a node of the tree.
-use Rattle.std.proofs.Common.{◌≡◌, ℕ, ◌<◌, ◌≤◌, ◌==◌, ◌⊎◌, inl, inr, Bool, true, false, not, filter, if◌then◌else◌, List, [], ◌∷◌, length, slice_get, Option, Some, None, IfSome, OnSome, refl, ap, ◌∙◌, sym, subst, arith}
+use Rattle.std.proofs.Common.{◌≡◌, ℕ, ◌<◌, ◌≤◌, ◌==◌, ◌⊎◌, inl, inr, suc, Bool, true, false, not, filter, if◌then◌else◌, List, [], ◌∷◌, length, slice_get, Option, Some, None, option_and_then, IfSome, OnSome, refl, ap, ◌∙◌, sym, subst, arith}
 use Rattle.std.specs.List.{All, Contains, flat_map}
 use Rattle.std.proofs.lemmas.Bool.Decides.{nat_tests}
 use Rattle.std.proofs.lemmas.List.Elements.{All-nil, All-cons, All-head, All-tail, All-push, All-append, All-weaker, All-filter, All-contains, All-contains_itself, Contains-append_left}
@@ -8,33 +8,45 @@ use Rattle.uvm_phase.specs.declared.phases.Phase.{Phase}
 use Rattle.uvm_phase.specs.declared.agendas.Cause.{Cause}
 use Rattle.uvm_phase.specs.Dues.{in_order}
 use Rattle.uvm_phase.specs.Laws.{OrderKeepsAll}
+use Rattle.uvm_tree.specs.declared.nodes.Node as tree
+use Rattle.uvm_tree.specs.Nodes.{under_at}
 use Rattle.uvm_tree.specs.Cursors.{is_before}
 use Rattle.uvm_object.specs.Acts.{node_of}
 use Rattle.uvm_object.specs.Objects.{exchanged_in}
 use Rattle.uvm_object.specs.declared.acts.Who.{Who}
 use Rattle.uvm_object.specs.declared.acts.Call.{Call}
 use Rattle.uvm_object.specs.declared.acts.Act.{Act}
+use Rattle.uvm_object.specs.declared.acts.Act.TheVariants.{Write}
 use Rattle.uvm_object.specs.declared.entries.Outcome.{Outcome}
 use Rattle.uvm_object.specs.declared.entries.Outcome.TheVariants.{Done, Made, Value}
+use Rattle.uvm_object.specs.declared.entries.Passage.{Passage}
 use Rattle.uvm_object.specs.declared.entries.Entry.{Entry}
-use Rattle.uvm_object.specs.declared.entries.Entry.TheVariants.{Heard, Did, Drained, Note}
+use Rattle.uvm_object.specs.declared.entries.Entry.TheVariants.{Heard, Did, Passed, Drained, Note}
 use Rattle.bench_script.specs.Scripts.{ScriptValue}
 use Rattle.bench_history.specs.declared.needs.Need as declared
 use Rattle.uvm_objection.specs.declared.objections.Due as drain
 use Rattle.uvm_objection.specs.Nodes as objection
 use Rattle.uvm_objection.specs.Totals.{drains_begun, drains_ended}
 use Rattle.bench_history.specs.declared.owners.Owner.{Owner}
+use Rattle.bench_history.specs.declared.owners.Owner.TheVariants.{Object}
 use Rattle.bench_history.specs.Owners.{Event, who_of, is_drain_of}
 use Rattle.bench_history.specs.Objections.{objections_of}
 use Rattle.bench_history.specs.History.{stage_of, now_of, running, nodes_of, components_of, left_of, rest_of, speaker_of, phase_order, called_of, had_call, next_call, opening}
-use Rattle.bench_history.specs.Dues.{told_by, due_after, due_from, calls_from, drain_from, with_drains, moves_drains, caused_at, caused_of, heard_of, ended_of, is_open, due_events, first_due, due_at, due_now}
+use Rattle.bench_history.specs.Wires.{wiring_of, closed_wiring}
+use Rattle.bench_history.specs.Ports.{is_imp_at, imps_below, outlets_below}
+use Rattle.bench_history.specs.Passing.{puts_asked, takes_asked, next_passed, put_in, take_in}
+use Rattle.uvm_tlm.specs.declared.ends.PortKind.TheVariants as through
+use Rattle.uvm_tlm.specs.declared.items.Item.{Item}
+use Rattle.bench_history.specs.Dues.{event_in, told_by, told_of, written_calls, calls_numbered, due_after, due_from, calls_from, drain_from, with_drains, moves_drains, caused_at, caused_of, heard_of, ended_of, is_open, due_events, first_due, due_at, due_now}
 use Rattle.bench_history.specs.Cases.{Next, Exactly, Answer, Need, Nothing}
 use Rattle.bench_history.specs.Next.{next_of, Allows, IsNext, EachIsNext}
 use Rattle.bench_history.specs.Laws.{HasGrown, AskedAreComponents, ComponentsAreNodes, NewNodesAreUnasked}
 use Rattle.bench_history.proofs.Inversion.{IsOwn, Case, AtEnd, ByOwn, ByNeed, ByDeed, ByDue, ByTurn, ByEnd, ByBegin, case-of}
 use Rattle.bench_history.proofs.Needed.{needed}
 use Rattle.bench_history.proofs.Leasts.{least-holds}
-use Rattle.bench_history.proofs.Grown.{IsPlain, IsPlainNext, plain-next, exact-keeps-components, nodes-more, components-grow, made_objects_are_new}
+use Rattle.bench_history.proofs.Asking.{IsAskedBy, asked-more, passing-holds, IsOwned, IsAdded, get-before, imp-after, written-hold}
+use Rattle.bench_history.proofs.Performed.{passages_go_in_order}
+use Rattle.bench_history.proofs.Grown.{IsPlain, IsPlainNext, plain-next, exact-keeps-components, nodes_stay, nodes-more, components-grow, made_objects_are_new}
 
 -- the components are below the nodes of one more entry, too
 below-weaker : (entry : Entry) (before : List Entry) → All (λ node. node < length (nodes_of before)) (components_of before) → All (λ node. node < length (nodes_of (entry ∷ before))) (components_of before)
@@ -76,10 +88,18 @@ contains-more entry before node has =
 abbrev IsCallTo : List ℕ → Event → Type 0
 IsCallTo components event = OnSome event.notice (Contains components (node_of (who_of event.owner)))
 
--- whoever waits for a call is a component, and so is whoever spoke last, unless nobody did and the answer is the script's
+-- somebody is one of the components
+abbrev IsOne : List ℕ → Who → Type 0
+IsOne components who = Contains components (node_of who)
+
+-- whoever waits for a call is a component, and so is whoever spoke last, unless nobody did and the answer is the script's; so is who waits at a
+-- FIFO, and who owns an imp
 record Known (script : ScriptValue) (history : List Entry) : Type 0 where
   owners : All (IsCallTo (components_of history)) (caused_of history)
   speaker : Contains (components_of history) (node_of (speaker_of history)) ⊎ All (λ act. act ≡ opening script) (left_of script history)
+  putters : (fifo : ℕ) → All (IsAskedBy {Wish = Item} (IsOne (components_of history))) (puts_asked history fifo)
+  takers : (fifo : ℕ) → All (IsAskedBy {Wish = Bool} (IsOne (components_of history))) (takes_asked history fifo)
+  imps : (node : ℕ) → is_imp_at (wiring_of history) node ≡ true → IsOwned (nodes_of history) (components_of history) node
 
 -- who is asked is a component
 abbrev AsksOne : List Entry → Next → Type 0
@@ -244,16 +264,90 @@ owners-more script before entry known =
     some-more None node has = tt
     some-more (Some call) node has = contains-more entry before node has
 
--- an act tells nobody, or its performer is a component
+opening-writes : (script : ScriptValue) (before : List Entry) (performer : Who) (outcome : Outcome) → written_calls before performer outcome (opening script) ≡ []
+opening-writes script before performer Done = refl
+opening-writes script before performer outcome = refl
+
+-- nor does it ask for anything at a FIFO
+opening-puts : (script : ScriptValue) (outcome : Outcome) → put_in outcome (opening script) ≡ None
+opening-puts script Done = refl
+opening-puts script outcome = refl
+
+opening-takes : (script : ScriptValue) (outcome : Outcome) → take_in outcome (opening script) ≡ None
+opening-takes script Done = refl
+opening-takes script outcome = refl
+
+-- an act is the opening, or its performer is a component
 deed-owner :
-    (script : ScriptValue) (before : List Entry) (entry : Entry) (performer : Who) (outcome : Outcome) (act : Act) → IsDeed script before performer act
+    (script : ScriptValue) (before : List Entry) (entry : Entry) (performer : Who) (act : Act) → IsDeed script before performer act
     → Contains (components_of before) (node_of (speaker_of before)) ⊎ All (λ act. act ≡ opening script) (left_of script before)
-    → (told_by outcome act ≡ None) ⊎ Contains (components_of (entry ∷ before)) (node_of performer)
-deed-owner script before entry performer outcome act deed (inl has) = inr (contains-more entry before (node_of performer) (rw deed.performer_is has))
-deed-owner script before entry performer outcome act deed (inr opens) =
+    → (act ≡ opening script) ⊎ Contains (components_of (entry ∷ before)) (node_of performer)
+deed-owner script before entry performer act deed (inl has) = inr (contains-more entry before (node_of performer) (rw deed.performer_is has))
+deed-owner script before entry performer act deed (inr opens) =
     let first = subst (All (λ one. one ≡ opening script)) deed.left opens in
-    let same : act ≡ opening script = All-head (λ one. one ≡ opening script) act (rest_of (left_of script before)) first in
-    inl (rw same (opening-tells script outcome))
+    inl (All-head (λ one. one ≡ opening script) act (rest_of (left_of script before)) first)
+
+-- so that what the opening does not do is done by a component
+unless-opening : (Idle : Act → Type 0) {One : Type 0} (script : ScriptValue) (act : Act) → Idle (opening script) → (act ≡ opening script) ⊎ One → Idle act ⊎ One
+unless-opening Idle script act here (inl same) = inl (subst Idle (sym same) here)
+unless-opening Idle script act here (inr one) = inr one
+
+-- the calls that a write causes are those of components
+one-owner : (components : List ℕ) (phase : Option Phase) (time : ℕ) (cause : Cause) (told : Who × Call) → Contains components (node_of told.0) → All (IsCallTo components) (event_in phase time cause (Object told.0) (Some told.1))
+one-owner components None time cause told there = All-nil (IsCallTo components)
+one-owner components (Some phase) time cause told there = All-cons (IsCallTo components) _ [] there (All-nil (IsCallTo components))
+
+numbered-owners :
+    (components : List ℕ) (phase : Option Phase) (time place number : ℕ) (calls : List (Who × Call)) → All (λ told. Contains components (node_of told.0)) calls
+    → All (IsCallTo components) (calls_numbered phase time place number calls)
+numbered-owners components phase time place number [] all = All-nil _
+numbered-owners components phase time place number (told ∷ calls) all =
+    All-append (IsCallTo components) (calls_numbered phase time place (suc number) calls) (event_in phase time (record { place = place; number = number }) (Object told.0) (Some told.1))
+    (numbered-owners components phase time place (suc number) calls (All-tail (λ told. Contains components (node_of told.0)) told calls all))
+    (one-owner components phase time (record { place = place; number = number }) told (All-head (λ told. Contains components (node_of told.0)) told calls all))
+
+-- what is told by a write is told to components
+written-owners :
+    (script : ScriptValue) (before : List Entry) (performer : Who) (outcome : Outcome) (act : Act) → ((node : ℕ) → is_imp_at (wiring_of before) node ≡ true → IsOwned (nodes_of before) (components_of before) node)
+    → All (λ told. Contains (components_of before) (node_of told.0)) (written_calls before performer outcome act)
+unfolding imps_below
+written-owners script before performer Done (Write port item) owned = written-hold (nodes_of before) (components_of before) item (closed_wiring before) (outlets_below before performer port) owned
+written-owners script before performer outcome act owned = search (All-nil {X = Who × Call})
+
+-- an imp of one more entry's wiring is a component's
+imps-more :
+    (script : ScriptValue) (before : List Entry) (performer : Who) (outcome : Outcome) (act : Act) → ((node : ℕ) → is_imp_at (wiring_of before) node ≡ true → IsOwned (nodes_of before) (components_of before) node)
+    → (act ≡ opening script) ⊎ Contains (components_of (Did performer outcome act ∷ before)) (node_of performer)
+    → (node : ℕ) → is_imp_at (wiring_of (Did performer outcome act ∷ before)) node ≡ true → IsOwned (nodes_of (Did performer outcome act ∷ before)) (components_of (Did performer outcome act ∷ before)) node
+imps-more script before performer outcome act owned who node is = by (imp-after (nodes_of before) (wiring_of before) performer outcome act node is)
+  where
+    entry : Entry
+    entry = Did performer outcome act
+
+    stays : (under other : Option (ℕ × List ℕ)) → other ≡ under → IfSome under (λ under. Contains (components_of before) under.0) → IfSome other (λ under. Contains (components_of (Did performer outcome act ∷ before)) under.0)
+    stays None other e has = rw e tt
+    stays (Some under) other e has = rw e (contains-more (Did performer outcome act) before under.0 has)
+
+    added : (found : Option (ℕ × List ℕ)) → IfSome found (λ under. under.0 ≡ node_of performer) → Contains (components_of (Did performer outcome act ∷ before)) (node_of performer)
+        → IfSome found (λ under. Contains (components_of (Did performer outcome act ∷ before)) under.0)
+    added None is has = tt
+    added (Some under) is has = rw is has
+
+    new : IsAdded (nodes_of before) performer outcome act node → (act ≡ opening script) ⊎ Contains (components_of (Did performer outcome act ∷ before)) (node_of performer)
+        → IsOwned (nodes_of (Did performer outcome act ∷ before)) (components_of (Did performer outcome act ∷ before)) node
+    new a (inl opens) = absurd (a.other script opens)
+    new a (inr has) = record { below = a.below; owner = added _ a.under has }
+
+    by : (is_imp_at (wiring_of before) node ≡ true) ⊎ IsAdded (nodes_of before) performer outcome act node → IsOwned (nodes_of (Did performer outcome act ∷ before)) (components_of (Did performer outcome act ∷ before)) node
+    by (inl old) =
+        let o = owned node old in
+        let more = nodes_stay (Did performer outcome act) before in
+        let fewer = nodes-more (Did performer outcome act) before in
+        record {
+          below = omega (arith, o.below, fewer);
+          owner = stays (under_at (nodes_of before) node) _ (ap (λ (nodes : List tree.Node). under_at nodes node) more.1 ∙ ap (option_and_then (λ (found : tree.Node). found.under)) (get-before (nodes_of before) more.0 node o.below)) o.owner;
+        }
+    by (inr a) = new a who
 
 -- with one more entry that is no answer the speaker stays a component, or nobody spoke
 speaker-more :
@@ -262,6 +356,14 @@ speaker-more :
     → Contains (components_of (entry ∷ before)) (node_of (speaker_of before)) ⊎ All (λ act. act ≡ opening script) (left_of script (entry ∷ before))
 speaker-more script before entry more (inl has) = inl (contains-more entry before (node_of (speaker_of before)) has)
 speaker-more script before entry more (inr opens) = inr (more opens)
+
+-- what passes comes alone
+passed-alone : (fifo : ℕ) (passage : Passage) (next : Next) → Allows next (Passed fifo passage) → next ≡ Exactly (Passed fifo passage)
+passed-alone fifo passage (Exactly entry) allows = rw allows refl
+passed-alone fifo passage (Answer performer call cause) allows = let other = allows.1 in cc
+passed-alone fifo passage (Need need performer act) (inl made) = cc
+passed-alone fifo passage (Need need performer act) (inr declined) = cc
+passed-alone fifo passage Nothing allows = absurd allows
 
 -- what holds of all acts holds of the rest of them
 rest-all : (P : Act → Type 0) (acts : List Act) → All P acts → All P (rest_of acts)
@@ -276,28 +378,57 @@ module _ (keeps : OrderKeepsAll Owner (Option Call)) where
       let deed = deed-next script before performer outcome act (next_of script before) refl next in
       let components = components_of (entry ∷ before) in
       let phase = running (stage_of before) in
+      let who = deed-owner script before entry performer act deed known.speaker in
       record {
         owners =
-            All-append (IsCallTo components) (calls_from outcome act performer phase (now_of before) (length before)) _
-            (due-owner components (told_by outcome act) performer phase (due_after (now_of before) act) (caused_at (length before)) (deed-owner script before entry performer outcome act deed known.speaker))
-            (moved-call components (moves_drains outcome act) phase (caused_at (length before)) (objections_of before) (objections_of (entry ∷ before)) (caused_of before) (owners-more script before entry known));
+            All-append (IsCallTo components) (calls_numbered phase (now_of before) (length before) 0 (written_calls before performer outcome act)) _
+            (numbered-owners components phase (now_of before) (length before) 0 (written_calls before performer outcome act)
+            (All-weaker (λ told. Contains (components_of before) (node_of told.0)) (λ told. Contains components (node_of told.0)) (λ told. contains-more entry before (node_of told.0)) (written_calls before performer outcome act) (written-owners script before performer outcome act known.imps)))
+            (All-append (IsCallTo components) (calls_from outcome act performer phase (now_of before) (length before)) _
+            (due-owner components (told_by outcome act) performer phase (due_after (now_of before) act) (caused_at (length before)) (unless-opening (λ act. told_by outcome act ≡ None) script act (opening-tells script outcome) who))
+            (moved-call components (moves_drains outcome act) phase (caused_at (length before)) (objections_of before) (objections_of (entry ∷ before)) (caused_of before) (owners-more script before entry known)));
         speaker = speaker-more script before entry (rest-all (λ one. one ≡ opening script) (left_of script before)) known.speaker;
+        putters = λ fifo. asked-more (IsOne components) before fifo performer through.Put (put_in outcome act) (puts_asked before fifo)
+            (All-weaker (IsAskedBy (IsOne (components_of before))) (IsAskedBy (IsOne components)) (λ request. contains-more entry before (node_of request.asker.who)) (puts_asked before fifo) (known.putters fifo))
+            (unless-opening (λ act. put_in outcome act ≡ None) script act (opening-puts script outcome) who);
+        takers = λ fifo. asked-more (IsOne components) before fifo performer through.Get (take_in outcome act) (takes_asked before fifo)
+            (All-weaker (IsAskedBy (IsOne (components_of before))) (IsAskedBy (IsOne components)) (λ request. contains-more entry before (node_of request.asker.who)) (takes_asked before fifo) (known.takers fifo))
+            (unless-opening (λ act. take_in outcome act ≡ None) script act (opening-takes script outcome) who);
+        imps = imps-more script before performer outcome act known.imps who;
+      }
+
+  -- what passes is a component's
+  known-passed : (script : ScriptValue) (before : List Entry) (fifo : ℕ) (passage : Passage) → Known script before → IsNext script before (Passed fifo passage) → Known script (Passed fifo passage ∷ before)
+  known-passed script before fifo passage known next =
+      let passes = passages_go_in_order script before fifo passage (passed-alone fifo passage (next_of script before) next) in
+      let has : IsOne (components_of before) passage.who = subst (λ (passed : Option (ℕ × Passage)). IfSome passed (λ passed. IsOne (components_of before) passed.1.who)) passes (passing-holds (IsOne (components_of before)) before known.putters known.takers) in
+      record {
+        owners = All-append (IsCallTo (components_of before)) (due_from (Some (told_of passage.kind passage)) passage.who (running (stage_of before)) (now_of before) (caused_at (length before))) (caused_of before)
+            (due-owner (components_of before) (Some (told_of passage.kind passage)) passage.who (running (stage_of before)) (now_of before) (caused_at (length before)) (inr has)) known.owners;
+        speaker = known.speaker;
+        putters = known.putters;
+        takers = known.takers;
+        imps = known.imps;
       }
 
   -- so does each entry that is next
   known-more : (script : ScriptValue) (before : List Entry) (entry : Entry) → Known script before → IsNext script before entry → Known script (entry ∷ before)
-  known-more script before (Heard performer call cause acts) known next = record { owners = known.owners; speaker = inl (heard-one keeps script before performer call cause acts known next) }
+  known-more script before (Heard performer call cause acts) known next = record { owners = known.owners; speaker = inl (heard-one keeps script before performer call cause acts known next); putters = known.putters; takers = known.takers; imps = known.imps }
   known-more script before (Did performer outcome act) known next = known-did script before performer outcome act known next
+  known-more script before (Passed fifo passage) known next = known-passed script before fifo passage known next
   known-more script before (Drained node cause) known next = record {
     owners = with-drains-call (components_of before) (running (stage_of before)) (caused_at (length before)) (objections_of before) (objections_of (Drained node cause ∷ before)) (caused_of before) known.owners;
     speaker = known.speaker;
+    putters = known.putters;
+    takers = known.takers;
+    imps = known.imps;
   }
-  known-more script before (Note fatal node) known next = record { owners = known.owners; speaker = speaker-more script before (Note fatal node) (λ opens. All-nil (λ one. one ≡ opening script)) known.speaker }
-  known-more script before entry known next = record { owners = known.owners; speaker = known.speaker }
+  known-more script before (Note fatal node) known next = record { owners = known.owners; speaker = speaker-more script before (Note fatal node) (λ opens. All-nil (λ one. one ≡ opening script)) known.speaker; putters = known.putters; takers = known.takers; imps = known.imps }
+  known-more script before entry known next = record { owners = known.owners; speaker = known.speaker; putters = known.putters; takers = known.takers; imps = known.imps }
 
   -- so that it is known of every log of which each entry was next
   known-of : (script : ScriptValue) (history : List Entry) → EachIsNext script history → Known script history
-  known-of script [] each = record { owners = All-nil _; speaker = inr (All-cons (λ one. one ≡ opening script) (opening script) [] refl (All-nil (λ one. one ≡ opening script))) }
+  known-of script [] each = record { owners = All-nil _; speaker = inr (All-cons (λ one. one ≡ opening script) (opening script) [] refl (All-nil (λ one. one ≡ opening script))); putters = λ fifo. All-nil _; takers = λ fifo. All-nil _; imps = λ node is. cc }
   known-of script (entry ∷ before) each = known-more script before entry (known-of script before each.1) each.0
 
   -- who is asked is a component

@@ -7,7 +7,8 @@ use Rattle.bench_history.specs.declared.stages.Stage.TheVariants.{Ended}
 use Rattle.bench_history.specs.History.{stage_of, running, left_of, is_over}
 use Rattle.bench_history.specs.Reports.{reason_of}
 use Rattle.bench_history.specs.Dues.{due_now}
-use Rattle.bench_history.specs.Cases.{Next, Nothing, end_reached, giving_up, long_answer, first_act, event_due, phase_call, port_check, phase_end, phase_begin, phase_to_begin, finish}
+use Rattle.bench_history.specs.Passing.{next_passed}
+use Rattle.bench_history.specs.Cases.{Next, Nothing, end_reached, giving_up, passing, long_answer, first_act, event_due, phase_call, port_check, phase_end, phase_begin, phase_to_begin, finish}
 use Rattle.bench_history.specs.Next.{first_next, next_of, Allows, IsNext, EachIsNext}
 use Rattle.bench_history.specs.Laws.{IsSomething, NothingAfterOver, SomethingBeforeOver}
 use Rattle.bench_history.proofs.Inversion.{Case, AtEnd, ByOwn, ByNeed, ByDeed, ByDue, ByTurn, ByEnd, ByBegin, case-of}
@@ -19,6 +20,7 @@ nothing-comes script history e =
     ap (λ stage. first_next (
     end_reached stage
     ∷ giving_up (reason_of script history)
+    ∷ passing (next_passed history)
     ∷ long_answer history (left_of script history)
     ∷ first_act script history (left_of script history)
     ∷ event_due (due_now history)

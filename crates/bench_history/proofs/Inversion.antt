@@ -12,11 +12,12 @@ use Rattle.uvm_object.specs.declared.fatals.Fatal.{Fatal}
 use Rattle.uvm_object.specs.declared.fatals.Fatal.TheVariants.{TooManyActs, Timeout, Stall}
 use Rattle.uvm_object.specs.Acts.{node_of}
 use Rattle.uvm_object.specs.declared.entries.Outcome.{Outcome}
-use Rattle.uvm_object.specs.declared.entries.Outcome.TheVariants.{Done, Made, Value, Refused}
+use Rattle.uvm_object.specs.declared.entries.Outcome.TheVariants.{Done, Made, Value, Stored, Taken, Refused}
 use Rattle.uvm_object.specs.declared.entries.Reason.{Reason}
 use Rattle.uvm_object.specs.declared.entries.Reason.TheVariants.{Finished}
+use Rattle.uvm_object.specs.declared.entries.Passage.{Passage}
 use Rattle.uvm_object.specs.declared.entries.Entry.{Entry}
-use Rattle.uvm_object.specs.declared.entries.Entry.TheVariants.{Begin, End, Time, Heard, Did, Drained, Note, Over}
+use Rattle.uvm_object.specs.declared.entries.Entry.TheVariants.{Begin, End, Time, Heard, Did, Passed, Drained, Note, Over}
 use Rattle.bench_script.specs.Scripts.{ScriptValue}
 use Rattle.bench_history.specs.declared.needs.Need as declared
 use Rattle.bench_history.specs.declared.stages.Stage.{Stage}
@@ -28,19 +29,21 @@ use Rattle.bench_history.specs.Reports.{reason_of}
 use Rattle.bench_history.specs.Objections.{objections_of, stands}
 use Rattle.bench_history.specs.Dues.{first_due, due_at, due_now}
 use Rattle.bench_history.specs.Wires.{next_unsound}
-use Rattle.bench_history.specs.Upshots.{Upshot, Needs, Does, Finds, Refuses, upshot_of}
-use Rattle.bench_history.specs.Cases.{Next, Exactly, Answer, Need, Nothing, end_reached, giving_up, first_act, by_upshot, by_act, by_call, event_due, phase_call, in_connect, port_check, phase_end, time_passes, phase_begin, phase_to_begin, finish}
+use Rattle.bench_history.specs.Passing.{next_passed}
+use Rattle.bench_history.specs.Upshots.{Upshot, Needs, Does, Finds, Stores, Takes, Refuses, upshot_of}
+use Rattle.bench_history.specs.Cases.{Next, Exactly, Answer, Need, Nothing, end_reached, giving_up, passing, first_act, by_upshot, by_act, by_call, event_due, phase_call, in_connect, port_check, phase_end, time_passes, phase_begin, phase_to_begin, finish}
 use Rattle.bench_history.specs.Next.{first_next, next_of}
 use Rattle.bench_history.specs.Laws.{IsDue}
 
--- what the machine writes by itself, outside a phase's course: neither a mark, nor an answer, nor an act. Time stays within its limit, and a
--- drain that ends is due
+-- what the machine writes by itself, outside a phase's course: neither a mark, nor an answer, nor an act. Time stays within its limit, what
+-- passes is next to pass, and a drain that ends is due
 abbrev pub IsOwn : ScriptValue → List Entry → Entry → Type 0
 IsOwn script history (Begin phase) = ⊥
 IsOwn script history (End phase) = ⊥
 IsOwn script history (Heard performer call cause acts) = ⊥
 IsOwn script history (Did performer outcome act) = ⊥
 IsOwn script history (Time time) = time ≤ script.time_limit
+IsOwn script history (Passed fifo passage) = next_passed history ≡ Some (fifo, passage)
 IsOwn script history (Drained node cause) = IsDue history (who.Node node) None cause
 IsOwn script history entry = Unit {0}
 
@@ -153,6 +156,8 @@ case-upshot : (script : ScriptValue) (history : List Entry) (next : Next) (act :
 case-upshot script history next act (Needs need) left is e = ByNeed act need left is e
 case-upshot script history next act Does left is e = ByDeed act Done left tt (ap (by_upshot (speaker_of history) act) is) e
 case-upshot script history next act (Finds value) left is e = ByDeed act (Value value) left tt (ap (by_upshot (speaker_of history) act) is) e
+case-upshot script history next act (Stores stored) left is e = ByDeed act (Stored stored) left tt (ap (by_upshot (speaker_of history) act) is) e
+case-upshot script history next act (Takes item) left is e = ByDeed act (Taken item) left tt (ap (by_upshot (speaker_of history) act) is) e
 case-upshot script history next act (Refuses fatal) left is e = ByDeed act (Refused fatal) left tt (ap (by_upshot (speaker_of history) act) is) e
 
 -- the note of an answer of too many acts
@@ -175,15 +180,21 @@ case-left script history next (act ∷ acts) is e = case-many script history nex
 abbrev answer_cases : ScriptValue → List Entry → List Act → List (Option Next)
 answer_cases script history left = (if nat_lt most_acts (length left) then Some (noted history) else None) ∷ first_act script history left ∷ act_cases script history
 
+case-passing :
+    (script : ScriptValue) (history : List Entry) (next : Next) (passed : Option (ℕ × Passage)) → next_passed history ≡ passed
+    → next ≡ first_next (passing passed ∷ answer_cases script history (left_of script history)) → Case script history next
+case-passing script history next (Some passed) is e = ByOwn (Passed passed.0 passed.1) is e
+case-passing script history next None is e = case-left script history next (left_of script history) refl e
+
 case-reason :
     (script : ScriptValue) (history : List Entry) (next : Next) (reason : Option Reason) → reason_of script history ≡ reason
-    → next ≡ first_next (giving_up reason ∷ answer_cases script history (left_of script history)) → Case script history next
+    → next ≡ first_next (giving_up reason ∷ passing (next_passed history) ∷ answer_cases script history (left_of script history)) → Case script history next
 case-reason script history next (Some reason) is e = ByOwn (Over reason) tt e
-case-reason script history next None is e = case-left script history next (left_of script history) refl e
+case-reason script history next None is e = case-passing script history next (next_passed history) refl e
 
 case-stage :
     (script : ScriptValue) (history : List Entry) (next : Next) (stage : Stage) → stage_of history ≡ stage
-    → next ≡ first_next (end_reached stage ∷ giving_up (reason_of script history) ∷ answer_cases script history (left_of script history)) → Case script history next
+    → next ≡ first_next (end_reached stage ∷ giving_up (reason_of script history) ∷ passing (next_passed history) ∷ answer_cases script history (left_of script history)) → Case script history next
 case-stage script history next Ended is e = AtEnd is e
 case-stage script history next Before is e = case-reason script history next (reason_of script history) refl e
 case-stage script history next (During phase) is e = case-reason script history next (reason_of script history) refl e

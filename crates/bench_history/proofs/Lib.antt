@@ -4,6 +4,7 @@ mod Performed
 mod Needed
 mod Grown
 mod Leasts
+mod Asking
 mod Called
 mod Ended
 mod Reported

@@ -19,8 +19,9 @@ use Rattle.bench_history.specs.History.{created_name, nodes_of, left_of, rest_of
 use Rattle.bench_history.specs.Refusals.{Creation, created_path, type_asked, type_made, child_refusal, fatal_of, creation_refusal}
 use Rattle.bench_history.specs.Upshots.{Upshot, Needs, unless_refused, needed_object, creation_now, upshot_of}
 use Rattle.bench_history.specs.Cases.{Next, Need}
-use Rattle.bench_history.specs.Next.{next_of, need_in}
+use Rattle.bench_history.specs.Next.{next_of, need_in, IsAct}
 use Rattle.bench_history.specs.Laws.{IsCreation, IsWanted, NeedsAreCreations}
+use Rattle.bench_history.proofs.Performed.{settled-of}
 use Rattle.bench_history.proofs.Inversion.{Case, AtEnd, ByOwn, ByNeed, ByDeed, ByDue, ByTurn, ByEnd, ByBegin, case-of}
 
 -- a name can be free only under a node that is there
@@ -92,7 +93,7 @@ wanted-by : (script : ScriptValue) (history : List Entry) (act : Act) (need : de
 wanted-by script history act need upshot next =
     let c = creating-of script history (speaker_of history) act need upshot in
     let free = free-of (creation_now script history (speaker_of history) c.asked (created_name act)) c.unrefused.none in
-    record { need = need; next = next; creates = c.creates; path_is = c.unrefused.path_is; free = free; speaker = some-node (nodes_of history) (node_of (speaker_of history)) (created_name act) free; building = building-of (creation_now script history (speaker_of history) c.asked (created_name act)) c.unrefused.none }
+    record { need = need; next = next; creates = c.creates; settled = settled-of script history (subst IsAct (sym next) tt); path_is = c.unrefused.path_is; free = free; speaker = some-node (nodes_of history) (node_of (speaker_of history)) (created_name act) free; building = building-of (creation_now script history (speaker_of history) c.asked (created_name act)) c.unrefused.none }
 
 -- no object is needed elsewhere
 not-needed : {A : Type 0} (other next : Next) → next ≡ other → need_in other ≡ None → IsSome (need_in next) → A

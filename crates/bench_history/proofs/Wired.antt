@@ -2,11 +2,12 @@
 use Rattle.std.proofs.Common.{◌≡◌, ℕ, Bool, true, false, not, ◌&&◌, ◌||◌, ◌==◌, List, [], ◌∷◌, ◌++◌, length, reverse, take, Option, Some, None, option_map, is_none, refl, ap, sym, ◌∙◌, subst, if◌then◌else◌}
 use Rattle.std.specs.List.{list_any, flat_map}
 use Rattle.uvm_phase.specs.declared.phases.Phase.{Phase}
-use Rattle.uvm_phase.specs.declared.phases.Phase.TheVariants.{Build, Connect}
-use Rattle.uvm_phase.specs.Phases.{phases}
+use Rattle.uvm_phase.specs.declared.phases.Phase.TheVariants.{Build, Connect, EndOfElaboration, StartOfSimulation, Run, Extract, Check, Report, Final}
+use Rattle.uvm_phase.specs.Phases.{phases, is_task}
 use Rattle.uvm_object.specs.declared.acts.Act.{Act}
 use Rattle.uvm_object.specs.declared.fatals.Fatal.{Fatal}
 use Rattle.uvm_object.specs.declared.entries.Reason.{Reason}
+use Rattle.uvm_object.specs.declared.entries.Passage.{Passage}
 use Rattle.uvm_object.specs.declared.entries.Entry.{Entry}
 use Rattle.uvm_object.specs.declared.entries.Entry.TheVariants.{Begin, End, Time, Heard, Did, Drained, Note, Over}
 use Rattle.bench_script.specs.Scripts.{ScriptValue}
@@ -17,28 +18,32 @@ use Rattle.bench_history.specs.History.{stage_of, running, left_of, head_of, nex
 use Rattle.bench_history.specs.Reports.{reason_of}
 use Rattle.bench_history.specs.Dues.{due_now, ended_of, ended_in}
 use Rattle.bench_history.specs.Wires.{is_past_connect, ends_connect, next_unsound}
-use Rattle.bench_history.specs.Cases.{Next, Exactly, Nothing, end_reached, giving_up, long_answer, first_act, event_due, phase_call, port_check, phase_end, phase_begin, phase_to_begin, finish}
+use Rattle.bench_history.specs.Passing.{next_passed}
+use Rattle.bench_history.specs.Cases.{Next, Exactly, Nothing, end_reached, giving_up, passing, long_answer, first_act, event_due, phase_call, port_check, phase_end, phase_begin, phase_to_begin, finish}
 use Rattle.bench_history.specs.Next.{first_next, next_of, Allows, IsNext}
-use Rattle.bench_history.specs.Laws.{PhasesGoInOrder, IsWired, StaysWired, WiringStays, ConnectFollowsBuild, is_connect_last, has_nothing_left, next_number}
+use Rattle.bench_history.specs.Laws.{PhasesGoInOrder, IsWired, StaysWired, WiringStays, ConnectFollowsBuild, TasksFollowConnect, is_connect_last, is_in_connect, has_nothing_left, next_number}
+use Rattle.bench_history.specs.Refusals.{in_task}
 use Rattle.bench_history.proofs.Ended.{nothing-comes}
 use Rattle.bench_history.proofs.Phased.{phases_go_in_order}
 
 -- what it is to have nothing left
 record IsIdle (script : ScriptValue) (history : List Entry) : Type 0 where
+  none_passes : next_passed history ≡ None
   left : left_of script history ≡ []
   none_due : due_now history ≡ None
   no_call : next_call Connect history ≡ None
 
-idle-of : (script : ScriptValue) (history : List Entry) (left : List Act) (due : Option Event) (call : Option ℕ) → left_of script history ≡ left → due_now history ≡ due → next_call Connect history ≡ call
-    → is_none (head_of left) && is_none due && is_none call ≡ true → IsIdle script history
-idle-of script history [] None None left due call e = record { left = left; none_due = due; no_call = call }
-idle-of script history [] None (Some node) left due call e = cc
-idle-of script history [] (Some event) None left due call e = cc
-idle-of script history [] (Some event) (Some node) left due call e = cc
-idle-of script history (act ∷ acts) event turn left due call e = cc
+idle-of : (script : ScriptValue) (history : List Entry) (passed : Option (ℕ × Passage)) (left : List Act) (due : Option Event) (call : Option ℕ) → next_passed history ≡ passed → left_of script history ≡ left → due_now history ≡ due → next_call Connect history ≡ call
+    → is_none passed && is_none (head_of left) && is_none due && is_none call ≡ true → IsIdle script history
+idle-of script history None [] None None passes left due call e = record { none_passes = passes; left = left; none_due = due; no_call = call }
+idle-of script history None [] None (Some node) passes left due call e = cc
+idle-of script history None [] (Some event) None passes left due call e = cc
+idle-of script history None [] (Some event) (Some node) passes left due call e = cc
+idle-of script history None (act ∷ acts) event turn passes left due call e = cc
+idle-of script history (Some passed) acts event turn passes left due call e = cc
 
 idle-is : (script : ScriptValue) (history : List Entry) → IsIdle script history → has_nothing_left script history ≡ true
-idle-is script history idle = rw (idle.left, idle.none_due, idle.no_call) refl
+idle-is script history idle = rw (idle.none_passes, idle.left, idle.none_due, idle.no_call) refl
 
 -- where connect runs, and nothing is left, the run is given up, or a port is reported, or connect ends
 abbrev end_or : Option Reason → Option (ℕ × Fatal) → Entry
@@ -50,15 +55,15 @@ idle-next : (script : ScriptValue) (history : List Entry) → stage_of history �
     → next_of script history ≡ Exactly (end_or reason port)
 unfolding next_of
 idle-next script history runs idle (Some reason) given port is = rw (runs, given) refl
-idle-next script history runs idle None given (Some port) is = rw (runs, given, idle.left, idle.none_due, idle.no_call, is) refl
-idle-next script history runs idle None given None is = rw (runs, given, idle.left, idle.none_due, idle.no_call, is) refl
+idle-next script history runs idle None given (Some port) is = rw (runs, given, idle.none_passes, idle.left, idle.none_due, idle.no_call, is) refl
+idle-next script history runs idle None given None is = rw (runs, given, idle.none_passes, idle.left, idle.none_due, idle.no_call, is) refl
 
 -- and then it is still so
 idle-more : (script : ScriptValue) (history : List Entry) (reason : Option Reason) (port : Option (ℕ × Fatal)) → IsIdle script history → has_nothing_left script history ≡ true → is_past_connect (end_or reason port ∷ history) ≡ false
     → is_connect_last (stage_of history) ≡ true → is_connect_last (stage_of (end_or reason port ∷ history)) && has_nothing_left script (end_or reason port ∷ history) ≡ true
-unfolding due_now next_call
+unfolding due_now next_call next_passed
 idle-more script history (Some reason) port idle nothing past last = nothing
-idle-more script history None (Some port) idle nothing past last = rw (last, idle.none_due, idle.no_call) refl
+idle-more script history None (Some port) idle nothing past last = rw (last, idle.none_passes, idle.none_due, idle.no_call) refl
 idle-more script history None None idle nothing past last = cc
 
 -- what is built stays so
@@ -84,7 +89,7 @@ quiet-more : (script : ScriptValue) (history : List Entry) (entry : Entry) (stag
     → is_connect_last (stage_of (entry ∷ history)) && has_nothing_left script (entry ∷ history) ≡ true
 quiet-more script history entry Ended is last nothing next past = absurd (subst (λ (comes : Next). Allows comes entry) (nothing-comes script history is) next)
 quiet-more script history entry (During Connect) is last nothing next past =
-    let idle = idle-of script history (left_of script history) (due_now history) (next_call Connect history) refl refl refl nothing in
+    let idle = idle-of script history (next_passed history) (left_of script history) (due_now history) (next_call Connect history) refl refl refl refl nothing in
     let comes = idle-next script history is idle (reason_of script history) refl (next_unsound history) refl in
     let entry_is : entry ≡ end_or (reason_of script history) (next_unsound history) = subst (λ (comes : Next). Allows comes entry) comes next in
     let past' : is_past_connect (end_or (reason_of script history) (next_unsound history) ∷ history) ≡ false = rw (← entry_is) past in
@@ -109,12 +114,35 @@ built-ended [] = refl
 built-ended (End phase ∷ history) = ap (λ b. ends_build (End phase) || b) (built-ended history)
 built-ended (entry ∷ history) = built-ended history
 
--- the phases that have ended where connect runs
-ended-first : (stage : Stage) (ended : List Phase) → stage ≡ During Connect → ((stage ≡ Ended → ⊥) → ended ≡ reverse (take (next_number stage) phases)) → ended ≡ Build ∷ []
-ended-first (During Connect) ended runs are = are (λ e. cc)
-ended-first stage ended runs are = cc
+-- and so it is where connect runs, or has just ended
+build-first : (stage : Stage) (ended : List Phase) → is_in_connect stage ≡ true → ((stage ≡ Ended → ⊥) → ended ≡ reverse (take (next_number stage) phases)) → list_any (λ phase. ends_build (End phase)) ended ≡ true
+build-first (During Connect) ended runs are = rw (are (λ e. cc)) refl
+build-first (After Connect) ended runs are = rw (are (λ e. cc)) refl
+build-first stage ended runs are = cc
 
 pub connect_follows_build : ConnectFollowsBuild
-connect_follows_build script history each runs =
-    built-ended history
-    ∙ ap (list_any (λ phase. ends_build (End phase))) (ended-first (stage_of history) (ended_of history) runs (phases_go_in_order script history each).are)
+connect_follows_build script history each runs = built-ended history ∙ build-first (stage_of history) (ended_of history) runs (phases_go_in_order script history each).are
+
+-- so has connect
+past-ended : (history : List Entry) → is_past_connect history ≡ list_any (λ phase. ends_connect (End phase)) (ended_of history)
+past-ended [] = refl
+past-ended (End phase ∷ history) = ap (λ b. ends_connect (End phase) || b) (past-ended history)
+past-ended (entry ∷ history) = past-ended history
+
+-- and connect has ended where a phase runs that takes time
+task-after : (stage : Stage) (ended : List Phase) → in_task (running stage) ≡ true → ((stage ≡ Ended → ⊥) → ended ≡ reverse (take (next_number stage) phases)) → list_any (λ phase. ends_connect (End phase)) ended ≡ true
+task-after (During Run) ended task are = rw (are (λ e. cc)) refl
+task-after (During Build) ended task are = cc
+task-after (During Connect) ended task are = cc
+task-after (During EndOfElaboration) ended task are = cc
+task-after (During StartOfSimulation) ended task are = cc
+task-after (During Extract) ended task are = cc
+task-after (During Check) ended task are = cc
+task-after (During Report) ended task are = cc
+task-after (During Final) ended task are = cc
+task-after Before ended task are = cc
+task-after (After phase) ended task are = cc
+task-after Ended ended task are = cc
+
+pub tasks_follow_connect : TasksFollowConnect
+tasks_follow_connect script history each task = past-ended history ∙ task-after (stage_of history) (ended_of history) task (phases_go_in_order script history each).are

@@ -12,11 +12,12 @@ use Rattle.uvm_object.specs.declared.acts.Call.{Call}
 use Rattle.uvm_object.specs.declared.acts.Call.TheVariants as call
 use Rattle.uvm_object.specs.declared.acts.Act.{Act}
 use Rattle.uvm_object.specs.declared.fatals.Fatal.TheVariants.{TooManyActs, Timeout, Stall}
-use Rattle.uvm_object.specs.declared.entries.Outcome.TheVariants.{Done, Value, Refused}
+use Rattle.uvm_object.specs.declared.entries.Outcome.TheVariants.{Done, Value, Stored, Taken, Refused}
 use Rattle.uvm_object.specs.declared.entries.Reason.{Reason}
 use Rattle.uvm_object.specs.declared.entries.Reason.TheVariants.{Finished}
+use Rattle.uvm_object.specs.declared.entries.Passage.{Passage}
 use Rattle.uvm_object.specs.declared.entries.Entry.{Entry}
-use Rattle.uvm_object.specs.declared.entries.Entry.TheVariants.{Begin, End, Time, Did, Drained, Note, Over}
+use Rattle.uvm_object.specs.declared.entries.Entry.TheVariants.{Begin, End, Time, Did, Passed, Drained, Note, Over}
 use Rattle.bench_script.specs.Scripts.{ScriptValue}
 use Rattle.bench_history.specs.declared.needs.Need as declared
 use Rattle.bench_history.specs.declared.owners.Owner.{Owner}
@@ -28,7 +29,7 @@ use Rattle.bench_history.specs.History.{next_call, speaker_of}
 use Rattle.bench_history.specs.Objections.{objections_of, stands}
 use Rattle.bench_history.specs.Dues.{first_due}
 use Rattle.bench_history.specs.Wires.{next_unsound}
-use Rattle.bench_history.specs.Upshots.{Upshot, Needs, Does, Finds, Refuses, upshot_of}
+use Rattle.bench_history.specs.Upshots.{Upshot, Needs, Does, Finds, Stores, Takes, Refuses, upshot_of}
 
 -- what comes next: this entry; the answer of a hearer to a call, caused or a phase's; an object for a performer's act, made or declined; or nothing
 pub data Next : Type 0 where
@@ -46,6 +47,10 @@ end_reached stage = None
 abbrev pub giving_up : Option Reason → Option Next
 giving_up reason = option_map (λ reason. Exactly (Over reason)) reason
 
+-- what somebody waits for at a FIFO comes to pass
+abbrev pub passing : Option (ℕ × Passage) → Option Next
+passing passed = option_map (λ passed. Exactly (Passed passed.0 passed.1)) passed
+
 -- of an answer of too many acts none is performed: a note comes instead, which leaves none of them
 abbrev pub long_answer : List Entry → List Act → Option Next
 long_answer history left = if nat_lt most_acts (length left) then Some (Exactly (Note TooManyActs (node_of (speaker_of history)))) else None
@@ -55,6 +60,8 @@ abbrev pub by_upshot : Who → Act → Upshot → Next
 by_upshot performer act (Needs need) = Need need performer act
 by_upshot performer act Does = Exactly (Did performer Done act)
 by_upshot performer act (Finds value) = Exactly (Did performer (Value value) act)
+by_upshot performer act (Stores stored) = Exactly (Did performer (Stored stored) act)
+by_upshot performer act (Takes item) = Exactly (Did performer (Taken item) act)
 by_upshot performer act (Refuses fatal) = Exactly (Did performer (Refused fatal) act)
 
 abbrev pub by_act : ScriptValue → List Entry → Who → Act → Next

@@ -1,6 +1,6 @@
 -- The events that a log has caused and that have not happened yet: calls, and the ends of drains.
-use Rattle.std.specs.Prelude.{ℕ, Bool, true, false, not, ◌+◌, ◌&&◌, ◌==◌, List, [], ◌∷◌, ◌++◌, length, filter, slice_get, Option, Some, None, if◌then◌else◌}
-use Rattle.std.specs.List.{flat_map, list_any}
+use Rattle.std.specs.Prelude.{ℕ, Bool, true, false, not, ◌+◌, suc, ◌&&◌, ◌==◌, List, [], ◌∷◌, ◌++◌, length, filter, slice_get, Option, Some, None, option_map, if◌then◌else◌}
+use Rattle.std.specs.List.{filter_map, flat_map, list_any}
 use Rattle.uvm_phase.specs.declared.phases.Phase.{Phase}
 use Rattle.uvm_phase.specs.declared.agendas.Cause.{Cause}
 use Rattle.uvm_phase.specs.declared.agendas.Due.{Due}
@@ -9,19 +9,27 @@ use Rattle.uvm_phase.specs.Dues.{same_cause, in_order}
 use Rattle.uvm_objection.specs.declared.objections.Due as drain
 use Rattle.uvm_objection.specs.Nodes.{Node}
 use Rattle.uvm_objection.specs.Totals.{drains_begun, drains_ended}
+use Rattle.uvm_tree.specs.declared.nodes.Node as tree
+use Rattle.uvm_tree.specs.Nodes.{under_at}
+use Rattle.uvm_tlm.specs.declared.fifos.MoveKind.{MoveKind}
+use Rattle.uvm_tlm.specs.declared.fifos.MoveKind.TheVariants as move
+use Rattle.uvm_tlm.specs.declared.items.Item.{Item}
 use Rattle.uvm_object.specs.declared.acts.Who.{Who}
+use Rattle.uvm_object.specs.declared.acts.Who.TheVariants as who
 use Rattle.uvm_object.specs.declared.acts.Call.{Call}
 use Rattle.uvm_object.specs.declared.acts.Call.TheVariants as call
 use Rattle.uvm_object.specs.declared.acts.Act.{Act}
-use Rattle.uvm_object.specs.declared.acts.Act.TheVariants.{Get, RaiseObjection, DropObjection, Wait}
+use Rattle.uvm_object.specs.declared.acts.Act.TheVariants.{Get, TryPut, TryTake, Write, RaiseObjection, DropObjection, Wait}
 use Rattle.uvm_object.specs.declared.entries.Outcome.{Outcome}
-use Rattle.uvm_object.specs.declared.entries.Outcome.TheVariants.{Done, Value}
+use Rattle.uvm_object.specs.declared.entries.Outcome.TheVariants.{Done, Value, Stored, Taken}
+use Rattle.uvm_object.specs.declared.entries.Passage.{Passage}
 use Rattle.uvm_object.specs.declared.entries.Entry.{Entry}
-use Rattle.uvm_object.specs.declared.entries.Entry.TheVariants.{End, Heard, Did, Drained}
+use Rattle.uvm_object.specs.declared.entries.Entry.TheVariants.{End, Heard, Did, Passed, Drained}
 use Rattle.bench_history.specs.declared.owners.Owner.TheVariants.{Object, Drain}
 use Rattle.bench_history.specs.Owners.{Event, is_drain_of}
-use Rattle.bench_history.specs.History.{stage_of, now_of, running}
+use Rattle.bench_history.specs.History.{stage_of, now_of, running, nodes_of}
 use Rattle.bench_history.specs.Objections.{objections_of}
+use Rattle.bench_history.specs.Ports.{imps_below}
 
 -- an event is due while a phase runs
 abbrev pub event_in : {O N : Type 0} → Option Phase → ℕ → Cause → O → N → List (Due O N)
@@ -32,9 +40,12 @@ event_in (Some phase) time cause owner notice = record { time = time; cause = ca
 abbrev pub caused_at : ℕ → Cause
 caused_at place = record { place = place; number = 0 }
 
--- the call that an act causes: a Get that its performer is told the value that was found, a wait that it is called again. No other act causes one
+-- the call to its performer that an act causes: a Get tells the value that was found, a try what came of it, and a wait is called again. No other act
+-- causes one
 abbrev pub told_by : Outcome → Act → Option Call
 told_by (Value value) (Get field) = Some (call.Config field value)
+told_by (Stored stored) (TryPut port item) = Some (call.TryStored port stored)
+told_by (Taken item) (TryTake port) = Some (call.TryTaken port item)
 told_by Done (Wait ticks tag) = Some (call.Wake tag)
 told_by outcome act = None
 
@@ -51,6 +62,27 @@ due_from (Some call) performer phase time cause = event_in phase time cause (Obj
 -- the calls that the entry of an act causes, which stands at a place
 abbrev pub calls_from : Outcome → Act → Who → Option Phase → ℕ → ℕ → List Event
 calls_from outcome act performer phase time place = due_from (told_by outcome act) performer phase (due_after time act) (caused_at place)
+
+-- who owns an imp is told what was written to it
+abbrev pub written_to : List tree.Node → Item → ℕ → Option (Who × Call)
+written_to nodes item imp = option_map (λ under. (who.Node under.0, call.Written under.1 item)) (under_at nodes imp)
+
+-- the calls to others that an act causes: a Write one for each imp that it reaches, in path order
+abbrev pub written_calls : List Entry → Who → Outcome → Act → List (Who × Call)
+written_calls before performer Done (Write port item) = filter_map (written_to (nodes_of before) item) (imps_below before performer port)
+written_calls before performer outcome act = []
+
+-- they are numbered in this order, and due at once; the newest first
+abbrev pub calls_numbered : Option Phase → ℕ → ℕ → ℕ → List (Who × Call) → List Event
+calls_numbered phase time place number [] = []
+calls_numbered phase time place number (told ∷ calls) =
+    calls_numbered phase time place (suc number) calls ++ event_in phase time (record { place = place; number = number }) (Object told.0) (Some told.1)
+
+-- what came to pass at a FIFO is told to who had asked
+abbrev pub told_of : MoveKind → Passage → Call
+told_of move.Put passage = call.Stored passage.port
+told_of move.Take passage = call.Taken passage.port passage.item
+told_of move.Peek passage = call.Peeked passage.port passage.item
 
 -- the end of a drain is due at its time
 abbrev pub drain_from : Option Phase → Cause → drain.Due → List Event
@@ -75,8 +107,10 @@ moves_drains outcome act = false
 abbrev pub caused_of : List Entry → List Event
 caused_of [] = []
 caused_of (Did performer outcome act ∷ before) =
-    calls_from outcome act performer (running (stage_of before)) (now_of before) (length before)
-    ++ (if moves_drains outcome act then with_drains_of (Did performer outcome act) before (caused_of before) else caused_of before)
+    calls_numbered (running (stage_of before)) (now_of before) (length before) 0 (written_calls before performer outcome act)
+    ++ (calls_from outcome act performer (running (stage_of before)) (now_of before) (length before)
+    ++ (if moves_drains outcome act then with_drains_of (Did performer outcome act) before (caused_of before) else caused_of before))
+caused_of (Passed fifo passage ∷ before) = due_from (Some (told_of passage.kind passage)) passage.who (running (stage_of before)) (now_of before) (caused_at (length before)) ++ caused_of before
 caused_of (Drained node cause ∷ before) = with_drains_of (Drained node cause) before (caused_of before)
 caused_of (entry ∷ before) = caused_of before
 

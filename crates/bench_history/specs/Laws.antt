@@ -15,18 +15,20 @@ use Rattle.uvm_object.specs.declared.acts.Call.{Call}
 use Rattle.uvm_object.specs.declared.acts.Act.{Act}
 use Rattle.uvm_object.specs.declared.acts.Act.TheVariants.{Create}
 use Rattle.uvm_object.specs.declared.entries.Outcome.TheVariants.{Made}
+use Rattle.uvm_object.specs.declared.entries.Passage.{Passage}
 use Rattle.uvm_object.specs.declared.entries.Entry.{Entry}
-use Rattle.uvm_object.specs.declared.entries.Entry.TheVariants.{Did, Drained}
+use Rattle.uvm_object.specs.declared.entries.Entry.TheVariants.{Did, Passed, Drained}
 use Rattle.bench_script.specs.Scripts.{ScriptValue}
 use Rattle.bench_history.specs.declared.needs.Need as declared
 use Rattle.bench_history.specs.declared.stages.Stage.{Stage}
 use Rattle.bench_history.specs.declared.stages.Stage.TheVariants.{Before, During, After, Ended}
 use Rattle.bench_history.specs.Owners.{Event, who_of}
-use Rattle.bench_history.specs.History.{now_of, stage_of, nodes_of, components_of, created_name, left_of, head_of, rest_of, speaker_of, is_built, is_over, next_call}
+use Rattle.bench_history.specs.History.{now_of, stage_of, running, nodes_of, components_of, created_name, left_of, head_of, rest_of, speaker_of, is_built, is_over, next_call}
 use Rattle.bench_history.specs.Dues.{ended_of, first_due, due_now}
 use Rattle.bench_history.specs.Wires.{is_past_connect}
+use Rattle.bench_history.specs.Passing.{next_passed}
 use Rattle.bench_history.specs.Reports.{report_commands}
-use Rattle.bench_history.specs.Refusals.{child_refusal}
+use Rattle.bench_history.specs.Refusals.{child_refusal, in_task}
 use Rattle.bench_history.specs.Cases.{Next, Exactly, Answer, Need, Nothing, by_act}
 use Rattle.bench_history.specs.Next.{next_of, need_in, IsAct, IsNext, EachIsNext}
 
@@ -70,8 +72,13 @@ DueCallsGoInOrder = (script : ScriptValue) (history : List Entry) (hearer : Who)
 abbrev pub DrainsGoInOrder : Type 0
 DrainsGoInOrder = (script : ScriptValue) (history : List Entry) (node : ℕ) (cause : Cause) → next_of script history ≡ Exactly (Drained node cause) → IsDue history (who.Node node) None cause
 
--- where an act is next, it is the first of those that are left
+-- what passes at a FIFO is what is next to pass
+abbrev pub PassagesGoInOrder : Type 0
+PassagesGoInOrder = (script : ScriptValue) (history : List Entry) (fifo : ℕ) (passage : Passage) → next_of script history ≡ Exactly (Passed fifo passage) → next_passed history ≡ Some (fifo, passage)
+
+-- where an act is next, nothing passes, and it is the first of those that are left
 pub record IsFirstAct (script : ScriptValue) (history : List Entry) (act : Act) : Type 0 where
+  pub settled : next_passed history ≡ None
   pub left : left_of script history ≡ act ∷ rest_of (left_of script history)
   pub next : next_of script history ≡ by_act script history (speaker_of history) act
 
@@ -88,6 +95,7 @@ pub record IsWanted (script : ScriptValue) (history : List Entry) (act : Act) : 
   pub need : declared.Need
   pub next : next_of script history ≡ Need need (speaker_of history) act
   pub creates : IsCreation act
+  pub settled : next_passed history ≡ None
   pub path_is : need.path ≡ path_at (nodes_of history) (node_of (speaker_of history)) ++ created_name act ∷ []
   pub free : child_refusal (nodes_of history) (node_of (speaker_of history)) (created_name act) ≡ None
   pub speaker : IsSome (node_at (nodes_of history) (node_of (speaker_of history)))
@@ -96,7 +104,7 @@ pub record IsWanted (script : ScriptValue) (history : List Entry) (act : Act) : 
 abbrev pub NeedsAreCreations : Type 0
 NeedsAreCreations = (script : ScriptValue) (history : List Entry) → IsSome (need_in (next_of script history)) → (act : Act) × (left_of script history ≡ act ∷ rest_of (left_of script history)) × IsWanted script history act
 
--- connect is at its end: no act is left, no event is due now, and each component had its call
+-- connect is at its end: nothing passes, no act is left, no event is due now, and each component had its call
 abbrev pub runs_connect : Stage → Bool
 runs_connect (During Connect) = true
 runs_connect stage = false
@@ -108,7 +116,7 @@ is_connect_last Ended = true
 is_connect_last stage = false
 
 abbrev pub has_nothing_left : ScriptValue → List Entry → Bool
-has_nothing_left script history = is_none (head_of (left_of script history)) && is_none (due_now history) && is_none (next_call Connect history)
+has_nothing_left script history = is_none (next_passed history) && is_none (head_of (left_of script history)) && is_none (due_now history) && is_none (next_call Connect history)
 
 abbrev pub is_at_check : ScriptValue → List Entry → Bool
 is_at_check script history = runs_connect (stage_of history) && has_nothing_left script history
@@ -125,9 +133,19 @@ pub record StaysWired (script : ScriptValue) (history : List Entry) (entry : Ent
 abbrev pub WiringStays : Type 0
 WiringStays = (script : ScriptValue) (history : List Entry) (entry : Entry) → IsNext script history entry → StaysWired script history entry
 
--- connect comes after build
+-- connect runs, or has just ended
+abbrev pub is_in_connect : Stage → Bool
+is_in_connect (During Connect) = true
+is_in_connect (After Connect) = true
+is_in_connect stage = false
+
+-- it comes after build
 abbrev pub ConnectFollowsBuild : Type 0
-ConnectFollowsBuild = (script : ScriptValue) (history : List Entry) → EachIsNext script history → stage_of history ≡ During Connect → is_built history ≡ true
+ConnectFollowsBuild = (script : ScriptValue) (history : List Entry) → EachIsNext script history → is_in_connect (stage_of history) ≡ true → is_built history ≡ true
+
+-- a phase that takes time comes after connect
+abbrev pub TasksFollowConnect : Type 0
+TasksFollowConnect = (script : ScriptValue) (history : List Entry) → EachIsNext script history → in_task (running (stage_of history)) ≡ true → is_past_connect history ≡ true
 
 -- something comes next
 abbrev pub IsSomething : Next → Type 0

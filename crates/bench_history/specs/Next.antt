@@ -12,7 +12,8 @@ use Rattle.bench_history.specs.Limits.{log_limit}
 use Rattle.bench_history.specs.History.{stage_of, running, left_of}
 use Rattle.bench_history.specs.Reports.{reason_of}
 use Rattle.bench_history.specs.Dues.{due_now}
-use Rattle.bench_history.specs.Cases.{Next, Exactly, Answer, Need, Nothing, end_reached, giving_up, long_answer, first_act, event_due, phase_call, port_check, phase_end, phase_begin, phase_to_begin, finish}
+use Rattle.bench_history.specs.Passing.{next_passed}
+use Rattle.bench_history.specs.Cases.{Next, Exactly, Answer, Need, Nothing, end_reached, giving_up, passing, long_answer, first_act, event_due, phase_call, port_check, phase_end, phase_begin, phase_to_begin, finish}
 
 abbrev pub first_next : List (Option Next) → Next
 first_next cases = unwrap_or (first_given cases) Nothing
@@ -23,6 +24,7 @@ next_of script history =
     first_next (
     end_reached (stage_of history)
     ∷ giving_up (reason_of script history)
+    ∷ passing (next_passed history)
     ∷ long_answer history (left_of script history)
     ∷ first_act script history (left_of script history)
     ∷ event_due (due_now history)

@@ -20,7 +20,7 @@ use Rattle.uvm_tree.specs.declared.faults.TreeFault.{TreeFault}
 use Rattle.uvm_tree.specs.declared.faults.TreeFault.TheVariants.{NameTaken}
 use Rattle.uvm_tree.specs.Nodes.{path_at, add_fault}
 use Rattle.uvm_object.specs.declared.fatals.Fatal.{Fatal}
-use Rattle.uvm_object.specs.declared.fatals.Fatal.TheVariants.{CreatedAfterBuild, InvalidType, ChildTaken, TreeLimit, OverrideLoop, TooManySettings, ConnectedTooLate, UnknownNode, KindsDiffer, OutsideTask, ObjectionBelowZero, OutOfRange}
+use Rattle.uvm_object.specs.declared.fatals.Fatal.TheVariants.{CreatedAfterBuild, InvalidType, ChildTaken, TreeLimit, OverrideLoop, TooManySettings, ConnectedTooLate, UnknownNode, KindsDiffer, NoPort, OutsideTask, ObjectionBelowZero, OutOfRange}
 
 -- a creation that is asked for below a node: of which type by name, under which name, and what it depends on, the overrides with the newest first
 pub record Creation : Type 0 where
@@ -104,6 +104,10 @@ connection_refusal connected from to =
 abbrev pub in_task : Option Phase → Bool
 in_task None = false
 in_task (Some phase) = is_task phase
+
+-- what goes through ports goes in such a phase, through a port that is there
+unfoldable pub passing_refusal : Option Phase → Bool → Option Fatal
+passing_refusal running is_there = first_given (fault_if (not (in_task running)) OutsideTask ∷ fault_if (not is_there) NoPort ∷ [])
 
 -- objections are raised in such a phase
 unfoldable pub raise_refusal : Option Phase → Option Fatal

@@ -1,15 +1,17 @@
 -- What an act comes to, after a log: the outcome of its entry, foreseen.
-use Rattle.std.specs.Prelude.{ℕ, ℤ, List, length, Option, Some, None}
+use Rattle.std.specs.Prelude.{ℕ, ℤ, Bool, List, length, Option, Some, None, is_some}
 use Rattle.std.specs.Option.{option_map_or}
 use Rattle.uvm_glob.specs.Paths.{path_text}
 use Rattle.uvm_config.specs.Answers.{config_answer}
 use Rattle.uvm_factory.specs.declared.types.Kind.TheVariants.{Component}
+use Rattle.uvm_tlm.specs.declared.ends.PortKind.TheVariants as through
+use Rattle.uvm_tlm.specs.declared.items.Item.{Item}
 use Rattle.uvm_tree.specs.Nodes.{path_at}
 use Rattle.uvm_objection.specs.Nodes.{source_of}
 use Rattle.uvm_object.specs.Acts.{node_of}
 use Rattle.uvm_object.specs.declared.acts.Who.{Who}
 use Rattle.uvm_object.specs.declared.acts.Act.{Act}
-use Rattle.uvm_object.specs.declared.acts.Act.TheVariants.{Create, Add, Set, Get, OverrideType, OverrideInst, Connect, Report, Verbosity, Actions, Severity, RaiseObjection, DropObjection, SetDrain, Wait}
+use Rattle.uvm_object.specs.declared.acts.Act.TheVariants.{Create, Add, Set, Get, OverrideType, OverrideInst, Connect, Put, TryPut, Take, TryTake, Peek, Write, Report, Verbosity, Actions, Severity, RaiseObjection, DropObjection, SetDrain, Wait}
 use Rattle.uvm_object.specs.declared.fatals.Fatal.{Fatal}
 use Rattle.uvm_object.specs.declared.entries.Entry.{Entry}
 use Rattle.bench_script.specs.Scripts.{ScriptValue}
@@ -18,13 +20,17 @@ use Rattle.bench_history.specs.History.{stage_of, running, nodes_of, overrides_o
 use Rattle.bench_history.specs.Configuration.{settings_of}
 use Rattle.bench_history.specs.Objections.{objections_of}
 use Rattle.bench_history.specs.Wires.{end_below, wiring_of, is_past_connect}
-use Rattle.bench_history.specs.Refusals.{Creation, created_path, type_made, creation_refusal, addition_refusal, setting_refusal, overriding_refusal, connection_refusal, raise_refusal, drop_refusal, drain_refusal, wait_refusal}
+use Rattle.bench_history.specs.Ports.{port_below, gate_below}
+use Rattle.bench_history.specs.Passing.{station_below, puts_now, takes_now}
+use Rattle.bench_history.specs.Refusals.{Creation, created_path, type_made, creation_refusal, addition_refusal, setting_refusal, overriding_refusal, connection_refusal, passing_refusal, raise_refusal, drop_refusal, drain_refusal, wait_refusal}
 
--- what an act comes to: an object is needed first; or at once it is performed, or finds a value, or is refused
+-- what an act comes to: an object is needed first; or at once it is performed, or finds a value, or puts or takes an item or does not, or is refused
 pub data Upshot : Type 0 where
   Needs : (need : Need) → Upshot
   Does : Upshot
   Finds : (value : Option ℤ) → Upshot
+  Stores : (stored : Bool) → Upshot
+  Takes : (item : Option Item) → Upshot
   Refuses : (fatal : Fatal) → Upshot
 
 -- it is refused, or else it comes to this
@@ -54,6 +60,14 @@ upshot_of script history performer (OverrideType original new replace) = unless_
 upshot_of script history performer (OverrideInst original new glob) = unless_refused (overriding_refusal script.types original new) Does
 upshot_of script history performer (Connect from to) =
     unless_refused (connection_refusal (is_past_connect history) (end_below (nodes_of history) (wiring_of history) performer from) (end_below (nodes_of history) (wiring_of history) performer to)) Does
+upshot_of script history performer (Put name item) = unless_refused (passing_refusal (running (stage_of history)) (is_some (gate_below history performer through.Put name))) Does
+upshot_of script history performer (TryPut name item) =
+    unless_refused (passing_refusal (running (stage_of history)) (is_some (gate_below history performer through.Put name))) (Stores (puts_now (station_below history performer through.Put name)))
+upshot_of script history performer (Take name) = unless_refused (passing_refusal (running (stage_of history)) (is_some (gate_below history performer through.Get name))) Does
+upshot_of script history performer (TryTake name) =
+    unless_refused (passing_refusal (running (stage_of history)) (is_some (gate_below history performer through.Get name))) (Takes (takes_now (station_below history performer through.Get name)))
+upshot_of script history performer (Peek name) = unless_refused (passing_refusal (running (stage_of history)) (is_some (gate_below history performer through.Get name))) Does
+upshot_of script history performer (Write name item) = unless_refused (passing_refusal (running (stage_of history)) (is_some (port_below history performer through.Analysis name))) Does
 upshot_of script history performer (Report report) = Does
 upshot_of script history performer (Verbosity which level) = Does
 upshot_of script history performer (Actions which actions) = Does

@@ -1,7 +1,7 @@
 //! What holds of all logs, or of all in which each entry was next, as in each legal one, and of what comes next in them. The functions do
 //! nothing that shows; their contracts are the laws (`specs/Laws.antt`), for all scripts.
 
-ghost use Rattle.bench_history.specs.Laws.{PhasesGoInOrder, AskedAreComponents, ComponentsAreNodes, DueCallsGoInOrder, DrainsGoInOrder, ActsGoInOrder, NeedsAreCreations, NothingAfterOver, SomethingBeforeOver, MachineEntriesAreSilent, NodesStay, MadeObjectsAreNew, NewNodesAreUnasked, ReportsAreFew, TimeStaysWithin, WiringStays, ConnectFollowsBuild};
+ghost use Rattle.bench_history.specs.Laws.{PhasesGoInOrder, AskedAreComponents, ComponentsAreNodes, DueCallsGoInOrder, DrainsGoInOrder, PassagesGoInOrder, ActsGoInOrder, NeedsAreCreations, NothingAfterOver, SomethingBeforeOver, MachineEntriesAreSilent, NodesStay, MadeObjectsAreNew, NewNodesAreUnasked, ReportsAreFew, TimeStaysWithin, WiringStays, ConnectFollowsBuild, TasksFollowConnect};
 
 use crate::owners::Owner;
 use uvm_object::Call;
@@ -40,7 +40,13 @@ pub fn drains_go_in_order()
     ensures { DrainsGoInOrder }
 {}
 
-/// Where an act is next, it is the first of the last answer's that are left.
+/// What passes at a FIFO is what is next to pass.
+#[tactic(auto, using(crate::proofs::Performed::passages_go_in_order))]
+pub fn passages_go_in_order()
+    ensures { PassagesGoInOrder }
+{}
+
+/// Where an act is next, nothing passes, and it is the first of the last answer's that are left.
 #[tactic(auto, using(crate::proofs::Performed::acts_go_in_order))]
 pub fn acts_go_in_order()
     ensures { ActsGoInOrder }
@@ -108,8 +114,14 @@ pub fn wiring_stays()
     ensures { WiringStays }
 {}
 
-/// Where connect runs, build has ended.
+/// Where connect runs, or has just ended, build has ended.
 #[tactic(auto, using(crate::proofs::Wired::connect_follows_build))]
 pub fn connect_follows_build()
     ensures { ConnectFollowsBuild }
+{}
+
+/// Where a phase runs that takes time, connect has ended.
+#[tactic(auto, using(crate::proofs::Wired::tasks_follow_connect))]
+pub fn tasks_follow_connect()
+    ensures { TasksFollowConnect }
 {}

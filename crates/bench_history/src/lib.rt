@@ -2,11 +2,13 @@
 //! are those of `specs`, and the laws of all legal logs are functions that do nothing.
 #![tactic(auto)]
 
+mod askers;
 pub mod laws;
 mod needs;
 mod owners;
 mod stages;
 
+pub use askers::{Asker, Gate};
 pub use needs::Need;
 pub use owners::Owner;
 pub use stages::Stage;

@@ -1,5 +1,5 @@
 -- A world whose wiring is closed.
-use Rattle.std.proofs.Common.{◌≡◌, Bool, true, Option, Some, refl, rules, unwrap_or}
+use Rattle.std.proofs.Common.{◌≡◌, Bool, true, Option, Some, rules, unwrap_or}
 use Rattle.uvm_tree.specs.Sorted.{path_order}
 use Rattle.uvm_object.specs.Logs.{LogValue}
 use Rattle.bench_script.specs.Scripts.{ScriptValue}

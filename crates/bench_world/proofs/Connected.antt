@@ -1,12 +1,12 @@
 -- Connections, with one more entry.
-use Rattle.std.proofs.Common.{◌≡◌, ◌<◌, ◌&&◌, ℕ, suc, Bool, true, false, List, [], ◌∷◌, ◌++◌, length, All, Option, Some, None, is_none, unwrap_or, refl, ap, sym, ◌∙◌, subst, arith, length-append, ◌==◌, zero, nat_eq, ◌+◌, ◌-◌, ◌≤◌, Contains, IsPermutation}
+use Rattle.std.proofs.Common.{◌≡◌, ◌<◌, ◌&&◌, ℕ, suc, Bool, true, false, List, [], ◌∷◌, ◌++◌, length, All, Option, Some, None, is_none, unwrap_or, refl, ap, sym, ◌∙◌, arith, length-append, ◌==◌, zero, nat_eq, ◌+◌, ◌-◌, ◌≤◌, Contains, IsPermutation}
 use Rattle.std.proofs.lemmas.Bool.Decides.{nat_tests}
 use Rattle.std.proofs.lemmas.List.Elements.{All-cons, All-head, All-tail, All-weaker, All-contains}
 use Rattle.std.proofs.lemmas.List.{get_or_default}
 use Rattle.std.proofs.lemmas.List.FromFn.{length-range_with_len, get_or-range_with_len}
 use Rattle.std.proofs.lemmas.List.Sorted.{IsPermutation-sym, All-permutation}
 use Rattle.std.proofs.lemmas.Map.Keys.{IsDistinct-cons, IsDistinct-IsPermutation}
-use Rattle.std.specs.List.{AllByRecursion, IsDistinct, range_with_len}
+use Rattle.std.specs.List.{list_any, AllByRecursion, IsDistinct, range_with_len}
 use Rattle.std.specs.Option.{ForSome}
 use Rattle.uvm_tree.specs.declared.nodes.Node.{Node}
 use Rattle.uvm_tree.specs.Cursors.{numbers_of}
@@ -15,31 +15,34 @@ use Rattle.uvm_tlm.specs.declared.ends.End.{End}
 use Rattle.uvm_glob.specs.Faults.{fault_if}
 use Rattle.uvm_tlm.specs.declared.faults.WireFault.TheVariants.{Late}
 use Rattle.uvm_tlm.specs.declared.wirings.Connection.{Connection}
-use Rattle.uvm_tlm.specs.Wirings.{WiringValue, with_end, with_connection, end_at, is_closed, late_fault, IsPathOrder}
+use Rattle.uvm_tlm.specs.Wirings.{WiringValue, with_end, end_at, is_closed, late_fault, IsPathOrder}
 use Rattle.uvm_object.specs.declared.acts.Who.{Who}
 use Rattle.uvm_object.specs.declared.acts.Act.{Act}
 use Rattle.uvm_object.specs.declared.entries.Outcome.{Outcome}
 use Rattle.uvm_object.specs.declared.entries.Entry.{Entry}
 use Rattle.uvm_object.specs.declared.entries.Entry.TheVariants.{Did}
+use Rattle.uvm_object.specs.declared.entries.Entry.TheVariants as entry
 use Rattle.bench_script.specs.Scripts.{ScriptValue}
 use Rattle.bench_history.specs.History.{stage_of, left_of, head_of, rest_of, is_built}
 use Rattle.bench_history.specs.Next.{EachIsNext}
 use Rattle.bench_history.specs.declared.stages.Stage.{Stage}
 use Rattle.bench_history.specs.declared.stages.Stage.TheVariants.{During}
+use Rattle.uvm_phase.specs.declared.phases.Phase.{Phase}
 use Rattle.uvm_phase.specs.declared.phases.Phase.TheVariants.{Connect}
-use Rattle.bench_history.specs.Wires.{with_both, is_past_connect}
-use Rattle.bench_history.specs.Laws.{IsWired, StaysWired, ConnectFollowsBuild, runs_connect, is_connect_last, has_nothing_left, is_at_check}
-use Rattle.bench_world.specs.Connectings.{IsAtNode, IsConnecting, IsClosing}
+use Rattle.bench_history.specs.Wires.{ends_connect, with_both, is_past_connect}
+use Rattle.bench_history.specs.Laws.{StaysWired, ConnectFollowsBuild, runs_connect, is_connect_last, is_in_connect, has_nothing_left, is_at_check}
+use Rattle.bench_world.specs.Connectings.{IsAtNode, IsClosedPast, IsConnecting, IsClosing, closed_after}
 
 -- a wiring that is closed stays so
 pub closing-later : {script : ScriptValue} {history : List Entry} {entry : Entry} {closed : Bool} → StaysWired script history entry → IsClosing script history closed → IsClosing script (entry ∷ history) closed
 closing-later stays c = record { wired = λ is. stays.stays (c.wired is) }
 
 -- where an act is left something is
-act-left : (a b c : Bool) (left : List Act) (act : Act) (rest : List Act) → left ≡ act ∷ rest → a && (is_none (head_of left) && b && c) ≡ true → ⊥
-act-left a b c [] act rest e nothing = cc
-act-left true b c (other ∷ left) act rest e nothing = cc
-act-left false b c (other ∷ left) act rest e nothing = cc
+act-left : (a b c d : Bool) (left : List Act) (act : Act) (rest : List Act) → left ≡ act ∷ rest → a && (b && is_none (head_of left) && c && d) ≡ true → ⊥
+act-left a b c d [] act rest e nothing = cc
+act-left true true c d (other ∷ left) act rest e nothing = cc
+act-left true false c d (other ∷ left) act rest e nothing = cc
+act-left false b c d (other ∷ left) act rest e nothing = cc
 
 -- and so where an act is performed
 pub closing-next :
@@ -48,7 +51,7 @@ pub closing-next :
 closing-next {script} {history} {act = act} left c = record {
   wired = λ is.
       let w = c.wired is in
-      record { built = w.built; quiet = λ past. absurd (act-left _ _ _ (left_of script history) act (rest_of (left_of script history)) left (w.quiet past)) };
+      record { built = w.built; quiet = λ past. absurd (act-left _ _ _ _ (left_of script history) act (rest_of (left_of script history)) left (w.quiet past)) };
 }
 
 -- an open wiring has no order yet
@@ -123,7 +126,7 @@ pub connectable-open :
 connectable-open {script} {history} {act} kept left c past = if-closed (is_closed kept) refl
   where
     if-closed : (b : Bool) → is_closed kept ≡ b → fault_if b Late ≡ None
-    if-closed true is = absurd (act-left _ _ _ (left_of script history) act (rest_of (left_of script history)) left ((c.wired is).quiet past))
+    if-closed true is = absurd (act-left _ _ _ _ (left_of script history) act (rest_of (left_of script history)) left ((c.wired is).quiet past))
     if-closed false is = refl
 
 -- numbers from one on differ from those below
@@ -175,9 +178,9 @@ pub connecting-closed : {nodes : List Node} {wiring kept : WiringValue} → IsCo
 connecting-closed {nodes} {wiring} c = rw (closed-is c) (record { ends = refl; connections = refl; order = λ order e. let same : path_order nodes ≡ order = cc in sym same; within = c.within })
 
 -- where connect has nothing left to be done the wiring may be closed
-runs-is : (stage : Stage) → runs_connect stage ≡ true → stage ≡ During Connect
-runs-is (During Connect) runs = refl
-runs-is stage runs = cc
+in-is : (stage : Stage) → runs_connect stage ≡ true → is_in_connect stage ≡ true
+in-is (During Connect) runs = refl
+in-is stage runs = cc
 
 last-is : (stage : Stage) → runs_connect stage ≡ true → is_connect_last stage ≡ true
 last-is (During Connect) runs = refl
@@ -191,4 +194,19 @@ pub closing-now : {script : ScriptValue} {history : List Entry} (closed : Bool) 
 closing-now {script} {history} closed follows each at_check =
     let b = both (runs_connect (stage_of history)) (has_nothing_left script history) at_check in
     let last = last-is (stage_of history) b.0 in
-    record { wired = λ is. record { built = follows script history each (runs-is (stage_of history) b.0); quiet = λ past. rw last b.1 } }
+    record { wired = λ is. record { built = follows script history each (in-is (stage_of history) b.0); quiet = λ past. rw last b.1 } }
+
+-- and so it may once connect ends
+pub closing-after :
+    {script : ScriptValue} {history : List Entry} (phase : Phase) (nodes : List Node) (wiring : WiringValue) → ConnectFollowsBuild → EachIsNext script (entry.End phase ∷ history) → StaysWired script history (entry.End phase) → IsClosing script history (is_closed wiring)
+    → IsClosing script (entry.End phase ∷ history) (is_closed (closed_after phase nodes wiring))
+closing-after {script} {history} Connect nodes wiring follows each stays c = record { wired = λ is. record { built = follows script (entry.End Connect ∷ history) each refl; quiet = λ past. cc } }
+closing-after phase nodes wiring follows each stays c = closing-later stays c
+
+pub past-after : (history : List Entry) (phase : Phase) (nodes : List Node) (wiring : WiringValue) → IsClosedPast (list_any ends_connect history) (is_closed wiring) → IsClosedPast (list_any ends_connect (entry.End phase ∷ history)) (is_closed (closed_after phase nodes wiring))
+past-after history Connect nodes wiring c = record { is = λ past. refl }
+past-after history phase nodes wiring c = record { is = c.is }
+
+pub connecting-after : {nodes : List Node} {wiring kept : WiringValue} (phase : Phase) → IsConnecting nodes wiring kept → IsConnecting nodes wiring (closed_after phase nodes kept)
+connecting-after Connect c = connecting-closed c
+connecting-after phase c = c

@@ -17,6 +17,7 @@ use Rattle.bench_world.specs.declared.services.Services.{Services}
 use Rattle.bench_history.specs.Limits.{log_limit}
 use Rattle.bench_history.specs.History.{left_of, rest_of, speaker_of}
 use Rattle.bench_history.specs.Reports.{report_commands, newest_fate}
+use Rattle.bench_history.specs.Passing.{next_passed}
 use Rattle.bench_history.specs.Cases.{Exactly, by_act}
 use Rattle.bench_history.specs.Next.{next_of, IsNext}
 use Rattle.bench_history.specs.Laws.{PhasesGoInOrder, StaysWired, WiringStays}
@@ -27,13 +28,14 @@ use Rattle.bench_world.proofs.Entered.{legal-more, sound-again}
 use Rattle.bench_world.proofs.Reported.{quiet}
 use Rattle.bench_world.proofs.Objected.{objecting-later}
 use Rattle.bench_world.proofs.Connected.{closing-later, closing-next}
+use Rattle.bench_world.proofs.Passages.{passed-later}
 use Rattle.bench_world.proofs.Told.{agenda-later}
 
 -- what every entry leaves, but for what it changes
-pub ruleset later = (answer-later, answer-noted, agenda-later, quiet, objecting-later, closing-later)
+pub ruleset later = (answer-later, answer-noted, agenda-later, quiet, objecting-later, closing-later, passed-later)
 
 -- what an act leaves, but for what it changes
-pub ruleset acted = (answer-next, agenda-later, quiet, objecting-later, closing-next)
+pub ruleset acted = (answer-next, agenda-later, quiet, objecting-later, closing-next, passed-later)
 
 -- a world goes on with an entry that is next
 goes-on :
@@ -58,27 +60,27 @@ entered {script = script} {log} entry p sound room next is limit stay match = go
 pub acted-on :
     {P : Type 0} {sound : Bool} {script : ScriptValue} {log more : LogValue} {old new services : Services} {waiting : Option Waiting} (outcome : Outcome) (act : Act)
     → P × IsWorld sound script log old waiting → sound ≡ true → length log.entries < log_limit script
-    → left_of script log.entries ≡ act ∷ rest_of (left_of script log.entries) → IsNext script log.entries (Did (speaker_of log.entries) outcome act)
+    → next_passed log.entries ≡ None → left_of script log.entries ≡ act ∷ rest_of (left_of script log.entries) → IsNext script log.entries (Did (speaker_of log.entries) outcome act)
     → PhasesGoInOrder → TakesIn act outcome (length log.entries) old new
     → more.entries ≡ Did new.answer.speaker outcome act ∷ log.entries → more.limit ≡ log.limit → services ≡ one_done new
     → P × IsWorld true script more services None
-acted-on {script = script} {log} {old = old} {new} outcome act p sound room left next order kept is limit done =
+acted-on {script = script} {log} {old = old} {new} outcome act p sound room settled left next order kept is limit done =
     let m = p.1.services_match sound in
-    let match = kept.with_entry script log.entries (record { known = m; left = left; place_is = refl; in_order = (order script log.entries p.1.legal.each).before }) in
+    let match = kept.with_entry script log.entries (record { known = m; settled = settled; left = left; place_is = refl; in_order = (order script log.entries p.1.legal.each).before }) in
     goes-on (Did old.answer.speaker outcome act) p sound room (rw m.answer.speaker next) (is ∙ ap (λ (s : Who). Did s outcome act ∷ log.entries) (ap (λ a. a.speaker) kept.same_answer)) limit (λ m. rw done match)
 
 -- what an act comes to by itself is next
 pub performed :
     {P : Type 0} {sound : Bool} {script : ScriptValue} {log more : LogValue} {old new services : Services} {waiting : Option Waiting} (outcome : Outcome) (act : Act)
     → P × IsWorld sound script log old waiting → sound ≡ true → length log.entries < log_limit script
-    → left_of script log.entries ≡ act ∷ rest_of (left_of script log.entries) → next_of script log.entries ≡ by_act script log.entries (speaker_of log.entries) act
+    → next_passed log.entries ≡ None → left_of script log.entries ≡ act ∷ rest_of (left_of script log.entries) → next_of script log.entries ≡ by_act script log.entries (speaker_of log.entries) act
     → PhasesGoInOrder → IsPerformed act outcome (length log.entries) old new
     → more.entries ≡ Did new.answer.speaker outcome act ∷ log.entries → more.limit ≡ log.limit → services ≡ one_done new
     → P × IsWorld true script more services None
-performed {script = script} {log} {old = old} outcome act p sound room left next order did is limit done =
+performed {script = script} {log} {old = old} outcome act p sound room settled left next order did is limit done =
     let m = p.1.services_match sound in
-    let comes = next ∙ (rw m.answer.speaker at (did.comes script log.entries (record { known = m; left = left; place_is = refl; in_order = (order script log.entries p.1.legal.each).before }))) in
-    acted-on outcome act p sound room left (rw comes refl) order did.kept is limit done
+    let comes = next ∙ (rw m.answer.speaker at (did.comes script log.entries (record { known = m; settled = settled; left = left; place_is = refl; in_order = (order script log.entries p.1.legal.each).before }))) in
+    acted-on outcome act p sound room settled left (rw comes refl) order did.kept is limit done
 
 -- any act may be refused
 pub refused-taken-in : {old new : Services} {place : ℕ} (act : Act) (fatal : Fatal) → IsRefusing fatal old new → TakesIn act (Refused fatal) place old new

@@ -14,5 +14,11 @@ pub mod Told
 pub mod Turns
 pub mod Waits
 mod Given
+pub mod Passed
+pub mod Passages
+pub mod Gates
+pub mod Waiting
 mod Reported
 mod Objected
+pub mod Written
+pub mod Outlets

@@ -48,12 +48,12 @@ one-ended true false false = refl
 one-ended false a b = refl
 
 -- the cause of a later entry was not heard
-fresh : (heard : List Cause) (cause : Cause) → All (λ other. other.place < cause.place) heard → list_any (same_cause cause) heard ≡ false
+pub fresh : (heard : List Cause) (cause : Cause) → All (λ other. other.place < cause.place) heard → list_any (same_cause cause) heard ≡ false
 fresh heard cause within =
     list_any_none (same_cause cause) heard (All-weaker (λ other. other.place < cause.place) (λ other. same_cause cause other ≡ false) (λ other lt. grind (arith, nat_tests)) heard within)
 
 -- nor has a phase ended that stands behind all that have
-runs : (ended : List Phase) (phase : Phase) → All (λ other. phase_number other < phase_number phase) ended → list_any (same_phase phase) ended ≡ false
+pub runs : (ended : List Phase) (phase : Phase) → All (λ other. phase_number other < phase_number phase) ended → list_any (same_phase phase) ended ≡ false
 runs ended phase within =
     list_any_none (same_phase phase) ended (All-weaker (λ other. phase_number other < phase_number phase) (λ other. same_phase phase other ≡ false) (λ other lt. grind (arith, nat_tests)) ended within)
 

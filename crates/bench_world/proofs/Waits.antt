@@ -1,5 +1,5 @@
 -- A world whose next act waits for an object.
-use Rattle.std.proofs.Common.{◌≡◌, ◌<◌, ◌∷◌, length, Option, Some, true, Bool, IsSome, IsTrue, vec_len, vec_capacity, refl, ap, sym, subst, ◌∙◌, rules}
+use Rattle.std.proofs.Common.{◌≡◌, ◌<◌, ◌∷◌, length, Option, Some, None, true, Bool, IsSome, IsTrue, vec_len, vec_capacity, refl, ap, sym, subst, ◌∙◌, rules}
 use Rattle.uvm_tree.specs.Nodes.{node_at}
 use Rattle.uvm_report.specs.Observed.{has_room}
 use Rattle.uvm_object.specs.Acts.{node_of}
@@ -9,6 +9,7 @@ use Rattle.uvm_object.specs.Logs.{LogValue}
 use Rattle.bench_script.specs.Scripts.{ScriptValue}
 use Rattle.bench_history.specs.Limits.{log_limit}
 use Rattle.bench_history.specs.History.{nodes_of, components_of, called_of, left_of, rest_of, speaker_of}
+use Rattle.bench_history.specs.Passing.{next_passed}
 use Rattle.bench_history.specs.Cases.{by_act}
 use Rattle.bench_history.specs.Next.{next_of, need_in}
 use Rattle.bench_history.specs.Laws.{PhasesGoInOrder}
@@ -36,7 +37,7 @@ same-match {services = services} log other nodes items reports objections_same m
 pub waits :
     {P : Type 0} {sound : Bool} {script : ScriptValue} {log more : LogValue} {old new services : Services} {waiting : Option Waiting} (wait : Waiting)
     → P × IsWorld sound script log old waiting → sound ≡ true → length log.entries < log_limit script
-    → left_of script log.entries ≡ wait.deed ∷ rest_of (left_of script log.entries) → next_of script log.entries ≡ by_act script log.entries (speaker_of log.entries) wait.deed
+    → next_passed log.entries ≡ None → left_of script log.entries ≡ wait.deed ∷ rest_of (left_of script log.entries) → next_of script log.entries ≡ by_act script log.entries (speaker_of log.entries) wait.deed
     → PhasesGoInOrder → IsInNeed wait.deed wait.need (length log.entries) old new
     → (more.entries ≡ log.entries) × (more.limit ≡ log.limit) → 0 < more.spare
     → services ≡ record new { tree = services.tree; objection = services.objection; components = services.components; reporting = services.reporting } → services.tree.nodes ≡ new.tree.nodes → services.components.items ≡ new.components.items
@@ -45,9 +46,9 @@ pub waits :
     → vec_len services.components < vec_capacity services.components
     → wait.declined ≡ fatal_report NoObject → IsTrue (has_room services.reporting.reports wait.declined.id)
     → P × IsWorld true script more services (Some wait)
-waits {script = script} {log} {more} {old} {new} {services} wait p sound room left next order need same log_spare kept nodes items reports objections objection_spare tree_spare components declined room_for_report =
+waits {script = script} {log} {more} {old} {new} {services} wait p sound room settled left next order need same log_spare kept nodes items reports objections objection_spare tree_spare components declined room_for_report =
     let m = p.1.services_match sound in
-    let comes = next ∙ (rw m.answer.speaker at (need.comes script log.entries (record { known = m; left = left; place_is = refl; in_order = (order script log.entries p.1.legal.each).before }))) in
+    let comes = next ∙ (rw m.answer.speaker at (need.comes script log.entries (record { known = m; settled = settled; left = left; place_is = refl; in_order = (order script log.entries p.1.legal.each).before }))) in
     let new_matches : ServicesMatch script log.entries new = subst (ServicesMatch script log.entries) (sym need.same) m in
     let matches : ServicesMatch script log.entries services = subst (ServicesMatch script log.entries) (sym kept) (same-match log services nodes items reports objections new_matches) in (
       p.0,

@@ -1,5 +1,7 @@
 pub mod Reportings
+pub mod Stations
 pub mod Objectings
 pub mod Connectings
+pub mod Passings
 pub mod Services
 pub mod Worlds

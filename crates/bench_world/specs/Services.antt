@@ -35,7 +35,7 @@ use Rattle.bench_world.specs.declared.services.Services.{Services}
 use Rattle.bench_history.specs.Configuration.{settings_of}
 use Rattle.bench_history.specs.Owners.{Event}
 use Rattle.bench_history.specs.Dues.{caused_of, heard_of, ended_of, is_open, due_events}
-use Rattle.bench_history.specs.History.{stage_of, now_of, nodes_of, components_of, called_of, had_call, opening, left_of, rest_of, speaker_of, overrides_of, ends_build}
+use Rattle.bench_history.specs.History.{stage_of, now_of, running, nodes_of, components_of, called_of, had_call, opening, left_of, rest_of, speaker_of, overrides_of, ends_build}
 use Rattle.bench_history.specs.Objections.{objections_of}
 use Rattle.bench_history.specs.Reports.{report_commands, newest_fate, refuses_test}
 use Rattle.bench_world.specs.Reportings.{CanReport, IsReporting, IsReported}
@@ -43,7 +43,12 @@ use Rattle.bench_world.specs.Objectings.{AreNumbered, IsObjecting, AreEvents}
 use Rattle.uvm_objection.specs.Totals.{total}
 use Rattle.uvm_tlm.specs.Wirings.{end_at, is_closed, late_fault}
 use Rattle.bench_history.specs.Wires.{ends_connect, wiring_of}
-use Rattle.bench_world.specs.Connectings.{IsConnecting, IsClosing}
+use Rattle.bench_world.specs.Connectings.{IsClosedPast, IsClosing, IsConnecting}
+use Rattle.bench_world.specs.Passings.{AreStations, ArePassed, AreUnsettled}
+use Rattle.uvm_tree.specs.Sorted.{path_order}
+use Rattle.bench_history.specs.Ports.{fifo_size}
+use Rattle.bench_history.specs.Passing.{answered_at, is_no_put, is_put, items_entered, items_left, next_passed, passing_at, puts_asked, station_at, takes_asked}
+use Rattle.bench_history.specs.Refusals.{in_task}
 use Rattle.bench_history.specs.Cases.{Exactly, Need, by_act}
 use Rattle.bench_history.specs.Laws.{next_number}
 use Rattle.bench_history.specs.Refusals.{Creation}
@@ -134,6 +139,10 @@ pub record ServicesMatch (script : ScriptValue) (history : List Entry) (services
   pub past_connect : services.past_connect ≡ list_any ends_connect history
   pub connecting : IsConnecting (nodes_of history) (wiring_of history) services.wiring
   pub closing : IsClosing script history (is_closed services.wiring)
+  pub closed_past : IsClosedPast (list_any ends_connect history) (is_closed services.wiring)
+  pub stations : AreStations (station_at history) services.stations
+  pub passed : ArePassed (length history) (fifo_size (wiring_of history)) (items_entered history) (items_left history) (puts_asked history) (answered_at is_put history) (takes_asked history) (answered_at is_no_put history)
+  pub unsettled : AreUnsettled (passing_at history) (path_order (nodes_of history)) services.unsettled.items
   pub objections : IsObjecting (objections_of history) (length (nodes_of history)) (length history) services.objection
   pub factory : IsFactory script.types (overrides_of script history) services.factory
   pub turns : AreTurns (components_of history) (called_of history) (length (nodes_of history)) services.components.items
@@ -147,7 +156,8 @@ pub record ServicesMatch (script : ScriptValue) (history : List Entry) (services
   pub test_refused : services.test_refused ≡ list_any refuses_test history
 
 -- an act may be performed: its performer stands at one of the nodes, which are known to the objections; one more report can be counted, and one more
--- count raised; what is added is added to an open wiring, as a new end, and what is connected is connected in an open one
+-- count raised; what is added is added to an open wiring, as a new end, what is connected is connected in an open one, and what goes through ports
+-- goes through a closed one
 pub record CanPerform (services : Services) : Type 0 where
   pub speaks : node_of services.answer.speaker < length services.tree.nodes
   pub numbered : AreNumbered services.objection.nodes (length services.tree.nodes)
@@ -157,11 +167,13 @@ pub record CanPerform (services : Services) : Type 0 where
   pub building : services.built ≡ false → late_fault services.wiring ≡ None
   pub connectable : services.past_connect ≡ false → late_fault services.wiring ≡ None
   pub unused : end_at services.wiring.ends (length services.tree.nodes) ≡ None
+  pub closed : in_task (running services.stage) ≡ true → is_closed services.wiring ≡ true
 
--- an act of the last answer is to be performed: what is kept is what the log says, the phases went in their order, and its entry will
--- stand at a place
+-- an act of the last answer is to be performed: what is kept is what the log says, nothing passes at a FIFO, the phases went in their order, and its
+-- entry will stand at a place
 pub record IsScene (script : ScriptValue) (history : List Entry) (act : Act) (place : ℕ) (services : Services) : Type 0 where
   pub known : ServicesMatch script history services
+  pub settled : next_passed history ≡ None
   pub left : left_of script history ≡ act ∷ rest_of (left_of script history)
   pub place_is : length history ≡ place
   pub in_order : All (λ phase. phase_number phase < next_number (stage_of history)) (ended_of history)

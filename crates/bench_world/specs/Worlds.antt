@@ -14,6 +14,7 @@ use Rattle.bench_world.specs.declared.making.Waiting.{Waiting}
 use Rattle.bench_world.specs.declared.services.Services.{Services}
 use Rattle.bench_history.specs.Limits.{log_limit}
 use Rattle.bench_history.specs.History.{left_of, rest_of, speaker_of}
+use Rattle.bench_history.specs.Passing.{next_passed}
 use Rattle.bench_history.specs.Cases.{Next, Exactly, Need, by_act}
 use Rattle.bench_history.specs.Next.{next_of, need_in, IsAct, IsLegal}
 use Rattle.bench_history.specs.declared.needs.Need as needs
@@ -72,6 +73,7 @@ pub record MayAct (world : WorldValue) : Type 0 where
 pub record MayPerform (world : WorldValue) (act : Act) : Type 0 where
   pub sound : world.sound ≡ true
   pub room : length world.history < log_limit world.script
+  pub settled : next_passed world.history ≡ None
   pub left : left_of world.script world.history ≡ act ∷ rest_of (left_of world.script world.history)
   pub next : next_of world.script world.history ≡ by_act world.script world.history (speaker_of world.history) act
 

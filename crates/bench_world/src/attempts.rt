@@ -15,10 +15,12 @@ use crate::connecting::connect;
 use crate::entries::push;
 use crate::making::create;
 use crate::objecting::{drop, raise, set_drain};
+use crate::passing::{peek, put, take, try_put, try_take};
 use crate::performing::{add, override_inst, override_type};
 use crate::report_acts::{issue, set_action, set_severity, set_verbosity};
 use crate::services::Services;
 use crate::telling::wait;
+use crate::writing::write;
 use bench_history::Need;
 use std::alloc::{AllocError, Global};
 use uvm_glob::Path;
@@ -61,6 +63,12 @@ pub(crate) fn perform(
             glob,
         } => override_inst(services, alloc, original, new, glob),
         Act::Connect { from, to } => connect(services, alloc, from, to),
+        Act::Put { port, item } => put(services, alloc, place, port, *item),
+        Act::TryPut { port, item } => try_put(services, alloc, place, port, *item),
+        Act::Take { port } => take(services, alloc, place, port),
+        Act::TryTake { port } => try_take(services, alloc, place, port),
+        Act::Peek { port } => peek(services, alloc, place, port),
+        Act::Write { port, item } => write(services, alloc, place, port, *item),
         Act::Report { report } => issue(services, alloc, report),
         Act::Verbosity { which, level } => set_verbosity(services, alloc, *which, *level),
         Act::Actions { which, actions } => set_action(services, alloc, *which, *actions),

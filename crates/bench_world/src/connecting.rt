@@ -9,6 +9,7 @@ ghost use Rattle.uvm_object.specs.declared.acts.Act.TheVariants.{Connect};
 ghost use Rattle.bench_history.specs.Laws.{is_at_check};
 ghost use Rattle.bench_history.specs.Refusals.{connection_refusal};
 ghost use Rattle.bench_history.specs.Wires.{behind, end_of, next_unsound, node_below, port_fatal, port_noted, unsound_port, with_both};
+ghost use Rattle.bench_world.specs.Connectings.{closed_after, closed_by};
 ghost use Rattle.bench_world.specs.Services.{CanPerform, IsAttempt};
 
 use crate::attempts::{Attempt, done, refused};
@@ -18,6 +19,7 @@ use bench_history::laws;
 use std::alloc::{AllocError, Global};
 use uvm_glob::{Path, PathFault};
 use uvm_object::{Entry, Fatal, What, Who};
+use uvm_phase::Phase;
 use uvm_tlm::{WireFault, Wiring};
 use uvm_tree::{NodeId, Tree, laws as trees};
 
@@ -34,24 +36,40 @@ impl World {
         // Each node with an end stands in the order once.
         laws::connect_follows_build();
         trees::path_order_is_in_order();
-        close_wiring(&mut self.services, self.alloc)?;
+        close_wiring(&mut self.services.wiring, &self.services.tree, self.alloc)?;
         Ok(unsound_behind(self.log.last(), &self.services.wiring))
     }
 }
 
 // The wiring is closed, unless it is already.
-fn close_wiring(services: &mut Services, alloc: Global) -> Result<(), AllocError>
-    requires { IsPathOrder (path_order services.old.tree.nodes) services.old.wiring.ends }
-    ensures ok { OnOk result (services.new ≡ record services.old { wiring = record services.old.wiring { order = Some (unwrap_or services.old.wiring.order (path_order services.old.tree.nodes)) } }) }
-    ensures err { OnErr result (services.new ≡ services.old) }
+fn close_wiring(wiring: &mut Wiring, tree: &Tree, alloc: Global) -> Result<(), AllocError>
+    requires { IsPathOrder (path_order tree.now.nodes) wiring.old.ends }
+    ensures ok { OnOk result (wiring.new ≡ closed_by tree.now.nodes wiring.old) }
+    ensures err { OnErr result (wiring.new ≡ wiring.old) }
 {
-    if services.wiring.is_closed() {
+    if wiring.is_closed() {
         return Ok(());
     }
-    let order = services.tree.path_order(alloc)?;
-    match services.wiring.close(order.as_slice()) {
+    let order = tree.path_order(alloc)?;
+    match wiring.close(order.as_slice()) {
         Ok(()) => Ok(()),
         Err(_) => Err(AllocError),
+    }
+}
+
+// A phase ends: with connect the wiring is closed, unless it is already.
+pub(crate) fn close_after(
+    wiring: &mut Wiring,
+    tree: &Tree,
+    alloc: Global,
+    phase: Phase,
+) -> Result<(), AllocError>
+    requires { IsPathOrder (path_order tree.now.nodes) wiring.old.ends }
+    ensures { OnOk result (wiring.new ≡ closed_after phase tree.now.nodes wiring.old) }
+{
+    match phase {
+        Phase::Connect => close_wiring(wiring, tree, alloc),
+        _ => Ok(()),
     }
 }
 

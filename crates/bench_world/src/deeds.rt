@@ -119,6 +119,8 @@ impl World {
         // A call that an act causes is due in a phase that has not ended, and one more report can be counted.
         laws::phases_go_in_order();
         laws::reports_are_few();
+        // In a phase that takes time the wiring is closed.
+        laws::tasks_follow_connect();
         self.sound = false;
         self.waiting = None;
         let place = self.log.len();

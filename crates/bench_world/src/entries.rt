@@ -1,7 +1,7 @@
 //! The entries of a log that are no act's: one call for each kind.
 
 ghost use Rattle.std.specs.Prelude.{◌≡◌, ◌||◌, ◌∷◌, ◌<◌, length, true, OnOk, OnErr, IsOk, Some, None};
-ghost use Rattle.uvm_object.specs.declared.entries.Entry.TheVariants.{Begin, End, Time, Heard, Drained, Note, Over};
+ghost use Rattle.uvm_object.specs.declared.entries.Entry.TheVariants.{Begin, End, Time, Heard, Passed, Drained, Note, Over};
 ghost use Rattle.bench_history.specs.History.{next_call, phase_order, ends_build};
 ghost use Rattle.bench_history.specs.Reports.{noted_end, reason_of};
 ghost use Rattle.bench_history.specs.Wires.{ends_connect};
@@ -13,16 +13,19 @@ ghost use Rattle.bench_history.specs.Next.{next_of};
 ghost use Rattle.bench_world.specs.Worlds.{MayEnter, world_after, broken};
 
 use crate::attempts::report_at;
+use crate::connecting::close_after;
 use crate::objecting::move_drains;
+use crate::passing::tell_passed;
 use crate::services::{Component, LastAnswer, clear_calls, mark_call};
+use crate::stations::{end_waits, pass};
 use crate::worlds::World;
 use bench_history::{Owner, Stage, laws};
 use std::alloc::AllocError;
 use uvm_glob::Direction;
-use uvm_object::{Acts, Call, Entry, Fatal, Log, Reason, Who};
+use uvm_object::{Acts, Call, Entry, Fatal, Log, LoggedPassage, Passage, Reason, Who};
 use uvm_objection::laws as objections;
 use uvm_phase::{Cause, Phase, laws as agenda};
-use uvm_tree::{NodeId, Tree};
+use uvm_tree::{NodeId, Tree, laws as trees};
 
 impl World {
     /// A phase begins.
@@ -50,12 +53,22 @@ impl World {
     {
         agenda::order_keeps_filters::<Owner, Option<Call>>();
         laws::wiring_stays();
+        // What is closed with connect was built, and each of its nodes stands in the order once.
+        laws::connect_follows_build();
+        trees::path_order_is_in_order();
         self.sound = false;
         self.waiting = None;
+        close_after(
+            &mut self.services.wiring,
+            &self.services.tree,
+            self.alloc,
+            phase,
+        )?;
         push(&mut self.log, Entry::End(phase))?;
         self.services.reporting.newest = None;
         self.services.stage = Stage::After(phase);
         self.services.agenda.clear(phase);
+        end_waits(&mut self.services.stations, phase);
         self.services.built = is_built_with(phase, self.services.built);
         self.services.past_connect = is_past_connect_with(phase, self.services.past_connect);
         self.sound = true;
@@ -142,6 +155,33 @@ impl World {
             done: 0,
             noted: false,
         };
+        self.sound = true;
+        Ok(())
+    }
+
+    /// What somebody waits for at a FIFO comes to pass, and whoever asked is to hear of it (Clause 12).
+    pub fn passed(&mut self, fifo: NodeId, passage: Passage) -> Result<(), AllocError>
+        requires { MayEnter self.old (Exactly (Passed fifo passage)) }
+        ensures ok { OnOk result (self.new ≡ world_after (Passed fifo passage) self.old) }
+        ensures err { OnErr result (self.new ≡ broken self.old) }
+    {
+        // It is what is next to pass.
+        laws::passages_go_in_order();
+        // The call is due in a phase that has not ended.
+        laws::phases_go_in_order();
+        laws::wiring_stays();
+        self.sound = false;
+        self.waiting = None;
+        let place = self.log.len();
+        let logged = LoggedPassage::new(self.alloc, passage)?;
+        tell_passed(&mut self.services, place, &passage)?;
+        let entry = Entry::Passed {
+            fifo,
+            passage: logged,
+        };
+        push(&mut self.log, entry)?;
+        pass(&mut self.services.stations, fifo);
+        self.services.reporting.newest = None;
         self.sound = true;
         Ok(())
     }

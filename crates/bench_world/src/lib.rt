@@ -9,14 +9,17 @@ mod deeds;
 mod entries;
 mod making;
 mod objecting;
+mod passing;
 mod performing;
 mod report_acts;
 mod report_lines;
 mod reporting;
 mod services;
+mod stations;
 mod telling;
 #[cfg(test)]
 mod tests;
 mod worlds;
+mod writing;
 
 pub use worlds::World;

@@ -197,6 +197,8 @@ fn grow(services: &mut Services, act: &Act) -> NodeId
         unreachable!()
     };
     services.reporting.newest = None;
+    // Nothing passes anywhere.
+    services.unsettled.clear();
     node
 }
 

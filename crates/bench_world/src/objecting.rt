@@ -13,7 +13,7 @@ ghost use Rattle.bench_world.specs.Services.{CanPerform, IsAttempt};
 
 use crate::attempts::{Attempt, done, refused};
 use crate::services::Services;
-use crate::telling::{MAX_TICKS, add_event};
+use crate::telling::{MAX_TICKS, add_event, caused_at};
 use bench_history::{Owner, Stage};
 use std::alloc::{AllocError, Global};
 use uvm_object::{Call, Fatal, Who};
@@ -106,7 +106,8 @@ pub(crate) fn move_drains(
     if let Some(drain) = began {
         let (stage, owner) = (services.stage, Owner::Drain(drain.node));
         prove!(owner.who() == Who::Node(drain.node));
-        add_event(&mut services.agenda, stage, drain.at, place, owner, None)?;
+        let cause = caused_at(place);
+        add_event(&mut services.agenda, stage, drain.at, cause, owner, None)?;
     }
     Ok(())
 }

@@ -18,6 +18,7 @@ use crate::attempts::{Attempt, done, refused};
 use crate::connecting::add_end;
 use crate::creations::child_refusal;
 use crate::services::Services;
+use crate::stations::add_station;
 use std::alloc::{AllocError, Global};
 use uvm_factory::{Factory, laws};
 use uvm_glob::{Glob, Name};
@@ -43,6 +44,9 @@ pub(crate) fn add(
     let node = add_child(&mut services.tree, parent, name, kind_of(what))?;
     services.objection.add(node, parent)?;
     add_end(&mut services.wiring, node, what)?;
+    add_station(&mut services.stations, alloc, node, what)?;
+    // Nothing passes anywhere, nor in what is new.
+    services.unsettled.clear();
     Ok(done(services))
 }
 

@@ -9,6 +9,7 @@ ghost use Rattle.bench_world.specs.Reportings.{IsReporting};
 ghost use Rattle.bench_world.specs.Services.{IsFactory, IsSettings, ServicesMatch, cleared, with_call};
 
 use crate::reporting::Reporting;
+use crate::stations::Stations;
 use bench_history::{Owner, Stage};
 use std::alloc::Global;
 use uvm_config::Settings;
@@ -59,6 +60,9 @@ pub(crate) struct Services {
     pub(crate) tree: Tree,
     pub(crate) objection: Objection,
     pub(crate) wiring: Wiring,
+    pub(crate) stations: Stations,
+    // The FIFOs at which something may pass, in path order.
+    pub(crate) unsettled: Vec<NodeId>,
     pub(crate) factory: Factory,
     pub(crate) settings: Settings,
     pub(crate) reporting: Reporting,
@@ -90,6 +94,8 @@ impl Services {
             tree: Tree::new(alloc),
             objection: Objection::new(alloc),
             wiring: Wiring::new(alloc),
+            stations: Stations::new(alloc),
+            unsettled: Vec::new(alloc),
             factory,
             settings,
             reporting,

@@ -16,7 +16,7 @@ use crate::objecting::in_task;
 use crate::services::Services;
 use bench_history::{Owner, Stage};
 use std::alloc::{AllocError, Global};
-use uvm_object::{Call, Fatal};
+use uvm_object::{Call, Fatal, Who};
 use uvm_phase::{Agenda, Cause};
 
 // The most ticks of a wait and of a drain time.
@@ -67,29 +67,51 @@ pub(crate) fn tell(
         services.new.agenda.dues ≡ in_order (due_from (Some call) services.old.answer.speaker (running services.old.stage) time (caused_at place) ++ caused)) }
     ensures rest { services.new ≡ record services.old { agenda = services.new.agenda } }
 {
-    let performer = Owner::Object(services.answer.speaker);
-    let agenda = &mut services.agenda;
-    add_event(agenda, services.stage, time, place, performer, Some(call))
+    let performer = services.answer.speaker;
+    tell_to(services, performer, call, time, place)
 }
 
-// An event is due at a time, while a phase runs. The entry's place is its cause.
+// A call of somebody is.
+pub(crate) fn tell_to(
+    services: &mut Services,
+    who: Who,
+    call: Call,
+    time: u64,
+    place: usize,
+) -> Result<(), AllocError>
+    ensures dues { OnOk result ((caused : List Event) → services.old.agenda.dues ≡ in_order caused →
+        services.new.agenda.dues ≡ in_order (due_from (Some call) who (running services.old.stage) time (caused_at place) ++ caused)) }
+    ensures rest { services.new ≡ record services.old { agenda = services.new.agenda } }
+{
+    let (stage, owner) = (services.stage, Owner::Object(who));
+    let agenda = &mut services.agenda;
+    add_event(agenda, stage, time, caused_at(place), owner, Some(call))
+}
+
+// The one call that the entry at a place causes.
+pub(crate) fn caused_at(place: usize) -> Cause
+    ensures { result ≡ caused_at place }
+{
+    Cause {
+        place: place as u64,
+        number: 0,
+    }
+}
+
+// An event is due at a time, while a phase runs.
 pub(crate) fn add_event<O: Drop, N: Drop>(
     agenda: &mut Agenda<O, N>,
     stage: Stage,
     time: u64,
-    place: usize,
+    cause: Cause,
     owner: O,
     notice: N,
 ) -> Result<(), AllocError>
     ensures { OnOk result ((caused : List (Due O N)) → agenda.old.dues ≡ in_order caused →
-        agenda.new.dues ≡ in_order (event_in (running stage) time (caused_at place) owner notice ++ caused)) }
+        agenda.new.dues ≡ in_order (event_in (running stage) time cause owner notice ++ caused)) }
 {
     let Stage::During(phase) = stage else {
         return Ok(());
-    };
-    let cause = Cause {
-        place: place as u64,
-        number: 0,
     };
     agenda.due(time, cause, phase, owner, notice)
 }

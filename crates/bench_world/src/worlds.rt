@@ -19,12 +19,14 @@ ghost use Rattle.uvm_config.specs.Answers.{config_answer};
 ghost use Rattle.bench_history.specs.Configuration.{settings_of};
 ghost use Rattle.bench_history.specs.Dues.{due_events, due_now};
 ghost use Rattle.bench_history.specs.Next.{IsLegal};
+ghost use Rattle.bench_history.specs.Passing.{next_passed, waiting_at};
 ghost use Rattle.bench_world.specs.Worlds.{WorldValue};
 
 use crate::configuring::given_settings;
 use crate::making::Waiting;
 use crate::reporting::given_reporting;
 use crate::services::Services;
+use crate::stations::{first_passing, waiting_at};
 use bench_history::{Owner, Stage};
 use bench_script::Script;
 use std::alloc::{AllocError, Global};
@@ -32,7 +34,7 @@ use std::marker::Model;
 use uvm_config::Settings;
 use uvm_factory::Factory;
 use uvm_glob::{Name, Path};
-use uvm_object::{Act, Call, Deed, Log};
+use uvm_object::{Act, Call, Deed, Log, Passage};
 use uvm_objection::Objection;
 use uvm_phase::{Agenda, Due, Phase};
 use uvm_report::{Fate, Reports};
@@ -231,6 +233,24 @@ impl World {
         ensures { IsConnecting (nodes_of self.now.history) (wiring_of self.now.history) result.now }
     {
         &self.services.wiring
+    }
+
+    /// What passes next: of the FIFOs at which something that waits can come to pass the first in path order, and what passes
+    /// there (Clause 12).
+    #[tactic(auto, unfolding(bench_history::specs::Passing::next_passed))]
+    pub fn next_passed(&self) -> Option<(NodeId, Passage)>
+        requires { self.now.sound ≡ true }
+        ensures { result ≡ next_passed self.now.history }
+    {
+        first_passing(&self.services.stations, self.services.unsettled.as_slice())
+    }
+
+    /// How many puts, takes and peeks wait at a FIFO; 0 where none stands at the node.
+    pub fn waiting(&self, node: NodeId) -> usize
+        requires { self.now.sound ≡ true }
+        ensures { result ≡ waiting_at self.now.history node }
+    {
+        waiting_at(&self.services.stations, node)
     }
 
     /// What is raised at a node and below it, with what is held back below it. None where there is no such node.

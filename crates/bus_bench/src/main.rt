@@ -6,6 +6,8 @@
 mod debug_tests;
 mod debugging;
 mod files;
+#[cfg(test)]
+mod memory_tests;
 mod program;
 #[cfg(test)]
 mod run_tests;

@@ -220,7 +220,7 @@ fn loud_run_holds_no_object_at_its_end(rt: HostRuntime) -> Result<(), Fail> {
     let mut out = Vec::new(alloc);
     let words = &mut Pcg64::seed_from_u64(1);
     let make = |type_name: &Name| -> Result<Option<BusObject>, AllocError> {
-        Ok(BusObject::of_type(type_name))
+        Ok(BusObject::of_type(alloc, type_name))
     };
     let ended = run_kernel(alloc, &mut kernel, words, false, &make, &mut out);
     let given_up = Ending {

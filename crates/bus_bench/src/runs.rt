@@ -92,7 +92,7 @@ fn run_boxed<R: Rng, W: io::Write>(
         words,
         trace,
         |type_name: &Name| -> Result<Option<Box<dyn UvmObject>>, AllocError> {
-            match BusObject::of_type(type_name) {
+            match BusObject::of_type(alloc, type_name) {
                 Some(object) => match Box::new(alloc, object) {
                     Ok(object) => Ok(Some(object)),
                     Err(_) => Err(AllocError),

@@ -1,6 +1,14 @@
+pub mod BusMem
+pub mod BusMemBad
+pub mod BusMonitor
+pub mod BusScoreboard
 pub mod Idle
+pub mod Items
 pub mod Loud
+pub mod Memory
 pub mod Pulse
 pub mod Sleeper
 pub mod Spinner
+pub mod Words
+pub mod Laws
 pub mod Objects

@@ -1,20 +1,39 @@
 -- What an object of the bench is, of whichever type.
-use Rattle.std.specs.Prelude.{ℕ, List, Option, option_map}
-use Rattle.std.specs.Option.{option_or}
+use Rattle.std.specs.Prelude.{ℕ, List, [], ◌∷◌, Option, option_map}
+use Rattle.uvm_glob.specs.Lists.{first_given}
 use Rattle.uvm_object.specs.Objects.{Says, View}
+use Rattle.bus_objects.specs.BusMem.{BusMemSays, bus_mem_named, bus_mem_view}
+use Rattle.bus_objects.specs.BusMemBad.{BusMemBadSays, bus_mem_bad_named, bus_mem_bad_view}
+use Rattle.bus_objects.specs.BusMonitor.{BusMonitorSays, bus_monitor_named, bus_monitor_view}
+use Rattle.bus_objects.specs.BusScoreboard.{BusScoreboardSays, bus_scoreboard_named, bus_scoreboard_view}
 use Rattle.bus_objects.specs.Idle.{IdleSays, idle_named, idle_view}
 use Rattle.bus_objects.specs.Loud.{LoudSays, loud_named, loud_view}
 use Rattle.bus_objects.specs.Pulse.{PulseSays, pulse_named, pulse_view}
 use Rattle.bus_objects.specs.Sleeper.{SleeperSays, sleeper_named, sleeper_view}
 use Rattle.bus_objects.specs.Spinner.{SpinnerSays, spinner_named, spinner_view}
 use Rattle.bus_objects.specs.declared.objects.BusObject.{BusObject}
-use Rattle.bus_objects.specs.declared.objects.BusObject.TheVariants.{Idle, Loud, Pulse, Sleeper, Spinner}
+use Rattle.bus_objects.specs.declared.objects.BusObject.TheVariants.{BusMem, BusMemBad, BusMonitor, BusScoreboard, Idle, Loud, Pulse, Sleeper, Spinner}
 
 -- the new object of the type of this name, if the bench has the type
 abbrev pub object_named : List ℕ → Option BusObject
-object_named name = option_or (option_map Idle (idle_named name)) (option_or (option_map Loud (loud_named name)) (option_or (option_map Pulse (pulse_named name)) (option_or (option_map Sleeper (sleeper_named name)) (option_map Spinner (spinner_named name)))))
+object_named name =
+    first_given (
+    option_map BusMem (bus_mem_named name)
+    ∷ option_map BusMemBad (bus_mem_bad_named name)
+    ∷ option_map BusMonitor (bus_monitor_named name)
+    ∷ option_map BusScoreboard (bus_scoreboard_named name)
+    ∷ option_map Idle (idle_named name)
+    ∷ option_map Loud (loud_named name)
+    ∷ option_map Pulse (pulse_named name)
+    ∷ option_map Sleeper (sleeper_named name)
+    ∷ option_map Spinner (spinner_named name)
+    ∷ [])
 
 abbrev pub view_of : BusObject → View
+view_of (BusMem bus_mem) = bus_mem_view bus_mem
+view_of (BusMemBad bus_mem_bad) = bus_mem_bad_view bus_mem_bad
+view_of (BusMonitor bus_monitor) = bus_monitor_view bus_monitor
+view_of (BusScoreboard bus_scoreboard) = bus_scoreboard_view bus_scoreboard
 view_of (Idle idle) = idle_view idle
 view_of (Loud loud) = loud_view loud
 view_of (Pulse pulse) = pulse_view pulse
@@ -22,6 +41,10 @@ view_of (Sleeper sleeper) = sleeper_view sleeper
 view_of (Spinner spinner) = spinner_view spinner
 
 abbrev pub name_of : BusObject → List ℕ
+name_of (BusMem bus_mem) = bus_mem.type_name
+name_of (BusMemBad bus_mem_bad) = bus_mem_bad.type_name
+name_of (BusMonitor bus_monitor) = bus_monitor.type_name
+name_of (BusScoreboard bus_scoreboard) = bus_scoreboard.type_name
 name_of (Idle idle) = idle.type_name
 name_of (Loud loud) = loud.type_name
 name_of (Pulse pulse) = pulse.type_name
@@ -29,6 +52,10 @@ name_of (Sleeper sleeper) = sleeper.type_name
 name_of (Spinner spinner) = spinner.type_name
 
 abbrev pub says_of : BusObject → Says
+says_of (BusMem bus_mem) = BusMemSays
+says_of (BusMemBad bus_mem_bad) = BusMemBadSays
+says_of (BusMonitor bus_monitor) = BusMonitorSays
+says_of (BusScoreboard bus_scoreboard) = BusScoreboardSays
 says_of (Idle idle) = IdleSays
 says_of (Loud loud) = LoudSays
 says_of (Pulse pulse) = PulseSays

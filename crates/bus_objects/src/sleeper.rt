@@ -59,9 +59,9 @@ impl UvmObject for Sleeper {
                     acts.push(Act::Wait { ticks, tag: 1 })?;
                 }
             }
-            Call::Phase(_) => (),
             Call::Config { value, .. } => self.ticks = ticks_kept(*value),
             Call::Wake { .. } => acts.push(Act::DropObjection { count: 1 })?,
+            _ => (),
         }
         Ok(acts)
     }

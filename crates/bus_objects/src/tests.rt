@@ -1,14 +1,266 @@
 use crate::BusObject;
+use std::alloc::Global;
+use std::str;
 use std::test::Fail;
 use uvm_glob::Name;
 use uvm_object::{Act, Call, UvmObject};
 use uvm_phase::Phase;
-use uvm_report::Severity;
+use uvm_report::{Report, Severity};
+use uvm_tlm::Item;
+
+fn made(alloc: Global, type_name: &[u8]) -> Result<BusObject, Fail> {
+    let type_name = Name::new(type_name)?;
+    let object = BusObject::of_type(alloc, &type_name).ok_or("no object")?;
+    if *object.type_name() != type_name {
+        return Err("another type".into());
+    }
+    Ok(object)
+}
+
+fn written(words: [i64; 4]) -> Result<Call, Fail> {
+    Ok(Call::Written {
+        imp: Name::new(b"seen")?,
+        item: Item(words),
+    })
+}
+
+fn taken(words: [i64; 4]) -> Result<Call, Fail> {
+    Ok(Call::Taken {
+        port: Name::new(b"req")?,
+        item: Item(words),
+    })
+}
+
+fn told(value: Option<i64>) -> Result<Call, Fail> {
+    Ok(Call::Config {
+        field: Name::new(b"waits")?,
+        value,
+    })
+}
+
+// An act that one of the objects of the bus answers, in words.
+fn act_text(alloc: Global, act: &Act) -> Result<String, Fail> {
+    Ok(match act {
+        Act::Add { name, what } => format!(in alloc; "add {name} {what:?}")?,
+        Act::Get { field } => format!(in alloc; "get {field}")?,
+        Act::Put { port, item } => format!(in alloc; "put {port} {:?}", item.0)?,
+        Act::Take { port } => format!(in alloc; "take {port}")?,
+        Act::Write { port, item } => format!(in alloc; "write {port} {:?}", item.0)?,
+        Act::Wait { ticks, tag } => format!(in alloc; "wait {ticks} {tag}")?,
+        Act::Report { report } => report_text(alloc, report)?,
+        _ => String::from_str(alloc, "another act")?,
+    })
+}
+
+fn report_text(alloc: Global, report: &Report) -> Result<String, Fail> {
+    let text = str::from_utf8(report.text.as_bytes())?;
+    let (severity, id, verbosity) = (report.severity, &report.id, report.verbosity);
+    Ok(format!(in alloc; "{severity} {id} {verbosity}: {text}")?)
+}
+
+// The acts that an object answers a call with, in words, each with a `;` behind it.
+fn answer(alloc: Global, object: &mut BusObject, call: &Call) -> Result<String, Fail> {
+    let acts = object.hear(alloc, call)?;
+    let mut text = String::new(alloc);
+    for act in acts.iter() {
+        text.push_str(act_text(alloc, act)?.as_str())?;
+        text.push(';')?;
+    }
+    Ok(text)
+}
+
+#[test]
+fn bus_monitor_reports_an_item_and_writes_it_on(rt: HostRuntime) -> Result<(), Fail> {
+    let alloc = rt.alloc();
+    let mut monitor = made(alloc, b"bus_monitor")?;
+    for (call, want) in [
+        (
+            Call::Phase(Phase::Build),
+            "add bus Imp;add ap Port { kind: Analysis };",
+        ),
+        (Call::Phase(Phase::Run), ""),
+        (
+            written([1, 16, -5, 0])?,
+            "UVM_INFO MON 200: write 16 -5;write ap [1, 16, -5, 0];",
+        ),
+        (
+            written([0, 16, 7, 3])?,
+            "UVM_INFO MON 200: read 16 7;write ap [0, 16, 7, 3];",
+        ),
+        (
+            written([2, 0, 0, 0])?,
+            "UVM_INFO MON 200: read 0 0;write ap [2, 0, 0, 0];",
+        ),
+        (Call::Wake { tag: 1 }, ""),
+    ] {
+        assert_eq!(rt; answer(alloc, &mut monitor, &call)?.as_str(), want);
+    }
+    Ok(())
+}
+
+#[test]
+fn longest_texts_are_reported(rt: HostRuntime) -> Result<(), Fail> {
+    let alloc = rt.alloc();
+    let mut monitor = made(alloc, b"bus_monitor")?;
+    let mut scoreboard = made(alloc, b"bus_scoreboard")?;
+    let call = written([1, i64::MIN, i64::MAX, 0])?;
+    assert_eq!(rt;
+        answer(alloc, &mut monitor, &call)?.as_str(),
+        "UVM_INFO MON 200: write -9223372036854775808 9223372036854775807;\
+        write ap [1, -9223372036854775808, 9223372036854775807, 0];"
+    );
+    assert_eq!(rt; answer(alloc, &mut scoreboard, &call)?.as_str(), "");
+    let call = written([0, i64::MIN, i64::MIN, 0])?;
+    assert_eq!(rt;
+        answer(alloc, &mut scoreboard, &call)?.as_str(),
+        "UVM_ERROR SB 0: read -9223372036854775808 gave -9223372036854775808 not 9223372036854775807;"
+    );
+    Ok(())
+}
+
+#[test]
+fn bus_mem_waits_for_the_value_that_it_is_told(rt: HostRuntime) -> Result<(), Fail> {
+    let alloc = rt.alloc();
+    let mut memory = made(alloc, b"bus_mem")?;
+    let item = [0, 1, 2, 3];
+    for (call, want) in [
+        (
+            Call::Phase(Phase::Build),
+            "add req Port { kind: Get };add rsp Port { kind: Put };get waits;",
+        ),
+        (taken(item)?, "wait 0 1;"),
+        (told(Some(7))?, ""),
+        (taken(item)?, "wait 7 1;"),
+        (told(None)?, ""),
+        (taken(item)?, "wait 2 1;"),
+        (told(Some(0))?, ""),
+        (taken(item)?, "wait 0 1;"),
+        (told(Some(-1))?, ""),
+        (taken(item)?, "wait 2 1;"),
+        (Call::Phase(Phase::Report), ""),
+    ] {
+        assert_eq!(rt; answer(alloc, &mut memory, &call)?.as_str(), want);
+    }
+    Ok(())
+}
+
+// Items that a memory takes one after another, and what it puts: of `bus_mem`, and of `bus_mem_bad`.
+const TURNS: [([i64; 4], &str, &str); 7] = [
+    (
+        [0, 4, 5, 6],
+        "put rsp [0, 4, 0, 6];",
+        "put rsp [0, 4, 1, 6];",
+    ),
+    (
+        [1, 4, 9, 6],
+        "put rsp [1, 4, 9, 6];",
+        "put rsp [1, 4, 9, 6];",
+    ),
+    (
+        [0, 4, 5, 6],
+        "put rsp [0, 4, 9, 6];",
+        "put rsp [0, 4, 8, 6];",
+    ),
+    (
+        [0, 5, 5, 0],
+        "put rsp [0, 5, 0, 0];",
+        "put rsp [0, 5, 1, 0];",
+    ),
+    (
+        [1, 4, -1, 0],
+        "put rsp [1, 4, -1, 0];",
+        "put rsp [1, 4, -1, 0];",
+    ),
+    (
+        [3, 4, 0, 0],
+        "put rsp [3, 4, -1, 0];",
+        "put rsp [3, 4, -2, 0];",
+    ),
+    (
+        [0, -4, 0, 0],
+        "put rsp [0, -4, 0, 0];",
+        "put rsp [0, -4, 1, 0];",
+    ),
+];
+
+#[test]
+fn bus_mem_performs_the_items_that_it_takes(rt: HostRuntime) -> Result<(), Fail> {
+    let alloc = rt.alloc();
+    let mut memory = made(alloc, b"bus_mem")?;
+    let wake = Call::Wake { tag: 1 };
+    let stored = Call::Stored {
+        port: Name::new(b"rsp")?,
+    };
+    let run = Call::Phase(Phase::Run);
+    assert_eq!(rt;
+        answer(alloc, &mut memory, &wake)?.as_str(),
+        "put rsp [0, 0, 0, 0];"
+    );
+    assert_eq!(rt; answer(alloc, &mut memory, &run)?.as_str(), "take req;");
+    for (words, want, _) in TURNS {
+        assert_eq!(rt;
+            answer(alloc, &mut memory, &taken(words)?)?.as_str(),
+            "wait 0 1;"
+        );
+        assert_eq!(rt; answer(alloc, &mut memory, &wake)?.as_str(), want);
+        assert_eq!(rt; answer(alloc, &mut memory, &stored)?.as_str(), "take req;");
+    }
+    Ok(())
+}
+
+#[test]
+fn bus_mem_bad_flips_the_lowest_bit_of_what_it_reads(rt: HostRuntime) -> Result<(), Fail> {
+    let alloc = rt.alloc();
+    let mut memory = made(alloc, b"bus_mem_bad")?;
+    for (words, _, want) in TURNS {
+        assert_eq!(rt;
+            answer(alloc, &mut memory, &taken(words)?)?.as_str(),
+            "wait 0 1;"
+        );
+        assert_eq!(rt;
+            answer(alloc, &mut memory, &Call::Wake { tag: 1 })?.as_str(),
+            want
+        );
+    }
+    Ok(())
+}
+
+#[test]
+fn bus_scoreboard_reports_bad_reads_and_its_counts(rt: HostRuntime) -> Result<(), Fail> {
+    let alloc = rt.alloc();
+    let mut scoreboard = made(alloc, b"bus_scoreboard")?;
+    for (call, want) in [
+        (Call::Phase(Phase::Build), "add seen Imp;"),
+        (Call::Phase(Phase::Report), "UVM_INFO SB 200: 0 seen 0 bad;"),
+        (written([0, 4, 0, 0])?, ""),
+        (written([1, 4, 9, 0])?, ""),
+        (written([0, 4, 9, 1])?, ""),
+        (Call::Phase(Phase::Report), "UVM_INFO SB 200: 3 seen 0 bad;"),
+        (
+            written([0, 4, 8, 0])?,
+            "UVM_ERROR SB 0: read 4 gave 8 not 9;",
+        ),
+        (
+            written([2, 5, -1, 0])?,
+            "UVM_ERROR SB 0: read 5 gave -1 not 0;",
+        ),
+        (written([1, -4, -9, 0])?, ""),
+        (
+            written([0, -4, 9, 0])?,
+            "UVM_ERROR SB 0: read -4 gave 9 not -9;",
+        ),
+        (Call::Phase(Phase::Run), ""),
+        (Call::Phase(Phase::Report), "UVM_INFO SB 200: 7 seen 3 bad;"),
+    ] {
+        assert_eq!(rt; answer(alloc, &mut scoreboard, &call)?.as_str(), want);
+    }
+    Ok(())
+}
 
 #[test]
 fn idle_answers_with_no_acts(rt: HostRuntime) -> Result<(), Fail> {
     let name = Name::new(b"idle")?;
-    let mut idle = BusObject::of_type(&name).ok_or("no object")?;
+    let mut idle = BusObject::of_type(rt.alloc(), &name).ok_or("no object")?;
     assert_eq!(rt; *idle.type_name(), name);
     for phase in [Phase::Build, Phase::Run, Phase::Final] {
         assert!(rt; idle.hear(rt.alloc(), &Call::Phase(phase))?.is_empty());
@@ -19,7 +271,7 @@ fn idle_answers_with_no_acts(rt: HostRuntime) -> Result<(), Fail> {
 #[test]
 fn loud_reports_three_errors_when_it_builds(rt: HostRuntime) -> Result<(), Fail> {
     let name = Name::new(b"loud")?;
-    let mut loud = BusObject::of_type(&name).ok_or("no object")?;
+    let mut loud = BusObject::of_type(rt.alloc(), &name).ok_or("no object")?;
     assert_eq!(rt; *loud.type_name(), name);
     assert!(rt; loud.hear(rt.alloc(), &Call::Phase(Phase::Run))?.is_empty());
     let acts = loud.hear(rt.alloc(), &Call::Phase(Phase::Build))?;
@@ -39,7 +291,7 @@ fn loud_reports_three_errors_when_it_builds(rt: HostRuntime) -> Result<(), Fail>
 #[test]
 fn pulse_wakes_three_times(rt: HostRuntime) -> Result<(), Fail> {
     let name = Name::new(b"pulse")?;
-    let mut pulse = BusObject::of_type(&name).ok_or("no object")?;
+    let mut pulse = BusObject::of_type(rt.alloc(), &name).ok_or("no object")?;
     assert_eq!(rt; *pulse.type_name(), name);
     assert_eq!(rt; pulse.hear(rt.alloc(), &Call::Phase(Phase::Run))?.len(), 3);
     for (tag, count) in [(1, 2), (2, 2), (3, 1), (4, 0)] {
@@ -57,7 +309,7 @@ fn pulse_wakes_three_times(rt: HostRuntime) -> Result<(), Fail> {
 #[test]
 fn sleeper_waits_for_the_value_that_it_is_told(rt: HostRuntime) -> Result<(), Fail> {
     let name = Name::new(b"sleeper")?;
-    let mut sleeper = BusObject::of_type(&name).ok_or("no object")?;
+    let mut sleeper = BusObject::of_type(rt.alloc(), &name).ok_or("no object")?;
     assert_eq!(rt; *sleeper.type_name(), name);
     for (value, count) in [(None, 2), (Some(7), 2), (Some(-1), 1)] {
         let field = Name::new(b"at")?;
@@ -74,7 +326,7 @@ fn sleeper_waits_for_the_value_that_it_is_told(rt: HostRuntime) -> Result<(), Fa
 #[test]
 fn spinner_waits_again_and_again(rt: HostRuntime) -> Result<(), Fail> {
     let name = Name::new(b"spinner")?;
-    let mut spinner = BusObject::of_type(&name).ok_or("no object")?;
+    let mut spinner = BusObject::of_type(rt.alloc(), &name).ok_or("no object")?;
     assert_eq!(rt; *spinner.type_name(), name);
     assert!(rt;
         spinner
@@ -91,9 +343,12 @@ fn spinner_waits_again_and_again(rt: HostRuntime) -> Result<(), Fail> {
 
 #[test]
 fn other_types_have_no_object(rt: HostRuntime) -> Result<(), Fail> {
-    for name in ["idl", "idles", "Idle", "other"] {
+    for name in ["idl", "idles", "Idle", "other", "bus_memo", "bus_mem_ba"] {
         let name = Name::new(name.as_bytes())?;
-        assert!(rt; BusObject::of_type(&name).is_none(), "of {name}");
+        assert!(rt;
+            BusObject::of_type(rt.alloc(), &name).is_none(),
+            "of {name}"
+        );
     }
     Ok(())
 }

@@ -3,7 +3,7 @@ use Rattle.std.specs.Prelude.{ℕ, List, codes}
 use Rattle.uvm_report.specs.declared.severities.Severity.TheVariants as severity
 use Rattle.uvm_report.specs.declared.messages.Report.{Report}
 use Rattle.uvm_object.specs.declared.fatals.Fatal.{Fatal}
-use Rattle.uvm_object.specs.declared.fatals.Fatal.TheVariants.{CreatedAfterBuild, TooManyActs, InvalidType, ChildTaken, TreeLimit, OverrideLoop, NoObject, TooManySettings, ConnectedTooLate, UnknownNode, KindsDiffer, TooFewConnections, TooManyConnections, OutsideTask, ObjectionBelowZero, OutOfRange, Timeout, Stall}
+use Rattle.uvm_object.specs.declared.fatals.Fatal.TheVariants.{CreatedAfterBuild, TooManyActs, InvalidType, ChildTaken, TreeLimit, OverrideLoop, NoObject, TooManySettings, ConnectedTooLate, UnknownNode, KindsDiffer, TooFewConnections, TooManyConnections, NoPort, OutsideTask, ObjectionBelowZero, OutOfRange, Timeout, Stall}
 
 abbrev pub id_of : Fatal → List ℕ
 id_of CreatedAfterBuild = codes "ILLCRT"
@@ -19,6 +19,7 @@ id_of UnknownNode = codes "CONNERR"
 id_of KindsDiffer = codes "CONNERR"
 id_of TooFewConnections = codes "CONNERR"
 id_of TooManyConnections = codes "CONNERR"
+id_of NoPort = codes "NOPORT"
 id_of OutsideTask = codes "NOTTASK"
 id_of ObjectionBelowZero = codes "OBJTN_ZERO"
 id_of OutOfRange = codes "ACTRNG"
@@ -39,6 +40,7 @@ text_of UnknownNode = codes "unknown node"
 text_of KindsDiffer = codes "kinds differ"
 text_of TooFewConnections = codes "too few connections"
 text_of TooManyConnections = codes "too many connections"
+text_of NoPort = codes "no such port"
 text_of OutsideTask = codes "act outside a task phase"
 text_of ObjectionBelowZero = codes "objection dropped below zero"
 text_of OutOfRange = codes "value out of range"

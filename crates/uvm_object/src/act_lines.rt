@@ -3,14 +3,14 @@
 ghost use Rattle.std.specs.Prelude.{◌≡◌, ◌++◌, ◌∷◌, OnOk};
 ghost use Rattle.std.specs.Fmt.{decimal};
 ghost use Rattle.uvm_object.specs.declared.acts.Act.TheVariants as act;
-ghost use Rattle.uvm_object.specs.Lines.{act_text, actions_text, id_text, kind_text, what_text, which_text};
+ghost use Rattle.uvm_object.specs.Lines.{act_text, actions_text, id_text, what_text, which_text};
 
 use crate::acts::{Act, What};
+use crate::item_lines::{kind_text, push_named, push_named_item};
 use crate::lines::{push_integer, push_number, push_ticks, push_two};
 use std::alloc::AllocError;
 use uvm_glob::{Glob, Name, Path};
 use uvm_report::{Actions, Report, Severity, Which};
-use uvm_tlm::PortKind;
 
 pub(crate) fn push_act(act: &Act, line: &mut Vec<u8>) -> Result<(), AllocError>
     ensures { OnOk result (line.new.items ≡ line.old.items ++ act_text act.now) }
@@ -31,6 +31,12 @@ pub(crate) fn push_act(act: &Act, line: &mut Vec<u8>) -> Result<(), AllocError>
             glob,
         } => push_override_at(original, new, glob, line),
         Act::Connect { from, to } => push_connection(from, to, line),
+        Act::Put { port, item } => push_named_item(b"put ", port, item, line),
+        Act::TryPut { port, item } => push_named_item(b"try_put ", port, item, line),
+        Act::Take { port } => push_named(b"take ", port, line),
+        Act::TryTake { port } => push_named(b"try_take ", port, line),
+        Act::Peek { port } => push_named(b"peek ", port, line),
+        Act::Write { port, item } => push_named_item(b"write ", port, item, line),
         Act::Report { report } => push_report(report, line),
         Act::Verbosity { which, level } => push_level(which, *level, line),
         Act::Actions { which, actions } => push_actions(which, *actions, line),
@@ -223,16 +229,5 @@ fn push_what(what: What, line: &mut Vec<u8>) -> Result<(), AllocError>
         What::Port { kind } => push_two(b"port ", kind_text(kind), line),
         What::Export { kind } => push_two(b"export ", kind_text(kind), line),
         What::Imp => line.extend_from_slice(b"imp"),
-    }
-}
-
-fn kind_text(kind: PortKind) -> &'static str
-    ensures { result.now ≡ kind_text kind }
-{
-    match kind {
-        PortKind::Put => "put",
-        PortKind::Get => "get",
-        PortKind::Analysis => "analysis",
-        PortKind::Seq => "seq",
     }
 }

@@ -12,7 +12,7 @@ use std::slice;
 use uvm_glob::{Glob, Name, Path};
 use uvm_phase::Phase;
 use uvm_report::{Actions, Report, Severity, Which};
-use uvm_tlm::PortKind;
+use uvm_tlm::{Item, PortKind};
 use uvm_tree::NodeId;
 
 /// Who is called, and performs what it answers.
@@ -56,6 +56,46 @@ pub enum Call {
     Wake {
         /// What the wait was told by.
         tag: u32,
+    },
+    /// An item that was put is in the FIFO: after `Act::Put` (Clause 12).
+    Stored {
+        /// The port that it was put through.
+        port: Name,
+    },
+    /// Whether an item could be put at once: after `Act::TryPut` (Clause 12).
+    TryStored {
+        /// The port that was asked.
+        port: Name,
+        /// Whether it is in the FIFO.
+        stored: bool,
+    },
+    /// An item was taken from the FIFO: after `Act::Take` (Clause 12).
+    Taken {
+        /// The port that it was taken through.
+        port: Name,
+        /// The item.
+        item: Item,
+    },
+    /// What could be taken at once: after `Act::TryTake` (Clause 12).
+    TryTaken {
+        /// The port that was asked.
+        port: Name,
+        /// The item; none where none could be taken.
+        item: Option<Item>,
+    },
+    /// An item is there, and stays in the FIFO: after `Act::Peek` (Clause 12).
+    Peeked {
+        /// The port that was asked.
+        port: Name,
+        /// The item.
+        item: Item,
+    },
+    /// An item was written to an imp of the component: after `Act::Write` (Clause 12).
+    Written {
+        /// The imp.
+        imp: Name,
+        /// The item.
+        item: Item,
     },
 }
 
@@ -136,6 +176,44 @@ pub enum Act {
         from: Path,
         /// The path of what it is connected to, as below the performer's.
         to: Path,
+    },
+    /// Put an item into the FIFO that a put port of the performer reaches, once there is room (Clause 12, put). A call tells
+    /// when it is there.
+    Put {
+        /// The port.
+        port: Name,
+        /// The item.
+        item: Item,
+    },
+    /// Put an item into that FIFO at once, if there is room and no put waits (Clause 12, try_put). A call tells whether.
+    TryPut {
+        /// The port.
+        port: Name,
+        /// The item.
+        item: Item,
+    },
+    /// Take an item from the FIFO that a get port of the performer reaches, once one is there (Clause 12, get). It comes as a
+    /// call.
+    Take {
+        /// The port.
+        port: Name,
+    },
+    /// Take an item from that FIFO at once, if one is there and nobody waits for one (Clause 12, try_get). A call tells which.
+    TryTake {
+        /// The port.
+        port: Name,
+    },
+    /// Look at the first item of that FIFO, which stays, once one is there (Clause 12, peek). It comes as a call.
+    Peek {
+        /// The port.
+        port: Name,
+    },
+    /// Write an item to all that an analysis port of the performer reaches, without waiting (Clause 12, write).
+    Write {
+        /// The port.
+        port: Name,
+        /// The item.
+        item: Item,
     },
     /// Issue a report at the performer's path (Clause 6).
     Report {
@@ -233,6 +311,12 @@ impl Act {
             Act::Create { type_name, name } => Act::Create { type_name, name },
             Act::Add { name, what } => Act::Add { name, what },
             Act::Get { field } => Act::Get { field },
+            Act::Put { port, item } => Act::Put { port, item },
+            Act::TryPut { port, item } => Act::TryPut { port, item },
+            Act::Take { port } => Act::Take { port },
+            Act::TryTake { port } => Act::TryTake { port },
+            Act::Peek { port } => Act::Peek { port },
+            Act::Write { port, item } => Act::Write { port, item },
             Act::OverrideType {
                 original,
                 new,

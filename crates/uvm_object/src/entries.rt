@@ -1,7 +1,7 @@
 //! The entries of the log.
 
 ghost use Rattle.std.specs.Prelude.{◌≡◌, IfOk};
-ghost use Rattle.uvm_object.specs.declared.entries.Outcome.TheVariants.{Done, Made, Value, Refused};
+ghost use Rattle.uvm_object.specs.declared.entries.Outcome.TheVariants.{Done, Made, Value, Stored, Taken, Refused};
 ghost use Rattle.uvm_object.specs.declared.entries.Entry.TheVariants.{Heard};
 
 use crate::acts::{Acts, Call, Deed, Who};
@@ -11,6 +11,7 @@ use std::marker::Model;
 use std::rc::Rc;
 use uvm_glob::Name;
 use uvm_phase::{Cause, Phase};
+use uvm_tlm::{Item, MoveKind};
 use uvm_tree::NodeId;
 
 /// What became of an act.
@@ -22,6 +23,10 @@ pub enum Outcome {
     Made(Name),
     /// A field was asked for: its value, if it has one.
     Value(Option<i64>),
+    /// An item was to be put at once: whether it is in the FIFO.
+    Stored(bool),
+    /// An item was to be taken at once: the item, if one could be.
+    Taken(Option<Item>),
     /// It was refused, and this was reported.
     Refused(Fatal),
 }
@@ -131,6 +136,12 @@ enum CompactOutcome {
     NoValue,
     /// This value was found.
     Value(i64),
+    /// Whether an item was put at once.
+    Stored(bool),
+    /// No item could be taken at once.
+    NoItem,
+    /// This item was taken at once.
+    Taken(Box<Item>),
     /// It was refused.
     Refused(Fatal),
 }
@@ -181,6 +192,26 @@ impl LoggedOutcome {
         LoggedOutcome { compact }
     }
 
+    /// The outcome `Stored`.
+    pub fn stored(stored: bool) -> LoggedOutcome
+        ensures { result ≡ Stored stored }
+    {
+        LoggedOutcome {
+            compact: CompactOutcome::Stored(stored),
+        }
+    }
+
+    /// The outcome `Taken`. It takes memory for an item; the error is want of it.
+    pub fn taken(alloc: Global, item: Option<Item>) -> Result<LoggedOutcome, AllocError>
+        ensures { IfOk result (λ outcome. outcome ≡ Taken item) }
+    {
+        let compact = match item {
+            Some(item) => CompactOutcome::Taken(Box::new(alloc, item)?),
+            None => CompactOutcome::NoItem,
+        };
+        Ok(LoggedOutcome { compact })
+    }
+
     /// The outcome `Refused`.
     pub fn refused(fatal: Fatal) -> LoggedOutcome
         ensures { result ≡ Refused fatal }
@@ -199,8 +230,58 @@ impl LoggedOutcome {
             CompactOutcome::Made(type_name) => Outcome::Made(**type_name),
             CompactOutcome::NoValue => Outcome::Value(None),
             CompactOutcome::Value(value) => Outcome::Value(Some(*value)),
+            CompactOutcome::Stored(stored) => Outcome::Stored(*stored),
+            CompactOutcome::NoItem => Outcome::Taken(None),
+            CompactOutcome::Taken(item) => Outcome::Taken(Some(**item)),
             CompactOutcome::Refused(fatal) => Outcome::Refused(*fatal),
         }
+    }
+}
+
+/// How a put, a take or a peek that was asked for came to pass.
+#[derive(Clone, Copy, Debug, PartialEq, Eq)]
+pub struct Passage {
+    /// What passed: an item went in or out, or was shown.
+    pub kind: MoveKind,
+    /// Who had asked.
+    pub who: Who,
+    /// The port that was asked through.
+    pub port: Name,
+    /// The item.
+    pub item: Item,
+    /// The place of the entry of the act that asked.
+    pub request: u64,
+}
+
+/// The passage of an entry. Contracts see the passage.
+#[derive(Debug, Drop)]
+pub struct LoggedPassage {
+    passage: Box<Passage>,
+}
+
+impl Model for LoggedPassage {
+    ghost use Rattle.uvm_object.specs.declared.entries.Passage.{Passage};
+
+    ghost Value = { Passage };
+
+    ghost view = { λ l. l.passage.value };
+}
+
+impl LoggedPassage {
+    /// A passage, to be logged. The error is want of memory.
+    pub fn new(alloc: Global, passage: Passage) -> Result<LoggedPassage, AllocError>
+        ensures { IfOk result (λ logged. logged ≡ passage) }
+    {
+        Ok(LoggedPassage {
+            passage: Box::new(alloc, passage)?,
+        })
+    }
+
+    /// The passage.
+    pub fn get(&self) -> &Passage
+        ensures { result.now ≡ self.now }
+    {
+        &self.passage
     }
 }
 
@@ -232,6 +313,13 @@ pub enum Entry {
         outcome: LoggedOutcome,
         /// The act.
         act: Deed,
+    },
+    /// An item went into a FIFO or out of it, or was shown: what somebody had asked for came to pass (Clause 12).
+    Passed {
+        /// The FIFO.
+        fifo: NodeId,
+        /// What came to pass.
+        passage: LoggedPassage,
     },
     /// The drain of a node is over: what was held back is passed up (Clause 10.5).
     Drained {

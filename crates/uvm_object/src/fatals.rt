@@ -36,6 +36,8 @@ pub enum Fatal {
     TooFewConnections,
     /// CONNERR: a port reaches several targets, or an earlier port drives the sequencer that it reaches.
     TooManyConnections,
+    /// NOPORT: the performer has no port of that name that is of the act's kind and sound.
+    NoPort,
     /// NOTTASK: the act is one of a phase that takes time.
     OutsideTask,
     /// OBJTN_ZERO: more is dropped than was raised.
@@ -67,6 +69,7 @@ impl Fatal {
             | Fatal::KindsDiffer
             | Fatal::TooFewConnections
             | Fatal::TooManyConnections => "CONNERR",
+            Fatal::NoPort => "NOPORT",
             Fatal::OutsideTask => "NOTTASK",
             Fatal::ObjectionBelowZero => "OBJTN_ZERO",
             Fatal::OutOfRange => "ACTRNG",
@@ -93,6 +96,7 @@ impl Fatal {
             Fatal::KindsDiffer => "kinds differ",
             Fatal::TooFewConnections => "too few connections",
             Fatal::TooManyConnections => "too many connections",
+            Fatal::NoPort => "no such port",
             Fatal::OutsideTask => "act outside a task phase",
             Fatal::ObjectionBelowZero => "objection dropped below zero",
             Fatal::OutOfRange => "value out of range",

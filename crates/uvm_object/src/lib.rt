@@ -5,6 +5,7 @@ mod act_lines;
 mod acts;
 mod entries;
 mod fatals;
+mod item_lines;
 mod lines;
 mod logs;
 mod objects;
@@ -12,7 +13,10 @@ mod objects;
 mod tests;
 
 pub use acts::{Act, Acts, ActsIter, Call, Deed, What, Who};
-pub use entries::{Entry, LoggedActs, LoggedCall, LoggedCause, LoggedOutcome, Outcome, Reason};
+pub use entries::{
+    Entry, LoggedActs, LoggedCall, LoggedCause, LoggedOutcome, LoggedPassage, Outcome, Passage,
+    Reason,
+};
 pub use fatals::Fatal;
 pub use lines::{line_of, shown_path};
 pub use logs::{Log, LogFault};

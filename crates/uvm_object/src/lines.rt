@@ -2,13 +2,18 @@
 
 ghost use Rattle.std.specs.Prelude.{◌≡◌, ◌++◌, OnOk, OnErr};
 ghost use Rattle.std.specs.Fmt.{decimal, signed_decimal};
+ghost use Rattle.uvm_object.specs.declared.entries.Entry.TheVariants.{Passed};
+ghost use Rattle.uvm_object.specs.declared.acts.Call.TheVariants as call;
 ghost use Rattle.uvm_object.specs.Lines.{entry_line, entry_text, who_text, shown_path, call_text, value_text, outcome_text, reason_text};
 ghost use Rattle.uvm_tree.specs.Nodes.{path_at};
 
 use crate::act_lines::push_act;
 use crate::acts::{Call, Who};
-use crate::entries::{Entry, Outcome, Reason};
+use crate::entries::{Entry, Outcome, Passage, Reason};
+use crate::item_lines::{answer_text, move_text, push_named, push_named_item, push_some_item};
 use std::alloc::AllocError;
+use uvm_glob::Name;
+use uvm_tlm::Item;
 use uvm_tree::{NodeId, Tree};
 
 /// Appends the line of an entry, with its newline. The tree tells the paths of the nodes; the top, and a node that the tree
@@ -51,6 +56,7 @@ fn push_entry(entry: &Entry, tree: &Tree, line: &mut Vec<u8>) -> Result<(), Allo
             line.extend_from_slice(b": ")?;
             push_outcome(&outcome.get(), line)
         }
+        Entry::Passed { fifo, passage } => push_passage(*fifo, passage.get(), tree, line),
         Entry::Drained { node, .. } => {
             line.extend_from_slice(b"drained ")?;
             push_path(*node, tree, line)
@@ -62,6 +68,21 @@ fn push_entry(entry: &Entry, tree: &Tree, line: &mut Vec<u8>) -> Result<(), Allo
         }
         Entry::Over(reason) => push_two(b"over ", reason_text(*reason), line),
     }
+}
+
+fn push_passage(
+    fifo: NodeId,
+    passage: &Passage,
+    tree: &Tree,
+    line: &mut Vec<u8>,
+) -> Result<(), AllocError>
+    ensures { OnOk result (line.new.items ≡ line.old.items ++ entry_text tree.now.nodes (Passed fifo passage.now)) }
+{
+    line.extend_from_slice(b"passed ")?;
+    push_path(fifo, tree, line)?;
+    push_two(b" ", move_text(passage.kind), line)?;
+    line.push(b' ')?;
+    push_who(&passage.who, tree, line)
 }
 
 pub(crate) fn push_two(front: &[u8], back: &str, line: &mut Vec<u8>) -> Result<(), AllocError>
@@ -110,7 +131,28 @@ fn push_call(call: &Call, line: &mut Vec<u8>) -> Result<(), AllocError>
             line.push(b' ')?;
             push_value(*value, line)
         }
+        Call::Stored { port } => push_named(b"stored ", port, line),
+        Call::TryStored { port, stored } => push_stored(port, *stored, line),
+        Call::Taken { port, item } => push_named_item(b"taken ", port, item, line),
+        Call::TryTaken { port, item } => push_taken(port, item, line),
+        Call::Peeked { port, item } => push_named_item(b"peeked ", port, item, line),
+        Call::Written { imp, item } => push_named_item(b"written ", imp, item, line),
     }
+}
+
+fn push_stored(port: &Name, stored: bool, line: &mut Vec<u8>) -> Result<(), AllocError>
+    ensures { OnOk result (line.new.items ≡ line.old.items ++ call_text (call.TryStored port.now stored)) }
+{
+    push_named(b"try_stored ", port, line)?;
+    push_two(b" ", answer_text(stored), line)
+}
+
+fn push_taken(port: &Name, item: &Option<Item>, line: &mut Vec<u8>) -> Result<(), AllocError>
+    ensures { OnOk result (line.new.items ≡ line.old.items ++ call_text (call.TryTaken port.now item.now)) }
+{
+    push_named(b"try_taken ", port, line)?;
+    line.push(b' ')?;
+    push_some_item(item, line)
 }
 
 fn push_value(value: Option<i64>, line: &mut Vec<u8>) -> Result<(), AllocError>
@@ -135,6 +177,8 @@ fn push_outcome(outcome: &Outcome, line: &mut Vec<u8>) -> Result<(), AllocError>
             line.extend_from_slice(b"value ")?;
             push_value(*value, line)
         }
+        Outcome::Stored(stored) => line.extend_from_slice(answer_text(*stored).as_bytes()),
+        Outcome::Taken(item) => line.extend_from_slice(answer_text(item.is_some()).as_bytes()),
         Outcome::Refused(fatal) => push_two(b"refused ", fatal.id(), line),
     }
 }

@@ -1,5 +1,7 @@
 //! Examples of the lines, and that each call succeeds where there is memory.
 
+mod items;
+
 use crate::{
     Act, Acts, Call, Deed, Entry, Fatal, Log, LogFault, LoggedOutcome, Outcome, Reason, What, Who,
     line_of, shown_path,
@@ -496,6 +498,7 @@ fn fatal_reports_have_ids_and_texts(rt: HostRuntime) {
         (Fatal::KindsDiffer, "CONNERR", "kinds differ"),
         (Fatal::TooFewConnections, "CONNERR", "too few connections"),
         (Fatal::TooManyConnections, "CONNERR", "too many connections"),
+        (Fatal::NoPort, "NOPORT", "no such port"),
     ] {
         assert_eq!(rt; fatal.id(), id);
         assert_eq!(rt; fatal.text(), text);
@@ -550,6 +553,8 @@ fn word(outcome: &LoggedOutcome) -> &'static str {
         Outcome::Made(_) => "made",
         Outcome::Value(None) => "no value",
         Outcome::Value(Some(_)) => "value",
+        Outcome::Stored(_) => "stored",
+        Outcome::Taken(_) => "taken",
         Outcome::Refused(_) => "refused",
     }
 }
@@ -561,6 +566,8 @@ fn outcomes_are_told(rt: HostRuntime) -> Result<(), Fail> {
     assert_eq!(rt; word(&LoggedOutcome::made(room, Name::new(b"t")?)), "made");
     assert_eq!(rt; word(&LoggedOutcome::value(None)), "no value");
     assert_eq!(rt; word(&LoggedOutcome::value(Some(-1))), "value");
+    assert_eq!(rt; word(&LoggedOutcome::stored(true)), "stored");
+    assert_eq!(rt; word(&LoggedOutcome::taken(rt.alloc(), None)?), "taken");
     assert_eq!(rt; word(&LoggedOutcome::refused(Fatal::NoObject)), "refused");
     Ok(())
 }

@@ -175,6 +175,17 @@ impl Fifo {
         }
     }
 
+    /// The move that comes next, which `settle` makes, and none where there is none. Takes no memory.
+    #[tactic(auto, unfolding(crate::specs::Fifos::next_move))]
+    pub fn next_move(&self) -> Option<Move>
+        ensures { result ≡ next_move self.now }
+    {
+        match self.next_take() {
+            Some(taken) => Some(taken),
+            None => self.next_put(),
+        }
+    }
+
     /// Ends the waits of the puts, takes and peeks that were asked in the phase of a number. The items stay. Takes no memory;
     /// the time is that of a look at each wait.
     pub fn clear_waiting(&mut self, phase: u8)
@@ -205,26 +216,43 @@ impl Fifo {
         self.size == 0 || self.items.len() < usize::from(self.size)
     }
 
+    // The move of the first take or peek that waits.
+    fn next_take(&self) -> Option<Move>
+        ensures { result ≡ take_move self.now }
+    {
+        let item = *self.items.front()?;
+        let WaitingTake { owner, peeks } = *self.takes.front()?;
+        let kind = if peeks {
+            MoveKind::Peek
+        } else {
+            MoveKind::Take
+        };
+        Some(Move { kind, owner, item })
+    }
+
+    // The move of the first put that waits.
+    fn next_put(&self) -> Option<Move>
+        ensures { result ≡ put_move self.now }
+    {
+        if !self.has_room() {
+            return None;
+        }
+        let WaitingPut { owner, item } = *self.puts.front()?;
+        let kind = MoveKind::Put;
+        Some(Move { kind, owner, item })
+    }
+
     // Makes the move of the first take or peek that waits.
     fn settle_take(&mut self) -> Option<Move>
         ensures value { result ≡ take_move self.old }
         ensures after { self.new ≡ after_move result self.old }
     {
-        let item = *self.items.front()?;
-        let WaitingTake { owner, peeks } = self.takes.pop_front()?;
-        if peeks {
-            return Some(Move {
-                kind: MoveKind::Peek,
-                owner,
-                item,
-            });
+        let taken = self.next_take()?;
+        let _ = self.takes.pop_front();
+        if taken.kind == MoveKind::Take {
+            let _ = self.items.pop_front();
         }
-        let _ = self.items.pop_front();
-        Some(Move {
-            kind: MoveKind::Take,
-            owner,
-            item,
-        })
+        Some(taken)
     }
 
     // Makes the move of the first put that waits.
@@ -232,18 +260,12 @@ impl Fifo {
         ensures value { result ≡ put_move self.old }
         ensures after { self.new ≡ after_move result self.old }
     {
-        if !self.has_room() {
-            return None;
-        }
-        let WaitingPut { owner, item } = self.puts.pop_front()?;
-        let Ok(()) = self.items.push_back(item) else {
+        let put = self.next_put()?;
+        let _ = self.puts.pop_front();
+        let Ok(()) = self.items.push_back(put.item) else {
             unreachable!()
         };
-        Some(Move {
-            kind: MoveKind::Put,
-            owner,
-            item,
-        })
+        Some(put)
     }
 }
 

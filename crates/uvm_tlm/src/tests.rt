@@ -55,6 +55,7 @@ fn takes_go_before_puts_and_each_in_its_order(rt: HostRuntime) -> Result<(), Fai
     assert_eq!(rt; fifo.settle(), None);
     assert_eq!(rt; fifo.waiting(), 2);
     fifo.take(owners[3])?;
+    assert_eq!(rt; fifo.next_move(), moved(MoveKind::Take, owners[3], 7));
     assert_eq!(rt; fifo.settle(), moved(MoveKind::Take, owners[3], 7));
     assert_eq!(rt; fifo.settle(), moved(MoveKind::Put, owners[1], 8));
     fifo.take(owners[3])?;

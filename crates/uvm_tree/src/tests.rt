@@ -146,6 +146,9 @@ fn nodes_show_what_they_are(rt: HostRuntime) -> Result<(), Fail> {
         let path_made = path_of(rt.alloc(), path)?;
         assert!(rt; tree.path(id) == Some(&path_made), "'{path}'");
     }
+    let child = node_at(rt.alloc(), &tree, "t.b")?;
+    let test = node_at(rt.alloc(), &tree, "t")?;
+    assert_eq!(rt; tree.under(child), Some((test, Name::new(b"b")?)));
     Ok(())
 }
 
@@ -157,6 +160,7 @@ fn missing_nodes_have_nothing(rt: HostRuntime) -> Result<(), Fail> {
     assert_eq!(rt; node_at(rt.alloc(), &tree, "")?, NodeId::TOP);
     assert_eq!(rt; tree.kind(missing), None);
     assert_eq!(rt; tree.parent(missing), None);
+    assert_eq!(rt; tree.under(missing), None);
     assert!(rt; tree.path(missing).is_none());
     Ok(())
 }

@@ -5,7 +5,7 @@ ghost use Rattle.std.specs.List.{list_any};
 ghost use Rattle.std.specs.Option.{option_copied, ForSome};
 ghost use Rattle.uvm_glob.specs.Paths.{path_fault};
 ghost use Rattle.uvm_tree.specs.declared.nodes.Node.{Node};
-ghost use Rattle.uvm_tree.specs.Nodes.{AreNodes, most_nodes, top, child, path_at, node_at, is_child, is_path, number_at, parent_of, refusal, add_fault};
+ghost use Rattle.uvm_tree.specs.Nodes.{AreNodes, most_nodes, top, child, path_at, node_at, is_child, is_path, number_at, parent_of, under_at, refusal, add_fault};
 
 use crate::faults::TreeFault;
 use crate::nodes::{Node, NodeId, NodeKind};
@@ -169,6 +169,13 @@ impl Tree {
             },
             None => None,
         }
+    }
+
+    /// The parent of a node, and the node's name under it; none for the top, and where there is no such node. Takes no memory.
+    pub fn under(&self, id: NodeId) -> Option<(NodeId, Name)>
+        ensures { result ≡ under_at self.now.nodes id }
+    {
+        self.node(id)?.under
     }
 
     // The path of a node, or that of the top where there is no such node.

@@ -11,26 +11,27 @@ use uvm_tlm::PortKind;
 /// Ends that are added to the test, and what is connected then, by paths below it.
 #[derive(Clone, Copy, PartialEq, Eq)]
 pub(super) struct Wires {
-    added: &'static [Added],
-    connected: &'static [(&'static str, &'static str)],
+    pub(super) added: &'static [Added],
+    pub(super) connected: &'static [(&'static str, &'static str)],
 }
 
+/// The name of an end, and what it is.
 #[derive(Clone, Copy, PartialEq, Eq)]
-struct Added(&'static str, What);
+pub(super) struct Added(pub(super) &'static str, pub(super) What);
 
-const PUT: What = What::Port {
+pub(super) const PUT: What = What::Port {
     kind: PortKind::Put,
 };
 
-const GET: What = What::Port {
+pub(super) const GET: What = What::Port {
     kind: PortKind::Get,
 };
 
-const ANALYSIS: What = What::Port {
+pub(super) const ANALYSIS: What = What::Port {
     kind: PortKind::Analysis,
 };
 
-const FIFO: What = What::Fifo { size: 1 };
+pub(super) const FIFO: What = What::Fifo { size: 1 };
 
 impl Wires {
     // Adds the ends.

@@ -1,13 +1,15 @@
-use Rattle.std.proofs.Common.{◌≡◌, Some, None, option_and_then, false, true, ◌∷◌, refl, sym, ◌∙◌, rules}
-use Rattle.uvm_tlm.specs.Wirings.{end_at, is_closed}
+use Rattle.std.proofs.Common.{◌≡◌, Some, None, false, true, ◌∷◌, refl, sym, ◌∙◌, rules}
+use Rattle.uvm_tlm.specs.Wirings.{is_closed}
 use Rattle.uvm_object.specs.declared.acts.Act.TheVariants.{Connect}
 use Rattle.uvm_object.specs.declared.entries.Entry.TheVariants.{Did}
 use Rattle.uvm_object.specs.declared.entries.Outcome.TheVariants.{Done}
-use Rattle.bench_world.specs.Connectings.{IsClosing}
+use Rattle.bench_world.specs.Connectings.{IsClosedPast, IsClosing}
 use Rattle.uvm_object.specs.declared.fatals.Fatal.TheVariants.{ConnectedTooLate}
 use Rattle.bench_history.specs.History.{nodes_of}
 use Rattle.bench_history.specs.Refusals.{connection_refusal}
-use Rattle.bench_history.specs.Wires.{is_past_connect, wiring_of, node_below, end_below}
+use Rattle.std.specs.List.{list_any}
+use Rattle.bench_world.proofs.Gates.{joined-kept}
+use Rattle.bench_history.specs.Wires.{ends_connect, is_past_connect, wiring_of, node_below, end_below}
 use Rattle.bench_world.proofs.Connected.{connecting-both, both-closed, closing-next}
 use Rattle.bench_world.proofs.Later.{acted, refused-attempt}
 use Rattle.bench_world.proofs.connecting.connect.Goals as goal
@@ -49,6 +51,11 @@ returns-in-None c = λ place.
             let connecting = connecting-both c.connect_ends.new.wiring (node_below (nodes_of history) speaker c.args.from.now) (node_below (nodes_of history) speaker c.args.to.now) m.connecting is in
             let closed : is_closed c.connect_ends.new.wiring ≡ is_closed c.args.services.now.wiring = rw is (both-closed c.args.services.now.wiring (node_below (nodes_of history) speaker c.args.from.now) (node_below (nodes_of history) speaker c.args.to.now)) in
             let closing : IsClosing script (Did speaker Done (Connect c.args.from.now c.args.to.now) ∷ history) (is_closed c.connect_ends.new.wiring) = rw closed (closing-next left m.closing) in
+            let closed_past : IsClosedPast (list_any ends_connect history) (is_closed c.connect_ends.new.wiring) = rw closed m.closed_past in
+            let joined = joined-kept speaker c.args.from.now c.args.to.now m in
+            let stations = joined.stations_are in
+            let passed = joined.passed in
+            let unsettled = joined.unsettled_are in
             search (rules, acted);
       };
     })

@@ -13,6 +13,10 @@ use Rattle.bench_world.proofs.Later.{acted}
 use Rattle.bench_world.proofs.Objected.{objecting-more}
 use Rattle.bench_world.proofs.Connected.{building-open, connecting-grown}
 use Rattle.bench_world.proofs.Turns.{turns-made}
+use Rattle.uvm_tree.specs.Sorted.{path_order}
+use Rattle.bench_history.specs.Passing.{passing_at}
+use Rattle.bench_world.specs.Passings.{AreUnsettled}
+use Rattle.bench_world.proofs.Passages.{settled-all, unsettled-none}
 use Rattle.bench_world.proofs.making.grow.Goals as goal
 
 pub returns-clause-kept : goal.returns-clause-kept
@@ -34,5 +38,6 @@ returns-clause-kept c = λ type_name place. record {
       let open_ = building-open c.args.services.now.wiring m.closing (sym m.built ∙ c.requires.building) in
       let connecting = connecting-grown made open_ m.connecting in
       let objections = objecting-more c.add.new.self speaker c.nodes_grow.ensures below m.objections longer is in
+      let unsettled : AreUnsettled (passing_at history) (path_order (nodes_of history ++ made ∷ [])) c.clear.new.self.items = rw c.clear.ensures.items (unsettled-none (path_order (nodes_of history ++ made ∷ [])) (settled-all history m.unsettled s.settled)) in
       search (rules, acted);
 }

@@ -11,8 +11,11 @@ use Rattle.bench_history.specs.Refusals.{addition_refusal}
 use Rattle.bench_world.proofs.Answered.{turns-more, one-longer, length-snoc}
 use Rattle.bench_world.proofs.Objected.{objecting-more}
 use Rattle.bench_world.proofs.Connected.{connecting-more, closing-next}
-use Rattle.bench_world.specs.Connectings.{IsClosing}
-use Rattle.bench_history.specs.Wires.{end_of}
+use Rattle.bench_world.specs.Connectings.{IsClosedPast, IsClosing}
+use Rattle.std.specs.List.{list_any}
+use Rattle.bench_history.specs.Ports.{fifo_size}
+use Rattle.bench_history.specs.Wires.{end_of, ends_connect, wiring_of}
+use Rattle.bench_world.proofs.Gates.{added-kept}
 use Rattle.uvm_tlm.specs.Wirings.{is_closed}
 use Rattle.uvm_object.specs.declared.entries.Entry.TheVariants.{Did}
 use Rattle.uvm_object.specs.declared.entries.Outcome.TheVariants.{Done}
@@ -49,6 +52,13 @@ returns c = λ place. rw (c.done.ensures.attempt, c.done.ensures.services) (reco
         let connecting = connecting-more c.add_end.new.wiring added (end_of c.args.what) open_ some m.connecting wired in
         let closing : IsClosing script (Did c.args.services.now.answer.speaker Done (Add c.args.name c.args.what) ∷ history) (is_closed c.add_end.new.wiring) = rw wired (closing-next left m.closing) in
         let objections = objecting-more c.add.new.self speaker c.nodes_grow.ensures below m.objections longer is in
+        let closed_past : IsClosedPast (list_any ends_connect history) (is_closed c.add_end.new.wiring) = rw wired m.closed_past in
+        let unused : fifo_size (wiring_of history) (length (nodes_of history)) ≡ None = rw (← m.tree, ← m.connecting.ends, c.requires.unused) refl in
+        let adds = rw (c.in_ok-node.ensures.id, m.tree) at c.in_ok-add_station.ensures in
+        let kept = added-kept {new = c.add_station.new.stations} c.args.services.now.answer.speaker c.args.name c.args.what m s.settled unused adds c.clear.ensures.items in
+        let stations = kept.stations_are in
+        let passed = kept.passed in
+        let unsettled = kept.unsettled_are in
         search (rules, acted);
   };
 })

@@ -1,6 +1,7 @@
-use Rattle.std.proofs.Common.{◌<◌, length, refl}
+use Rattle.std.proofs.Common.{◌≡◌, ◌<◌, Err, length, refl, ◌∙◌, rules}
 use Rattle.uvm_object.specs.Acts.{node_of}
 use Rattle.bench_history.specs.History.{nodes_of}
+use Rattle.bench_core.specs.declared.faults.CoreFault.TheVariants.{Memory}
 use Rattle.bench_core.specs.declared.cores.Health.TheVariants.{Broken}
 use Rattle.bench_kernel.specs.Seats.{held_in, paths_in}
 use Rattle.bench_kernel.specs.Kernels.{KernelValue}
@@ -62,6 +63,20 @@ invariant_of-self-in_err-heard-in-Ok-Ask g c =
       kept-unanswered m.view m.name m.says kernel (held_in c.hear.new.self.taken) c.heard.new.self c.in-Ok-Ask.who c.copy.result c.in-Ok-Ask.call c.hear.result c.copy.ensures c.if-self.false same_log c.hear.ensures.asked kept,
       placed-asked kernel.core.history c.heard.new.self.history (paths_in taken) (paths_in c.hear.new.self.taken) same_log.history c.hear.ensures.paths c.self.invariant.1,
     )
+
+pub returns-in_err-heard-in-Ok-Ask-clause-step : goal.returns-in_err-heard-in-Ok-Ask-clause-step
+returns-in_err-heard-in-Ok-Ask-clause-step g c =
+    let m = g.O.UvmObject in
+    let kernel : KernelValue g.row.O.Denot = record { core = c.self.inside.core; held = held_in c.self.inside.seats.taken; failed = c.self.inside.failed; unknown = c.self.inside.unknown } in
+    let kept = c.self.invariant.0 in
+    let refused = c.in_err-heard-in-Ok-Ask.ensures.err in
+    let asks = ask-turn c.in-Ok-Ask.who c.in-Ok-Ask.call kernel.core c.next.new.self (kept.comes c.if-self.false) (rw c.in-Ok-Ask.field-0-is at (c.in-Ok-Ask.ensures.turn)) in
+    let same_log = unheard-log c.in-Ok-Ask.who c.in-Ok-Ask.call kernel.core c.next.new.self c.heard.new.self Broken asks refused.1 in
+    let room = asked-room c.in-Ok-Ask.who c.in-Ok-Ask.call kernel.core c.next.new.self asks ((rw c.in-Ok-Ask.field-0-is at (c.in-Ok-Ask.ensures.room)) tt) in
+    let result : c.from_residual.result ≡ Err Memory = search rules in
+    rw (← c.self.view_is, result)
+    (unanswered-step m.view m.name m.says kernel c.heard.new.self c.in-Ok-Ask.who c.copy.result c.in-Ok-Ask.call asks.cause c.hear.result (held_in c.hear.new.self.taken) c.copy.ensures
+    asks.answers asks.nothing_needed c.if-self.false same_log (rw c.in-Ok.is (refused.1 ∙ rw asks.is refl)) room c.hear.ensures.asked)
 
 pub invariant_of-self-in-Ok-Ask : goal.invariant_of-self-in-Ok-Ask
 invariant_of-self-in-Ok-Ask g c =

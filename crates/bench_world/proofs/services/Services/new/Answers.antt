@@ -1,9 +1,36 @@
-use Rattle.std.proofs.Common.{◌<◌, arith, rules}
+use Rattle.std.proofs.Common.{[], refl, arith, rules}
+use Rattle.uvm_tree.specs.Sorted.{path_order}
+use Rattle.bench_history.specs.History.{nodes_of}
+use Rattle.bench_history.specs.Passing.{passing_at}
+use Rattle.bench_world.specs.Passings.{AreUnsettled}
 use Rattle.bench_world.proofs.Objected.{objecting-first}
+use Rattle.bench_world.proofs.Passages.{passed-first, stations-first, unsettled-none}
 use Rattle.bench_world.proofs.services.Services.new.Goals as goal
 
 pub returns : goal.returns
 returns c = λ script factory settings reporting.
-    let objections = objecting-first c.new-2.result c.nodes_grow.ensures.0 c.new-2.ensures in
-    let speaks : 0 < 1 = omega arith in
-    search rules
+    let unsettled : AreUnsettled (passing_at []) (path_order (nodes_of [])) [] = unsettled-none (path_order (nodes_of [])) (λ n. refl) in
+    record {
+      stage = refl;
+      time = refl;
+      early = omega arith;
+      tree = search rules;
+      past_connect = refl;
+      connecting = search rules;
+      closing = search rules;
+      closed_past = record { is = λ e. cc };
+      stations = stations-first c.new-4.ensures.empty;
+      passed = passed-first;
+      unsettled = search (rules, unsettled);
+      objections = objecting-first c.new-2.result c.nodes_grow.ensures.0 c.new-2.ensures;
+      factory = factory;
+      turns = search rules;
+      answer = search rules;
+      speaks = omega arith;
+      built = refl;
+      reporting = reporting;
+      settings = settings;
+      agenda = search rules;
+      events = search rules;
+      test_refused = refl;
+    }

@@ -18,4 +18,4 @@ invariant_of-self c =
     let w = wanted c.needs_are_creations.ensures c.self.inside.script before act (rw ready.needed refl) ready.left in
     let next : IsNext c.self.inside.script before (Did (speaker_of before) (Refused NoObject) act) = rw w.next (inr refl) in
     let entries = rw c.in-Ok.ensures.outcome at c.in-Ok-enter.ensures.ok in
-    rw c.take.ensures.after (acted-on (Refused NoObject) act c.self.invariant sound ready.room ready.left next c.phases_go_in_order.ensures (refused-taken-in act NoObject c.in-Ok.ensures.services) entries c.in-Ok-enter.ensures.limit c.in-Ok-enter.ensures.services)
+    rw c.take.ensures.after (acted-on (Refused NoObject) act c.self.invariant sound ready.room w.settled ready.left next c.phases_go_in_order.ensures (refused-taken-in act NoObject c.in-Ok.ensures.services) entries c.in-Ok-enter.ensures.limit c.in-Ok-enter.ensures.services)

@@ -1,6 +1,6 @@
 use Rattle.std.proofs.Common.{◌∙◌, sym}
 use Rattle.bench_world.proofs.Answered.{head-left}
-use Rattle.bench_world.proofs.Acting.{acts-first, acts-some}
+use Rattle.bench_world.proofs.Acting.{acts-first, acts-settled, acts-some}
 use Rattle.bench_world.proofs.worlds.World.did.Goals as goal
 
 pub perform-requires : goal.perform-requires
@@ -9,6 +9,7 @@ perform-requires c =
     record {
       sound = c.requires.sound;
       room = c.requires.room;
+      settled = acts-settled c.acts_go_in_order.ensures c.args.self.now.script c.args.self.now.history c.requires.next;
       left = head-left _ _ head;
       next = acts-first c.acts_go_in_order.ensures c.args.self.now.script c.args.self.now.history c.in-Ok-Some.deed c.requires.next head;
     }

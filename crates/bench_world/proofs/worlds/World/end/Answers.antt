@@ -1,21 +1,42 @@
-use Rattle.std.proofs.Common.{◌||◌, refl, ◌∙◌, ap, rules}
+use Rattle.std.proofs.Common.{◌||◌, ◌∷◌, refl, ◌∙◌, ap, rules}
+use Rattle.std.specs.List.{list_any}
+use Rattle.uvm_tlm.specs.Wirings.{is_closed}
 use Rattle.uvm_object.specs.declared.entries.Entry.TheVariants.{End}
 use Rattle.bench_history.specs.Dues.{caused_of, heard_of, ended_of}
-use Rattle.bench_history.specs.History.{ends_build}
-use Rattle.bench_history.specs.Wires.{ends_connect}
-use Rattle.bench_world.proofs.Later.{later, entered}
-use Rattle.bench_world.proofs.Told.{agenda-ended}
-use Rattle.bench_world.proofs.Drained.{events-ended}
+use Rattle.bench_history.specs.History.{ends_build, nodes_of}
 use Rattle.bench_history.specs.Objections.{objections_of}
+use Rattle.bench_history.specs.Wires.{ends_connect, wiring_of}
+use Rattle.bench_world.specs.Connectings.{IsClosedPast, IsClosing, IsConnecting}
+use Rattle.bench_world.proofs.Connected.{closing-after, connecting-after, ends-ordered, past-after}
+use Rattle.bench_world.proofs.Drained.{events-ended}
+use Rattle.bench_world.proofs.Later.{later, entered}
+use Rattle.bench_world.proofs.Passages.{stations-ended, unsettled-ended}
+use Rattle.bench_world.proofs.Told.{agenda-ended}
 use Rattle.bench_world.proofs.worlds.World.end.Goals as goal
+
+pub close_after-requires : goal.close_after-requires
+close_after-requires c =
+    let r = rw (← c.self.view_is) at c.requires in
+    let m = c.self.invariant.1.services_match r.sound in
+    let services = c.self.inside.services in
+    let connecting : IsConnecting services.tree.nodes (wiring_of c.self.inside.log.entries) services.wiring = rw m.tree m.connecting in
+    ends-ordered {nodes = services.tree.nodes} {wiring = wiring_of c.self.inside.log.entries} {kept = services.wiring} (c.path_order_is_in_order.ensures services.tree.nodes) connecting
 
 pub invariant_of-self-2 : goal.invariant_of-self-2
 invariant_of-self-2 c =
     let r = rw (← c.self.view_is) at c.requires in
     let before = c.self.inside.log.entries in
-    entered (End c.args.phase) c.self.invariant r.sound r.room (rw r.next refl) c.in_ok-push.ensures.ok c.in_ok-push.ensures.limit c.wiring_stays.ensures (λ m stays.
-    let built = c.is_built_with-self-inside.ensures ∙ ap (λ built. ends_build (End c.args.phase) || built) m.built in
-    let past_connect = c.is_past_connect_with-self-inside.ensures ∙ ap (λ past. ends_connect (End c.args.phase) || past) m.past_connect in
-    let agenda = agenda-ended (caused_of before) (heard_of before) (ended_of before) _ _ _ c.args.phase c.order_keeps_filters.ensures m.agenda c.clear.ensures.dues in
-    let events = events-ended c.args.phase (objections_of before) (caused_of before) (heard_of before) (ended_of before) m.events in
+    let nodes = c.self.inside.services.tree.nodes in
+    let wiring = c.self.inside.services.wiring in
+    let phase = c.args.phase in
+    entered (End phase) c.self.invariant r.sound r.room (rw r.next refl) c.in_ok-push.ensures.ok c.in_ok-push.ensures.limit c.wiring_stays.ensures (λ m stays.
+    let built = c.is_built_with-self-inside.ensures ∙ ap (λ built. ends_build (End phase) || built) m.built in
+    let past_connect = c.is_past_connect_with-self-inside.ensures ∙ ap (λ past. ends_connect (End phase) || past) m.past_connect in
+    let agenda = agenda-ended (caused_of before) (heard_of before) (ended_of before) _ _ _ phase c.order_keeps_filters.ensures m.agenda c.clear.ensures.dues in
+    let events = events-ended phase (objections_of before) (caused_of before) (heard_of before) (ended_of before) m.events in
+    let connecting : IsConnecting (nodes_of before) (wiring_of before) c.close_after.new.wiring = rw (c.in_ok-close_after.ensures, m.tree) (connecting-after phase m.connecting) in
+    let closing : IsClosing c.self.inside.script (End phase ∷ before) (is_closed c.close_after.new.wiring) = rw c.in_ok-close_after.ensures (closing-after phase nodes wiring c.connect_follows_build.ensures (rw r.next refl, c.self.invariant.1.legal.each) stays m.closing) in
+    let closed_past : IsClosedPast (list_any ends_connect (End phase ∷ before)) (is_closed c.close_after.new.wiring) = rw c.in_ok-close_after.ensures (past-after before phase nodes wiring m.closed_past) in
+    let stations = stations-ended before phase {new = c.end_waits.new.stations} c.end_waits.ensures m.stations in
+    let unsettled = unsettled-ended before phase m.unsettled in
     search (rules, later))

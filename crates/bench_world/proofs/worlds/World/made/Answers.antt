@@ -36,7 +36,7 @@ invariant_of-self c =
     let next : IsNext c.self.inside.script before (Did (speaker_of before) (Made type_name) act) = rw (w.next, same) (inl refl) in
     let kept = rw c.act.ensures at (c.grow-node.ensures.kept type_name (length before)) in
     let entries = rw c.made-made.ensures at c.in-Ok.ensures.ok in
-    rw c.take.ensures.after (acted-on (Made type_name) act c.self.invariant sound ready.room ready.left next c.phases_go_in_order.ensures kept entries c.in-Ok.ensures.limit c.in-Ok.ensures.services)
+    rw c.take.ensures.after (acted-on (Made type_name) act c.self.invariant sound ready.room w.settled ready.left next c.phases_go_in_order.ensures kept entries c.in-Ok.ensures.limit c.in-Ok.ensures.services)
 
 pub returns-clause-entry : goal.returns-clause-entry
 returns-clause-entry c =

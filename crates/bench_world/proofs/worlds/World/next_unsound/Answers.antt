@@ -1,7 +1,6 @@
-use Rattle.std.proofs.Common.{rules, refl}
 use Rattle.bench_history.specs.Wires.{wiring_of}
 use Rattle.bench_world.specs.Connectings.{IsConnecting}
-use Rattle.bench_world.proofs.Connected.{ends-ordered, closed-is}
+use Rattle.bench_world.proofs.Connected.{ends-ordered}
 use Rattle.bench_world.proofs.Closed.{world-closed}
 use Rattle.bench_world.proofs.worlds.World.next_unsound.Goals as goal
 

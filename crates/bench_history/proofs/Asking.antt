@@ -1,0 +1,176 @@
+-- Who waits at FIFOs, and who owns imps, are components.
+use Rattle.std.proofs.Common.{◌≡◌, ℕ, suc, zero, ◌<◌, ◌==◌, ◌⊎◌, inl, inr, nat_eq, Bool, true, false, not, ◌&&◌, List, [], ◌∷◌, ◌++◌, length, map, filter, slice_get, Option, Some, None, option_map, option_and_then, IfSome, refl, ap, ◌∙◌, sym, subst, arith, length-append, if◌then◌else◌}
+use Rattle.std.specs.List.{All, Contains, filter_map, cons_option}
+use Rattle.std.proofs.lemmas.Bool.Decides.{nat_tests}
+use Rattle.std.proofs.lemmas.List.Elements.{All-nil, All-cons, All-head, All-tail, All-push, All-append, All-weaker, All-filter, filter_passes}
+use Rattle.uvm_glob.specs.Lists.{first_given}
+use Rattle.uvm_phase.specs.declared.phases.Phase.{Phase}
+use Rattle.uvm_tree.specs.declared.nodes.Node.{Node}
+use Rattle.uvm_tree.specs.Nodes.{under_at}
+use Rattle.uvm_tree.specs.Sorted.{path_order}
+use Rattle.uvm_tlm.specs.declared.ends.PortKind.{PortKind}
+use Rattle.uvm_tlm.specs.declared.fifos.Move.{Move}
+use Rattle.uvm_tlm.specs.declared.fifos.MoveKind.{MoveKind}
+use Rattle.uvm_tlm.specs.declared.fifos.MoveKind.TheVariants as move
+use Rattle.uvm_tlm.specs.declared.items.Item.{Item}
+use Rattle.uvm_tlm.specs.Fifos.{next_move}
+use Rattle.uvm_tlm.specs.Wirings.{WiringValue, end_at}
+use Rattle.uvm_object.specs.Acts.{node_of}
+use Rattle.uvm_object.specs.declared.acts.Who.{Who}
+use Rattle.uvm_object.specs.declared.acts.Who.TheVariants as who
+use Rattle.uvm_object.specs.declared.acts.Call.{Call}
+use Rattle.uvm_object.specs.declared.acts.Call.TheVariants as call
+use Rattle.uvm_object.specs.declared.acts.What.{What}
+use Rattle.uvm_object.specs.declared.acts.Act.{Act}
+use Rattle.uvm_object.specs.declared.acts.Act.TheVariants.{Add, Connect, Put, Take, Peek, Write}
+use Rattle.uvm_object.specs.declared.entries.Outcome.{Outcome}
+use Rattle.uvm_object.specs.declared.entries.Outcome.TheVariants.{Done}
+use Rattle.uvm_object.specs.declared.entries.Passage.{Passage}
+use Rattle.uvm_object.specs.declared.entries.Entry.{Entry}
+use Rattle.bench_script.specs.Scripts.{ScriptValue}
+use Rattle.bench_history.specs.declared.askers.Asker.{Asker}
+use Rattle.bench_history.specs.declared.askers.Gate.{Gate}
+use Rattle.bench_history.specs.History.{stage_of, running, nodes_of, nodes_after, opening}
+use Rattle.bench_history.specs.Wires.{wiring_of, wiring_after, with_both, closed_wiring, node_below, end_of}
+use Rattle.bench_history.specs.Ports.{fifo_size, is_imp_at, gate_below, imps_below, outlets_below}
+use Rattle.bench_history.specs.Dues.{written_to, written_calls}
+use Rattle.bench_history.specs.Passing.{Request, Station, with_last, put_in, take_in, request_by, request_at, puts_asked, takes_asked, puts_waiting, takes_waiting, is_waiting, station_of, station_at, asker_of, first_asker, passage_by, passage_for, passage_in, passing_at, next_passed}
+
+-- what holds of each element holds of the first
+pub head-holds : {A : Type 0} (P : A → Type 0) (xs : List A) → All P xs → IfSome (slice_get xs 0) P
+head-holds P [] all = tt
+head-holds P (x ∷ xs) all = All-head P x xs all
+
+-- and of one more behind them
+last-holds : {A : Type 0} (P : A → Type 0) (xs : List A) (last : Option A) → All P xs → IfSome last P → All P (with_last xs last)
+last-holds P xs None all holds = all
+last-holds P xs (Some x) all holds = All-push P xs x all holds
+
+then-holds : {A B : Type 0} (f : A → Option B) (P : B → Type 0) (found : Option A) → ((x : A) → IfSome (f x) P) → IfSome (option_and_then f found) P
+then-holds f P None each = tt
+then-holds f P (Some x) each = each x
+
+cons-holds : {A : Type 0} (P : A → Type 0) (first : Option A) (xs : List A) → IfSome first P → All P xs → All P (cons_option first xs)
+cons-holds P None xs holds all = all
+cons-holds P (Some x) xs holds all = All-cons P x xs holds all
+
+first-holds : {B : Type 0} (P : B → Type 0) (first : Option B) (others : List (Option B)) → IfSome first P → IfSome (first_given others) P → IfSome (first_given (first ∷ others)) P
+first-holds P None others holds rest = rest
+first-holds P (Some y) others holds rest = holds
+
+given-holds : {A B : Type 0} (f : A → Option B) (P : B → Type 0) (xs : List A) → ((x : A) → IfSome (f x) P) → IfSome (first_given (map f xs)) P
+given-holds f P [] each = tt
+given-holds f P (x ∷ xs) each = first-holds P (f x) (map f xs) (each x) (given-holds f P xs each)
+
+-- a request is its performer's
+module _ {Wish : Type 0} (Q : Who → Type 0) where
+  abbrev pub IsAskedBy : Request Wish → Type 0
+  IsAskedBy request = Q request.asker.who
+
+  request-holds : (fifo : ℕ) (performer : Who) (place : ℕ) (wished : List ℕ × Wish) (phase : Option Phase) (gate : Option Gate) → Q performer → IfSome (request_by fifo performer place wished phase gate) IsAskedBy
+  request-holds fifo performer place wished None gate holds = tt
+  request-holds fifo performer place wished (Some phase) None holds = tt
+  request-holds fifo performer place wished (Some phase) (Some gate) holds = tested (gate.fifo == fifo)
+    where
+      tested : (b : Bool) → IfSome (if b then Some (record { asker = record { place = place; who = performer; port = wished.0; phase = phase }; port = gate.port; wish = wished.1 }) else None) IsAskedBy
+      tested true = holds
+      tested false = tt
+
+  -- so that one more keeps each one somebody's
+  pub asked-more :
+      (before : List Entry) (fifo : ℕ) (performer : Who) (kind : PortKind) (wished : Option (List ℕ × Wish)) (asked : List (Request Wish)) → All IsAskedBy asked → (wished ≡ None) ⊎ Q performer
+      → All IsAskedBy (with_last asked (option_and_then (request_at before fifo performer kind) wished))
+  asked-more before fifo performer kind None asked all who = all
+  asked-more before fifo performer kind (Some wished) asked all (inl none) = cc
+  asked-more before fifo performer kind (Some wished) asked all (inr holds) =
+      last-holds IsAskedBy asked (request_at before fifo performer kind wished) all (request-holds fifo performer (length before) wished (running (stage_of before)) (gate_below before performer kind wished.0) holds)
+
+  -- and each of those that wait is
+  askers-hold : (answered : List ℕ) (ended : List Phase) (asked : List (Request Wish)) → All IsAskedBy asked → All (λ asker. Q asker.who) (map asker_of (filter (is_waiting answered ended) asked))
+  askers-hold answered ended asked all = mapped (filter (is_waiting answered ended) asked) (All-filter (is_waiting answered ended) IsAskedBy asked all)
+    where
+      mapped : (requests : List (Request Wish)) → All IsAskedBy requests → All (λ asker. Q asker.who) (map asker_of requests)
+      mapped [] all = All-nil _
+      mapped (request ∷ requests) all = All-cons (λ asker. Q asker.who) _ _ (All-head IsAskedBy request requests all) (mapped requests (All-tail IsAskedBy request requests all))
+
+-- what passes is somebody's who had asked
+module _ (Q : Who → Type 0) where
+  asker-holds : (kind : MoveKind) (station : Station) → All (λ asker. Q asker.who) station.putters → All (λ asker. Q asker.who) station.takers → IfSome (first_asker kind station) (λ asker. Q asker.who)
+  asker-holds move.Put station putters takers = head-holds (λ (asker : Asker). Q asker.who) station.putters putters
+  asker-holds kind station putters takers = head-holds (λ (asker : Asker). Q asker.who) station.takers takers
+
+  passage-holds : (station : Station) → All (λ asker. Q asker.who) station.putters → All (λ asker. Q asker.who) station.takers → IfSome (passage_in station) (λ passage. Q passage.who)
+  passage-holds station putters takers = then-holds (passage_for station) (λ (passage : Passage). Q passage.who) (next_move station.fifo) (λ move. mapped move (first_asker move.kind station) (asker-holds move.kind station putters takers))
+    where
+      mapped : (move : Move) (asker : Option Asker) → IfSome asker (λ asker. Q asker.who) → IfSome (option_map (passage_by move) asker) (λ passage. Q passage.who)
+      mapped move None holds = tt
+      mapped move (Some asker) holds = holds
+
+  pub passing-holds :
+      (history : List Entry) → ((fifo : ℕ) → All (IsAskedBy {Wish = Item} Q) (puts_asked history fifo)) → ((fifo : ℕ) → All (IsAskedBy {Wish = Bool} Q) (takes_asked history fifo))
+      → IfSome (next_passed history) (λ passed. Q passed.1.who)
+  unfolding next_passed
+  passing-holds history puts takes = given-holds (passing_at history) (λ (passed : ℕ × Passage). Q passed.1.who) (path_order (nodes_of history)) (λ node. sized node (fifo_size (wiring_of history) node))
+    where
+      found : (node : ℕ) (passage : Option Passage) → IfSome passage (λ passage. Q passage.who) → IfSome {T = ℕ × Passage} (option_map (λ (passage : Passage). (node, passage)) passage) (λ passed. Q passed.1.who)
+      found node None holds = tt
+      found node (Some passage) holds = holds
+
+      sized : (node : ℕ) (size : Option ℕ) → IfSome {T = ℕ × Passage} (option_map (λ (passage : Passage). (node, passage)) (option_and_then passage_in (option_map (station_of history node) size))) (λ passed. Q passed.1.who)
+      sized node None = tt
+      sized node (Some size) = found node (passage_in (station_of history node size)) (passage-holds (station_of history node size) (askers-hold Q _ _ (puts_asked history node) (puts node)) (askers-hold Q _ _ (takes_asked history node) (takes node)))
+
+-- an imp stands at a node whose parent is one of some components
+pub record IsOwned (nodes : List Node) (components : List ℕ) (node : ℕ) : Type 0 where
+  pub below : node < length nodes
+  pub owner : IfSome (under_at nodes node) (λ under. Contains components under.0)
+
+-- a node is an imp that an act adds
+pub record IsAdded (nodes : List Node) (performer : Who) (outcome : Outcome) (act : Act) (node : ℕ) : Type 0 where
+  pub below : node < length (nodes_after nodes performer outcome act)
+  pub under : IfSome (under_at (nodes_after nodes performer outcome act) node) (λ under. under.0 ≡ node_of performer)
+  pub other : (script : ScriptValue) → act ≡ opening script → ⊥
+
+pub get-before : (xs ys : List Node) (k : ℕ) → k < length xs → slice_get (xs ++ ys) k ≡ slice_get xs k
+get-before [] ys k lt = absurd (omega arith)
+get-before (x ∷ xs) ys zero lt = refl
+get-before (x ∷ xs) ys (suc k) lt = get-before xs ys k (omega arith)
+
+get-behind : (xs : List Node) (x : Node) → slice_get (xs ++ x ∷ []) (length xs) ≡ Some x
+get-behind [] x = refl
+get-behind (y ∷ ys) x = get-behind ys x
+
+both-ends : (from to : Option ℕ) (wiring : WiringValue) → (with_both from to wiring).ends ≡ wiring.ends
+both-ends (Some from) (Some to) wiring = refl
+both-ends (Some from) None wiring = refl
+both-ends None to wiring = refl
+
+pub imp-after :
+    (nodes : List Node) (wiring : WiringValue) (performer : Who) (outcome : Outcome) (act : Act) (node : ℕ) → is_imp_at (wiring_after nodes wiring performer outcome act) node ≡ true
+    → (is_imp_at wiring node ≡ true) ⊎ IsAdded nodes performer outcome act node
+imp-after nodes wiring performer Done (Add name what) node is = tested (nat_eq node (length nodes)) refl is
+  where
+    tested : (same : Bool) → nat_eq node (length nodes) ≡ same → is_imp_at (record wiring { ends = (length nodes, end_of what) ∷ wiring.ends }) node ≡ true → (is_imp_at wiring node ≡ true) ⊎ IsAdded nodes performer Done (Add name what) node
+    tested true e is =
+        let at : node ≡ length nodes = grind (arith, nat_tests) in
+        inr (rw at (record { below = simp length-append (omega arith); under = rw get-behind refl; other = λ script same. cc }))
+    tested false e is = inl (rw e at is)
+imp-after nodes wiring performer Done (Connect from to) node is = inl (rw both-ends at is)
+imp-after nodes wiring performer outcome act node is = inl is
+
+-- what is told to an imp's owner is told to a component
+pub written-hold :
+    (nodes : List Node) (components : List ℕ) (item : Item) (wiring : WiringValue) (outlets : List ℕ) → ((node : ℕ) → is_imp_at wiring node ≡ true → IsOwned nodes components node)
+    → All (λ told. Contains components (node_of told.0)) (filter_map (written_to nodes item) (filter (is_imp_at wiring) outlets))
+written-hold nodes components item wiring outlets owned = each (filter (is_imp_at wiring) outlets) (filter_passes (is_imp_at wiring) outlets)
+  where
+    IsTold : Who × Call → Type 0
+    IsTold told = Contains components (node_of told.0)
+
+    told : (under : Option (ℕ × List ℕ)) → IfSome under (λ under. Contains components under.0) → IfSome (option_map (λ under. (who.Node under.0, call.Written under.1 item)) under) IsTold
+    told None holds = tt
+    told (Some under) holds = holds
+
+    each : (imps : List ℕ) → All (λ node. is_imp_at wiring node ≡ true) imps → All IsTold (filter_map (written_to nodes item) imps)
+    each [] all = All-nil _
+    each (imp ∷ imps) all = cons-holds IsTold (written_to nodes item imp) (filter_map (written_to nodes item) imps) (told (under_at nodes imp) (owned imp (All-head (λ node. is_imp_at wiring node ≡ true) imp imps all)).owner) (each imps (All-tail (λ node. is_imp_at wiring node ≡ true) imp imps all))

@@ -1,0 +1,61 @@
+-- Which FIFOs and imps are reached through the ports of somebody (IEEE 1800.2-2020, Clause 12). What is asked here is asked once the wiring is closed.
+use Rattle.std.specs.Prelude.{ℕ, Bool, true, false, ◌&&◌, is_none, is_some, List, [], ◌∷◌, filter, slice_get, Option, Some, None, option_map, option_and_then, if◌then◌else◌}
+use Rattle.std.specs.Option.{option_map_or}
+use Rattle.uvm_tlm.specs.declared.ends.End.{End}
+use Rattle.uvm_tlm.specs.declared.ends.End.TheVariants.{Imp, Fifo}
+use Rattle.uvm_tlm.specs.declared.ends.PortKind.{PortKind}
+use Rattle.uvm_tlm.specs.declared.ends.PortKind.TheVariants.{Analysis}
+use Rattle.uvm_tlm.specs.Ends.{same_kind}
+use Rattle.uvm_tlm.specs.Wirings.{WiringValue, end_at, kind_at, targets_of, wire_fault}
+use Rattle.uvm_object.specs.declared.acts.Who.{Who}
+use Rattle.uvm_object.specs.declared.entries.Entry.{Entry}
+use Rattle.bench_history.specs.declared.askers.Gate.{Gate}
+use Rattle.bench_history.specs.History.{nodes_of}
+use Rattle.bench_history.specs.Wires.{node_below, closed_wiring}
+
+-- a FIFO has a size, and nothing else has
+abbrev pub size_of : End → Option ℕ
+size_of (Fifo size) = Some size
+size_of end = None
+
+abbrev pub fifo_size : WiringValue → ℕ → Option ℕ
+fifo_size wiring node = option_and_then size_of (end_at wiring.ends node)
+
+abbrev pub is_imp : End → Bool
+is_imp Imp = true
+is_imp end = false
+
+abbrev pub is_imp_at : WiringValue → ℕ → Bool
+is_imp_at wiring node = option_map_or is_imp (end_at wiring.ends node) false
+
+-- a port of a kind with which nothing is wrong
+abbrev pub is_sound_port : WiringValue → PortKind → ℕ → Bool
+is_sound_port wiring kind node = option_map_or (same_kind kind) (kind_at wiring.ends node) false && is_none (wire_fault wiring node)
+
+abbrev pub if_sound : WiringValue → PortKind → ℕ → Option ℕ
+if_sound wiring kind node = if is_sound_port wiring kind node then Some node else None
+
+-- the child of somebody of a name, if it is such a port
+unfoldable pub port_below : List Entry → Who → PortKind → List ℕ → Option ℕ
+port_below history performer kind name = option_and_then (if_sound (closed_wiring history) kind) (node_below (nodes_of history) performer (name ∷ []))
+
+abbrev pub if_fifo : WiringValue → ℕ → Option ℕ
+if_fifo wiring node = option_map (λ size. node) (fifo_size wiring node)
+
+-- the FIFO that is reached through a port: a sound put or get port has one target
+abbrev pub gate_at : WiringValue → ℕ → Option Gate
+gate_at wiring port = option_map (λ fifo. record { port = port; fifo = fifo }) (option_and_then (if_fifo wiring) (slice_get (targets_of wiring port) 0))
+
+unfoldable pub gate_below : List Entry → Who → PortKind → List ℕ → Option Gate
+gate_below history performer kind name = option_and_then (gate_at (closed_wiring history)) (port_below history performer kind name)
+
+-- all that is reached through an analysis port, in path order
+abbrev pub outlets_below : List Entry → Who → List ℕ → List ℕ
+outlets_below history performer name = option_map_or (targets_of (closed_wiring history)) (port_below history performer Analysis name) []
+
+-- the FIFOs among it, and the imps
+unfoldable pub fifos_below : List Entry → Who → List ℕ → List ℕ
+fifos_below history performer name = filter (λ node. is_some (fifo_size (closed_wiring history) node)) (outlets_below history performer name)
+
+unfoldable pub imps_below : List Entry → Who → List ℕ → List ℕ
+imps_below history performer name = filter (is_imp_at (closed_wiring history)) (outlets_below history performer name)

@@ -1,0 +1,3 @@
+pub mod LastWritten
+pub mod Printed
+pub mod Shown

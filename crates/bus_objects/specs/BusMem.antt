@@ -1,0 +1,18 @@
+-- What an object of the type `bus_mem` is: a memory whose reads give the stored word.
+use Rattle.std.specs.Prelude.{ℕ, List, Option, Some, None, codes, if◌then◌else◌, bytes_eq}
+use Rattle.uvm_object.specs.Objects.{View}
+use Rattle.uvm_object.specs.declared.acts.Call.{Call}
+use Rattle.uvm_object.specs.declared.acts.Act.{Act}
+use Rattle.bus_objects.specs.declared.bus_mem.BusMem.{BusMem}
+use Rattle.bus_objects.specs.declared.memory.Reading.TheVariants.{Exact}
+use Rattle.bus_objects.specs.Memory.{MemorySays, memory_view, new_memory}
+
+abbrev pub bus_mem_view : BusMem → View
+bus_mem_view bus_mem = memory_view bus_mem.memory
+
+abbrev pub BusMemSays : View → Call → List Act → View → Type 0
+BusMemSays = MemorySays Exact
+
+-- the new object of the type of this name, if it is that type
+abbrev pub bus_mem_named : List ℕ → Option BusMem
+bus_mem_named name = if bytes_eq name (codes "bus_mem") then Some (record { type_name = name; memory = new_memory }) else None

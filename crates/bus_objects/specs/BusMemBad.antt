@@ -1,0 +1,18 @@
+-- What an object of the type `bus_mem_bad` is: a memory whose reads give the stored word with its lowest bit flipped.
+use Rattle.std.specs.Prelude.{ℕ, List, Option, Some, None, codes, if◌then◌else◌, bytes_eq}
+use Rattle.uvm_object.specs.Objects.{View}
+use Rattle.uvm_object.specs.declared.acts.Call.{Call}
+use Rattle.uvm_object.specs.declared.acts.Act.{Act}
+use Rattle.bus_objects.specs.declared.bus_mem_bad.BusMemBad.{BusMemBad}
+use Rattle.bus_objects.specs.declared.memory.Reading.TheVariants.{Flipped}
+use Rattle.bus_objects.specs.Memory.{MemorySays, memory_view, new_memory}
+
+abbrev pub bus_mem_bad_view : BusMemBad → View
+bus_mem_bad_view bus_mem_bad = memory_view bus_mem_bad.memory
+
+abbrev pub BusMemBadSays : View → Call → List Act → View → Type 0
+BusMemBadSays = MemorySays Flipped
+
+-- the new object of the type of this name, if it is that type
+abbrev pub bus_mem_bad_named : List ℕ → Option BusMemBad
+bus_mem_bad_named name = if bytes_eq name (codes "bus_mem_bad") then Some (record { type_name = name; memory = new_memory }) else None

@@ -1,0 +1,80 @@
+-- What an object of the type `bus_scoreboard` is: it keeps what is written, reports each read whose data is another, and counts both.
+use Rattle.std.specs.Prelude.{◌≡◌, ℕ, ◌+◌, ◌^◌, min, Bool, not, ◌&&◌, List, [], ◌∷◌, ◌++◌, Option, Some, None, codes, if◌then◌else◌, bytes_eq}
+use Rattle.std.specs.Fmt.{decimal, signed_decimal}
+use Rattle.std.specs.Ordering.{int_eq}
+use Rattle.uvm_phase.specs.declared.phases.Phase.TheVariants as phase
+use Rattle.uvm_report.specs.declared.severities.Severity.{Severity}
+use Rattle.uvm_report.specs.declared.severities.Severity.TheVariants.{Error, Info}
+use Rattle.uvm_tlm.specs.declared.items.Item.{Item}
+use Rattle.uvm_object.specs.Objects.{View}
+use Rattle.uvm_object.specs.declared.acts.What.TheVariants.{Imp}
+use Rattle.uvm_object.specs.declared.acts.Call.{Call}
+use Rattle.uvm_object.specs.declared.acts.Call.TheVariants.{Phase, Written}
+use Rattle.uvm_object.specs.declared.acts.Act.{Act}
+use Rattle.uvm_object.specs.declared.acts.Act.TheVariants.{Add, Report}
+use Rattle.bus_objects.specs.declared.bus_scoreboard.Score.{Score}
+use Rattle.bus_objects.specs.declared.bus_scoreboard.BusScoreboard.{BusScoreboard}
+use Rattle.bus_objects.specs.Items.{address_of, data_of, is_write}
+use Rattle.bus_objects.specs.Words.{Words, word_at, words_after, words_of, words_view}
+
+-- it has seen nothing
+abbrev pub new_score : Score
+new_score = record { seen = 0; bad = 0; words = [] }
+
+-- it shows both counts and the words that were written
+unfoldable pub score_view : Score → View
+score_view score = score.seen ∷ score.bad ∷ words_view score.words
+
+-- the score that is shown so
+unfoldable pub score_of : View → Score
+score_of (seen ∷ bad ∷ words) = record { seen = seen; bad = bad; words = words_of words }
+score_of view = new_score
+
+abbrev pub bus_scoreboard_view : BusScoreboard → View
+bus_scoreboard_view bus_scoreboard = score_view bus_scoreboard.score
+
+-- a read is bad whose data is not the word that was last written at its address
+abbrev pub is_bad : Words → Item → Bool
+is_bad words item = not (is_write item) && not (int_eq (data_of item) (word_at words (address_of item)))
+
+-- what is told of a bad read: the data that it gave, and the word that was written
+unfoldable pub mismatch_text : Words → Item → List ℕ
+mismatch_text words item =
+    let expected = word_at words (address_of item) in
+    codes "read " ++ (signed_decimal (address_of item) ++ (codes " gave " ++ (signed_decimal (data_of item) ++ (codes " not " ++ signed_decimal expected))))
+
+unfoldable pub score_text : Score → List ℕ
+score_text score = decimal score.seen ++ (codes " seen " ++ (decimal score.bad ++ codes " bad"))
+
+-- to report something
+abbrev pub score_act : Severity → List ℕ → ℕ → Act
+score_act severity text verbosity = Report (record { severity = severity; id = codes "SB"; text = text; verbosity = verbosity })
+
+abbrev pub bus_scoreboard_acts : Score → Call → List Act
+bus_scoreboard_acts score (Phase phase.Build) = Add (codes "seen") Imp ∷ []
+bus_scoreboard_acts score (Written imp item) = if is_bad score.words item then score_act Error (mismatch_text score.words item) 0 ∷ [] else []
+bus_scoreboard_acts score (Phase phase.Report) = score_act Info (score_text score) 200 ∷ []
+bus_scoreboard_acts score call = []
+
+-- a count stops at 10^18
+abbrev pub one_more : ℕ → ℕ
+one_more count = min (count + 1) (10 ^ 18)
+
+-- each item is seen, and counted as bad where it is
+abbrev pub score_with : Item → Score → Score
+score_with item score = record {
+  seen = one_more score.seen;
+  bad = if is_bad score.words item then one_more score.bad else score.bad;
+  words = words_after item score.words;
+}
+
+abbrev pub score_after : Score → Call → Score
+score_after score (Written imp item) = score_with item score
+score_after score call = score
+
+abbrev pub BusScoreboardSays : View → Call → List Act → View → Type 0
+BusScoreboardSays before call acts after = let score = score_of before in (acts ≡ bus_scoreboard_acts score call) × (after ≡ score_view (score_after score call))
+
+-- the new object of the type of this name, if it is that type
+abbrev pub bus_scoreboard_named : List ℕ → Option BusScoreboard
+bus_scoreboard_named name = if bytes_eq name (codes "bus_scoreboard") then Some (record { type_name = name; score = new_score }) else None

@@ -1,0 +1,28 @@
+-- The items of the bus: an operation, an address, data, and 0. The operation 1 writes, and any other reads.
+use Rattle.std.specs.Prelude.{ℕ, ℤ, pos, Bool, List, ◌∷◌, ◌++◌, codes, slice_index_or, slice_set, if◌then◌else◌}
+use Rattle.std.specs.Ordering.{int_eq}
+use Rattle.std.specs.Fmt.{signed_decimal}
+use Rattle.uvm_tlm.specs.declared.items.Item.{Item}
+
+abbrev pub word_of : Item → ℕ → ℤ
+word_of item place = slice_index_or item.0 place (pos 0)
+
+abbrev pub is_write : Item → Bool
+is_write item = int_eq (word_of item 0) (pos 1)
+
+abbrev pub address_of : Item → ℤ
+address_of item = word_of item 1
+
+abbrev pub data_of : Item → ℤ
+data_of item = word_of item 2
+
+-- the item with other data
+abbrev pub with_data : Item → ℤ → Item
+with_data item word = record { 0 = slice_set item.0 2 word }
+
+abbrev pub operation_text : Item → List ℕ
+operation_text item = if is_write item then codes "write" else codes "read"
+
+-- an item as text, as `write 16 -5`
+unfoldable pub transfer_text : Item → List ℕ
+transfer_text item = operation_text item ++ 32 ∷ (signed_decimal (address_of item) ++ 32 ∷ signed_decimal (data_of item))

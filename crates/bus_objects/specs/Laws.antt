@@ -1,0 +1,24 @@
+-- What the definitions say, in other words.
+use Rattle.std.specs.Prelude.{◌≡◌, ℤ, ◌&&◌, if◌then◌else◌}
+use Rattle.std.specs.Ordering.{int_eq}
+use Rattle.uvm_tlm.specs.declared.items.Item.{Item}
+use Rattle.bus_objects.specs.declared.memory.Memory.{Memory}
+use Rattle.bus_objects.specs.declared.bus_scoreboard.Score.{Score}
+use Rattle.bus_objects.specs.Items.{address_of, data_of, is_write}
+use Rattle.bus_objects.specs.Words.{Words, word_at, words_after}
+use Rattle.bus_objects.specs.Memory.{memory_of, memory_view}
+use Rattle.bus_objects.specs.BusScoreboard.{score_of, score_view}
+
+-- after a write its data is the word at its address; every other word stays, as does each after a read
+abbrev pub LastWrittenIsFound : Type 0
+LastWrittenIsFound =
+    (words : Words) (item : Item) (address : ℤ) →
+    word_at (words_after item words) address ≡ (if is_write item && int_eq address (address_of item) then data_of item else word_at words address)
+
+-- two memories that show the same are the same, since what is shown is read back
+abbrev pub MemoriesShowThemselves : Type 0
+MemoriesShowThemselves = (memory : Memory) → memory_of (memory_view memory) ≡ memory
+
+-- so are two scores
+abbrev pub ScoresShowThemselves : Type 0
+ScoresShowThemselves = (score : Score) → score_of (score_view score) ≡ score

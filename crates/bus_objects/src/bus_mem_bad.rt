@@ -1,0 +1,51 @@
+//! The object `bus_mem_bad`.
+
+ghost use Rattle.std.specs.Prelude.{◌≡◌};
+
+use crate::memory::{Memory, Reading};
+use std::alloc::{AllocError, Global};
+use uvm_glob::Name;
+use uvm_object::{Acts, Call, UvmObject};
+
+/// As `BusMem`, but each read gives the stored word with its lowest bit flipped.
+#[derive(Drop)]
+pub struct BusMemBad {
+    type_name: Name,
+    memory: Memory,
+}
+
+impl BusMemBad {
+    ghost use Rattle.bus_objects.specs.BusMemBad.{bus_mem_bad_named};
+
+    /// A new object, if the type is this one's. Takes no memory.
+    pub fn of_type(alloc: Global, type_name: &Name) -> Option<BusMemBad>
+        ensures { result ≡ bus_mem_bad_named type_name.now }
+    {
+        if type_name.as_bytes() == b"bus_mem_bad".as_slice() {
+            Some(BusMemBad {
+                type_name: *type_name,
+                memory: Memory::new(alloc),
+            })
+        } else {
+            None
+        }
+    }
+}
+
+impl UvmObject for BusMemBad {
+    ghost use Rattle.bus_objects.specs.BusMemBad.{BusMemBadSays, bus_mem_bad_view};
+
+    ghost view = { bus_mem_bad_view };
+
+    ghost name = { λ bus_mem_bad. bus_mem_bad.type_name };
+
+    ghost says = { λ _. BusMemBadSays };
+
+    fn type_name(&self) -> &Name {
+        &self.type_name
+    }
+
+    fn hear(&mut self, alloc: Global, call: &Call) -> Result<Acts, AllocError> {
+        self.memory.hear(alloc, Reading::Flipped, call)
+    }
+}

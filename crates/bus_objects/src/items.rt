@@ -1,0 +1,57 @@
+//! The items of the bus.
+
+ghost use Rattle.std.specs.Prelude.{◌≡◌, IfOk};
+ghost use Rattle.bus_objects.specs.Items.{address_of, data_of, is_write, operation_text, transfer_text, with_data};
+
+use crate::texts::text_of;
+use std::alloc::{AllocError, Global};
+use uvm_report::Text;
+use uvm_tlm::Item;
+
+// The operation that writes; each other reads.
+const WRITE: i64 = 1;
+
+// Whether the item is a write.
+pub(crate) fn is_write(item: &Item) -> bool
+    ensures { result ≡ is_write item.now }
+{
+    item.0[0] == WRITE
+}
+
+pub(crate) fn address_of(item: &Item) -> i64
+    ensures { result ≡ address_of item.now }
+{
+    item.0[1]
+}
+
+pub(crate) fn data_of(item: &Item) -> i64
+    ensures { result ≡ data_of item.now }
+{
+    item.0[2]
+}
+
+// The item with other data.
+pub(crate) fn with_data(item: &Item, word: i64) -> Item
+    ensures { result ≡ with_data item.now word }
+{
+    let mut changed = *item;
+    changed.0[2] = word;
+    changed
+}
+
+// The item as text, as `write 16 -5`.
+pub(crate) fn transfer_text(alloc: Global, item: &Item) -> Result<Text, AllocError>
+    ensures { IfOk result (λ text. text ≡ transfer_text item.now) }
+{
+    let operation = operation_text(item);
+    let address = address_of(item);
+    let datum = data_of(item);
+    let text = format!(in alloc; "{operation} {address} {datum}")?;
+    text_of(alloc, text.as_bytes())
+}
+
+fn operation_text(item: &Item) -> &'static str
+    ensures { result.now ≡ operation_text item.now }
+{
+    if is_write(item) { "write" } else { "read" }
+}

@@ -1,0 +1,21 @@
+//! Laws of the definitions: what they say, in other words. The functions do nothing; their contracts are the laws.
+
+ghost use Rattle.bus_objects.specs.Laws.{LastWrittenIsFound, MemoriesShowThemselves, ScoresShowThemselves};
+
+/// After a write its data is the word at its address, and every other word stays; after a read all do.
+#[tactic(auto, using(crate::proofs::LastWritten::last_written_is_found))]
+pub fn last_written_is_found()
+    ensures { LastWrittenIsFound }
+{}
+
+/// What a memory shows determines the memory.
+#[tactic(auto, using(crate::proofs::Shown::memories_show_themselves))]
+pub fn memories_show_themselves()
+    ensures { MemoriesShowThemselves }
+{}
+
+/// What a scoreboard shows determines what it has seen.
+#[tactic(auto, using(crate::proofs::Shown::scores_show_themselves))]
+pub fn scores_show_themselves()
+    ensures { ScoresShowThemselves }
+{}

@@ -1,0 +1,151 @@
+//! What the memories of the bus share.
+
+ghost use Rattle.std.specs.Prelude.{◌≡◌, None, IfOk, OnOk, OnErr};
+ghost use Rattle.uvm_glob.specs.Names.{name_fault};
+ghost use Rattle.bus_objects.specs.Memory.{MemorySays, data_read, memory_acts, memory_after, memory_view, new_memory, result_of, waits_kept};
+
+use crate::items::{address_of, is_write, with_data};
+use crate::texts::name_of;
+use crate::words::WordMap;
+use std::alloc::{AllocError, Global};
+use uvm_object::{Act, Acts, Call, What};
+use uvm_phase::Phase;
+use uvm_tlm::{Item, PortKind};
+
+// The ticks that a memory waits for where it is told none.
+const USUAL_WAITS: u64 = 2;
+
+// Which data a read gives.
+#[derive(Clone, Copy)]
+pub(crate) enum Reading {
+    // The stored word.
+    Exact,
+    // The stored word with its lowest bit flipped.
+    Flipped,
+}
+
+impl Reading {
+    // The data that a read gives of a stored word.
+    fn data_read(self, word: i64) -> i64
+        ensures { result ≡ data_read self word }
+    {
+        match self {
+            Reading::Exact => word,
+            Reading::Flipped => word ^ 1,
+        }
+    }
+}
+
+// A memory: it takes an item, waits, performs it, and puts its result.
+#[derive(Drop)]
+pub(crate) struct Memory {
+    // How many ticks pass between an item and its result.
+    waits: u64,
+    // The item that was taken last.
+    item: Item,
+    words: WordMap,
+}
+
+impl Memory {
+    pub(crate) fn new(alloc: Global) -> Memory
+        ensures { result ≡ new_memory }
+    {
+        Memory {
+            waits: 0,
+            item: Item([0; 4]),
+            words: WordMap::new(alloc),
+        }
+    }
+
+    // Answers a call. Where memory is refused the memory stays as it was.
+    pub(crate) fn hear(
+        &mut self,
+        alloc: Global,
+        reading: Reading,
+        call: &Call,
+    ) -> Result<Acts, AllocError>
+        ensures ok { IfOk result (λ acts. MemorySays reading (memory_view self.old) call.now acts (memory_view self.new)) }
+        ensures err { OnErr result (self.new ≡ self.old) }
+    {
+        let acts = self.acts(alloc, reading, call)?;
+        self.take_in(call)?;
+        Ok(acts)
+    }
+
+    // The acts that answer a call.
+    #[tactic(auto, unfolding(uvm_glob::specs::Names::name_fault))]
+    fn acts(&self, alloc: Global, reading: Reading, call: &Call) -> Result<Acts, AllocError>
+        ensures { IfOk result (λ acts. acts ≡ memory_acts reading self.now call.now) }
+    {
+        let mut acts = Acts::new(alloc);
+        match call {
+            Call::Phase(Phase::Build) => {
+                acts.push(port_act(b"req", PortKind::Get))?;
+                acts.push(port_act(b"rsp", PortKind::Put))?;
+                acts.push(Act::Get {
+                    field: name_of(b"waits"),
+                })?;
+            }
+            Call::Phase(Phase::Run) | Call::Stored { .. } => acts.push(Act::Take {
+                port: name_of(b"req"),
+            })?,
+            Call::Taken { .. } => acts.push(Act::Wait {
+                ticks: self.waits,
+                tag: 1,
+            })?,
+            Call::Wake { .. } => acts.push(Act::Put {
+                port: name_of(b"rsp"),
+                item: self.result(reading),
+            })?,
+            _ => (),
+        }
+        Ok(acts)
+    }
+
+    // Becomes what it is after a call.
+    fn take_in(&mut self, call: &Call) -> Result<(), AllocError>
+        ensures ok { OnOk result (self.new ≡ memory_after self.old call.now) }
+        ensures err { OnErr result (self.new ≡ self.old) }
+    {
+        match call {
+            Call::Config { value, .. } => self.waits = waits_kept(*value),
+            Call::Taken { item, .. } => self.item = *item,
+            Call::Wake { .. } => self.words.take_in(&self.item)?,
+            _ => (),
+        }
+        Ok(())
+    }
+
+    // The result of the item that it keeps.
+    fn result(&self, reading: Reading) -> Item
+        ensures { result ≡ result_of reading self.now }
+    {
+        if is_write(&self.item) {
+            self.item
+        } else {
+            let word = self.words.at(address_of(&self.item));
+            with_data(&self.item, reading.data_read(word))
+        }
+    }
+}
+
+// To add a port.
+fn port_act(name: &[u8], kind: PortKind) -> Act
+    requires { name_fault name.now ≡ None }
+    ensures { result ≡ Act.Add name.now (What.Port kind) }
+{
+    Act::Add {
+        name: name_of(name),
+        what: What::Port { kind },
+    }
+}
+
+// The ticks for the value of a field.
+fn waits_kept(value: Option<i64>) -> u64
+    ensures { result ≡ waits_kept value }
+{
+    match value {
+        Some(value) if !value.is_negative() => value.unsigned_abs(),
+        _ => USUAL_WAITS,
+    }
+}

@@ -112,7 +112,7 @@ impl UvmObject for Spinner {
         match call {
             Call::Phase(Phase::Run) => acts.push(Act::Wait { ticks: 0, tag: 1 })?,
             Call::Wake { .. } => acts.push(Act::Wait { ticks: 0, tag: 1 })?,
-            Call::Phase(_) | Call::Config { .. } => (),
+            _ => (),
         }
         Ok(acts)
     }

@@ -1,2 +1,4 @@
 pub mod Given
 pub mod Strongest
+pub mod OneField
+pub mod Asked

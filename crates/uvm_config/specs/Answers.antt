@@ -1,5 +1,5 @@
 -- Which setting of a list answers at a path and a field, the newest setting first.
-use Rattle.std.specs.Prelude.{◌≡◌, ◌<◌, ◌≤◌, ◌↔◌, ℕ, ℤ, Bool, List, [], ◌∷◌, ◌++◌, Option, Some, None, ◌&&◌, IsTrue, All, IfSome, nat_eq, nat_le, filter, option_map}
+use Rattle.std.specs.Prelude.{◌≡◌, ◌<◌, ◌≤◌, ◌↔◌, ℕ, ℤ, Bool, List, [], ◌∷◌, ◌++◌, Option, None, ◌&&◌, IsTrue, All, IfSome, nat_eq, nat_le, filter, option_map}
 use Rattle.std.specs.List.{list_all}
 use Rattle.std.specs.Cmp.Lexicographic.{pointwise}
 use Rattle.uvm_glob.specs.Globs.{matches}

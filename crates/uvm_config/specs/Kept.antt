@@ -1,16 +1,17 @@
 -- What the settings keep, and what they give.
-use Rattle.std.specs.Prelude.{◌≡◌, ℕ, ℤ, List, length, Option, option_map}
+use Rattle.std.specs.Prelude.{◌≡◌, ℕ, ℤ, List, Option, option_map}
 use Rattle.uvm_glob.specs.Paths.{path_text}
 use Rattle.uvm_config.specs.Choice.{Answer}
-use Rattle.uvm_config.specs.Answers.{Setting, strongest_answer}
+use Rattle.uvm_config.specs.Fields.{Fields, answer_among}
 
--- the accepted settings, the newest first
+-- the settings of each field, in the order in which they were set, and how many settings were accepted
 pub record Kept : Type 0 where
-  pub settings : List Setting
+  pub fields : Fields
+  pub count : ℕ
 
 -- the precedence and the value of the setting that answers at a path and a field
 unfoldable pub answer_at : Kept → List (List ℕ) → List ℕ → Option Answer
-answer_at kept path asked = strongest_answer kept.settings (path_text path) asked
+answer_at kept path asked = answer_among kept.fields (path_text path) asked
 
 -- its value
 abbrev pub value_at : Kept → List (List ℕ) → List ℕ → Option ℤ
@@ -18,7 +19,7 @@ value_at kept path asked = option_map (λ answer. answer.value) (answer_at kept 
 
 -- how many settings were accepted
 unfoldable pub accepted : Kept → ℕ
-accepted kept = length kept.settings
+accepted kept = kept.count
 
 -- each observation of the two is equal
 pub record IsSame (old new : Kept) : Type 0 where

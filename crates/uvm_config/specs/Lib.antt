@@ -1,6 +1,7 @@
 pub mod Faults
 pub mod Choice
 pub mod Answers
+pub mod Fields
 pub mod Kept
 pub mod Observed
 pub use Rattle.uvm_glob.specs.Names

@@ -3,13 +3,15 @@
 ghost use Rattle.std.specs.Prelude.{◌≡◌, ◌+◌, ◌≤◌, ◌↔◌, ℕ, List, None, OnOk, OnErr, nat_le, option_map, option_copied};
 ghost use Rattle.uvm_glob.specs.Limits.{most_names};
 ghost use Rattle.uvm_glob.specs.Paths.{path_text};
-ghost use Rattle.uvm_config.specs.Answers.{most_settings, answer_of};
+ghost use Rattle.uvm_config.specs.Answers.{most_settings};
 ghost use Rattle.uvm_config.specs.Choice.{answer_after, precedence_of};
 ghost use Rattle.uvm_config.specs.Kept.{answer_at, value_at, accepted, IsSame};
 
 use crate::faults::ConfigFault;
-use crate::resources::{Resource, stronger};
+use crate::fields::{self, FieldSettings};
+use crate::resources::Resource;
 use std::alloc::Global;
+use std::collections::HashMap;
 use std::marker::Model;
 use uvm_glob::{Glob, Name, Path};
 
@@ -18,17 +20,20 @@ use uvm_glob::{Glob, Name, Path};
 /// were accepted.
 #[derive(Drop)]
 pub struct Settings {
-    // The accepted settings in the order in which they were set.
-    resources: Vec<Resource>,
+    // The settings of each field that may answer.
+    fields: HashMap<Name, FieldSettings>,
+    // How many settings were accepted.
+    count: usize,
+    // Where the lists take their memory.
+    alloc: Global,
 }
 
 impl Model for Settings {
-    ghost use Rattle.std.specs.Prelude.{reverse};
     ghost use Rattle.uvm_config.specs.Kept.{Kept};
 
     ghost Value = { Kept };
 
-    ghost view = { λ s. record { settings = reverse s.resources.items } };
+    ghost view = { λ s. record { fields = s.fields.entries; count = s.count } };
 }
 
 // The precedence of a setting, unless it is made while phase build runs (`uvm_resource_base::default_precedence`).
@@ -45,7 +50,9 @@ impl Settings {
         ensures accepted { accepted result ≡ 0 }
     {
         Settings {
-            resources: Vec::new(alloc),
+            fields: HashMap::new(alloc),
+            count: 0,
+            alloc,
         }
     }
 
@@ -74,20 +81,22 @@ impl Settings {
             return Err(ConfigFault::Full);
         }
         let precedence = precedence_of(building, depth);
-        self.resources.push(Resource {
+        let setting = Resource {
             scope,
-            field,
             precedence,
             value,
-        })?;
+        };
+        fields::add(&mut self.fields, self.alloc, field, setting)?;
+        self.count += 1;
         Ok(())
     }
 
     /// The value of a field at a path, if a setting answers there. Takes no memory.
+    #[tactic(auto, unfolding(crate::specs::Kept::answer_at))]
     pub fn get(&self, path: &Path, field: &Name) -> Option<i64>
         ensures { result ≡ value_at self.now path.now field.now }
     {
-        Some(self.strongest(path, field)?.value)
+        Some(self.fields.get(field)?.strongest(path)?.value)
     }
 
     /// Whether as many settings were accepted as there can be.
@@ -95,18 +104,7 @@ impl Settings {
     pub fn is_full(&self) -> bool
         ensures { result ≡ nat_le most_settings (accepted self.now) }
     {
-        self.resources.len() >= Settings::MAX_SETS
-    }
-
-    // The setting that answers.
-    fn strongest(&self, path: &Path, field: &Name) -> Option<&Resource>
-        ensures { option_map answer_of (option_copied result) ≡ answer_at self.now path.now field.now }
-    {
-        let mut strongest = None;
-        for resource in &self.resources {
-            strongest = stronger(resource, path, field, strongest);
-        }
-        strongest
+        self.count >= Settings::MAX_SETS
     }
 }
 

@@ -3,6 +3,7 @@
 
 mod database;
 mod faults;
+mod fields;
 pub mod laws;
 mod resources;
 #[cfg(test)]

@@ -1,8 +1,11 @@
 //! Examples of what the definitions mean, and that each call succeeds where there is memory.
 
-ghost use Rattle.std.specs.Prelude.{◌≤◌};
+ghost use Rattle.std.specs.Prelude.{◌<◌, ◌≤◌};
 ghost use Rattle.uvm_glob.specs.Limits.{most_names};
 
+mod plain;
+
+use self::plain::PlainSettings;
 use crate::{ConfigFault, Settings};
 use std::alloc::Global;
 use std::test::Fail;
@@ -80,4 +83,121 @@ fn faults_are_printed(rt: HostRuntime) -> Result<(), Fail> {
         assert_eq!(rt; format!(in rt.alloc(); "{fault}")?.as_str(), want);
     }
     Ok(())
+}
+
+// The next of a row of numbers that looks random.
+fn next_random(number: &mut u32, below: u32) -> u32
+    requires { 0 < below }
+    ensures { result < below }
+{
+    *number = number.wrapping_mul(1_664_525).wrapping_add(1_013_904_223);
+    (*number >> 16) % below
+}
+
+// One of some globs, by a number.
+fn scope(number: u32) -> &'static str {
+    match number {
+        0 => "*",
+        1 => "uvm_test_top.*",
+        2 => "*.a",
+        3 => "uvm_test_top.a",
+        4 => "uvm_test_top.?",
+        5 => "uvm_test_top.a.*",
+        _ => "+",
+    }
+}
+
+// Sets one of three fields, as the numbers say, in both.
+fn set_both(
+    alloc: Global,
+    settings: &mut Settings,
+    plain: &mut PlainSettings,
+    number: &mut u32,
+    value: i64,
+) -> Result<(), Fail> {
+    let depth = next_random(number, 3) as u8;
+    let building = next_random(number, 3) != 0;
+    let scope = Glob::new(alloc, scope(next_random(number, 7)).as_bytes())?;
+    let field = Name::new([b'f' + next_random(number, 3) as u8].as_slice())?;
+    plain.set(depth, building, scope.copy()?, field, value)?;
+    settings.set(depth, building, scope, field, value)?;
+    Ok(())
+}
+
+#[test]
+fn answers_are_those_of_a_plain_list(rt: HostRuntime) -> Result<(), Fail> {
+    let alloc = rt.alloc();
+    let mut number = 1;
+    let mut settings = Settings::new(alloc);
+    let mut plain = PlainSettings::new(alloc);
+    for value in 0..300 {
+        set_both(alloc, &mut settings, &mut plain, &mut number, value)?;
+        for path in [
+            "uvm_test_top",
+            "uvm_test_top.a",
+            "uvm_test_top.b",
+            "uvm_test_top.a.a",
+        ] {
+            let path = Path::parse(alloc, path.as_bytes())?;
+            for field in ["f", "g", "h", "i"] {
+                let field = Name::new(field.as_bytes())?;
+                assert_eq!(rt;
+                    settings.get(&path, &field),
+                    plain.get(&path, &field),
+                    "{path} {field} after {value}"
+                );
+            }
+        }
+    }
+    Ok(())
+}
+
+// The fields of settings whose map grows when it has some already.
+const MANY_FIELDS: u8 = 12;
+
+// One of these fields.
+fn field(place: u8) -> Result<Name, Fail>
+    requires { place < 12 }
+{
+    Ok(Name::new([b'f' + place].as_slice())?)
+}
+
+#[test]
+fn a_refusal_for_memory_changes_no_answer(rt: HostRuntime) -> Result<(), Fail> {
+    let alloc = rt.alloc();
+    let mut number = 7;
+    let mut settings = Settings::new(alloc);
+    for value in 0..80 {
+        let before = answers(alloc, &settings)?;
+        let depth = next_random(&mut number, 3) as u8;
+        let scope = Glob::new(alloc, scope(next_random(&mut number, 7)).as_bytes())?;
+        let again = scope.copy()?;
+        let field = field(next_random(&mut number, u32::from(MANY_FIELDS)) as u8)?;
+        if settings.set(depth, true, scope, field, value) == Err(ConfigFault::Memory) {
+            assert_eq!(rt;
+                answers(alloc, &settings)?.as_slice(),
+                before.as_slice(),
+                "{value}"
+            );
+            settings.set(depth, true, again, field, value)?;
+        }
+    }
+    Ok(())
+}
+
+// What is answered at some paths and fields.
+fn answers(alloc: Global, settings: &Settings) -> Result<Vec<Option<i64>>, Fail> {
+    let mut answers = Vec::new(alloc);
+    for path in [
+        "uvm_test_top",
+        "uvm_test_top.a",
+        "uvm_test_top.b",
+        "uvm_test_top.a.a",
+    ] {
+        let path = Path::parse(alloc, path.as_bytes())?;
+        for place in 0..MANY_FIELDS {
+            answers.push(settings.get(&path, &field(place)?))?;
+        }
+    }
+    Ok(answers)
 }

@@ -1,3 +1,4 @@
 pub mod Rows
 pub mod Ends
 pub mod Given
+pub mod Standings

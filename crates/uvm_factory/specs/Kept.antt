@@ -2,17 +2,16 @@
 use Rattle.std.specs.Prelude.{◌≡◌, ℕ, List, length, Option, Result, Err, ok_or, nat_lt, if◌then◌else◌}
 use Rattle.uvm_glob.specs.Paths.{path_text}
 use Rattle.uvm_factory.specs.declared.overrides.OverrideStep.{OverrideStep}
-use Rattle.uvm_factory.specs.declared.overrides.Override.{Override}
 use Rattle.uvm_factory.specs.declared.faults.Unmade.{Unmade}
 use Rattle.uvm_factory.specs.declared.faults.Unmade.TheVariants.{NoType, Loop}
 use Rattle.uvm_factory.specs.Faults.{Types}
 use Rattle.uvm_factory.specs.Steps.{next_type, made}
-use Rattle.uvm_factory.specs.Overrides.{type_step}
+use Rattle.uvm_factory.specs.Standing.{Standings, step_among}
 
--- the types in the order of their registration, and the overrides, the newest first
+-- the types in the order of their registration, and what overrides each
 pub record Kept : Type 0 where
   pub types : Types
-  pub overrides : List Override
+  pub standings : Standings
 
 -- the registered types
 unfoldable pub types_of : Kept → Types
@@ -20,7 +19,7 @@ types_of kept = kept.types
 
 -- the override that a type meets at a path
 unfoldable pub step_at : Kept → ℕ → List (List ℕ) → Option OverrideStep
-step_at kept type_id path = type_step kept.overrides type_id (path_text path)
+step_at kept type_id path = step_among kept.standings type_id (path_text path)
 
 -- the type that a type is replaced by at a path, if it is another
 abbrev pub next_at : Kept → List (List ℕ) → ℕ → Option ℕ

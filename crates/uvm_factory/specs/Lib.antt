@@ -1,6 +1,7 @@
 pub mod Faults
 pub mod Steps
 pub mod Overrides
+pub mod Standing
 pub mod Kept
 pub mod Observed
 pub use Rattle.uvm_glob.specs.Names

@@ -11,9 +11,11 @@ ghost use Rattle.uvm_factory.specs.Steps.{original_of, new_of, after_instance, a
 
 use crate::faults::{FactoryFault, Unmade};
 use crate::overrides::{Override, OverrideStep};
+use crate::standing::{self, TypeOverrides};
 use crate::types::{Kind, TypeId};
 use indexmap::IndexMap;
 use std::alloc::{AllocError, Global};
+use std::collections::HashMap;
 use std::marker::Model;
 use uvm_glob::{Glob, Name, Path};
 
@@ -23,12 +25,14 @@ use uvm_glob::{Glob, Name, Path};
 pub struct Factory {
     // The types in the order of registration.
     types: IndexMap<Name, Kind>,
-    // The overrides in the order in which they were given.
-    overrides: Vec<Override>,
+    // What overrides each type that is overridden.
+    standings: HashMap<TypeId, TypeOverrides>,
+    // Where the overrides take their memory.
+    alloc: Global,
 }
 
 impl Model for Factory {
-    ghost use Rattle.std.specs.Prelude.{◌≡◌, ◌≤◌, length, reverse, nat_eq};
+    ghost use Rattle.std.specs.Prelude.{◌≡◌, ◌≤◌, length, nat_eq};
     ghost use Rattle.std.specs.Cmp.Lexicographic.{pointwise};
     ghost use Rattle.indexmap.specs.IndexMap.{IsUnique};
     ghost use Rattle.uvm_factory.specs.Faults.{most_types};
@@ -36,7 +40,7 @@ impl Model for Factory {
 
     ghost Value = { Kept };
 
-    ghost view = { λ f. record { types = f.types.entries; overrides = reverse f.overrides.items } };
+    ghost view = { λ f. record { types = f.types.entries; standings = f.standings.entries } };
 
     ghost invariant = { λ f. length f.types.entries ≤ most_types };
 }
@@ -53,7 +57,8 @@ impl Factory {
     {
         Factory {
             types: IndexMap::new(alloc),
-            overrides: Vec::new(alloc),
+            standings: HashMap::new(alloc),
+            alloc,
         }
     }
 
@@ -145,14 +150,11 @@ impl Factory {
     }
 
     /// What a type is replaced by at a path, if an override reaches it there. Takes no memory.
+    #[tactic(auto, unfolding(crate::specs::Kept::step_at))]
     pub fn step(&self, type_id: TypeId, path: &Path) -> Option<OverrideStep>
         ensures { result ≡ step_at self.now type_id path.now }
     {
-        let mut step = None;
-        for given in &self.overrides {
-            step = given.after(type_id, path, step);
-        }
-        step
+        self.standings.get(&type_id)?.step(path)
     }
 
     /// The type of a name, if one is registered under it. Takes no memory.
@@ -201,7 +203,7 @@ impl Factory {
         if let Some(fault) = self.override_fault(given.original(), given.new_type()) {
             return Err(fault);
         }
-        self.overrides.push(given)?;
+        standing::add(&mut self.standings, self.alloc, given)?;
         Ok(())
     }
 

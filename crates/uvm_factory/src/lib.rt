@@ -5,6 +5,7 @@ mod factories;
 mod faults;
 pub mod laws;
 mod overrides;
+mod standing;
 #[cfg(test)]
 mod tests;
 mod types;

@@ -1,12 +1,11 @@
 //! Overrides, and what they do to a type.
 
 ghost use Rattle.std.specs.Prelude.{◌≡◌, IfOk};
-ghost use Rattle.uvm_glob.specs.Paths.{path_text};
-ghost use Rattle.uvm_factory.specs.Steps.{type_in, original_of, new_of, after_override};
+ghost use Rattle.uvm_factory.specs.Steps.{type_in, original_of, new_of};
 
 use crate::types::TypeId;
 use std::alloc::AllocError;
-use uvm_glob::{Glob, Path};
+use uvm_glob::Glob;
 
 /// An override of a type by another (IEEE 1800.2-2020, Clause 8).
 #[derive(Debug, Drop)]
@@ -93,50 +92,6 @@ impl Override {
     {
         match self {
             Override::Instance { new, .. } | Override::Whole { new, .. } => *new,
-        }
-    }
-
-    // The step of a type at a path, which was `before`, after this override.
-    #[tactic(auto, unfolding(crate::specs::Steps::after_instance, crate::specs::Steps::after_type))]
-    pub(crate) fn after(
-        &self,
-        type_id: TypeId,
-        path: &Path,
-        before: Option<OverrideStep>,
-    ) -> Option<OverrideStep>
-        ensures { result ≡ after_override self.now type_id (path_text path.now) before }
-    {
-        match (self, before) {
-            (Override::Instance { .. }, Some(OverrideStep::ByInstance(_))) => before,
-            (
-                Override::Instance {
-                    original,
-                    new,
-                    scope,
-                },
-                _,
-            ) => {
-                if *original == type_id && scope.matches(path) {
-                    Some(OverrideStep::ByInstance(*new))
-                } else {
-                    before
-                }
-            }
-            (Override::Whole { .. }, Some(OverrideStep::ByInstance(_))) => before,
-            (
-                Override::Whole {
-                    original,
-                    new,
-                    replace,
-                },
-                _,
-            ) => {
-                if *original == type_id && (*replace || before.is_none()) {
-                    Some(OverrideStep::ByType(*new))
-                } else {
-                    before
-                }
-            }
         }
     }
 }

@@ -1,6 +1,11 @@
 //! Examples of what the definitions mean, and that each call succeeds where there is memory.
 
-use crate::{Factory, FactoryFault, Kind, OverrideStep, TypeId, Unmade};
+ghost use Rattle.std.specs.Prelude.{◌<◌};
+
+mod plain;
+
+use self::plain::PlainOverrides;
+use crate::{Factory, FactoryFault, Kind, Override, OverrideStep, TypeId, Unmade};
 use std::alloc::Global;
 use std::test::Fail;
 use uvm_glob::{Glob, Name, Path};
@@ -226,6 +231,163 @@ fn faults_are_printed(rt: HostRuntime) -> Result<(), Fail> {
         (Unmade::Loop, "override loop"),
     ] {
         assert_eq!(rt; format!(in rt.alloc(); "{unmade}")?.as_str(), want);
+    }
+    Ok(())
+}
+
+// The next of a row of numbers that looks random.
+fn next_random(number: &mut u32, below: u32) -> u32
+    requires { 0 < below }
+    ensures { result < below }
+{
+    *number = number.wrapping_mul(1_664_525).wrapping_add(1_013_904_223);
+    (*number >> 16) % below
+}
+
+// One of some globs, by a number.
+fn glob_text(number: u32) -> &'static str {
+    match number {
+        0 => "*",
+        1 => "x.*",
+        2 => "*.y",
+        3 => "x.y",
+        4 => "x.?",
+        _ => "+",
+    }
+}
+
+// An override of one of so many types, as the numbers say.
+fn random_override(alloc: Global, number: &mut u32, types: u16) -> Result<Override, Fail>
+    requires { 0 < types }
+{
+    let original = TypeId::new(next_random(number, u32::from(types)) as u16);
+    let new = TypeId::new(next_random(number, u32::from(types)) as u16);
+    Ok(match next_random(number, 4) {
+        0 => Override::Whole {
+            original,
+            new,
+            replace: false,
+        },
+        1 => Override::Whole {
+            original,
+            new,
+            replace: true,
+        },
+        _ => Override::Instance {
+            original,
+            new,
+            scope: Glob::new(alloc, glob_text(next_random(number, 6)).as_bytes())?,
+        },
+    })
+}
+
+// Gives it to a factory.
+fn give(factory: &mut Factory, given: Override) -> Result<(), FactoryFault> {
+    match given {
+        Override::Instance {
+            original,
+            new,
+            scope,
+        } => factory.override_inst(original, new, scope),
+        Override::Whole {
+            original,
+            new,
+            replace,
+        } => factory.override_type(original, new, replace),
+    }
+}
+
+// The paths at which is asked.
+const PATHS: [&str; 4] = ["x", "x.y", "x.z", "z.y"];
+
+#[test]
+fn steps_are_those_of_a_plain_list(rt: HostRuntime) -> Result<(), Fail> {
+    let alloc = rt.alloc();
+    for seed in 0..20 {
+        let mut number = seed;
+        let mut factory = Factory::new(alloc);
+        for letter in ["A", "B", "C", "D", "E"] {
+            factory.register(Name::new(letter.as_bytes())?, Kind::Component)?;
+        }
+        let mut plain = PlainOverrides::new(alloc);
+        for _ in 0..12 {
+            let given = random_override(alloc, &mut number, 5)?;
+            plain.add(given.copy()?)?;
+            give(&mut factory, given)?;
+            for path in PATHS {
+                let path = Path::parse(alloc, path.as_bytes())?;
+                for place in 0..5 {
+                    let type_id = TypeId::new(place);
+                    assert_eq!(rt;
+                        factory.step(type_id, &path),
+                        plain.step(type_id, &path),
+                        "{type_id:?} at {path}"
+                    );
+                    assert_eq!(rt;
+                        factory.resolve(type_id, &path).ok(),
+                        plain.resolve(type_id, &path, 5),
+                        "{type_id:?} at {path}"
+                    );
+                }
+            }
+        }
+    }
+    Ok(())
+}
+
+// The types of a factory whose maps grow when they have some already.
+const MANY_TYPES: u16 = 12;
+
+// A factory of so many components.
+fn many_types(alloc: Global) -> Result<Factory, Fail> {
+    let mut factory = Factory::new(alloc);
+    for place in 0..MANY_TYPES {
+        let text = format!(in alloc; "type{place}")?;
+        factory.register(Name::new(text.as_bytes())?, Kind::Component)?;
+    }
+    Ok(factory)
+}
+
+// The steps of these types at the paths.
+fn steps(alloc: Global, factory: &Factory) -> Result<Vec<Option<OverrideStep>>, Fail> {
+    let mut steps = Vec::new(alloc);
+    for path in PATHS {
+        let path = Path::parse(alloc, path.as_bytes())?;
+        for place in 0..MANY_TYPES {
+            steps.push(factory.step(TypeId::new(place), &path))?;
+        }
+    }
+    Ok(steps)
+}
+
+#[test]
+fn a_refusal_for_memory_changes_no_type(rt: HostRuntime) -> Result<(), Fail> {
+    let mut factory = Factory::new(rt.alloc());
+    for place in 0..MANY_TYPES {
+        let text = format!(in rt.alloc(); "type{place}")?;
+        let type_name = Name::new(text.as_bytes())?;
+        if factory.register(type_name, Kind::Component) == Err(FactoryFault::Memory) {
+            assert_eq!(rt; factory.find(&type_name), None);
+            assert_eq!(rt;
+                factory.register(type_name, Kind::Component),
+                Ok(TypeId::new(place))
+            );
+        }
+    }
+    Ok(())
+}
+
+#[test]
+fn a_refusal_for_memory_changes_no_step(rt: HostRuntime) -> Result<(), Fail> {
+    let alloc = rt.alloc();
+    let mut number = 3;
+    let mut factory = many_types(alloc)?;
+    for _ in 0..80 {
+        let before = steps(alloc, &factory)?;
+        let given = random_override(alloc, &mut number, MANY_TYPES)?;
+        if give(&mut factory, given) == Err(FactoryFault::Memory) {
+            assert_eq!(rt; steps(alloc, &factory)?.as_slice(), before.as_slice());
+        }
     }
     Ok(())
 }

@@ -15,7 +15,7 @@ pub enum Kind {
 
 /// A type of a factory: its place in the order of registration, from 0. A factory gives these numbers; one of another
 /// factory stands for the type at the same place.
-#[derive(Clone, Copy, Debug, PartialEq, Eq)]
+#[derive(Clone, Copy, Debug, PartialEq, Eq, Hash)]
 pub struct TypeId {
     place: u16,
 }

@@ -1,0 +1,37 @@
+-- The settings of one field, and which of them answers.
+use Rattle.std.specs.Prelude.{ℕ, ℤ, List, [], Option, map, reverse, nat_eq, option_and_then}
+use Rattle.std.specs.List.{IsDistinct}
+use Rattle.std.specs.Map.{lookup}
+use Rattle.std.specs.Cmp.Lexicographic.{pointwise}
+use Rattle.uvm_config.specs.Choice.{Answer}
+use Rattle.uvm_config.specs.Answers.{Setting, answer_of, strongest_answer}
+
+-- a value of a field that is known, for the paths that the scope matches
+pub record FieldSetting : Type 0 where
+  pub scope : List ℕ
+  pub precedence : ℕ
+  pub value : ℤ
+
+-- the same as a setting; as all are of one field, its name is left out
+abbrev pub setting_of : FieldSetting → Setting
+setting_of s = record { scope = s.scope; field = []; precedence = s.precedence; value = s.value }
+
+-- what a setting of the field answers
+abbrev pub field_answer_of : FieldSetting → Answer
+field_answer_of s = answer_of (setting_of s)
+
+-- no two settings have one scope
+abbrev pub HaveScopesOnce : List FieldSetting → Type 0
+HaveScopesOnce settings = IsDistinct (pointwise nat_eq) (map (λ s. s.scope) settings)
+
+-- what answers at a path's text, of the settings in the order in which they were set
+unfoldable pub field_answer : List FieldSetting → List ℕ → Option Answer
+field_answer settings text = strongest_answer (reverse (map setting_of settings)) text []
+
+-- the settings of each field
+abbrev pub Fields : Type 0
+Fields = List (List ℕ × List FieldSetting)
+
+-- what answers at a path's text and a field
+abbrev pub answer_among : Fields → List ℕ → List ℕ → Option Answer
+answer_among fields text asked = option_and_then (λ settings. field_answer settings text) (lookup (pointwise nat_eq asked) fields)

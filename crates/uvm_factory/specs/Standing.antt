@@ -1,0 +1,42 @@
+-- What stands for one type: the type override in force, and its instance overrides.
+use Rattle.std.specs.Prelude.{ℕ, false, not, List, Option, Some, ◌&&◌, find, nat_eq, option_map, option_and_then, if◌then◌else◌}
+use Rattle.std.specs.Map.{lookup}
+use Rattle.uvm_glob.specs.Globs.{matches}
+use Rattle.uvm_factory.specs.declared.overrides.OverrideStep.{OverrideStep}
+use Rattle.uvm_factory.specs.declared.overrides.OverrideStep.TheVariants.{ByInstance, ByType}
+use Rattle.uvm_factory.specs.declared.overrides.Override.{Override}
+use Rattle.uvm_factory.specs.declared.overrides.Override.TheVariants.{Instance, Whole}
+use Rattle.uvm_factory.specs.Steps.{is_by_instance, takes_effect}
+use Rattle.uvm_factory.specs.Overrides.{step_from}
+
+-- an instance override of a type that is known: the type that replaces it at the paths that the scope matches
+pub record Placed : Type 0 where
+  pub scope : List ℕ
+  pub replacement : ℕ
+
+-- the type that replaces it everywhere, if one does, and the instance overrides in the order in which they were given
+pub record Standing : Type 0 where
+  pub by_type : Option ℕ
+  pub instances : List Placed
+
+-- the type that replaces it by an instance override at a path's text: that of the first which matches
+abbrev pub placed_at : List Placed → List ℕ → Option ℕ
+placed_at instances text = option_map (λ i. i.replacement) (find (λ i. matches i.scope text) instances)
+
+-- the override that the type meets at a path's text
+unfoldable pub standing_step : Standing → List ℕ → Option OverrideStep
+standing_step standing text = step_from (placed_at standing.instances text) (option_map (λ t. (t, false)) standing.by_type)
+
+-- the same after one more override of the type
+abbrev pub after_own : Override → List ℕ → Option OverrideStep → Option OverrideStep
+after_own (Instance original new scope) text before =
+    if not (is_by_instance before) && matches scope text then Some (ByInstance new) else before
+after_own (Whole original new replace) text before = if takes_effect replace before then Some (ByType new) else before
+
+-- what stands for each type that is overridden
+abbrev pub Standings : Type 0
+Standings = List (ℕ × Standing)
+
+-- the override that a type meets at a path's text
+abbrev pub step_among : Standings → ℕ → List ℕ → Option OverrideStep
+step_among standings type_id text = option_and_then (λ standing. standing_step standing text) (lookup (nat_eq type_id) standings)

@@ -11,8 +11,9 @@ use Rattle.uvm_object.specs.Lines.{entry_line}
 use Rattle.bench_script.specs.Scripts.{ScriptValue}
 use Rattle.bench_history.specs.Limits.{log_limit}
 use Rattle.bench_history.specs.History.{nodes_of, components_of}
+use Rattle.bench_history.specs.Sequences.{sequences_of}
 use Rattle.bench_history.specs.Reports.{report_text}
-use Rattle.bench_history.specs.Laws.{IsSomething}
+use Rattle.bench_history.specs.Laws.{IsComponent, IsSomething}
 use Rattle.bench_history.specs.declared.needs.Need.{Need}
 use Rattle.bench_core.specs.declared.cores.Health.{Health}
 use Rattle.bench_core.specs.declared.cores.Health.TheVariants.{Good, Full, Broken}
@@ -125,7 +126,7 @@ IsRequest result = ⊥
 
 -- who is called, if somebody is, is a component
 abbrev pub AsksComponent : turn.Turn → List Entry → Type 0
-AsksComponent (turn.TheVariants.Ask hearer call) history = Contains (components_of history) (node_of hearer)
+AsksComponent (turn.TheVariants.Ask hearer call) history = IsComponent (components_of history) hearer
 AsksComponent result history = Unit {0}
 
 -- somebody is called
@@ -150,7 +151,7 @@ answer_in (Asked hearer call cause) acts = Some (Heard hearer call cause acts)
 abbrev pub last_line : Bool → List Entry → List ℕ
 last_line false history = []
 last_line true [] = []
-last_line true (entry ∷ before) = entry_line (nodes_of (entry ∷ before)) entry
+last_line true (entry ∷ before) = entry_line (nodes_of (entry ∷ before)) (sequences_of (entry ∷ before)) entry
 
 -- its text: this line, and that of its report, where it has one that is displayed
 abbrev pub last_text : Bool → ScriptValue → List Entry → List ℕ

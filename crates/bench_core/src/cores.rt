@@ -319,7 +319,9 @@ impl Core {
         ensures { OnOk result (text.new.items ≡ text.old.items ++ last_line trace self.now.history) }
     {
         match self.world.log().last() {
-            Some(entry) if trace => line_of(entry, self.world.tree(), text),
+            Some(entry) if trace => {
+                line_of(entry, self.world.tree(), self.world.sequences(), text)
+            }
             _ => Ok(()),
         }
     }

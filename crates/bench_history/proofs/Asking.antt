@@ -33,6 +33,7 @@ use Rattle.bench_history.specs.declared.askers.Gate.{Gate}
 use Rattle.bench_history.specs.History.{stage_of, running, nodes_of, nodes_after, opening}
 use Rattle.bench_history.specs.Wires.{wiring_of, wiring_after, with_both, closed_wiring, node_below, end_of}
 use Rattle.bench_history.specs.Ports.{fifo_size, is_imp_at, gate_below, imps_below, outlets_below}
+use Rattle.bench_history.specs.Laws.{IsComponent}
 use Rattle.bench_history.specs.Dues.{written_to, written_calls}
 use Rattle.bench_history.specs.Passing.{Request, Station, with_last, put_in, take_in, request_by, request_at, puts_asked, takes_asked, puts_waiting, takes_waiting, is_waiting, station_of, station_at, asker_of, first_asker, passage_by, passage_for, passage_in, passing_at, next_passed}
 
@@ -161,11 +162,11 @@ imp-after nodes wiring performer outcome act node is = inl is
 -- what is told to an imp's owner is told to a component
 pub written-hold :
     (nodes : List Node) (components : List ℕ) (item : Item) (wiring : WiringValue) (outlets : List ℕ) → ((node : ℕ) → is_imp_at wiring node ≡ true → IsOwned nodes components node)
-    → All (λ told. Contains components (node_of told.0)) (filter_map (written_to nodes item) (filter (is_imp_at wiring) outlets))
+    → All (λ told. IsComponent components told.0) (filter_map (written_to nodes item) (filter (is_imp_at wiring) outlets))
 written-hold nodes components item wiring outlets owned = each (filter (is_imp_at wiring) outlets) (filter_passes (is_imp_at wiring) outlets)
   where
     IsTold : Who × Call → Type 0
-    IsTold told = Contains components (node_of told.0)
+    IsTold told = IsComponent components told.0
 
     told : (under : Option (ℕ × List ℕ)) → IfSome under (λ under. Contains components under.0) → IfSome (option_map (λ under. (who.Node under.0, call.Written under.1 item)) under) IsTold
     told None holds = tt

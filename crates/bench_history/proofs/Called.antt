@@ -14,6 +14,7 @@ use Rattle.uvm_tree.specs.Cursors.{is_before}
 use Rattle.uvm_object.specs.Acts.{node_of}
 use Rattle.uvm_object.specs.Objects.{exchanged_in}
 use Rattle.uvm_object.specs.declared.acts.Who.{Who}
+use Rattle.uvm_object.specs.declared.acts.Who.TheVariants.{Node, Sequence}
 use Rattle.uvm_object.specs.declared.acts.Call.{Call}
 use Rattle.uvm_object.specs.declared.acts.Act.{Act}
 use Rattle.uvm_object.specs.declared.acts.Act.TheVariants.{Write}
@@ -40,7 +41,7 @@ use Rattle.uvm_tlm.specs.declared.items.Item.{Item}
 use Rattle.bench_history.specs.Dues.{event_in, told_by, told_of, written_calls, calls_numbered, due_after, due_from, calls_from, drain_from, with_drains, moves_drains, caused_at, caused_of, heard_of, ended_of, is_open, due_events, first_due, due_at, due_now}
 use Rattle.bench_history.specs.Cases.{Next, Exactly, Answer, Need, Nothing}
 use Rattle.bench_history.specs.Next.{next_of, Allows, IsNext, EachIsNext}
-use Rattle.bench_history.specs.Laws.{HasGrown, AskedAreComponents, ComponentsAreNodes, NewNodesAreUnasked}
+use Rattle.bench_history.specs.Laws.{HasGrown, IsComponent, AskedAreComponents, ComponentsAreNodes, NewNodesAreUnasked}
 use Rattle.bench_history.proofs.Inversion.{IsOwn, Case, AtEnd, ByOwn, ByNeed, ByDeed, ByDue, ByTurn, ByEnd, ByBegin, case-of}
 use Rattle.bench_history.proofs.Needed.{needed}
 use Rattle.bench_history.proofs.Leasts.{least-holds}
@@ -84,26 +85,35 @@ contains-more entry before node has =
     let more = components-grow entry before in
     subst (λ (components : List ℕ). Contains components node) (sym more.1) (Contains-append_left (components_of before) more.0 node has)
 
+component-more : (entry : Entry) (before : List Entry) (performer : Who) → IsComponent (components_of before) performer → IsComponent (components_of (entry ∷ before)) performer
+component-more entry before (Node node) has = contains-more entry before node has
+component-more entry before (Sequence id home) has = absurd has
+
+-- it stands at its own node
+component-node : (components : List ℕ) (performer : Who) → IsComponent components performer → Contains components (node_of performer)
+component-node components (Node node) has = has
+component-node components (Sequence id home) has = absurd has
+
 -- whoever is to hear the call of an event is one of the components
 abbrev IsCallTo : List ℕ → Event → Type 0
-IsCallTo components event = OnSome event.notice (Contains components (node_of (who_of event.owner)))
+IsCallTo components event = OnSome event.notice (IsComponent components (who_of event.owner))
 
 -- somebody is one of the components
 abbrev IsOne : List ℕ → Who → Type 0
-IsOne components who = Contains components (node_of who)
+IsOne components who = IsComponent components who
 
 -- whoever waits for a call is a component, and so is whoever spoke last, unless nobody did and the answer is the script's; so is who waits at a
 -- FIFO, and who owns an imp
 record Known (script : ScriptValue) (history : List Entry) : Type 0 where
   owners : All (IsCallTo (components_of history)) (caused_of history)
-  speaker : Contains (components_of history) (node_of (speaker_of history)) ⊎ All (λ act. act ≡ opening script) (left_of script history)
+  speaker : IsComponent (components_of history) (speaker_of history) ⊎ All (λ act. act ≡ opening script) (left_of script history)
   putters : (fifo : ℕ) → All (IsAskedBy {Wish = Item} (IsOne (components_of history))) (puts_asked history fifo)
   takers : (fifo : ℕ) → All (IsAskedBy {Wish = Bool} (IsOne (components_of history))) (takes_asked history fifo)
   imps : (node : ℕ) → is_imp_at (wiring_of history) node ≡ true → IsOwned (nodes_of history) (components_of history) node
 
 -- who is asked is a component
 abbrev AsksOne : List Entry → Next → Type 0
-AsksOne history (Answer performer call cause) = Contains (components_of history) (node_of performer)
+AsksOne history (Answer performer call cause) = IsComponent (components_of history) performer
 AsksOne history next = Unit {0}
 
 -- the node whose turn has come is a component
@@ -140,11 +150,11 @@ module _ (keeps : OrderKeepsAll Owner (Option Call)) where
   -- its owner is a component
   asks-due :
       (history : List Entry) (event : Event) (call : Call) → All (IsCallTo (components_of history)) (caused_of history) → due_now history ≡ Some event → event.notice ≡ Some call
-      → Contains (components_of history) (node_of (who_of event.owner))
+      → IsComponent (components_of history) (who_of event.owner)
   asks-due history event call owners now is_call =
       let P : Event → Type 0 = IsCallTo (components_of history) in
       let here = subst (λ (found : Option Event). IfSome found P) now (due-one history P owners) in
-      subst (λ (notice : Option Call). OnSome notice (Contains (components_of history) (node_of (who_of event.owner)))) is_call here
+      subst (λ (notice : Option Call). OnSome notice (IsComponent (components_of history) (who_of event.owner))) is_call here
 
   -- in each case of the machine a component is asked, if anybody is
   asks-case : (script : ScriptValue) (history : List Entry) (next : Next) → Known script history → Case script history next → AsksOne history next
@@ -158,7 +168,7 @@ module _ (keeps : OrderKeepsAll Owner (Option Call)) where
   asks-case script history next known (ByBegin phase may e) = subst (AsksOne history) (sym e) tt
 
   -- so that an answer is a component's
-  asks-one : (script : ScriptValue) (history : List Entry) (performer : Who) (call : Call) (cause : Option Cause) → Known script history → next_of script history ≡ Answer performer call cause → Contains (components_of history) (node_of performer)
+  asks-one : (script : ScriptValue) (history : List Entry) (performer : Who) (call : Call) (cause : Option Cause) → Known script history → next_of script history ≡ Answer performer call cause → IsComponent (components_of history) performer
   asks-one script history performer call cause known e = subst (AsksOne history) e (asks-case script history _ known (case-of script history))
 
   -- an answer was asked for
@@ -170,7 +180,7 @@ module _ (keeps : OrderKeepsAll Owner (Option Call)) where
   heard-asked performer call cause acts Nothing plain allows = absurd allows
 
   -- and who was heard is a component
-  heard-one : (script : ScriptValue) (before : List Entry) (performer : Who) (call : Call) (cause : Option Cause) (acts : List Act) → Known script before → IsNext script before (Heard performer call cause acts) → Contains (components_of before) (node_of performer)
+  heard-one : (script : ScriptValue) (before : List Entry) (performer : Who) (call : Call) (cause : Option Cause) (acts : List Act) → Known script before → IsNext script before (Heard performer call cause acts) → IsComponent (components_of before) performer
   heard-one script before performer call cause acts known next =
       asks-one script before performer call cause known (heard-asked performer call cause acts (next_of script before) (plain-next script before) next)
 
@@ -222,7 +232,7 @@ deed-next script history performer outcome act Nothing is allows = absurd allows
 
 -- the call that an act causes is its performer's
 due-owner :
-    (components : List ℕ) (notice : Option Call) (performer : Who) (phase : Option Phase) (time : ℕ) (cause : Cause) → (notice ≡ None) ⊎ Contains components (node_of performer)
+    (components : List ℕ) (notice : Option Call) (performer : Who) (phase : Option Phase) (time : ℕ) (cause : Cause) → (notice ≡ None) ⊎ IsComponent components performer
     → All (IsCallTo components) (due_from notice performer phase time cause)
 due-owner components None performer phase time cause who = All-nil _
 due-owner components (Some call) performer None time cause who = All-nil _
@@ -258,11 +268,11 @@ opening-tells script outcome = refl
 -- with one more entry the owners stay components
 owners-more : (script : ScriptValue) (before : List Entry) (entry : Entry) → Known script before → All (IsCallTo (components_of (entry ∷ before))) (caused_of before)
 owners-more script before entry known =
-    All-weaker (IsCallTo (components_of before)) (IsCallTo (components_of (entry ∷ before))) (λ event. some-more event.notice (node_of (who_of event.owner))) (caused_of before) known.owners
+    All-weaker (IsCallTo (components_of before)) (IsCallTo (components_of (entry ∷ before))) (λ event. some-more event.notice (who_of event.owner)) (caused_of before) known.owners
   where
-    some-more : (notice : Option Call) (node : ℕ) → OnSome notice (Contains (components_of before) node) → OnSome notice (Contains (components_of (entry ∷ before)) node)
-    some-more None node has = tt
-    some-more (Some call) node has = contains-more entry before node has
+    some-more : (notice : Option Call) (hearer : Who) → OnSome notice (IsComponent (components_of before) hearer) → OnSome notice (IsComponent (components_of (entry ∷ before)) hearer)
+    some-more None hearer has = tt
+    some-more (Some call) hearer has = component-more entry before hearer has
 
 opening-writes : (script : ScriptValue) (before : List Entry) (performer : Who) (outcome : Outcome) → written_calls before performer outcome (opening script) ≡ []
 opening-writes script before performer Done = refl
@@ -280,9 +290,9 @@ opening-takes script outcome = refl
 -- an act is the opening, or its performer is a component
 deed-owner :
     (script : ScriptValue) (before : List Entry) (entry : Entry) (performer : Who) (act : Act) → IsDeed script before performer act
-    → Contains (components_of before) (node_of (speaker_of before)) ⊎ All (λ act. act ≡ opening script) (left_of script before)
-    → (act ≡ opening script) ⊎ Contains (components_of (entry ∷ before)) (node_of performer)
-deed-owner script before entry performer act deed (inl has) = inr (contains-more entry before (node_of performer) (rw deed.performer_is has))
+    → IsComponent (components_of before) (speaker_of before) ⊎ All (λ act. act ≡ opening script) (left_of script before)
+    → (act ≡ opening script) ⊎ IsComponent (components_of (entry ∷ before)) performer
+deed-owner script before entry performer act deed (inl has) = inr (component-more entry before performer (rw deed.performer_is has))
 deed-owner script before entry performer act deed (inr opens) =
     let first = subst (All (λ one. one ≡ opening script)) deed.left opens in
     inl (All-head (λ one. one ≡ opening script) act (rest_of (left_of script before)) first)
@@ -293,23 +303,23 @@ unless-opening Idle script act here (inl same) = inl (subst Idle (sym same) here
 unless-opening Idle script act here (inr one) = inr one
 
 -- the calls that a write causes are those of components
-one-owner : (components : List ℕ) (phase : Option Phase) (time : ℕ) (cause : Cause) (told : Who × Call) → Contains components (node_of told.0) → All (IsCallTo components) (event_in phase time cause (Object told.0) (Some told.1))
+one-owner : (components : List ℕ) (phase : Option Phase) (time : ℕ) (cause : Cause) (told : Who × Call) → IsComponent components told.0 → All (IsCallTo components) (event_in phase time cause (Object told.0) (Some told.1))
 one-owner components None time cause told there = All-nil (IsCallTo components)
 one-owner components (Some phase) time cause told there = All-cons (IsCallTo components) _ [] there (All-nil (IsCallTo components))
 
 numbered-owners :
-    (components : List ℕ) (phase : Option Phase) (time place number : ℕ) (calls : List (Who × Call)) → All (λ told. Contains components (node_of told.0)) calls
+    (components : List ℕ) (phase : Option Phase) (time place number : ℕ) (calls : List (Who × Call)) → All (λ told. IsComponent components told.0) calls
     → All (IsCallTo components) (calls_numbered phase time place number calls)
 numbered-owners components phase time place number [] all = All-nil _
 numbered-owners components phase time place number (told ∷ calls) all =
     All-append (IsCallTo components) (calls_numbered phase time place (suc number) calls) (event_in phase time (record { place = place; number = number }) (Object told.0) (Some told.1))
-    (numbered-owners components phase time place (suc number) calls (All-tail (λ told. Contains components (node_of told.0)) told calls all))
-    (one-owner components phase time (record { place = place; number = number }) told (All-head (λ told. Contains components (node_of told.0)) told calls all))
+    (numbered-owners components phase time place (suc number) calls (All-tail (λ told. IsComponent components told.0) told calls all))
+    (one-owner components phase time (record { place = place; number = number }) told (All-head (λ told. IsComponent components told.0) told calls all))
 
 -- what is told by a write is told to components
 written-owners :
     (script : ScriptValue) (before : List Entry) (performer : Who) (outcome : Outcome) (act : Act) → ((node : ℕ) → is_imp_at (wiring_of before) node ≡ true → IsOwned (nodes_of before) (components_of before) node)
-    → All (λ told. Contains (components_of before) (node_of told.0)) (written_calls before performer outcome act)
+    → All (λ told. IsComponent (components_of before) told.0) (written_calls before performer outcome act)
 unfolding imps_below
 written-owners script before performer Done (Write port item) owned = written-hold (nodes_of before) (components_of before) item (closed_wiring before) (outlets_below before performer port) owned
 written-owners script before performer outcome act owned = search (All-nil {X = Who × Call})
@@ -317,7 +327,7 @@ written-owners script before performer outcome act owned = search (All-nil {X = 
 -- an imp of one more entry's wiring is a component's
 imps-more :
     (script : ScriptValue) (before : List Entry) (performer : Who) (outcome : Outcome) (act : Act) → ((node : ℕ) → is_imp_at (wiring_of before) node ≡ true → IsOwned (nodes_of before) (components_of before) node)
-    → (act ≡ opening script) ⊎ Contains (components_of (Did performer outcome act ∷ before)) (node_of performer)
+    → (act ≡ opening script) ⊎ IsComponent (components_of (Did performer outcome act ∷ before)) performer
     → (node : ℕ) → is_imp_at (wiring_of (Did performer outcome act ∷ before)) node ≡ true → IsOwned (nodes_of (Did performer outcome act ∷ before)) (components_of (Did performer outcome act ∷ before)) node
 imps-more script before performer outcome act owned who node is = by (imp-after (nodes_of before) (wiring_of before) performer outcome act node is)
   where
@@ -328,12 +338,12 @@ imps-more script before performer outcome act owned who node is = by (imp-after 
     stays None other e has = rw e tt
     stays (Some under) other e has = rw e (contains-more (Did performer outcome act) before under.0 has)
 
-    added : (found : Option (ℕ × List ℕ)) → IfSome found (λ under. under.0 ≡ node_of performer) → Contains (components_of (Did performer outcome act ∷ before)) (node_of performer)
+    added : (found : Option (ℕ × List ℕ)) → IfSome found (λ under. under.0 ≡ node_of performer) → IsComponent (components_of (Did performer outcome act ∷ before)) performer
         → IfSome found (λ under. Contains (components_of (Did performer outcome act ∷ before)) under.0)
     added None is has = tt
-    added (Some under) is has = rw is has
+    added (Some under) is has = rw is (component-node (components_of (Did performer outcome act ∷ before)) performer has)
 
-    new : IsAdded (nodes_of before) performer outcome act node → (act ≡ opening script) ⊎ Contains (components_of (Did performer outcome act ∷ before)) (node_of performer)
+    new : IsAdded (nodes_of before) performer outcome act node → (act ≡ opening script) ⊎ IsComponent (components_of (Did performer outcome act ∷ before)) performer
         → IsOwned (nodes_of (Did performer outcome act ∷ before)) (components_of (Did performer outcome act ∷ before)) node
     new a (inl opens) = absurd (a.other script opens)
     new a (inr has) = record { below = a.below; owner = added _ a.under has }
@@ -352,9 +362,9 @@ imps-more script before performer outcome act owned who node is = by (imp-after 
 -- with one more entry that is no answer the speaker stays a component, or nobody spoke
 speaker-more :
     (script : ScriptValue) (before : List Entry) (entry : Entry) → (All (λ act. act ≡ opening script) (left_of script before) → All (λ act. act ≡ opening script) (left_of script (entry ∷ before)))
-    → Contains (components_of before) (node_of (speaker_of before)) ⊎ All (λ act. act ≡ opening script) (left_of script before)
-    → Contains (components_of (entry ∷ before)) (node_of (speaker_of before)) ⊎ All (λ act. act ≡ opening script) (left_of script (entry ∷ before))
-speaker-more script before entry more (inl has) = inl (contains-more entry before (node_of (speaker_of before)) has)
+    → IsComponent (components_of before) (speaker_of before) ⊎ All (λ act. act ≡ opening script) (left_of script before)
+    → IsComponent (components_of (entry ∷ before)) (speaker_of before) ⊎ All (λ act. act ≡ opening script) (left_of script (entry ∷ before))
+speaker-more script before entry more (inl has) = inl (component-more entry before (speaker_of before) has)
 speaker-more script before entry more (inr opens) = inr (more opens)
 
 -- what passes comes alone
@@ -383,16 +393,16 @@ module _ (keeps : OrderKeepsAll Owner (Option Call)) where
         owners =
             All-append (IsCallTo components) (calls_numbered phase (now_of before) (length before) 0 (written_calls before performer outcome act)) _
             (numbered-owners components phase (now_of before) (length before) 0 (written_calls before performer outcome act)
-            (All-weaker (λ told. Contains (components_of before) (node_of told.0)) (λ told. Contains components (node_of told.0)) (λ told. contains-more entry before (node_of told.0)) (written_calls before performer outcome act) (written-owners script before performer outcome act known.imps)))
+            (All-weaker (λ told. IsComponent (components_of before) told.0) (λ told. IsComponent components told.0) (λ told. component-more entry before told.0) (written_calls before performer outcome act) (written-owners script before performer outcome act known.imps)))
             (All-append (IsCallTo components) (calls_from outcome act performer phase (now_of before) (length before)) _
             (due-owner components (told_by outcome act) performer phase (due_after (now_of before) act) (caused_at (length before)) (unless-opening (λ act. told_by outcome act ≡ None) script act (opening-tells script outcome) who))
             (moved-call components (moves_drains outcome act) phase (caused_at (length before)) (objections_of before) (objections_of (entry ∷ before)) (caused_of before) (owners-more script before entry known)));
         speaker = speaker-more script before entry (rest-all (λ one. one ≡ opening script) (left_of script before)) known.speaker;
         putters = λ fifo. asked-more (IsOne components) before fifo performer through.Put (put_in outcome act) (puts_asked before fifo)
-            (All-weaker (IsAskedBy (IsOne (components_of before))) (IsAskedBy (IsOne components)) (λ request. contains-more entry before (node_of request.asker.who)) (puts_asked before fifo) (known.putters fifo))
+            (All-weaker (IsAskedBy (IsOne (components_of before))) (IsAskedBy (IsOne components)) (λ request. component-more entry before request.asker.who) (puts_asked before fifo) (known.putters fifo))
             (unless-opening (λ act. put_in outcome act ≡ None) script act (opening-puts script outcome) who);
         takers = λ fifo. asked-more (IsOne components) before fifo performer through.Get (take_in outcome act) (takes_asked before fifo)
-            (All-weaker (IsAskedBy (IsOne (components_of before))) (IsAskedBy (IsOne components)) (λ request. contains-more entry before (node_of request.asker.who)) (takes_asked before fifo) (known.takers fifo))
+            (All-weaker (IsAskedBy (IsOne (components_of before))) (IsAskedBy (IsOne components)) (λ request. component-more entry before request.asker.who) (takes_asked before fifo) (known.takers fifo))
             (unless-opening (λ act. take_in outcome act ≡ None) script act (opening-takes script outcome) who);
         imps = imps-more script before performer outcome act known.imps who;
       }
@@ -436,16 +446,17 @@ module _ (keeps : OrderKeepsAll Owner (Option Call)) where
   asked_are_components script history performer call cause each e = asks-one keeps script history performer call cause (known-of script history each) e
 
   -- an answer of another is not the node's
-  apart : (performer : Who) (node : ℕ) (call : Call) (cause : Option Cause) (acts : List Act) → node_of performer < node → exchanged_in node (Heard performer call cause acts) ≡ []
-  apart performer node call cause acts lt =
-      let other : (node_of performer == node) ≡ false = grind (arith, nat_tests) in
-      rw other refl
+  apart : (performer : Who) (node : ℕ) (call : Call) (cause : Option Cause) (acts : List Act) → node_of performer < node → exchanged_in (Node node) (Heard performer call cause acts) ≡ []
+  apart (Node other) node call cause acts lt =
+      let differs : (other == node) ≡ false = grind (arith, nat_tests) in
+      rw differs refl
+  apart (Sequence id home) node call cause acts lt = refl
 
   -- an entry that is next asks no node behind those of the tree
-  unasked-in : (script : ScriptValue) (before : List Entry) (node : ℕ) (entry : Entry) → EachIsNext script before → IsNext script before entry → length (nodes_of before) ≤ node → exchanged_in node entry ≡ []
+  unasked-in : (script : ScriptValue) (before : List Entry) (node : ℕ) (entry : Entry) → EachIsNext script before → IsNext script before entry → length (nodes_of before) ≤ node → exchanged_in (Node node) entry ≡ []
   unasked-in script before node (Heard performer call cause acts) each next le =
       let has = heard-one keeps script before performer call cause acts (known-of script before each) next in
-      let lt : node_of performer < length (nodes_of before) = All-contains (λ other. other < length (nodes_of before)) (components_of before) (node_of performer) (components_are_nodes script before each) has in
+      let lt : node_of performer < length (nodes_of before) = All-contains (λ other. other < length (nodes_of before)) (components_of before) (node_of performer) (components_are_nodes script before each) (component-node (components_of before) performer has) in
       apart performer node call cause acts (omega (arith, lt, le))
   unasked-in script before node entry each next le = refl
 

@@ -59,13 +59,13 @@ pub exact-plain : (script : ScriptValue) (history : List Entry) (entry : Entry) 
 exact-plain script history entry e = subst IsPlainNext e (plain-next script history)
 
 -- a plain entry is no exchange of any node
-silent : (node : ℕ) (entry : Entry) → IsPlain entry → exchanged_in node entry ≡ []
-silent node (Heard performer call cause acts) plain = absurd plain
-silent node entry plain = refl
+silent : (hearer : Who) (entry : Entry) → IsPlain entry → exchanged_in hearer entry ≡ []
+silent hearer (Heard performer call cause acts) plain = absurd plain
+silent hearer entry plain = refl
 
 -- an entry that alone is next is nobody's answer
-exact-is-silent : (script : ScriptValue) (history : List Entry) (entry : Entry) (node : ℕ) → next_of script history ≡ Exactly entry → exchanged_in node entry ≡ []
-exact-is-silent script history entry node e = silent node entry (exact-plain script history entry e)
+exact-is-silent : (script : ScriptValue) (history : List Entry) (entry : Entry) (hearer : Who) → next_of script history ≡ Exactly entry → exchanged_in hearer entry ≡ []
+exact-is-silent script history entry hearer e = silent hearer entry (exact-plain script history entry e)
 
 -- an outcome that makes no object adds no component
 keeps-outcome : (node : ℕ) (components : List ℕ) (outcome : Outcome) → NotMade outcome → components_after node components outcome ≡ components

@@ -33,7 +33,7 @@ use Rattle.bench_history.specs.Passing.{next_passed}
 use Rattle.bench_history.specs.Upshots.{Upshot, Needs, Does, Finds, Stores, Takes, Refuses, upshot_of}
 use Rattle.bench_history.specs.Cases.{Next, Exactly, Answer, Need, Nothing, end_reached, giving_up, passing, first_act, by_upshot, by_act, by_call, event_due, phase_call, in_connect, port_check, phase_end, time_passes, phase_begin, phase_to_begin, finish}
 use Rattle.bench_history.specs.Next.{first_next, next_of}
-use Rattle.bench_history.specs.Laws.{IsDue}
+use Rattle.bench_history.specs.Laws.{IsDue, IsDrainDue}
 
 -- what the machine writes by itself, outside a phase's course: neither a mark, nor an answer, nor an act. Time stays within its limit, what
 -- passes is next to pass, and a drain that ends is due
@@ -44,7 +44,7 @@ IsOwn script history (Heard performer call cause acts) = ⊥
 IsOwn script history (Did performer outcome act) = ⊥
 IsOwn script history (Time time) = time ≤ script.time_limit
 IsOwn script history (Passed fifo passage) = next_passed history ≡ Some (fifo, passage)
-IsOwn script history (Drained node cause) = IsDue history (who.Node node) None cause
+IsOwn script history (Drained node cause) = IsDrainDue history node cause
 IsOwn script history entry = Unit {0}
 
 -- no object was made
@@ -143,10 +143,7 @@ case-event :
 case-event script history next event (Some call) now is e = ByDue event call now is e
 case-event script history next event None now is e =
     let I : Option Call → Type 0 = λ notice. IsDue history (who_of event.owner) notice event.cause in
-    ByOwn (Drained (node_of (who_of event.owner)) event.cause) (at-node (who_of event.owner) (subst I is (due-first history event now))) e
-  where
-    at-node : (hearer : Who) → IsDue history hearer None event.cause → IsDue history (who.Node (node_of hearer)) None event.cause
-    at-node (who.Node node) due = due
+    ByOwn (Drained (node_of (who_of event.owner)) event.cause) (record { hearer = who_of event.owner; stands = refl; due = subst I is (due-first history event now) }) e
 
 case-due : (script : ScriptValue) (history : List Entry) (next : Next) (due : Option Event) → due_now history ≡ due → next ≡ first_next (event_due due ∷ phase_cases script history (running (stage_of history))) → Case script history next
 case-due script history next (Some event) is e = case-event script history next event event.notice is refl e

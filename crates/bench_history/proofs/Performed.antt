@@ -19,7 +19,7 @@ use Rattle.bench_history.specs.Dues.{due_now}
 use Rattle.bench_history.specs.Passing.{next_passed}
 use Rattle.bench_history.specs.Cases.{Next, Exactly, Answer, end_reached, giving_up, passing, long_answer, first_act, event_due, phase_call, port_check, phase_end, phase_begin, phase_to_begin, finish, by_upshot}
 use Rattle.bench_history.specs.Next.{first_next, next_of, IsAct}
-use Rattle.bench_history.specs.Laws.{IsDue, IsFirstAct, ActsGoInOrder, PassagesGoInOrder, DueCallsGoInOrder, DrainsGoInOrder}
+use Rattle.bench_history.specs.Laws.{IsDrainDue, IsDue, IsFirstAct, ActsGoInOrder, PassagesGoInOrder, DueCallsGoInOrder, DrainsGoInOrder}
 use Rattle.bench_history.proofs.Inversion.{IsOwn, Case, AtEnd, ByOwn, ByNeed, ByDeed, ByDue, ByTurn, ByEnd, ByBegin, case-of, due-first}
 
 -- what the machine writes by itself is no act's
@@ -74,7 +74,7 @@ due-case script history hearer call cause next asks (ByBegin phase may e) = cc
 pub due_calls_go_in_order : DueCallsGoInOrder
 due_calls_go_in_order script history hearer call cause asks = due-case script history hearer call cause _ asks (case-of script history)
 
-drain-case : (script : ScriptValue) (history : List Entry) (node : ℕ) (cause : Cause) (next : Next) → next ≡ Exactly (Drained node cause) → Case script history next → IsDue history (who.Node node) None cause
+drain-case : (script : ScriptValue) (history : List Entry) (node : ℕ) (cause : Cause) (next : Next) → next ≡ Exactly (Drained node cause) → Case script history next → IsDrainDue history node cause
 drain-case script history node cause next ends (AtEnd ended e) = cc
 drain-case script history node cause next ends (ByOwn entry own e) = let same : entry ≡ Drained node cause = cc in subst (IsOwn script history) same own
 drain-case script history node cause next ends (ByNeed act need left is e) = cc

@@ -58,6 +58,7 @@ created_name act = []
 
 -- what an addition adds to the tree
 abbrev pub kind_of : What → NodeKind
+kind_of (what.Sequencer mode) = kind.Sequencer
 kind_of (what.Fifo size) = kind.Fifo
 kind_of (what.Port port) = kind.Port
 kind_of (what.Export port) = kind.Export

@@ -48,9 +48,14 @@ pub record ArePhasesInOrder (history : List Entry) : Type 0 where
 abbrev pub PhasesGoInOrder : Type 0
 PhasesGoInOrder = (script : ScriptValue) (history : List Entry) → EachIsNext script history → ArePhasesInOrder history
 
+-- somebody is one of the components, and no sequence
+abbrev pub IsComponent : List ℕ → Who → Type 0
+IsComponent components (who.Node node) = Contains components node
+IsComponent components (who.Sequence id home) = ⊥
+
 -- whoever is asked is a component
 abbrev pub AskedAreComponents : Type 0
-AskedAreComponents = (script : ScriptValue) (history : List Entry) (hearer : Who) (call : Call) (cause : Option Cause) → EachIsNext script history → next_of script history ≡ Answer hearer call cause → Contains (components_of history) (node_of hearer)
+AskedAreComponents = (script : ScriptValue) (history : List Entry) (hearer : Who) (call : Call) (cause : Option Cause) → EachIsNext script history → next_of script history ≡ Answer hearer call cause → IsComponent (components_of history) hearer
 
 -- and each component is a node of the tree
 abbrev pub ComponentsAreNodes : Type 0
@@ -65,12 +70,18 @@ pub record IsDue (history : List Entry) (hearer : Who) (notice : Option Call) (c
   pub notice_is : event.notice ≡ notice
   pub cause_is : event.cause ≡ cause
 
--- so does a call with a cause, and the end of a drain
+-- so is what is due at a node without a call
+pub record IsDrainDue (history : List Entry) (node : ℕ) (cause : Cause) : Type 0 where
+  pub hearer : Who
+  pub stands : node_of hearer ≡ node
+  pub due : IsDue history hearer None cause
+
+-- a call with a cause happens so, and the end of a drain
 abbrev pub DueCallsGoInOrder : Type 0
 DueCallsGoInOrder = (script : ScriptValue) (history : List Entry) (hearer : Who) (call : Call) (cause : Cause) → next_of script history ≡ Answer hearer call (Some cause) → IsDue history hearer (Some call) cause
 
 abbrev pub DrainsGoInOrder : Type 0
-DrainsGoInOrder = (script : ScriptValue) (history : List Entry) (node : ℕ) (cause : Cause) → next_of script history ≡ Exactly (Drained node cause) → IsDue history (who.Node node) None cause
+DrainsGoInOrder = (script : ScriptValue) (history : List Entry) (node : ℕ) (cause : Cause) → next_of script history ≡ Exactly (Drained node cause) → IsDrainDue history node cause
 
 -- what passes at a FIFO is what is next to pass
 abbrev pub PassagesGoInOrder : Type 0
@@ -162,7 +173,7 @@ SomethingBeforeOver = (script : ScriptValue) (history : List Entry) → EachIsNe
 
 -- an entry that alone may come next is nobody's answer, and makes no component
 pub record IsMachines (history : List Entry) (entry : Entry) : Type 0 where
-  pub silent : (node : ℕ) → exchanged_in node entry ≡ []
+  pub silent : (hearer : Who) → exchanged_in hearer entry ≡ []
   pub keeps : components_of (entry ∷ history) ≡ components_of history
 
 abbrev pub MachineEntriesAreSilent : Type 0
@@ -183,7 +194,7 @@ MadeObjectsAreNew = (script : ScriptValue) (history : List Entry) (need : declar
 
 -- behind the nodes of the tree nobody was asked
 abbrev pub NewNodesAreUnasked : Type 0
-NewNodesAreUnasked = (script : ScriptValue) (history : List Entry) (node : ℕ) → EachIsNext script history → length (nodes_of history) ≤ node → life_of node history ≡ []
+NewNodesAreUnasked = (script : ScriptValue) (history : List Entry) (node : ℕ) → EachIsNext script history → length (nodes_of history) ≤ node → life_of (who.Node node) history ≡ []
 
 -- no more reports were issued than there are entries
 abbrev pub ReportsAreFew : Type 0

@@ -13,3 +13,7 @@ most_ticks = 10 ^ 15
 -- the most acts of an answer
 abbrev pub most_acts : ℕ
 most_acts = 64
+
+-- the priority of a sequence for which none is given, and which no sequence started
+abbrev pub usual_priority : ℕ
+usual_priority = 100

@@ -11,8 +11,9 @@ use Rattle.uvm_objection.specs.Nodes.{source_of}
 use Rattle.uvm_object.specs.Acts.{node_of}
 use Rattle.uvm_object.specs.declared.acts.Who.{Who}
 use Rattle.uvm_object.specs.declared.acts.Act.{Act}
-use Rattle.uvm_object.specs.declared.acts.Act.TheVariants.{Create, Add, Set, Get, OverrideType, OverrideInst, Connect, Put, TryPut, Take, TryTake, Peek, Write, Report, Verbosity, Actions, Severity, RaiseObjection, DropObjection, SetDrain, Wait}
+use Rattle.uvm_object.specs.declared.acts.Act.TheVariants.{Create, Add, Set, Get, OverrideType, OverrideInst, Connect, Put, TryPut, Take, TryTake, Peek, Write, Ask, ItemDone, Start, Request, Lock, Grab, Unlock, Send, EndStep, Report, Verbosity, Actions, Severity, RaiseObjection, DropObjection, SetDrain, Wait}
 use Rattle.uvm_object.specs.declared.fatals.Fatal.{Fatal}
+use Rattle.uvm_object.specs.declared.fatals.Fatal.TheVariants.{NotOpen}
 use Rattle.uvm_object.specs.declared.entries.Entry.{Entry}
 use Rattle.bench_script.specs.Scripts.{ScriptValue}
 use Rattle.bench_history.specs.declared.needs.Need.{Need}
@@ -50,7 +51,7 @@ abbrev pub creation_now : ScriptValue → List Entry → Who → List ℕ → Li
 creation_now script history performer type_name name =
     record { built = is_built history; types = script.types; overrides = overrides_of script history; nodes = nodes_of history; parent = node_of performer; type_name = type_name; name = name }
 
--- what each act comes to
+-- what each act comes to; those of sequences, and the driver's, are open to nobody yet
 abbrev pub upshot_of : ScriptValue → List Entry → Who → Act → Upshot
 upshot_of script history performer (Create type_name name) = creation_upshot (creation_now script history performer type_name name)
 upshot_of script history performer (Add name what) = unless_refused (addition_refusal (is_built history) (nodes_of history) (node_of performer) name) Does
@@ -68,6 +69,15 @@ upshot_of script history performer (TryTake name) =
     unless_refused (passing_refusal (running (stage_of history)) (is_some (gate_below history performer through.Get name))) (Takes (takes_now (station_below history performer through.Get name)))
 upshot_of script history performer (Peek name) = unless_refused (passing_refusal (running (stage_of history)) (is_some (gate_below history performer through.Get name))) Does
 upshot_of script history performer (Write name item) = unless_refused (passing_refusal (running (stage_of history)) (is_some (port_below history performer through.Analysis name))) Does
+upshot_of script history performer (Ask port how) = Refuses NotOpen
+upshot_of script history performer (ItemDone port response) = Refuses NotOpen
+upshot_of script history performer (Start type_name name on priority) = Refuses NotOpen
+upshot_of script history performer (Request priority) = Refuses NotOpen
+upshot_of script history performer Lock = Refuses NotOpen
+upshot_of script history performer Grab = Refuses NotOpen
+upshot_of script history performer Unlock = Refuses NotOpen
+upshot_of script history performer (Send item) = Refuses NotOpen
+upshot_of script history performer EndStep = Refuses NotOpen
 upshot_of script history performer (Report report) = Does
 upshot_of script history performer (Verbosity which level) = Does
 upshot_of script history performer (Actions which actions) = Does

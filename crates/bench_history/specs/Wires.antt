@@ -29,6 +29,7 @@ use Rattle.bench_history.specs.History.{nodes_of}
 
 -- what an addition is to connections
 abbrev pub end_of : What → End
+end_of (what.Sequencer mode) = end.Sequencer
 end_of (what.Fifo size) = end.Fifo size
 end_of (what.Port kind) = end.Port kind
 end_of (what.Export kind) = end.Export kind

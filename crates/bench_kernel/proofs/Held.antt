@@ -17,7 +17,8 @@ use Rattle.uvm_tree.specs.Nodes.{path_at}
 use Rattle.uvm_object.specs.Acts.{node_of}
 use Rattle.uvm_object.specs.Objects.{View, Says}
 use Rattle.uvm_object.specs.declared.acts.Who.{Who}
-use Rattle.uvm_object.specs.declared.acts.Who.TheVariants.{Node}
+use Rattle.uvm_object.specs.declared.acts.Who.TheVariants.{Node, Sequence}
+use Rattle.uvm_object.specs.Objects.{same_who}
 use Rattle.uvm_object.specs.declared.acts.Call.{Call}
 use Rattle.uvm_object.specs.declared.acts.Act.{Act}
 use Rattle.uvm_object.specs.declared.entries.Outcome.TheVariants.{Made}
@@ -29,7 +30,7 @@ use Rattle.bench_history.specs.Next.{EachIsNext}
 use Rattle.bench_history.specs.Laws.{ComponentsAreNodes, NodesStay}
 use Rattle.bench_kernel.specs.Asked.{IsAsked}
 use Rattle.bench_kernel.specs.Seats.{IsTakenOut, Taken, held_in, paths_in}
-use Rattle.bench_kernel.specs.Kernels.{AreHeld, ArePlaced, same_who, types_made}
+use Rattle.bench_kernel.specs.Kernels.{AreHeld, ArePlaced, types_made}
 use Rattle.bench_kernel.specs.Orders.{IsFirstDown}
 use Rattle.bench_kernel.proofs.Lists.{All-unmap, recursion-from_All}
 use Rattle.bench_kernel.proofs.Lives.{same_who-flips}
@@ -123,6 +124,7 @@ module _ {O : Type 0} (name : O → List ℕ) where
     where
       apart : (other : Who) → node_of other < node → same_who (Node node) other ≡ false
       apart (Node other) less = grind (arith, nat_tests)
+      apart (Sequence id home) less = refl
 
   -- one was given back
   pub AreHeld-less : (history : List Entry) (held new : List (Who × O)) (back : Who × O) (done : Bool) → done ≡ true → IsPermutation (back ∷ new) held

@@ -10,9 +10,9 @@ use Rattle.std.specs.declared.alloc.AllocError.{AllocError}
 use Rattle.uvm_phase.specs.declared.agendas.Cause.{Cause}
 use Rattle.uvm_tree.specs.Nodes.{path_at}
 use Rattle.uvm_object.specs.Acts.{node_of}
-use Rattle.uvm_object.specs.Objects.{View, Says, IsHonestNow, life_of}
+use Rattle.uvm_object.specs.Objects.{View, Says, IsHonestNow, life_of, same_who}
 use Rattle.uvm_object.specs.declared.acts.Who.{Who}
-use Rattle.uvm_object.specs.declared.acts.Who.TheVariants.{Node}
+use Rattle.uvm_object.specs.declared.acts.Who.TheVariants.{Node, Sequence}
 use Rattle.uvm_object.specs.declared.acts.Call.{Call}
 use Rattle.uvm_object.specs.declared.acts.Act.{Act}
 use Rattle.uvm_object.specs.declared.entries.Outcome.TheVariants.{Made, Refused}
@@ -28,13 +28,13 @@ use Rattle.bench_history.specs.Cases.{Next, Exactly, Answer}
 use Rattle.bench_history.specs.Next.{next_of, EachIsNext}
 use Rattle.bench_core.specs.Cores.{Nothing, Needed}
 use Rattle.bench_core.specs.declared.cores.Health.TheVariants.{Good}
-use Rattle.bench_history.specs.Laws.{NothingAfterOver, IsSomething}
+use Rattle.bench_history.specs.Laws.{NothingAfterOver, IsComponent, IsSomething}
 use Rattle.bench_core.specs.Cores.{CoreValue, core_after}
 use Rattle.bench_kernel.specs.Asked.{IsAsked}
 use Rattle.bench_kernel.specs.Laws.{LogLaws}
 use Rattle.bench_kernel.specs.Seats.{IsTakenOut, Taken, held_in, paths_in}
 use Rattle.bench_kernel.specs.Orders.{IsFirstDown}
-use Rattle.bench_kernel.specs.Kernels.{KernelValue, IsKernel, ArePlaced, is_done, same_who, types_made, who_held}
+use Rattle.bench_kernel.specs.Kernels.{KernelValue, IsKernel, ArePlaced, is_done, types_made, who_held}
 use Rattle.bench_kernel.specs.Steps.{IsSameLog}
 use Rattle.bench_kernel.proofs.Held.{AreHeld-asked, AreHeld-later, AreHeld-less, AreHeld-more, ArePlaced-later, first-taken_out, held-below, types-same}
 use Rattle.bench_kernel.proofs.Lives.{LiveHonestly-heard, LiveHonestly-unanswered, LiveHonestly-silent, LiveHonestly-more, LiveHonestly-less}
@@ -133,10 +133,11 @@ module _ (laws : LogLaws) {O : Type 0} (view : O → View) (name : O → List �
 
   -- who is asked is held
   pub asked-held : (kernel : KernelValue O) (performer : Who) (call : Call) (cause : Option Cause) → next_of kernel.core.script kernel.core.history ≡ Answer performer call cause → kernel.failed ≡ false
-      → Contains (components_of kernel.core.history) (node_of performer) → IsKernel view name says kernel → Contains (who_held kernel) performer
+      → IsComponent (components_of kernel.core.history) performer → IsKernel view name says kernel → Contains (who_held kernel) performer
   asked-held kernel (Node node) call cause answers going there kept =
       let on : is_over kernel.core.history ≡ false = on-where-some laws.over kernel.core.script kernel.core.history (Answer (Node node) call cause) answers tt in
       All-contains (λ node. Contains (who_held kernel) (Node node)) (components_of kernel.core.history) node (kept.custody.whole (rw (going, on) refl)) there
+  asked-held kernel (Sequence id home) call cause answers going there kept = absurd there
 
   -- an object answered
   pub kept-heard : (kernel : KernelValue O) (core : CoreValue) (held : List (Who × O)) (performer : Who) (call : Call) (cause : Option Cause) (acts : List Act)
@@ -227,7 +228,7 @@ module _ {O : Type 0} (view : O → View) (name : O → List ℕ) (says : O → 
       rw (begun, none) (
         record {
           each = tt;
-          honest = All-nil (λ (seat : Who × O). None ≢ Some seat.0 → IsHonestNow (says seat.1) (view seat.1) (life_of (node_of seat.0) []));
+          honest = All-nil (λ (seat : Who × O). None ≢ Some seat.0 → IsHonestNow (says seat.1) (view seat.1) (life_of seat.0 []));
           custody = record {
             distinct = IsDistinct-nil;
             made = All-nil (λ (who : Who). Contains (components_of []) (node_of who));

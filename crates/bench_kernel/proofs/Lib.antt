@@ -5,3 +5,4 @@ pub mod Held
 pub mod Kept
 pub mod Stepped
 pub mod Supplied
+pub mod Numbers

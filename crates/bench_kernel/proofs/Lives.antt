@@ -13,23 +13,28 @@ use Rattle.std.specs.declared.alloc.AllocError.{AllocError}
 use Rattle.uvm_phase.specs.declared.agendas.Cause.{Cause}
 use Rattle.uvm_object.specs.Acts.{node_of}
 use Rattle.uvm_object.specs.declared.acts.Who.{Who}
-use Rattle.uvm_object.specs.declared.acts.Who.TheVariants.{Node}
+use Rattle.uvm_object.specs.declared.acts.Who.TheVariants.{Node, Sequence}
 use Rattle.uvm_object.specs.declared.acts.Call.{Call}
 use Rattle.uvm_object.specs.declared.acts.Act.{Act}
 use Rattle.uvm_object.specs.declared.entries.Entry.{Entry}
 use Rattle.uvm_object.specs.declared.entries.Entry.TheVariants.{Heard}
-use Rattle.uvm_object.specs.Objects.{View, Says, SameSays, Exchange, IsHonest, IsHonestNow, exchanged_in, life_of}
+use Rattle.uvm_object.specs.Objects.{View, Says, SameSays, Exchange, IsHonest, IsHonestNow, exchanged_in, life_of, same_who}
 use Rattle.bench_kernel.specs.Asked.{IsAsked}
-use Rattle.bench_kernel.specs.Kernels.{LiveHonestly, same_who}
+use Rattle.bench_kernel.specs.Kernels.{LiveHonestly}
 use Rattle.bench_kernel.proofs.Lists.{All-from_recursion, All-unmap}
+use Rattle.bench_kernel.proofs.Numbers.{eq-flips, eq-self}
 
 -- one and another are no two the other way round
 pub same_who-flips : (who other : Who) → same_who who other ≡ same_who other who
 same_who-flips (Node node) (Node other) = grind (arith, nat_tests)
+same_who-flips (Sequence id home) (Sequence other there) = rw (eq-flips id other, eq-flips home there) refl
+same_who-flips (Node node) (Sequence other there) = refl
+same_who-flips (Sequence id home) (Node other) = refl
 
--- two that are not one stand at two nodes
-nodes-apart : (who other : Who) → same_who who other ≡ false → node_of who ≢ node_of other
-nodes-apart (Node node) (Node other) apart same = grind (arith, nat_tests)
+-- each is one with itself
+pub same_who-self : (who : Who) → same_who who who ≡ true
+same_who-self (Node node) = grind (arith, nat_tests)
+same_who-self (Sequence id home) = rw (eq-self id, eq-self home) refl
 
 -- views that are honest by a relation are so by the same one
 IsHonest-same : (says others : Says) (views : List View) (life : List Exchange) → SameSays says others → IsHonest others views life → IsHonest says views life
@@ -48,17 +53,17 @@ IsHonestNow-more says others before after call acts life same said honest =
 
 -- who was heard has one exchange more, and every other as many as before
 heard-same : (performer : Who) (call : Call) (cause : Option Cause) (acts : List Act) (history : List Entry)
-    → life_of (node_of performer) (Heard performer call cause acts ∷ history) ≡ (call, acts) ∷ life_of (node_of performer) history
-heard-same performer call cause acts history = grind (arith, nat_tests)
+    → life_of performer (Heard performer call cause acts ∷ history) ≡ (call, acts) ∷ life_of performer history
+heard-same performer call cause acts history = rw (same_who-self performer) refl
 
-heard-other : (performer : Who) (call : Call) (cause : Option Cause) (acts : List Act) (history : List Entry) (node : ℕ) → node_of performer ≢ node
-    → life_of node (Heard performer call cause acts ∷ history) ≡ life_of node history
-heard-other performer call cause acts history node apart = grind (arith, nat_tests)
+heard-other : (performer other : Who) (call : Call) (cause : Option Cause) (acts : List Act) (history : List Entry) → same_who performer other ≡ false
+    → life_of other (Heard performer call cause acts ∷ history) ≡ life_of other history
+heard-other performer other call cause acts history apart = rw apart refl
 
 module _ {O : Type 0} (view : O → View) (name : O → List ℕ) (says : O → Says) where
   -- an object has lived what the log says, but for one that gave no answer
   abbrev Lives : Option Who → List Entry → Who × O → Type 0
-  Lives unknown history seat = unknown ≢ Some seat.0 → IsHonestNow (says seat.1) (view seat.1) (life_of (node_of seat.0) history)
+  Lives unknown history seat = unknown ≢ Some seat.0 → IsHonestNow (says seat.1) (view seat.1) (life_of seat.0 history)
 
   -- who is asked is none of the others
   pub others-differ : (who : Who) (call : Call) (answer : Result (List Act) AllocError) (old new : List (Who × O)) (asked : IsAsked view name says who call answer old new) → IsDistinct same_who (keys_of old)
@@ -83,12 +88,12 @@ module _ {O : Type 0} (view : O → View) (name : O → List ℕ) (says : O → 
       (All-cons (Lives None (Heard performer call cause acts ∷ history)) (performer, asked.after) asked.others
       (λ known.
       subst (λ l. IsHonestNow (says asked.after) (view asked.after) l) (sym (heard-same performer call cause acts history))
-      (IsHonestNow-more (says asked.after) (says asked.before) (view asked.before) (view asked.after) call acts (life_of (node_of performer) history) asked.same_says asked.said was))
+      (IsHonestNow-more (says asked.after) (says asked.before) (view asked.before) (view asked.after) call acts (life_of performer history) asked.same_says asked.said was))
       (λ k d h. other (get_or asked.others k d) (apart k d h) (rest k d h)))
     where
       other : (seat : Who × O) → same_who performer seat.0 ≡ false → Lives None history seat → Lives None (Heard performer call cause acts ∷ history) seat
       other seat apart lives known =
-          subst (λ l. IsHonestNow (says seat.1) (view seat.1) l) (sym (heard-other performer call cause acts history (node_of seat.0) (nodes-apart performer seat.0 apart))) (lives known)
+          subst (λ l. IsHonestNow (says seat.1) (view seat.1) l) (sym (heard-other performer seat.0 call cause acts history apart)) (lives known)
 
   -- who gave no answer is left out
   pub LiveHonestly-unanswered : (performer : Who) (call : Call) (answer : Result (List Act) AllocError) (old new : List (Who × O)) (history : List Entry)
@@ -100,13 +105,13 @@ module _ {O : Type 0} (view : O → View) (name : O → List ℕ) (says : O → 
       (All-weaker (Lives None history) (Lives (Some performer) history) (λ seat lives known. lives (λ n. none-some seat.0 n)) asked.others (All-tail (Lives None history) (performer, asked.before) asked.others were)))
 
   -- an entry that is nobody's answer leaves each life
-  pub LiveHonestly-silent : (entry : Entry) (history : List Entry) (held : List (Who × O)) (unknown : Option Who) → ((node : ℕ) → exchanged_in node entry ≡ [])
+  pub LiveHonestly-silent : (entry : Entry) (history : List Entry) (held : List (Who × O)) (unknown : Option Who) → ((hearer : Who) → exchanged_in hearer entry ≡ [])
       → LiveHonestly view says held unknown history → LiveHonestly view says held unknown (entry ∷ history)
   LiveHonestly-silent entry history held unknown silent honest =
-      All-weaker (Lives unknown history) (Lives unknown (entry ∷ history)) (λ seat lives known. rw (silent (node_of seat.0)) (lives known)) held honest
+      All-weaker (Lives unknown history) (Lives unknown (entry ∷ history)) (λ seat lives known. rw (silent seat.0) (lives known)) held honest
 
   -- one more object, of which nothing was asked
-  pub LiveHonestly-more : (held new : List (Who × O)) (history : List Entry) (who : Who) (object : O) (unknown : Option Who) → IsPermutation ((who, object) ∷ held) new → life_of (node_of who) history ≡ []
+  pub LiveHonestly-more : (held new : List (Who × O)) (history : List Entry) (who : Who) (object : O) (unknown : Option Who) → IsPermutation ((who, object) ∷ held) new → life_of who history ≡ []
       → LiveHonestly view says held unknown history → LiveHonestly view says new unknown history
   LiveHonestly-more held new history who object unknown same unasked honest =
       All-permutation (Lives unknown history) ((who, object) ∷ held) new same

@@ -22,23 +22,8 @@ use Rattle.uvm_object.specs.declared.acts.Who.TheVariants.{Node}
 use Rattle.bench_kernel.specs.declared.seats.Seat.{Seat}
 use Rattle.bench_kernel.specs.Seats.{Taken, held_in, paths_in}
 use Rattle.bench_kernel.specs.Places.{AreSeats, IsSeat, Place, SitsAt, place_cmp, seat_at, taken_in}
+use Rattle.bench_kernel.proofs.Numbers.{apart-eq, eq-apart, eq-flips, eq-self}
 use Rattle.bench_kernel.proofs.Lists.{All-filter_map, All-from_recursion, All-places, All-unmap, Contains-filter_map, Contains-map, filter_map-IsPermutation, filter_map-same, length-filter_map, recursion-from_All}
-
--- who stands at a node
-same-who : (who other : Who) → node_of who ≡ node_of other → who ≡ other
-same-who (Node node) (Node other) same = ap Node same
-
-eq-flips : (m n : ℕ) → nat_eq m n ≡ nat_eq n m
-eq-flips m n = grind (arith, nat_tests)
-
-eq-self : (n : ℕ) → nat_eq n n ≡ true
-eq-self n = grind (arith, nat_tests)
-
-eq-apart : (m n : ℕ) → m ≢ n → nat_eq m n ≡ false
-eq-apart m n apart = grind (arith, nat_tests)
-
-apart-eq : (m n : ℕ) → nat_eq m n ≡ false → m ≢ n
-apart-eq m n test same = grind (arith, nat_tests)
 
 module _ {O : Type 0} where
   -- at each place somebody is found
@@ -62,7 +47,7 @@ module _ {O : Type 0} where
     heap = seats.heap;
     seated =
         All-weaker (λ (place : Place). IsSeat slab table place.1) (λ place. IsSeat new more place.1)
-        (λ place seat. record { seat = seat.seat; there = same place.1 ∙ seat.there; found = found (node_of seat.seat.who) ∙ seat.found }) places seats.seated;
+        (λ place seat. record { seat = seat.seat; there = same place.1 ∙ seat.there; found = found seat.seat.node ∙ seat.found }) places seats.seated;
     apart = seats.apart;
     exact = λ node key at. let was = seats.exact node key (sym (found node) ∙ at) in record { seat = was.seat; there = same key ∙ was.there; is = was.is };
   }
@@ -71,32 +56,32 @@ module _ {O : Type 0} where
   taken_in-room slab new places same = taken_in-same slab new places (λ k d h. same _)
 
   -- the seats with one more
-  module _ (slab new : Slab (Seat O)) (table more : List (ℕ × ℕ)) (places next : List Place) (path : List (List ℕ)) (who : Who) (object : O) (key : ℕ)
-      (free : get slab key ≡ None) (seated : Updates slab new key (Some (record { who = who; object = object })))
-      (found : (node : ℕ) → lookup (nat_eq node) more ≡ cond (nat_eq (node_of who) node) (Some key) (lookup (nat_eq node) table))
-      (same : IsPermutation ((record { 0 = path }, key) ∷ places) next) (fresh : All (λ other. other ≢ who) (keys_of (held_in (taken_in slab places)))) (seats : AreSeats slab table places) where
+  module _ (slab new : Slab (Seat O)) (table more : List (ℕ × ℕ)) (places next : List Place) (path : List (List ℕ)) (sitter : ℕ) (object : O) (key : ℕ)
+      (free : get slab key ≡ None) (seated : Updates slab new key (Some (record { node = sitter; object = object })))
+      (found : (node : ℕ) → lookup (nat_eq node) more ≡ cond (nat_eq sitter node) (Some key) (lookup (nat_eq node) table))
+      (same : IsPermutation ((record { 0 = path }, key) ∷ places) next) (fresh : All (λ other. other ≢ Node sitter) (keys_of (held_in (taken_in slab places)))) (seats : AreSeats slab table places) where
     abbrev first : Place
     first = (record { 0 = path }, key)
 
-    others-differ : All (λ (taken : Taken O). taken.who ≢ who) (taken_in slab places)
+    others-differ : All (λ (taken : Taken O). taken.who ≢ Node sitter) (taken_in slab places)
     others-differ =
-        All-unmap (λ (held : Who × O). held.0 ≢ who) (λ (taken : Taken O). (taken.who, taken.object)) (taken_in slab places)
-        (All-unmap (λ other. other ≢ who) (λ (held : Who × O). held.0) (held_in (taken_in slab places)) fresh)
+        All-unmap (λ (held : Who × O). held.0 ≢ Node sitter) (λ (taken : Taken O). (taken.who, taken.object)) (taken_in slab places)
+        (All-unmap (λ other. other ≢ Node sitter) (λ (held : Who × O). held.0) (held_in (taken_in slab places)) fresh)
 
     -- each of the others is who was there
     other-same : All (λ place. (get new place.1 ≡ get slab place.1) × IsSeat new more place.1) places
-    other-same k d h = go (get_or places k d) (seats.seated k d h) (All-places (seat_at slab) (λ seat. seat.who ≢ who) places others-differ k d h)
+    other-same k d h = go (get_or places k d) (seats.seated k d h) (All-places (seat_at slab) (λ seat. seat.who ≢ Node sitter) places others-differ k d h)
       where
-        go : (place : Place) → IsSeat slab table place.1 → ((taken : Taken O) → seat_at slab place ≡ Some taken → taken.who ≢ who) → (get new place.1 ≡ get slab place.1) × IsSeat new more place.1
+        go : (place : Place) → IsSeat slab table place.1 → ((taken : Taken O) → seat_at slab place ≡ Some taken → taken.who ≢ Node sitter) → (get new place.1 ≡ get slab place.1) × IsSeat new more place.1
         go place seat unlike =
             let other : place.1 ≢ key = λ e. let bad = sym (ap (get slab) e ∙ free) ∙ seat.there in cc in
             let stays : get new place.1 ≡ get slab place.1 = seated.others place.1 other in
-            let apart : node_of who ≢ node_of seat.seat.who = λ e. unlike (record { path = place.0.0; who = seat.seat.who; object = seat.seat.object }) (rw seat.there refl) (same-who seat.seat.who who (sym e)) in
-            (stays, record { seat = seat.seat; there = stays ∙ seat.there; found = found (node_of seat.seat.who) ∙ (rw (eq-apart (node_of who) (node_of seat.seat.who) apart) seat.found) })
+            let apart : sitter ≢ seat.seat.node = λ e. unlike (record { path = place.0.0; who = Node seat.seat.node; object = seat.seat.object }) (rw seat.there refl) (ap Node (sym e)) in
+            (stays, record { seat = seat.seat; there = stays ∙ seat.there; found = found seat.seat.node ∙ (rw (eq-apart sitter seat.seat.node apart) seat.found) })
 
     all-seated : All (λ place. IsSeat new more place.1) (first ∷ places)
     all-seated =
-        All-cons (λ place. IsSeat new more place.1) first places (record { seat = record { who = who; object = object }; there = seated.changed; found = found (node_of who) ∙ (rw (eq-self (node_of who)) refl) })
+        All-cons (λ place. IsSeat new more place.1) first places (record { seat = record { node = sitter; object = object }; there = seated.changed; found = found sitter ∙ (rw (eq-self sitter) refl) })
         (λ k d h. (other-same k d h).1)
 
     keys-apart : IsDistinct nat_eq (key ∷ map (λ place. place.1) places)
@@ -109,13 +94,13 @@ module _ {O : Type 0} where
         seats.apart
 
     exact-more : (node at : ℕ) → lookup (nat_eq node) more ≡ Some at → SitsAt new at node
-    exact-more node at leads = go (nat_eq (node_of who) node) refl
+    exact-more node at leads = go (nat_eq sitter node) refl
       where
-        go : (b : Bool) → nat_eq (node_of who) node ≡ b → SitsAt new at node
+        go : (b : Bool) → nat_eq sitter node ≡ b → SitsAt new at node
         go true e =
-            let is : node_of who ≡ node = grind (arith, nat_tests) in
+            let is : sitter ≡ node = grind (arith, nat_tests) in
             let same_key : key ≡ at = same_Some key at (sym (rw e at (found node)) ∙ leads) in
-            record { seat = record { who = who; object = object }; there = rw (← same_key) seated.changed; is = is }
+            record { seat = record { node = sitter; object = object }; there = rw (← same_key) seated.changed; is = is }
         go false e =
             let was = seats.exact node at (sym (rw e at (found node)) ∙ leads) in
             let other : at ≢ key = λ same_key. let bad = sym (ap (get slab) same_key ∙ free) ∙ was.there in cc in
@@ -131,9 +116,9 @@ module _ {O : Type 0} where
       exact = exact-more;
     }
 
-    pub taken_in-insert : IsPermutation (record { path = path; who = who; object = object } ∷ taken_in slab places) (taken_in new next)
+    pub taken_in-insert : IsPermutation (record { path = path; who = Node sitter; object = object } ∷ taken_in slab places) (taken_in new next)
     taken_in-insert =
-        let taken : Taken O = record { path = path; who = who; object = object } in
+        let taken : Taken O = record { path = path; who = Node sitter; object = object } in
         let others : taken_in new places ≡ taken_in slab places = taken_in-same slab new places (λ k d h. (other-same k d h).0) in
         let front : taken_in new (first ∷ places) ≡ taken ∷ taken_in slab places = rw (seated.changed, others) refl in
         rw (← front) (filter_map-IsPermutation (seat_at new) taken (first ∷ places) next (all-found new more (first ∷ places) all-seated) same)
@@ -141,7 +126,7 @@ module _ {O : Type 0} where
   -- the seats with one less
   module _ (slab new : Slab (Seat O)) (table more : List (ℕ × ℕ)) (places next : List Place) (place : Place) (seat : Seat O)
       (same : IsPermutation places (place ∷ next)) (there : get slab place.1 ≡ Some seat) (freed : Updates slab new place.1 None)
-      (found : (node : ℕ) → lookup (nat_eq node) more ≡ cond (nat_eq (node_of seat.who) node) None (lookup (nat_eq node) table)) (seats : AreSeats slab table places) where
+      (found : (node : ℕ) → lookup (nat_eq node) more ≡ cond (nat_eq seat.node node) None (lookup (nat_eq node) table)) (seats : AreSeats slab table places) where
     were-seated : All (λ place. IsSeat slab table place.1) (place ∷ next)
     were-seated = All-permutation (λ place. IsSeat slab table place.1) places (place ∷ next) same seats.seated
 
@@ -154,7 +139,7 @@ module _ {O : Type 0} where
     others-apart = All-unmap (λ y. nat_eq place.1 y ≡ false) (λ (place : Place). place.1) next
         (All-from_recursion (λ y. nat_eq place.1 y ≡ false) (map (λ place. place.1) next) (IsDistinct-head nat_eq place.1 (map (λ place. place.1) next) were-apart))
 
-    found-there : lookup (nat_eq (node_of seat.who)) table ≡ Some place.1
+    found-there : lookup (nat_eq seat.node) table ≡ Some place.1
     found-there =
         let was = All-head (λ place. IsSeat slab table place.1) place next were-seated in
         let same_seat : was.seat ≡ seat = same_Some was.seat seat (sym was.there ∙ there) in
@@ -168,17 +153,17 @@ module _ {O : Type 0} where
         go other was apart =
             let unlike : other.1 ≢ place.1 = λ e. apart-eq place.1 other.1 apart (sym e) in
             let stays : get new other.1 ≡ get slab other.1 = freed.others other.1 unlike in
-            let elsewhere : node_of seat.who ≢ node_of was.seat.who = λ e. unlike (same_Some other.1 place.1 (sym was.found ∙ ap (λ n. lookup (nat_eq n) table) (sym e) ∙ found-there)) in
-            (stays, record { seat = was.seat; there = stays ∙ was.there; found = found (node_of was.seat.who) ∙ (rw (eq-apart (node_of seat.who) (node_of was.seat.who) elsewhere) was.found) })
+            let elsewhere : seat.node ≢ was.seat.node = λ e. unlike (same_Some other.1 place.1 (sym was.found ∙ ap (λ n. lookup (nat_eq n) table) (sym e) ∙ found-there)) in
+            (stays, record { seat = was.seat; there = stays ∙ was.there; found = found was.seat.node ∙ (rw (eq-apart seat.node was.seat.node elsewhere) was.found) })
 
     exact-less : (node at : ℕ) → lookup (nat_eq node) more ≡ Some at → SitsAt new at node
-    exact-less node at leads = go (nat_eq (node_of seat.who) node) refl
+    exact-less node at leads = go (nat_eq seat.node node) refl
       where
-        go : (b : Bool) → nat_eq (node_of seat.who) node ≡ b → SitsAt new at node
+        go : (b : Bool) → nat_eq seat.node node ≡ b → SitsAt new at node
         go true e = let bad = sym (rw e at (found node)) ∙ leads in cc
         go false e =
             let was = seats.exact node at (sym (rw e at (found node)) ∙ leads) in
-            let unlike : at ≢ place.1 = λ same_key. apart-eq (node_of seat.who) node e (ap (λ (s : Seat O). node_of s.who) (same_Some seat was.seat (sym there ∙ ap (get slab) (sym same_key) ∙ was.there)) ∙ was.is) in
+            let unlike : at ≢ place.1 = λ same_key. apart-eq seat.node node e (ap (λ (s : Seat O). s.node) (same_Some seat was.seat (sym there ∙ ap (get slab) (sym same_key) ∙ was.there)) ∙ was.is) in
             record { seat = was.seat; there = freed.others at unlike ∙ was.there; is = was.is }
 
     pub AreSeats-pop : IsHeap place_cmp next → AreSeats new more next
@@ -189,9 +174,9 @@ module _ {O : Type 0} where
       exact = exact-less;
     }
 
-    pub taken_in-pop : IsPermutation (record { path = place.0.0; who = seat.who; object = seat.object } ∷ taken_in new next) (taken_in slab places)
+    pub taken_in-pop : IsPermutation (record { path = place.0.0; who = Node seat.node; object = seat.object } ∷ taken_in new next) (taken_in slab places)
     taken_in-pop =
-        let taken : Taken O = record { path = place.0.0; who = seat.who; object = seat.object } in
+        let taken : Taken O = record { path = place.0.0; who = Node seat.node; object = seat.object } in
         let others : taken_in new next ≡ taken_in slab next = taken_in-same slab new next (λ k d h. (other-stays k d h).0) in
         let front : taken_in slab (place ∷ next) ≡ taken ∷ taken_in new next = rw (there, others) refl in
         rw (← front) (IsPermutation-sym (taken_in slab places) (taken_in slab (place ∷ next)) (filter_map-IsPermutation (seat_at slab) taken places (place ∷ next) (all-found slab table places seats.seated) same))
@@ -212,7 +197,7 @@ module _ {O : Type 0} where
           → is_lt (down_cmp taken.path place.0.0) ≡ false
       path-of other taken None is at low = let bad = rw is at at in cc
       path-of other taken (Some seat) is at low =
-          let same : other.0.0 ≡ taken.path = ap (λ (t : Taken O). t.path) (same_Some (record { path = other.0.0; who = seat.who; object = seat.object }) taken (rw is at at)) in
+          let same : other.0.0 ≡ taken.path = ap (λ (t : Taken O). t.path) (same_Some (record { path = other.0.0; who = Node seat.node; object = seat.object }) taken (rw is at at)) in
           subst (λ p. is_lt (down_cmp p place.0.0) ≡ false) same low
 
   -- the place of somebody who sits
@@ -222,7 +207,7 @@ module _ {O : Type 0} where
     pub is : IsPermutation places (place ∷ others)
     pub seat : Seat O
     pub there : get slab place.1 ≡ Some seat
-    pub same_who : seat.who ≡ who
+    pub same_who : Node seat.node ≡ who
     pub found : lookup (nat_eq (node_of who)) table ≡ Some place.1
 
   pub place-of : (slab : Slab (Seat O)) (table : List (ℕ × ℕ)) (places : List Place) (who : Who) → AreSeats slab table places → Contains (keys_of (held_in (taken_in slab places))) who → HasPlace slab table places who
@@ -233,8 +218,8 @@ module _ {O : Type 0} where
       let place = found.0 in
       let there = found.1 in
       let sat = All-contains (λ (place : Place). IsSeat slab table place.1) places place seats.seated there in
-      let same : record { path = place.0.0; who = sat.seat.who; object = sat.seat.object } ≡ taken.0 = same_Some (record { path = place.0.0; who = sat.seat.who; object = sat.seat.object }) taken.0 (rw sat.there at (found.2)) in
-      let same_who : sat.seat.who ≡ who = ap (λ (t : Taken O). t.who) same ∙ ap (λ (h : Who × O). h.0) taken.2 ∙ held.2 in
+      let same : record { path = place.0.0; who = Node sat.seat.node; object = sat.seat.object } ≡ taken.0 = same_Some (record { path = place.0.0; who = Node sat.seat.node; object = sat.seat.object }) taken.0 (rw sat.there at (found.2)) in
+      let same_who : Node sat.seat.node ≡ who = ap (λ (t : Taken O). t.who) same ∙ ap (λ (h : Who × O). h.0) taken.2 ∙ held.2 in
       record {
         place = place;
         others = remove places there.0;
@@ -248,10 +233,10 @@ module _ {O : Type 0} where
   -- the seats after another object was put in the place of one
   module _ (slab : Slab (Seat O)) (table : List (ℕ × ℕ)) (places : List Place) (key : ℕ) (seat : Seat O) (object : O) (there : get slab key ≡ Some seat) (seats : AreSeats slab table places) where
     abbrev written : Slab (Seat O)
-    written = with_value slab key (record { who = seat.who; object = object })
+    written = with_value slab key (record { node = seat.node; object = object })
 
-    write : Updates slab written key (Some (record { who = seat.who; object = object }))
-    write = Updates-with_value slab key (record { who = seat.who; object = object }) (rw there refl)
+    write : Updates slab written key (Some (record { node = seat.node; object = object }))
+    write = Updates-with_value slab key (record { node = seat.node; object = object }) (rw there refl)
 
     by-key : (at node : ℕ) → SitsAt slab at node → SitsAt written at node
     by-key at node was = go (nat_eq at key) refl
@@ -260,7 +245,7 @@ module _ {O : Type 0} where
         go true e =
             let same : at ≡ key = grind (arith, nat_tests) in
             let same_seat : was.seat ≡ seat = same_Some was.seat seat (sym was.there ∙ ap (get slab) same ∙ there) in
-            record { seat = record { who = seat.who; object = object }; there = ap (get written) same ∙ write.changed; is = rw (← same_seat) was.is }
+            record { seat = record { node = seat.node; object = object }; there = ap (get written) same ∙ write.changed; is = rw (← same_seat) was.is }
         go false e = record { seat = was.seat; there = write.others at (apart-eq at key e) ∙ was.there; is = was.is }
 
     pub AreSeats-write : AreSeats written table places
@@ -269,7 +254,7 @@ module _ {O : Type 0} where
       seated =
           All-weaker (λ (place : Place). IsSeat slab table place.1) (λ place. IsSeat written table place.1)
           (λ place was.
-          let now = by-key place.1 (node_of was.seat.who) (record { seat = was.seat; there = was.there; is = refl }) in
+          let now = by-key place.1 was.seat.node (record { seat = was.seat; there = was.there; is = refl }) in
           record { seat = now.seat; there = now.there; found = rw now.is was.found }) places seats.seated;
       apart = seats.apart;
       exact = λ node at leads. by-key at node (seats.exact node at leads);
@@ -277,8 +262,8 @@ module _ {O : Type 0} where
 
     -- the others are who they were
     pub record IsWritten (path : List (List ℕ)) (others : List (Taken O)) : Type 0 where
-      pub was : IsPermutation (record { path = path; who = seat.who; object = seat.object } ∷ others) (taken_in slab places)
-      pub is : IsPermutation (record { path = path; who = seat.who; object = object } ∷ others) (taken_in written places)
+      pub was : IsPermutation (record { path = path; who = Node seat.node; object = seat.object } ∷ others) (taken_in slab places)
+      pub is : IsPermutation (record { path = path; who = Node seat.node; object = object } ∷ others) (taken_in written places)
 
     pub taken_in-write : (place : Place) (others : List Place) → place.1 ≡ key → IsPermutation places (place ∷ others) → IsWritten place.0.0 (taken_in slab others)
     taken_in-write place others same_key same =
@@ -290,15 +275,15 @@ module _ {O : Type 0} where
         let rest : taken_in written others ≡ taken_in slab others =
         taken_in-same slab written others
         (All-weaker (λ (other : Place). nat_eq place.1 other.1 ≡ false) (λ other. get written other.1 ≡ get slab other.1) (λ other e. write.others other.1 (λ s. apart-eq place.1 other.1 e (same_key ∙ sym s))) others unlike) in
-        let before : taken_in slab (place ∷ others) ≡ record { path = place.0.0; who = seat.who; object = seat.object } ∷ taken_in slab others = rw (same_key, there) refl in
-        let after : taken_in written (place ∷ others) ≡ record { path = place.0.0; who = seat.who; object = object } ∷ taken_in slab others = rw (same_key, write.changed, rest) refl in
+        let before : taken_in slab (place ∷ others) ≡ record { path = place.0.0; who = Node seat.node; object = seat.object } ∷ taken_in slab others = rw (same_key, there) refl in
+        let after : taken_in written (place ∷ others) ≡ record { path = place.0.0; who = Node seat.node; object = object } ∷ taken_in slab others = rw (same_key, write.changed, rest) refl in
         record {
           was =
               rw (← before)
               (IsPermutation-sym (taken_in slab places) (taken_in slab (place ∷ others))
-              (filter_map-IsPermutation (seat_at slab) (record { path = place.0.0; who = seat.who; object = seat.object }) places (place ∷ others) (all-found slab table places seats.seated) same));
+              (filter_map-IsPermutation (seat_at slab) (record { path = place.0.0; who = Node seat.node; object = seat.object }) places (place ∷ others) (all-found slab table places seats.seated) same));
           is =
               rw (← after)
               (IsPermutation-sym (taken_in written places) (taken_in written (place ∷ others))
-              (filter_map-IsPermutation (seat_at written) (record { path = place.0.0; who = seat.who; object = object }) places (place ∷ others) (all-found written table places AreSeats-write.seated) same));
+              (filter_map-IsPermutation (seat_at written) (record { path = place.0.0; who = Node seat.node; object = object }) places (place ∷ others) (all-found written table places AreSeats-write.seated) same));
         }

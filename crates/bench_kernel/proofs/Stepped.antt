@@ -27,6 +27,7 @@ use Rattle.bench_core.specs.Cores.{CoreValue, IsTurn, IsNextTurn, IsRefusedTurn,
 use Rattle.bench_kernel.specs.Kernels.{KernelValue}
 use Rattle.bench_kernel.specs.Asked.{IsAsked}
 use Rattle.bench_kernel.specs.Steps.{IsWaiting, IsMoved, IsRefusedStep, IsSameLog, WasGiven, unanswered_from}
+use Rattle.bench_kernel.proofs.Lives.{same_who-self}
 
 -- the machine made an entry: what alone could come
 pub record HasMoved (old new : CoreValue) : Type 0 where
@@ -146,9 +147,8 @@ module _ {O : Type 0} (view : O → View) (name : O → List ℕ) (says : O → 
   -- an entry of the machine is nobody's answer
   given-exact : MachineEntriesAreSilent → (script : ScriptValue) (history : List Entry) (entry : Entry) (held : List (Who × O)) → next_of script history ≡ next.Exactly entry → WasGiven view name says entry held held
   given-exact silent script history (Heard performer call cause acts) held exact =
-      absurd (let nothing = (silent script history (Heard performer call cause acts) exact).silent (node_of performer) in
-      let same : (node_of performer == node_of performer) ≡ true = grind (arith, nat_tests) in
-      let bad : (call, acts) ∷ [] ≡ [] = rw same at nothing in cc)
+      absurd (let nothing = (silent script history (Heard performer call cause acts) exact).silent performer in
+      let bad : (call, acts) ∷ [] ≡ [] = rw (same_who-self performer) at nothing in cc)
   given-exact silent script history entry held exact = refl
 
   pub needed-step : (kernel : KernelValue O) (new : CoreValue) → length new.history < log_limit new.script → HasNeeded kernel.core new → IsWaiting view name says kernel (record kernel { core = new })

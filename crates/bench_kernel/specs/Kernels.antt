@@ -7,7 +7,7 @@ use Rattle.uvm_tree.specs.Nodes.{path_at}
 use Rattle.uvm_object.specs.Acts.{node_of}
 use Rattle.uvm_object.specs.declared.acts.Who.{Who}
 use Rattle.uvm_object.specs.declared.acts.Who.TheVariants.{Node}
-use Rattle.uvm_object.specs.Objects.{View, Says, IsHonestNow, life_of}
+use Rattle.uvm_object.specs.Objects.{View, Says, IsHonestNow, life_of, same_who}
 use Rattle.uvm_object.specs.declared.entries.Outcome.{Outcome}
 use Rattle.uvm_object.specs.declared.entries.Outcome.TheVariants.{Made}
 use Rattle.uvm_object.specs.declared.entries.Entry.{Entry}
@@ -28,10 +28,6 @@ pub record KernelValue (O : Type 0) : Type 0 where
 -- who is held
 abbrev pub who_held : {O : Type 0} → KernelValue O → List Who
 who_held kernel = keys_of kernel.held
-
--- whether two are one
-abbrev pub same_who : Who → Who → Bool
-same_who (Node node) (Node other) = nat_eq node other
 
 -- the object that is needed, which a failed kernel does not say
 abbrev pub open_need : {O : Type 0} → KernelValue O → Option Need
@@ -62,7 +58,7 @@ types_made (entry ∷ before) = types_made before
 module _ {O : Type 0} (view : O → View) (says : O → Says) where
   -- each object that is held has lived the life that the log says, but for one that gave no answer
   abbrev pub LiveHonestly : List (Who × O) → Option Who → List Entry → Type 0
-  LiveHonestly held unknown history = All (λ seat. unknown ≢ Some seat.0 → IsHonestNow (says seat.1) (view seat.1) (life_of (node_of seat.0) history)) held
+  LiveHonestly held unknown history = All (λ seat. unknown ≢ Some seat.0 → IsHonestNow (says seat.1) (view seat.1) (life_of seat.0 history)) held
 
   abbrev pub AreHonest : KernelValue O → Type 0
   AreHonest kernel = LiveHonestly kernel.held kernel.unknown kernel.core.history

@@ -10,7 +10,7 @@ use Rattle.std.specs.declared.cmp.Reverse.{Reverse}
 use Rattle.std.specs.declared.collections.BinaryHeap.{BinaryHeap}
 use Rattle.slab.specs.Slab.{Slab, get, slab_len}
 use Rattle.uvm_glob.specs.Orders.{down_cmp}
-use Rattle.uvm_object.specs.Acts.{node_of}
+use Rattle.uvm_object.specs.declared.acts.Who.TheVariants.{Node}
 use Rattle.bench_kernel.specs.declared.seats.Seat.{Seat}
 use Rattle.bench_kernel.specs.Seats.{Taken}
 
@@ -25,7 +25,7 @@ place_cmp place other = ordering_then (down_cmp other.0.0 place.0.0) (nat_cmp pl
 module _ {O : Type 0} where
   -- who sits at a place
   abbrev pub seat_at : Slab (Seat O) → Place → Option (Taken O)
-  seat_at slab place = option_map (λ seat. record { path = place.0.0; who = seat.who; object = seat.object }) (get slab place.1)
+  seat_at slab place = option_map (λ seat. record { path = place.0.0; who = Node seat.node; object = seat.object }) (get slab place.1)
 
   abbrev pub taken_in : Slab (Seat O) → List Place → List (Taken O)
   taken_in slab places = filter_map (seat_at slab) places
@@ -34,13 +34,13 @@ module _ {O : Type 0} where
   pub record IsSeat (slab : Slab (Seat O)) (table : List (ℕ × ℕ)) (key : ℕ) : Type 0 where
     pub seat : Seat O
     pub there : get slab key ≡ Some seat
-    pub found : lookup (nat_eq (node_of seat.who)) table ≡ Some key
+    pub found : lookup (nat_eq seat.node) table ≡ Some key
 
   -- a component sits at a key
   pub record SitsAt (slab : Slab (Seat O)) (key node : ℕ) : Type 0 where
     pub seat : Seat O
     pub there : get slab key ≡ Some seat
-    pub is : node_of seat.who ≡ node
+    pub is : seat.node ≡ node
 
   -- the places are a heap, each with a key of its own, at which somebody sits to whom the table leads; and it leads nowhere else
   pub record AreSeats (slab : Slab (Seat O)) (table : List (ℕ × ℕ)) (places : List Place) : Type 0 where

@@ -13,7 +13,8 @@ ghost use Rattle.bench_core.specs.Cores.{IsUnmade, core_after, is_sound};
 ghost use Rattle.bench_core.specs.Cores.{Nothing};
 ghost use Rattle.bench_core.specs.declared.cores.Health.TheVariants.{Good};
 ghost use Rattle.bench_kernel.specs.Orders.{IsFirstDown};
-ghost use Rattle.bench_kernel.specs.Kernels.{AreHonest, abandoned, is_done, open_need, same_who, types_made, wanted_in, who_held};
+ghost use Rattle.bench_kernel.specs.Kernels.{AreHonest, abandoned, is_done, open_need, types_made, wanted_in, who_held};
+ghost use Rattle.uvm_object.specs.Objects.{same_who};
 ghost use Rattle.bench_kernel.specs.Steps.{IsMisfit, IsStep, IsSupplied};
 
 use crate::laws;
@@ -168,7 +169,8 @@ impl<O: UvmObject> Kernel<O> {
             });
         };
         let who = self.core.made();
-        self.seats.insert(who, path, object);
+        let node = who.node();
+        self.seats.insert(node, path, object);
         Ok(())
     }
 

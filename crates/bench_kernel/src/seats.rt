@@ -3,6 +3,7 @@
 ghost use Rattle.std.specs.Prelude.{◌≡◌, ◌≢◌, ◌<◌, ◌∷◌, [], All, Contains, length, OnOk, IfSome, IfNone};
 ghost use Rattle.std.specs.List.Sorted.{IsPermutation};
 ghost use Rattle.std.specs.Map.{keys_of};
+ghost use Rattle.uvm_object.specs.declared.acts.Who.TheVariants.{Node};
 ghost use Rattle.bench_kernel.specs.Asked.{IsAsked};
 ghost use Rattle.bench_kernel.specs.Seats.{IsTakenOut, held_in, paths_in};
 
@@ -26,10 +27,10 @@ pub(crate) struct Seats<O> {
     down: BinaryHeap<(Reverse<Path>, usize)>,
 }
 
-// A seat that is taken.
+// A seat that is taken by the component at a node.
 #[derive(Drop)]
 struct Seat<O> {
-    who: Who,
+    node: NodeId,
     object: O,
 }
 
@@ -68,14 +69,13 @@ impl<O> Seats<O> {
         self.down.reserve(1)
     }
 
-    /// Seats an object at a path. Takes no memory.
-    pub(crate) fn insert(&mut self, who: Who, path: Path, object: O)
+    /// Seats the component at a node, which has a path. Takes no memory.
+    pub(crate) fn insert(&mut self, node: NodeId, path: Path, object: O)
         requires room { 0 < self.old.spare }
-        requires apart { All (λ other. other ≢ who) (keys_of (held_in self.old.taken)) }
-        ensures { IsPermutation (record { path = path; who = who; object = object } ∷ self.old.taken) self.new.taken }
+        requires apart { All (λ other. other ≢ Node node) (keys_of (held_in self.old.taken)) }
+        ensures { IsPermutation (record { path = path; who = Node node; object = object } ∷ self.old.taken) self.new.taken }
     {
-        let node = who.node();
-        let key = self.taken.insert_reserved(Seat { who, object });
+        let key = self.taken.insert_reserved(Seat { node, object });
         let Ok(_) = self.components.insert(node, key) else {
             unreachable!()
         };
@@ -91,9 +91,9 @@ impl<O> Seats<O> {
         ensures unchanged { IfNone result (self.new.taken ≡ self.old.taken) }
     {
         let (_, key) = self.down.pop()?;
-        let Seat { who, object } = self.taken.remove(key);
-        self.components.remove(&who.node());
-        Some((who, object))
+        let Seat { node, object } = self.taken.remove(key);
+        self.components.remove(&node);
+        Some((Who::Node(node), object))
     }
 
     /// How many are taken.

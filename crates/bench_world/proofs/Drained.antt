@@ -17,16 +17,16 @@ use Rattle.uvm_objection.specs.Nodes.{Node, is_known, held_of, due_of, changed_a
 use Rattle.uvm_objection.specs.Totals.{total, settled, drains_begun, drains_ended}
 use Rattle.uvm_objection.specs.Laws.{places, AreNodes, PlacesStay, SettledGoByTotals, IsHeldUntilDue}
 use Rattle.uvm_object.specs.declared.acts.Who.{Who}
-use Rattle.uvm_object.specs.declared.acts.Who.TheVariants as who
 use Rattle.uvm_object.specs.declared.acts.Call.{Call}
 use Rattle.uvm_object.specs.declared.entries.Entry.{Entry}
 use Rattle.bench_history.specs.declared.stages.Stage.{Stage}
 use Rattle.bench_history.specs.declared.owners.Owner.{Owner}
 use Rattle.bench_history.specs.declared.owners.Owner.TheVariants.{Object, Drain}
+use Rattle.uvm_object.specs.Acts.{node_of}
 use Rattle.bench_history.specs.Owners.{Event, is_drain_of, who_of}
 use Rattle.bench_history.specs.History.{now_of, running}
 use Rattle.bench_history.specs.Dues.{event_in, caused_at, drain_from, with_drains, is_open, due_events}
-use Rattle.bench_history.specs.Laws.{next_number, IsDue}
+use Rattle.bench_history.specs.Laws.{next_number, IsDrainDue}
 use Rattle.bench_world.specs.Objectings.{IsEvent, AreEvents}
 use Rattle.bench_world.specs.Services.{IsAgenda}
 use Rattle.bench_world.proofs.Told.{filter-twice, first-holds, one-heard, one-ended, agenda-later, agenda-event}
@@ -290,17 +290,18 @@ none-ended (event ∷ caused) = rw (none event.owner, none-ended caused) refl
 
 -- the node whose drain is due holds something until now
 pub due-is-held :
-    (nodes : List Node) (history : List Entry) (node : ℕ) (cause : Cause) → OrderKeepsAll Owner (Option Call) → AreEvents nodes (due_events history) → IsDue history (who.Node node) None cause
+    (nodes : List Node) (history : List Entry) (node : ℕ) (cause : Cause) → OrderKeepsAll Owner (Option Call) → AreEvents nodes (due_events history) → IsDrainDue history node cause
     → IsHeldUntilDue nodes (record { node = node; at = now_of history })
-due-is-held nodes history node cause keeps all due =
+due-is-held nodes history node cause keeps all drained =
+    let due = drained.due in
     let P : Event → Type 0 = λ event. IsEvent nodes event.owner event.notice event.time in
     let ordered : All P (in_order (due_events history)) = All-permutation P (due_events history) (in_order (due_events history)) (keeps (due_events history)) all in
-    drain due.event.owner due.event.notice due.event.time due.hearer_is due.notice_is due.time (first-holds P (in_order (due_events history)) due.event ordered due.first)
+    drain due.event.owner due.event.notice due.event.time (rw due.hearer_is drained.stands) due.notice_is due.time (first-holds P (in_order (due_events history)) due.event ordered due.first)
   where
     drain :
-        (owner : Owner) (notice : Option Call) (time : ℕ) → who_of owner ≡ who.Node node → notice ≡ None → time ≡ now_of history → IsEvent nodes owner notice time
+        (owner : Owner) (notice : Option Call) (time : ℕ) → node_of (who_of owner) ≡ node → notice ≡ None → time ≡ now_of history → IsEvent nodes owner notice time
         → IsHeldUntilDue nodes (record { node = node; at = now_of history })
-    drain (Object who) (Some call) time hearer none now is = cc
-    drain (Object who) None time hearer none now is = absurd is
-    drain (Drain other) None time hearer none now is = let same : other ≡ node = cc in rw (← same, ← now) is
-    drain (Drain other) (Some call) time hearer none now is = absurd is
+    drain (Object who) (Some call) time same none now is = cc
+    drain (Object who) None time same none now is = absurd is
+    drain (Drain other) None time same none now is = rw (← same, ← now) is
+    drain (Drain other) (Some call) time same none now is = absurd is

@@ -7,6 +7,8 @@ use Rattle.uvm_object.specs.declared.acts.Who.{Who}
 use Rattle.uvm_object.specs.declared.acts.Call.{Call}
 use Rattle.uvm_object.specs.declared.acts.Act.{Act}
 use Rattle.uvm_object.specs.Acts.{node_of}
+use Rattle.uvm_object.specs.declared.acts.Who.TheVariants.{Node, Sequence}
+use Rattle.bench_history.specs.Laws.{IsComponent}
 use Rattle.uvm_object.specs.declared.entries.Entry.{Entry}
 use Rattle.uvm_object.specs.declared.entries.Entry.TheVariants.{Heard}
 use Rattle.bench_world.specs.declared.services.Component.{Component}
@@ -15,12 +17,13 @@ use Rattle.bench_world.proofs.Entered.{get-last, answered-last}
 use Rattle.bench_world.proofs.Turns.{turns-heard}
 
 -- who is asked stands at a node
-pub asked-within : {components called : List ℕ} {count : ℕ} {kept : List Component} (performer : Who) → Contains components (node_of performer) → AreTurns components called count kept → node_of performer < count
-asked-within {components} {count = count} performer there turns = All-contains (λ other. other < count) components (node_of performer) turns.within there
+pub asked-within : {components called : List ℕ} {count : ℕ} {kept : List Component} (performer : Who) → IsComponent components performer → AreTurns components called count kept → node_of performer < count
+asked-within {components} {count = count} (Node node) there turns = All-contains (λ other. other < count) components node turns.within there
+asked-within (Sequence id home) there turns = absurd there
 
 -- and had its call
 pub heard-turns :
-    {components called : List ℕ} {count : ℕ} {kept : List Component} (performer : Who) (node : ℕ) → node ≡ node_of performer → Contains components (node_of performer)
+    {components called : List ℕ} {count : ℕ} {kept : List Component} (performer : Who) (node : ℕ) → node ≡ node_of performer → IsComponent components performer
     → AreTurns components called count kept → AreTurns components (node_of performer ∷ called) count (map (with_call node) kept)
 heard-turns {components} {count = count} performer node is there turns =
     rw is (turns-heard (node_of performer) (asked-within performer there turns) turns)

@@ -22,3 +22,4 @@ mod Reported
 mod Objected
 pub mod Written
 pub mod Outlets
+pub mod Sequencing

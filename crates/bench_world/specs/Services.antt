@@ -46,6 +46,7 @@ use Rattle.bench_history.specs.Wires.{ends_connect, wiring_of}
 use Rattle.bench_world.specs.Connectings.{IsClosedPast, IsClosing, IsConnecting}
 use Rattle.bench_world.specs.Passings.{AreStations, ArePassed, AreUnsettled}
 use Rattle.uvm_tree.specs.Sorted.{path_order}
+use Rattle.bench_history.specs.Sequences.{sequences_of}
 use Rattle.bench_history.specs.Ports.{fifo_size}
 use Rattle.bench_history.specs.Passing.{answered_at, is_no_put, is_put, items_entered, items_left, next_passed, passing_at, puts_asked, station_at, takes_asked}
 use Rattle.bench_history.specs.Refusals.{in_task}
@@ -143,6 +144,7 @@ pub record ServicesMatch (script : ScriptValue) (history : List Entry) (services
   pub stations : AreStations (station_at history) services.stations
   pub passed : ArePassed (length history) (fifo_size (wiring_of history)) (items_entered history) (items_left history) (puts_asked history) (answered_at is_put history) (takes_asked history) (answered_at is_no_put history)
   pub unsettled : AreUnsettled (passing_at history) (path_order (nodes_of history)) services.unsettled.items
+  pub sequences : services.sequences.started ≡ sequences_of history
   pub objections : IsObjecting (objections_of history) (length (nodes_of history)) (length history) services.objection
   pub factory : IsFactory script.types (overrides_of script history) services.factory
   pub turns : AreTurns (components_of history) (called_of history) (length (nodes_of history)) services.components.items

@@ -1,7 +1,7 @@
 //! What an act comes to: each act is a function on the services, and all have one contract.
 
-ghost use Rattle.std.specs.Prelude.{◌≡◌, ◌∷◌, ◌<◌, ◌+◌, ◌||◌, ◌==◌, length, true, OnOk, OnErr, IfOk, IsOk, IsTrue};
-ghost use Rattle.uvm_object.specs.Acts.{node_of};
+ghost use Rattle.std.specs.Prelude.{ℕ, ◌≡◌, ◌∷◌, ◌<◌, ◌+◌, ◌||◌, ◌==◌, length, true, OnOk, OnErr, IfOk, IsOk, IsTrue};
+ghost use Rattle.uvm_object.specs.Acts.{is_sequencing, node_of};
 ghost use Rattle.uvm_object.specs.declared.entries.Entry.TheVariants.{Did};
 ghost use Rattle.uvm_object.specs.declared.entries.Outcome.TheVariants.{Done, Refused};
 ghost use Rattle.uvm_object.specs.Fatals.{fatal_report};
@@ -69,6 +69,15 @@ pub(crate) fn perform(
         Act::TryTake { port } => try_take(services, alloc, place, port),
         Act::Peek { port } => peek(services, alloc, place, port),
         Act::Write { port, item } => write(services, alloc, place, port, *item),
+        Act::Ask { .. }
+        | Act::ItemDone { .. }
+        | Act::Start { .. }
+        | Act::Request { .. }
+        | Act::Lock
+        | Act::Grab
+        | Act::Unlock
+        | Act::Send { .. }
+        | Act::EndStep => bar(services, alloc, act),
         Act::Report { report } => issue(services, alloc, report),
         Act::Verbosity { which, level } => set_verbosity(services, alloc, *which, *level),
         Act::Actions { which, actions } => set_action(services, alloc, *which, *actions),
@@ -78,6 +87,15 @@ pub(crate) fn perform(
         Act::SetDrain { ticks } => set_drain(services, alloc, *ticks),
         Act::Wait { ticks, tag } => wait(services, alloc, place, *ticks, *tag),
     }
+}
+
+// An act that has to do with sequences is open to nobody yet.
+fn bar(services: &mut Services, alloc: Global, act: &Act) -> Result<Attempt, AllocError>
+    requires can { CanPerform services.old }
+    requires sequencing { is_sequencing act.now ≡ true }
+    ensures { IfOk result (λ attempt. (place : ℕ) → IsAttempt act.now attempt place services.old services.new) }
+{
+    refused(services, alloc, Fatal::NotOpen)
 }
 
 // An act is performed, and nothing is reported.

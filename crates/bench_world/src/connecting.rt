@@ -207,6 +207,7 @@ pub(crate) fn add_end(wiring: &mut Wiring, node: NodeId, what: What) -> Result<(
     ensures { OnOk result (wiring.new ≡ with_end node (end_of what) wiring.old) }
 {
     let added = match what {
+        What::Sequencer { .. } => wiring.sequencer(node),
         What::Fifo { size } => wiring.fifo(node, size),
         What::Port { kind } => wiring.port(node, kind),
         What::Export { kind } => wiring.export(node, kind),

@@ -106,6 +106,7 @@ fn kind_of(what: What) -> NodeKind
     ensures { result ≡ kind_of what }
 {
     match what {
+        What::Sequencer { .. } => NodeKind::Sequencer,
         What::Fifo { .. } => NodeKind::Fifo,
         What::Port { .. } => NodeKind::Port,
         What::Export { .. } => NodeKind::Export,

@@ -17,6 +17,7 @@ use uvm_factory::Factory;
 use uvm_object::{Call, Who};
 use uvm_objection::{Objection, laws as objections};
 use uvm_phase::Agenda;
+use uvm_sequencer::Sequences;
 use uvm_tlm::Wiring;
 use uvm_tree::{NodeId, Tree};
 
@@ -61,8 +62,9 @@ pub(crate) struct Services {
     pub(crate) objection: Objection,
     pub(crate) wiring: Wiring,
     pub(crate) stations: Stations,
-    // The FIFOs at which something may pass, in path order.
+    // Some nodes in path order, all FIFOs among them at which something may pass.
     pub(crate) unsettled: Vec<NodeId>,
+    pub(crate) sequences: Sequences,
     pub(crate) factory: Factory,
     pub(crate) settings: Settings,
     pub(crate) reporting: Reporting,
@@ -96,6 +98,7 @@ impl Services {
             wiring: Wiring::new(alloc),
             stations: Stations::new(alloc),
             unsettled: Vec::new(alloc),
+            sequences: Sequences::new(alloc),
             factory,
             settings,
             reporting,

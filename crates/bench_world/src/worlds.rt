@@ -11,7 +11,8 @@ ghost use Rattle.uvm_report.specs.Commands.{is_exit_asked};
 ghost use Rattle.uvm_report.specs.Changes.{Gives};
 ghost use Rattle.std.specs.Option.{option_copied};
 ghost use Rattle.uvm_phase.specs.Dues.{in_order};
-ghost use Rattle.bench_history.specs.Wires.{wiring_of};
+ghost use Rattle.bench_history.specs.Wires.{is_past_connect, wiring_of};
+ghost use Rattle.uvm_tlm.specs.Wirings.{is_closed};
 ghost use Rattle.bench_world.specs.Connectings.{IsConnecting};
 ghost use Rattle.bench_world.specs.Services.{IsFactory, IsSettings};
 ghost use Rattle.uvm_glob.specs.Paths.{path_text};
@@ -20,6 +21,7 @@ ghost use Rattle.bench_history.specs.Configuration.{settings_of};
 ghost use Rattle.bench_history.specs.Dues.{due_events, due_now};
 ghost use Rattle.bench_history.specs.Next.{IsLegal};
 ghost use Rattle.bench_history.specs.Passing.{next_passed, waiting_at};
+ghost use Rattle.bench_history.specs.Sequences.{sequences_of};
 ghost use Rattle.bench_world.specs.Worlds.{WorldValue};
 
 use crate::configuring::given_settings;
@@ -38,6 +40,7 @@ use uvm_object::{Act, Call, Deed, Log, Passage};
 use uvm_objection::Objection;
 use uvm_phase::{Agenda, Due, Phase};
 use uvm_report::{Fate, Reports};
+use uvm_sequencer::Sequences;
 use uvm_tlm::Wiring;
 use uvm_tree::{NodeId, Tree};
 
@@ -227,10 +230,12 @@ impl World {
         &self.services.objection
     }
 
-    /// The wiring: what can be connected, and the connections; once it is closed, in the path order of all nodes (Clause 12).
+    /// The wiring: what can be connected, and the connections; once it is closed, in the path order of all nodes (Clause 12). It is
+    /// closed where connect has ended.
     pub fn wiring(&self) -> &Wiring
         requires { self.now.sound ≡ true }
-        ensures { IsConnecting (nodes_of self.now.history) (wiring_of self.now.history) result.now }
+        ensures kept { IsConnecting (nodes_of self.now.history) (wiring_of self.now.history) result.now }
+        ensures closed { is_past_connect self.now.history ≡ true → is_closed result.now ≡ true }
     {
         &self.services.wiring
     }
@@ -271,6 +276,14 @@ impl World {
     {
         let objection = &self.services.objection;
         objection.total(NodeId::TOP) > 0 || objection.held(NodeId::TOP) > 0
+    }
+
+    /// The sequences that were started (Clause 14).
+    pub fn sequences(&self) -> &Sequences
+        requires { self.now.sound ≡ true }
+        ensures { result.now.started ≡ sequences_of self.now.history }
+    {
+        &self.services.sequences
     }
 
     /// The tree.

@@ -3,9 +3,10 @@ use Rattle.std.specs.Prelude.{ℕ, List, codes}
 use Rattle.uvm_report.specs.declared.severities.Severity.TheVariants as severity
 use Rattle.uvm_report.specs.declared.messages.Report.{Report}
 use Rattle.uvm_object.specs.declared.fatals.Fatal.{Fatal}
-use Rattle.uvm_object.specs.declared.fatals.Fatal.TheVariants.{CreatedAfterBuild, TooManyActs, InvalidType, ChildTaken, TreeLimit, OverrideLoop, NoObject, TooManySettings, ConnectedTooLate, UnknownNode, KindsDiffer, TooFewConnections, TooManyConnections, NoPort, OutsideTask, ObjectionBelowZero, OutOfRange, Timeout, Stall}
+use Rattle.uvm_object.specs.declared.fatals.Fatal.TheVariants.{NotOpen, CreatedAfterBuild, TooManyActs, InvalidType, ChildTaken, TreeLimit, OverrideLoop, NoObject, TooManySettings, ConnectedTooLate, UnknownNode, KindsDiffer, TooFewConnections, TooManyConnections, NoPort, NoSequencer, NoDriver, AskedTwice, NothingOut, NotGranted, NotHeld, OutsideTask, ObjectionBelowZero, OutOfRange, Timeout, Stall}
 
 abbrev pub id_of : Fatal → List ℕ
+id_of NotOpen = codes "ILLACT"
 id_of CreatedAfterBuild = codes "ILLCRT"
 id_of TooManyActs = codes "ACTLIM"
 id_of InvalidType = codes "INVTYP"
@@ -20,6 +21,12 @@ id_of KindsDiffer = codes "CONNERR"
 id_of TooFewConnections = codes "CONNERR"
 id_of TooManyConnections = codes "CONNERR"
 id_of NoPort = codes "NOPORT"
+id_of NoSequencer = codes "NOSQR"
+id_of NoDriver = codes "SQRERR"
+id_of AskedTwice = codes "SQRERR"
+id_of NothingOut = codes "SQRERR"
+id_of NotGranted = codes "SQRERR"
+id_of NotHeld = codes "SQRERR"
 id_of OutsideTask = codes "NOTTASK"
 id_of ObjectionBelowZero = codes "OBJTN_ZERO"
 id_of OutOfRange = codes "ACTRNG"
@@ -27,6 +34,7 @@ id_of Timeout = codes "PH_TIMEOUT"
 id_of Stall = codes "STALL"
 
 abbrev pub text_of : Fatal → List ℕ
+text_of NotOpen = codes "act not open to this object"
 text_of CreatedAfterBuild = codes "created after build"
 text_of TooManyActs = codes "more than 64 acts"
 text_of InvalidType = codes "type unknown or of another kind"
@@ -41,6 +49,12 @@ text_of KindsDiffer = codes "kinds differ"
 text_of TooFewConnections = codes "too few connections"
 text_of TooManyConnections = codes "too many connections"
 text_of NoPort = codes "no such port"
+text_of NoSequencer = codes "no such sequencer"
+text_of NoDriver = codes "no driver"
+text_of AskedTwice = codes "asked twice"
+text_of NothingOut = codes "nothing out"
+text_of NotGranted = codes "not granted"
+text_of NotHeld = codes "not held"
 text_of OutsideTask = codes "act outside a task phase"
 text_of ObjectionBelowZero = codes "objection dropped below zero"
 text_of OutOfRange = codes "value out of range"

@@ -8,6 +8,11 @@ use Rattle.uvm_report.specs.declared.severities.Actions.{Actions}
 use Rattle.uvm_report.specs.declared.settings.Which.{Which}
 use Rattle.uvm_report.specs.declared.settings.Which.TheVariants as which
 use Rattle.uvm_report.specs.Severities.{severity_name, is_empty}
+use Rattle.uvm_sequencer.specs.declared.drivers.How.{How}
+use Rattle.uvm_sequencer.specs.declared.drivers.How.TheVariants as how
+use Rattle.uvm_sequencer.specs.declared.modes.Mode.{Mode}
+use Rattle.uvm_sequencer.specs.declared.modes.Mode.TheVariants as mode
+use Rattle.uvm_sequencer.specs.Sequences.{Start, names_of}
 use Rattle.uvm_tlm.specs.declared.ends.PortKind.{PortKind}
 use Rattle.uvm_tlm.specs.declared.ends.PortKind.TheVariants.{Put, Get, Analysis, Seq}
 use Rattle.uvm_tlm.specs.declared.fifos.MoveKind.{MoveKind}
@@ -24,11 +29,11 @@ use Rattle.uvm_object.specs.declared.acts.What.TheVariants as what
 use Rattle.uvm_object.specs.declared.acts.Act.{Act}
 use Rattle.uvm_object.specs.declared.acts.Act.TheVariants as act
 use Rattle.uvm_object.specs.declared.entries.Outcome.{Outcome}
-use Rattle.uvm_object.specs.declared.entries.Outcome.TheVariants.{Done, Made, Value, Stored, Taken, Refused}
+use Rattle.uvm_object.specs.declared.entries.Outcome.TheVariants as outcome
 use Rattle.uvm_object.specs.declared.entries.Reason.{Reason}
 use Rattle.uvm_object.specs.declared.entries.Reason.TheVariants.{Finished, Exit, NoTest, Stall, Timeout}
 use Rattle.uvm_object.specs.declared.entries.Entry.{Entry}
-use Rattle.uvm_object.specs.declared.entries.Entry.TheVariants.{Begin, End, Time, Heard, Did, Passed, Drained, Note, Over}
+use Rattle.uvm_object.specs.declared.entries.Entry.TheVariants.{Begin, End, Time, Heard, Did, Locked, Granted, Passed, Drained, Note, Over}
 use Rattle.uvm_object.specs.Fatals.{id_of}
 
 -- a path as it is printed: the top's own is `uvm_top`
@@ -36,8 +41,18 @@ abbrev pub shown_path : List (List ℕ) → List ℕ
 shown_path [] = codes "uvm_top"
 shown_path (name ∷ names) = path_text (name ∷ names)
 
-abbrev pub who_text : List Node → Who → List ℕ
-who_text nodes (who.Node node) = shown_path (path_at nodes node)
+-- a sequence as it is printed: its home, and the names from its root sequence down to itself
+abbrev pub sequence_text : List Node → List Start → ℕ → ℕ → List ℕ
+sequence_text nodes started id home = shown_path (path_at nodes home) ++ codes "@@" ++ path_text (names_of started id)
+
+-- as the source of reports, and in the lines of entries, where a sequence has its number behind it
+abbrev pub source_text : List Node → List Start → Who → List ℕ
+source_text nodes started (who.Node node) = shown_path (path_at nodes node)
+source_text nodes started (who.Sequence id home) = sequence_text nodes started id home
+
+abbrev pub who_text : List Node → List Start → Who → List ℕ
+who_text nodes started (who.Node node) = shown_path (path_at nodes node)
+who_text nodes started (who.Sequence id home) = sequence_text nodes started id home ++ 35 ∷ decimal id
 
 -- a value that may be absent
 abbrev pub value_text : Option ℤ → List ℕ
@@ -71,6 +86,14 @@ call_text (call.Taken port item) = codes "taken " ++ port ++ 32 ∷ item_text it
 call_text (call.TryTaken port item) = codes "try_taken " ++ port ++ 32 ∷ some_item_text item
 call_text (call.Peeked port item) = codes "peeked " ++ port ++ 32 ∷ item_text item
 call_text (call.Written imp item) = codes "written " ++ imp ++ 32 ∷ item_text item
+call_text (call.NextItem port item) = codes "next_item " ++ port ++ 32 ∷ some_item_text item
+call_text call.PreStart = codes "pre_start"
+call_text call.Body = codes "body"
+call_text call.PostStart = codes "post_start"
+call_text call.Grant = codes "grant"
+call_text (call.ItemDone response) = codes "item_done " ++ some_item_text response
+call_text call.Held = codes "held"
+call_text (call.Finished name id) = codes "finished " ++ name ++ 32 ∷ decimal id
 
 -- what a port or an export passes on
 abbrev pub kind_text : PortKind → List ℕ
@@ -79,7 +102,21 @@ kind_text Get = codes "get"
 kind_text Analysis = codes "analysis"
 kind_text Seq = codes "seq"
 
+-- how a sequencer chooses, and how its driver asks
+abbrev pub mode_text : Mode → List ℕ
+mode_text mode.Fifo = codes "FIFO"
+mode_text mode.Weighted = codes "WEIGHTED"
+mode_text mode.Random = codes "RANDOM"
+mode_text mode.StrictFifo = codes "STRICT_FIFO"
+mode_text mode.StrictRandom = codes "STRICT_RANDOM"
+
+abbrev pub how_text : How → List ℕ
+how_text how.Next = codes "next"
+how_text how.Try = codes "try"
+how_text how.Get = codes "get"
+
 abbrev pub what_text : What → List ℕ
+what_text (what.Sequencer mode) = codes "sequencer " ++ mode_text mode
 what_text (what.Fifo size) = codes "fifo " ++ decimal size
 what_text (what.Port kind) = codes "port " ++ kind_text kind
 what_text (what.Export kind) = codes "export " ++ kind_text kind
@@ -111,6 +148,11 @@ abbrev pub id_text : Option (List ℕ) → List ℕ
 id_text None = codes "none"
 id_text (Some id) = id
 
+-- a priority that may not be given
+abbrev pub priority_text : Option ℕ → List ℕ
+priority_text None = codes "none"
+priority_text (Some priority) = decimal priority
+
 abbrev pub act_text : Act → List ℕ
 act_text (act.Create type_name name) = codes "create " ++ type_name ++ 32 ∷ name
 act_text (act.Add name what) = codes "add " ++ name ++ 32 ∷ what_text what
@@ -125,6 +167,15 @@ act_text (act.Take port) = codes "take " ++ port
 act_text (act.TryTake port) = codes "try_take " ++ port
 act_text (act.Peek port) = codes "peek " ++ port
 act_text (act.Write port item) = codes "write " ++ port ++ 32 ∷ item_text item
+act_text (act.Ask port how) = codes "ask " ++ port ++ 32 ∷ how_text how
+act_text (act.ItemDone port response) = codes "item_done " ++ port ++ 32 ∷ some_item_text response
+act_text (act.Start type_name name on priority) = codes "start " ++ type_name ++ 32 ∷ name ++ codes " (" ++ path_text on ++ codes ") " ++ priority_text priority
+act_text (act.Request priority) = codes "request " ++ priority_text priority
+act_text act.Lock = codes "lock"
+act_text act.Grab = codes "grab"
+act_text act.Unlock = codes "unlock"
+act_text (act.Send item) = codes "send " ++ item_text item
+act_text act.EndStep = codes "end_step"
 act_text (act.Report report) = codes "report " ++ severity_name report.severity ++ 32 ∷ report.id
 act_text (act.Verbosity which level) = codes "verbosity " ++ which_text which ++ 32 ∷ decimal level
 act_text (act.Actions which actions) = codes "actions " ++ which_text which ++ 32 ∷ actions_text actions
@@ -135,12 +186,15 @@ act_text (act.SetDrain ticks) = codes "set_drain " ++ decimal ticks
 act_text (act.Wait ticks tag) = codes "wait " ++ decimal ticks ++ 32 ∷ decimal tag
 
 abbrev pub outcome_text : Outcome → List ℕ
-outcome_text Done = codes "done"
-outcome_text (Made type_name) = codes "made " ++ type_name
-outcome_text (Value value) = codes "value " ++ value_text value
-outcome_text (Stored stored) = answer_text stored
-outcome_text (Taken item) = answer_text (is_some item)
-outcome_text (Refused fatal) = codes "refused " ++ id_of fatal
+outcome_text outcome.Done = codes "done"
+outcome_text (outcome.Made type_name) = codes "made " ++ type_name
+outcome_text (outcome.Started id) = codes "started " ++ decimal id
+outcome_text (outcome.Value value) = codes "value " ++ value_text value
+outcome_text (outcome.Stored stored) = answer_text stored
+outcome_text (outcome.Taken item) = answer_text (is_some item)
+outcome_text (outcome.Waits waits) = answer_text waits
+outcome_text outcome.Finished = codes "finished"
+outcome_text (outcome.Refused fatal) = codes "refused " ++ id_of fatal
 
 -- what passes at a FIFO
 abbrev pub move_text : MoveKind → List ℕ
@@ -155,17 +209,24 @@ reason_text NoTest = codes "no_test"
 reason_text Stall = codes "stall"
 reason_text Timeout = codes "timeout"
 
-abbrev pub entry_text : List Node → Entry → List ℕ
-entry_text nodes (Begin phase) = codes "begin " ++ phase_name phase
-entry_text nodes (End phase) = codes "end " ++ phase_name phase
-entry_text nodes (Time time) = codes "time " ++ decimal time
-entry_text nodes (Heard who call cause acts) = codes "heard " ++ who_text nodes who ++ 32 ∷ call_text call ++ codes ": " ++ decimal (length acts)
-entry_text nodes (Did who outcome act) = codes "did " ++ who_text nodes who ++ 32 ∷ act_text act ++ codes ": " ++ outcome_text outcome
-entry_text nodes (Passed fifo passage) = codes "passed " ++ shown_path (path_at nodes fifo) ++ 32 ∷ move_text passage.kind ++ 32 ∷ who_text nodes passage.who
-entry_text nodes (Drained node cause) = codes "drained " ++ shown_path (path_at nodes node)
-entry_text nodes (Note fatal node) = codes "note " ++ id_of fatal ++ 32 ∷ shown_path (path_at nodes node)
-entry_text nodes (Over reason) = codes "over " ++ reason_text reason
+-- the word that decided a grant, where one was drawn
+abbrev pub drawn_text : Option ℕ → List ℕ
+drawn_text None = []
+drawn_text (Some word) = codes " word " ++ decimal word
 
--- the line of an entry, by the nodes of the tree
-abbrev pub entry_line : List Node → Entry → List ℕ
-entry_line nodes entry = entry_text nodes entry ++ 10 ∷ []
+abbrev pub entry_text : List Node → List Start → Entry → List ℕ
+entry_text nodes started (Begin phase) = codes "begin " ++ phase_name phase
+entry_text nodes started (End phase) = codes "end " ++ phase_name phase
+entry_text nodes started (Time time) = codes "time " ++ decimal time
+entry_text nodes started (Heard who call cause acts) = codes "heard " ++ who_text nodes started who ++ 32 ∷ call_text call ++ codes ": " ++ decimal (length acts)
+entry_text nodes started (Did who outcome act) = codes "did " ++ who_text nodes started who ++ 32 ∷ act_text act ++ codes ": " ++ outcome_text outcome
+entry_text nodes started (Locked sequencer id) = codes "locked " ++ shown_path (path_at nodes sequencer) ++ 32 ∷ who_text nodes started (who.Sequence id sequencer)
+entry_text nodes started (Granted sequencer grant) = codes "granted " ++ shown_path (path_at nodes sequencer) ++ 32 ∷ who_text nodes started (who.Sequence grant.id sequencer) ++ drawn_text grant.word
+entry_text nodes started (Passed fifo passage) = codes "passed " ++ shown_path (path_at nodes fifo) ++ 32 ∷ move_text passage.kind ++ 32 ∷ who_text nodes started passage.who
+entry_text nodes started (Drained node cause) = codes "drained " ++ shown_path (path_at nodes node)
+entry_text nodes started (Note fatal node) = codes "note " ++ id_of fatal ++ 32 ∷ shown_path (path_at nodes node)
+entry_text nodes started (Over reason) = codes "over " ++ reason_text reason
+
+-- the line of an entry, by the nodes of the tree and the sequences that were started
+abbrev pub entry_line : List Node → List Start → Entry → List ℕ
+entry_line nodes started entry = entry_text nodes started entry ++ 10 ∷ []

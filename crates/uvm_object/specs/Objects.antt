@@ -1,7 +1,8 @@
 -- What an object was asked and what it answered.
-use Rattle.std.specs.Prelude.{ℕ, ◌==◌, List, [], ◌∷◌, ◌↔◌, if◌then◌else◌}
+use Rattle.std.specs.Prelude.{ℕ, Bool, false, ◌==◌, ◌&&◌, List, [], ◌∷◌, ◌↔◌, if◌then◌else◌}
 use Rattle.std.specs.List.{flat_map}
-use Rattle.uvm_object.specs.Acts.{node_of}
+use Rattle.uvm_object.specs.declared.acts.Who.{Who}
+use Rattle.uvm_object.specs.declared.acts.Who.TheVariants.{Node, Sequence}
 use Rattle.uvm_object.specs.declared.acts.Call.{Call}
 use Rattle.uvm_object.specs.declared.acts.Act.{Act}
 use Rattle.uvm_object.specs.declared.entries.Entry.{Entry}
@@ -23,13 +24,19 @@ Says = View → Call → List Act → View → Type 0
 abbrev pub SameSays : Says → Says → Type 0
 SameSays says others = (before : View) (call : Call) (acts : List Act) (after : View) → says before call acts after ↔ others before call acts after
 
--- what the object at a node was asked and answered, the newest first
-abbrev pub exchanged_in : ℕ → Entry → List Exchange
-exchanged_in node (Heard performer call cause acts) = if node_of performer == node then (call, acts) ∷ [] else []
-exchanged_in node entry = []
+-- whether two are one: a component is known by its node, a sequence by its number and its home
+abbrev pub same_who : Who → Who → Bool
+same_who (Node node) (Node other) = node == other
+same_who (Sequence id home) (Sequence other there) = (id == other) && (home == there)
+same_who who other = false
 
-abbrev pub life_of : ℕ → List Entry → List Exchange
-life_of node history = flat_map (exchanged_in node) history
+-- what the object of somebody was asked and answered, the newest first
+abbrev pub exchanged_in : Who → Entry → List Exchange
+exchanged_in who (Heard performer call cause acts) = if same_who performer who then (call, acts) ∷ [] else []
+exchanged_in who entry = []
+
+abbrev pub life_of : Who → List Entry → List Exchange
+life_of who history = flat_map (exchanged_in who) history
 
 -- the views, the newest first and one more than the exchanges, lead from each to the next by these
 abbrev pub IsHonest : Says → List View → List Exchange → Type 0

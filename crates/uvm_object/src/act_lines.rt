@@ -8,6 +8,7 @@ ghost use Rattle.uvm_object.specs.Lines.{act_text, actions_text, id_text, what_t
 use crate::acts::{Act, What};
 use crate::item_lines::{kind_text, push_named, push_named_item};
 use crate::lines::{push_integer, push_number, push_ticks, push_two};
+use crate::sequence_lines::{mode_text, push_sequencing};
 use std::alloc::AllocError;
 use uvm_glob::{Glob, Name, Path};
 use uvm_report::{Actions, Report, Severity, Which};
@@ -37,6 +38,15 @@ pub(crate) fn push_act(act: &Act, line: &mut Vec<u8>) -> Result<(), AllocError>
         Act::TryTake { port } => push_named(b"try_take ", port, line),
         Act::Peek { port } => push_named(b"peek ", port, line),
         Act::Write { port, item } => push_named_item(b"write ", port, item, line),
+        Act::Ask { .. }
+        | Act::ItemDone { .. }
+        | Act::Start { .. }
+        | Act::Request { .. }
+        | Act::Lock
+        | Act::Grab
+        | Act::Unlock
+        | Act::Send { .. }
+        | Act::EndStep => push_sequencing(act, line),
         Act::Report { report } => push_report(report, line),
         Act::Verbosity { which, level } => push_level(which, *level, line),
         Act::Actions { which, actions } => push_actions(which, *actions, line),
@@ -225,6 +235,7 @@ fn push_what(what: What, line: &mut Vec<u8>) -> Result<(), AllocError>
     ensures { OnOk result (line.new.items ≡ line.old.items ++ what_text what) }
 {
     match what {
+        What::Sequencer { mode } => push_two(b"sequencer ", mode_text(mode), line),
         What::Fifo { size } => push_count(b"fifo ", size, line),
         What::Port { kind } => push_two(b"port ", kind_text(kind), line),
         What::Export { kind } => push_two(b"export ", kind_text(kind), line),

@@ -1,7 +1,7 @@
 //! Calls to an object, and the acts that it answers.
 
-ghost use Rattle.std.specs.Prelude.{◌≡◌, false, ◌==◌, ◌++◌, ◌∷◌, [], length, slice_get, OnOk, OnErr, IfOk, option_copied};
-ghost use Rattle.uvm_object.specs.Acts.{node_of};
+ghost use Rattle.std.specs.Prelude.{◌≡◌, true, false, ◌==◌, ◌++◌, ◌∷◌, [], length, slice_get, OnOk, OnErr, IfOk, option_copied};
+ghost use Rattle.uvm_object.specs.Acts.{node_of, is_sequencing};
 ghost use Rattle.uvm_object.specs.Copies.{holds_memory};
 
 use std::alloc::{AllocError, Global};
@@ -12,6 +12,7 @@ use std::slice;
 use uvm_glob::{Glob, Name, Path};
 use uvm_phase::Phase;
 use uvm_report::{Actions, Report, Severity, Which};
+use uvm_sequencer::{How, Mode, SeqId};
 use uvm_tlm::{Item, PortKind};
 use uvm_tree::NodeId;
 
@@ -20,15 +21,23 @@ use uvm_tree::NodeId;
 pub enum Who {
     /// The component at a node.
     Node(NodeId),
+    /// A sequence (IEEE 1800.2-2020, Clause 14).
+    Sequence {
+        /// Its number.
+        id: SeqId,
+        /// The sequencer that it was started on, its home.
+        home: NodeId,
+    },
 }
 
 impl Who {
-    /// The node at which it stands.
+    /// The node at which it stands: a sequence acts as its home does.
     pub fn node(&self) -> NodeId
         ensures { result ≡ node_of self.now }
     {
         match self {
             Who::Node(node) => *node,
+            Who::Sequence { home, .. } => *home,
         }
     }
 
@@ -97,11 +106,46 @@ pub enum Call {
         /// The item.
         item: Item,
     },
+    /// What the driver asked for: after `Act::Send` of the sequence that was granted, or at once after `Act::Ask` by a `Try` that
+    /// finds no candidate (Clause 15).
+    NextItem {
+        /// The port that was asked.
+        port: Name,
+        /// The item; none where there was no candidate, or the one that was granted ended before it sent.
+        item: Option<Item>,
+    },
+    /// The sequence was started, and stands before its body (Clause 14, pre_start): after `Act::Start`.
+    PreStart,
+    /// The sequence is in its body (Clause 14, body).
+    Body,
+    /// The sequence is behind its body (Clause 14, post_start).
+    PostStart,
+    /// The sequence was granted, and may send its item (Clause 15, wait_for_grant): after `Act::Request`.
+    Grant,
+    /// The driver is done with the item of the sequence (Clause 15, wait_for_item_done).
+    ItemDone {
+        /// What the driver responds, if it does.
+        response: Option<Item>,
+    },
+    /// The sequence holds the sequencer (Clause 15): after `Act::Lock` or `Act::Grab`.
+    Held,
+    /// A sequence that was started has finished: to who started it, after `Act::Start`.
+    Finished {
+        /// Its name.
+        name: Name,
+        /// Its number.
+        id: SeqId,
+    },
 }
 
 /// What a component adds below itself.
 #[derive(Clone, Copy, Debug, PartialEq, Eq)]
 pub enum What {
+    /// A sequencer (Clause 15).
+    Sequencer {
+        /// How it chooses.
+        mode: Mode,
+    },
     /// A FIFO for so many items, 0 for any number (Clause 12).
     Fifo {
         /// How many items it holds at most, 0 for any number.
@@ -215,6 +259,50 @@ pub enum Act {
         /// The item.
         item: Item,
     },
+    /// Ask the sequencer that a seq port of the performer reaches for an item (Clause 15, get_next_item, try_next_item, get). It
+    /// comes as a call.
+    Ask {
+        /// The port.
+        port: Name,
+        /// Whether it waits, and whether the item counts as done when it comes.
+        how: How,
+    },
+    /// Be done with the item that came through a seq port of the performer (Clause 15, item_done).
+    ItemDone {
+        /// The port.
+        port: Name,
+        /// What the sequence is told.
+        response: Option<Item>,
+    },
+    /// Start a sequence of a type on a sequencer, by the factory (Clauses 8 and 14). A call tells when it has finished.
+    Start {
+        /// The type that is asked for, which an override may replace.
+        type_name: Name,
+        /// The sequence's name.
+        name: Name,
+        /// The path of the sequencer, as below the performer's; the empty one where a sequence starts its child.
+        on: Path,
+        /// Its priority, at least 1; where none is given its parent's, else 100.
+        priority: Option<u16>,
+    },
+    /// Request to send an item, of a sequence (Clause 15, wait_for_grant). A call tells that it was granted.
+    Request {
+        /// The priority, at least 1; where none is given the sequence's.
+        priority: Option<u16>,
+    },
+    /// Ask to hold the sequencer, behind all that was asked for before (Clause 15, lock). A call tells that it is held.
+    Lock,
+    /// Ask to hold the sequencer, before all that was asked for (Clause 15, grab). A call tells that it is held.
+    Grab,
+    /// Give back the last lock or grab of the sequence (Clause 15, unlock and ungrab).
+    Unlock,
+    /// Send an item, of a sequence that was granted (Clause 15, send_request). A call tells when the driver is done with it.
+    Send {
+        /// The item.
+        item: Item,
+    },
+    /// End the step at which the sequence is (Clause 14): its body comes next, then what is behind it, and then it has finished.
+    EndStep,
     /// Issue a report at the performer's path (Clause 6).
     Report {
         /// The report.
@@ -295,6 +383,17 @@ impl Act {
                 from: from.copy()?,
                 to: to.copy()?,
             },
+            Act::Start {
+                type_name,
+                name,
+                ref on,
+                priority,
+            } => Act::Start {
+                type_name,
+                name,
+                on: on.copy()?,
+                priority,
+            },
             Act::Report { ref report } => Act::Report {
                 report: report.copy()?,
             },
@@ -333,8 +432,26 @@ impl Act {
             Act::DropObjection { count } => Act::DropObjection { count },
             Act::SetDrain { ticks } => Act::SetDrain { ticks },
             Act::Wait { ticks, tag } => Act::Wait { ticks, tag },
-            Act::Set { .. } | Act::OverrideInst { .. } | Act::Connect { .. } | Act::Report { .. } =>
-                unreachable!(),
+            _ => self.sequencing_copy(),
+        }
+    }
+
+    // An equal act, of one that holds no memory and has to do with sequences.
+    fn sequencing_copy(&self) -> Act
+        requires plain { holds_memory self.now ≡ false }
+        requires sequencing { is_sequencing self.now ≡ true }
+        ensures { result ≡ self.now }
+    {
+        match *self {
+            Act::Ask { port, how } => Act::Ask { port, how },
+            Act::ItemDone { port, response } => Act::ItemDone { port, response },
+            Act::Request { priority } => Act::Request { priority },
+            Act::Lock => Act::Lock,
+            Act::Grab => Act::Grab,
+            Act::Unlock => Act::Unlock,
+            Act::Send { item } => Act::Send { item },
+            Act::EndStep => Act::EndStep,
+            _ => unreachable!(),
         }
     }
 }

@@ -1,7 +1,7 @@
 //! The entries of the log.
 
 ghost use Rattle.std.specs.Prelude.{◌≡◌, IfOk};
-ghost use Rattle.uvm_object.specs.declared.entries.Outcome.TheVariants.{Done, Made, Value, Stored, Taken, Refused};
+ghost use Rattle.uvm_object.specs.declared.entries.Outcome.TheVariants.{Done, Made, Started, Value, Stored, Taken, Waits, Finished, Refused};
 ghost use Rattle.uvm_object.specs.declared.entries.Entry.TheVariants.{Heard};
 
 use crate::acts::{Acts, Call, Deed, Who};
@@ -11,6 +11,7 @@ use std::marker::Model;
 use std::rc::Rc;
 use uvm_glob::Name;
 use uvm_phase::{Cause, Phase};
+use uvm_sequencer::SeqId;
 use uvm_tlm::{Item, MoveKind};
 use uvm_tree::NodeId;
 
@@ -21,12 +22,18 @@ pub enum Outcome {
     Done,
     /// An object of this type was created.
     Made(Name),
+    /// This sequence was started.
+    Started(SeqId),
     /// A field was asked for: its value, if it has one.
     Value(Option<i64>),
     /// An item was to be put at once: whether it is in the FIFO.
     Stored(bool),
     /// An item was to be taken at once: the item, if one could be.
     Taken(Option<Item>),
+    /// A driver asked by a `Try`: whether there is a candidate, for which it waits.
+    Waits(bool),
+    /// A sequence ended its last step.
+    Finished,
     /// It was refused, and this was reported.
     Refused(Fatal),
 }
@@ -132,6 +139,8 @@ enum CompactOutcome {
     Done,
     /// An object of this type was created.
     Made(Box<Name>),
+    /// This sequence was started.
+    Started(SeqId),
     /// A field without a value was asked for.
     NoValue,
     /// This value was found.
@@ -142,6 +151,10 @@ enum CompactOutcome {
     NoItem,
     /// This item was taken at once.
     Taken(Box<Item>),
+    /// Whether a driver that asked by a `Try` waits.
+    Waits(bool),
+    /// A sequence ended its last step.
+    Finished,
     /// It was refused.
     Refused(Fatal),
 }
@@ -181,6 +194,15 @@ impl LoggedOutcome {
         }
     }
 
+    /// The outcome `Started`.
+    pub fn started(id: SeqId) -> LoggedOutcome
+        ensures { result ≡ Started id }
+    {
+        LoggedOutcome {
+            compact: CompactOutcome::Started(id),
+        }
+    }
+
     /// The outcome `Value`.
     pub fn value(value: Option<i64>) -> LoggedOutcome
         ensures { result ≡ Value value }
@@ -212,6 +234,24 @@ impl LoggedOutcome {
         Ok(LoggedOutcome { compact })
     }
 
+    /// The outcome `Waits`.
+    pub fn waits(waits: bool) -> LoggedOutcome
+        ensures { result ≡ Waits waits }
+    {
+        LoggedOutcome {
+            compact: CompactOutcome::Waits(waits),
+        }
+    }
+
+    /// The outcome `Finished`.
+    pub fn finished() -> LoggedOutcome
+        ensures { result ≡ Finished }
+    {
+        LoggedOutcome {
+            compact: CompactOutcome::Finished,
+        }
+    }
+
     /// The outcome `Refused`.
     pub fn refused(fatal: Fatal) -> LoggedOutcome
         ensures { result ≡ Refused fatal }
@@ -228,11 +268,14 @@ impl LoggedOutcome {
         match &self.compact {
             CompactOutcome::Done => Outcome::Done,
             CompactOutcome::Made(type_name) => Outcome::Made(**type_name),
+            CompactOutcome::Started(id) => Outcome::Started(*id),
             CompactOutcome::NoValue => Outcome::Value(None),
             CompactOutcome::Value(value) => Outcome::Value(Some(*value)),
             CompactOutcome::Stored(stored) => Outcome::Stored(*stored),
             CompactOutcome::NoItem => Outcome::Taken(None),
             CompactOutcome::Taken(item) => Outcome::Taken(Some(**item)),
+            CompactOutcome::Waits(waits) => Outcome::Waits(*waits),
+            CompactOutcome::Finished => Outcome::Finished,
             CompactOutcome::Refused(fatal) => Outcome::Refused(*fatal),
         }
     }
@@ -285,6 +328,47 @@ impl LoggedPassage {
     }
 }
 
+/// How a sequence was granted.
+#[derive(Clone, Copy, Debug, PartialEq, Eq)]
+pub struct Grant {
+    /// The sequence.
+    pub id: SeqId,
+    /// The word that decided, where one was drawn.
+    pub word: Option<u64>,
+}
+
+/// The grant of an entry. Contracts see the grant.
+#[derive(Debug, Drop)]
+pub struct LoggedGrant {
+    grant: Box<Grant>,
+}
+
+impl Model for LoggedGrant {
+    ghost use Rattle.uvm_object.specs.declared.entries.Grant.{Grant};
+
+    ghost Value = { Grant };
+
+    ghost view = { λ l. l.grant.value };
+}
+
+impl LoggedGrant {
+    /// A grant, to be logged. The error is want of memory.
+    pub fn new(alloc: Global, grant: Grant) -> Result<LoggedGrant, AllocError>
+        ensures { IfOk result (λ logged. logged ≡ grant) }
+    {
+        Ok(LoggedGrant {
+            grant: Box::new(alloc, grant)?,
+        })
+    }
+
+    /// The grant.
+    pub fn get(&self) -> &Grant
+        ensures { result.now ≡ self.now }
+    {
+        &self.grant
+    }
+}
+
 /// An entry of the log. Its place is the number of the entries before it.
 #[derive(Debug, Drop)]
 pub enum Entry {
@@ -313,6 +397,20 @@ pub enum Entry {
         outcome: LoggedOutcome,
         /// The act.
         act: Deed,
+    },
+    /// A sequence has its lock or grab, and holds the sequencer (Clause 15).
+    Locked {
+        /// The sequencer.
+        sequencer: NodeId,
+        /// The sequence.
+        id: SeqId,
+    },
+    /// A sequence may send its item: its request was granted (Clause 15).
+    Granted {
+        /// The sequencer.
+        sequencer: NodeId,
+        /// Which, and how it was chosen.
+        grant: LoggedGrant,
     },
     /// An item went into a FIFO or out of it, or was shown: what somebody had asked for came to pass (Clause 12).
     Passed {

@@ -10,6 +10,8 @@ use uvm_report::{Report, Severity, Text};
 /// A fatal report of the kernel: why it refuses an act, or gives up.
 #[derive(Clone, Copy, Debug, PartialEq, Eq)]
 pub enum Fatal {
+    /// ILLACT: the act is for another kind of object.
+    NotOpen,
     /// ILLCRT: something is created after build.
     CreatedAfterBuild,
     /// ACTLIM: an answer has more than 64 acts.
@@ -38,6 +40,18 @@ pub enum Fatal {
     TooManyConnections,
     /// NOPORT: the performer has no port of that name that is of the act's kind and sound.
     NoPort,
+    /// NOSQR: no sequencer stands where a sequence is started.
+    NoSequencer,
+    /// SQRERR: the port does not drive the sequencer.
+    NoDriver,
+    /// SQRERR: the driver, or the sequence, asks again before it has its answer.
+    AskedTwice,
+    /// SQRERR: the driver has no item in hand.
+    NothingOut,
+    /// SQRERR: the sequence was not granted, or has sent its item.
+    NotGranted,
+    /// SQRERR: the sequence holds no lock.
+    NotHeld,
     /// NOTTASK: the act is one of a phase that takes time.
     OutsideTask,
     /// OBJTN_ZERO: more is dropped than was raised.
@@ -56,6 +70,7 @@ impl Fatal {
         ensures { result.now ≡ id_of self }
     {
         match self {
+            Fatal::NotOpen => "ILLACT",
             Fatal::CreatedAfterBuild => "ILLCRT",
             Fatal::TooManyActs => "ACTLIM",
             Fatal::InvalidType => "INVTYP",
@@ -70,6 +85,12 @@ impl Fatal {
             | Fatal::TooFewConnections
             | Fatal::TooManyConnections => "CONNERR",
             Fatal::NoPort => "NOPORT",
+            Fatal::NoSequencer => "NOSQR",
+            Fatal::NoDriver
+            | Fatal::AskedTwice
+            | Fatal::NothingOut
+            | Fatal::NotGranted
+            | Fatal::NotHeld => "SQRERR",
             Fatal::OutsideTask => "NOTTASK",
             Fatal::ObjectionBelowZero => "OBJTN_ZERO",
             Fatal::OutOfRange => "ACTRNG",
@@ -83,6 +104,7 @@ impl Fatal {
         ensures { result.now ≡ text_of self }
     {
         match self {
+            Fatal::NotOpen => "act not open to this object",
             Fatal::CreatedAfterBuild => "created after build",
             Fatal::TooManyActs => "more than 64 acts",
             Fatal::InvalidType => "type unknown or of another kind",
@@ -97,6 +119,12 @@ impl Fatal {
             Fatal::TooFewConnections => "too few connections",
             Fatal::TooManyConnections => "too many connections",
             Fatal::NoPort => "no such port",
+            Fatal::NoSequencer => "no such sequencer",
+            Fatal::NoDriver => "no driver",
+            Fatal::AskedTwice => "asked twice",
+            Fatal::NothingOut => "nothing out",
+            Fatal::NotGranted => "not granted",
+            Fatal::NotHeld => "not held",
             Fatal::OutsideTask => "act outside a task phase",
             Fatal::ObjectionBelowZero => "objection dropped below zero",
             Fatal::OutOfRange => "value out of range",

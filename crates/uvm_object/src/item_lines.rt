@@ -41,7 +41,7 @@ pub(crate) fn push_some_item(item: &Option<Item>, line: &mut Vec<u8>) -> Result<
 }
 
 // The four words of an item, in brackets.
-fn push_item(item: &Item, line: &mut Vec<u8>) -> Result<(), AllocError>
+pub(crate) fn push_item(item: &Item, line: &mut Vec<u8>) -> Result<(), AllocError>
     ensures { OnOk result (line.new.items ≡ line.old.items ++ item_text item.now) }
 {
     push_word(b'[', item, 0, line)?;

@@ -9,13 +9,14 @@ mod item_lines;
 mod lines;
 mod logs;
 mod objects;
+mod sequence_lines;
 #[cfg(test)]
 mod tests;
 
 pub use acts::{Act, Acts, ActsIter, Call, Deed, What, Who};
 pub use entries::{
-    Entry, LoggedActs, LoggedCall, LoggedCause, LoggedOutcome, LoggedPassage, Outcome, Passage,
-    Reason,
+    Entry, Grant, LoggedActs, LoggedCall, LoggedCause, LoggedGrant, LoggedOutcome, LoggedPassage,
+    Outcome, Passage, Reason,
 };
 pub use fatals::Fatal;
 pub use lines::{line_of, shown_path};

@@ -1,6 +1,6 @@
 //! The lines of entries.
 
-ghost use Rattle.std.specs.Prelude.{◌≡◌, ◌++◌, OnOk, OnErr};
+ghost use Rattle.std.specs.Prelude.{◌≡◌, ◌++◌, ◌∷◌, [], OnOk, OnErr};
 ghost use Rattle.std.specs.Fmt.{decimal, signed_decimal};
 ghost use Rattle.uvm_object.specs.declared.entries.Entry.TheVariants.{Passed};
 ghost use Rattle.uvm_object.specs.declared.acts.Call.TheVariants as call;
@@ -11,25 +11,37 @@ use crate::act_lines::push_act;
 use crate::acts::{Call, Who};
 use crate::entries::{Entry, Outcome, Passage, Reason};
 use crate::item_lines::{answer_text, move_text, push_named, push_named_item, push_some_item};
+use crate::sequence_lines::{push_finished, push_granted, push_locked, push_next_item, push_who};
 use std::alloc::AllocError;
 use uvm_glob::Name;
+use uvm_sequencer::Sequences;
 use uvm_tlm::Item;
 use uvm_tree::{NodeId, Tree};
 
 /// Appends the line of an entry, with its newline. The tree tells the paths of the nodes; the top, and a node that the tree
-/// does not have, is `uvm_top`. Where memory is refused nothing is appended.
-pub fn line_of(entry: &Entry, tree: &Tree, out: &mut Vec<u8>) -> Result<(), AllocError>
-    ensures ok { OnOk result (out.new.items ≡ out.old.items ++ entry_line tree.now.nodes entry.now) }
+/// does not have, is `uvm_top`. The sequences tell their names. Where memory is refused nothing is appended.
+pub fn line_of(
+    entry: &Entry,
+    tree: &Tree,
+    sequences: &Sequences,
+    out: &mut Vec<u8>,
+) -> Result<(), AllocError>
+    ensures ok { OnOk result (out.new.items ≡ out.old.items ++ entry_line tree.now.nodes sequences.now.started entry.now) }
     ensures err { OnErr result (out.new.items ≡ out.old.items) }
 {
     let mut line = Vec::new(*out.allocator());
-    push_entry(entry, tree, &mut line)?;
+    push_entry(entry, tree, sequences, &mut line)?;
     line.push(b'\n')?;
     out.extend_from_slice(line.as_slice())
 }
 
-fn push_entry(entry: &Entry, tree: &Tree, line: &mut Vec<u8>) -> Result<(), AllocError>
-    ensures { OnOk result (line.new.items ≡ line.old.items ++ entry_text tree.now.nodes entry.now) }
+fn push_entry(
+    entry: &Entry,
+    tree: &Tree,
+    sequences: &Sequences,
+    line: &mut Vec<u8>,
+) -> Result<(), AllocError>
+    ensures { OnOk result (line.new.items ≡ line.old.items ++ entry_text tree.now.nodes sequences.now.started entry.now) }
 {
     match entry {
         Entry::Begin(phase) => push_two(b"begin ", phase.name(), line),
@@ -41,48 +53,74 @@ fn push_entry(entry: &Entry, tree: &Tree, line: &mut Vec<u8>) -> Result<(), Allo
             acts,
             ..
         } => {
-            line.extend_from_slice(b"heard ")?;
-            push_who(who, tree, line)?;
-            line.push(b' ')?;
+            push_doer(b"heard ", who, tree, sequences, line)?;
             push_call(call.get(), line)?;
-            line.extend_from_slice(b": ")?;
-            push_number(acts.get().len() as u64, line)
+            push_ticks(b": ", acts.get().len() as u64, line)
         }
         Entry::Did { who, outcome, act } => {
-            line.extend_from_slice(b"did ")?;
-            push_who(who, tree, line)?;
-            line.push(b' ')?;
+            push_doer(b"did ", who, tree, sequences, line)?;
             push_act(act.act(), line)?;
             line.extend_from_slice(b": ")?;
             push_outcome(&outcome.get(), line)
         }
-        Entry::Passed { fifo, passage } => push_passage(*fifo, passage.get(), tree, line),
-        Entry::Drained { node, .. } => {
-            line.extend_from_slice(b"drained ")?;
-            push_path(*node, tree, line)
+        Entry::Locked { sequencer, id } => push_locked(*sequencer, *id, tree, sequences, line),
+        Entry::Granted { sequencer, grant } => {
+            push_granted(*sequencer, grant.get(), tree, sequences, line)
         }
+        Entry::Passed { fifo, passage } => {
+            push_passage(*fifo, passage.get(), tree, sequences, line)
+        }
+        Entry::Drained { node, .. } => push_node(b"drained ", *node, tree, line),
         Entry::Note { fatal, node } => {
             push_two(b"note ", fatal.id(), line)?;
-            line.push(b' ')?;
-            push_path(*node, tree, line)
+            push_node(b" ", *node, tree, line)
         }
         Entry::Over(reason) => push_two(b"over ", reason_text(*reason), line),
     }
+}
+
+// A word, and who acts or is called, with a blank behind.
+fn push_doer(
+    word: &[u8],
+    who: &Who,
+    tree: &Tree,
+    sequences: &Sequences,
+    line: &mut Vec<u8>,
+) -> Result<(), AllocError>
+    ensures { OnOk result (line.new.items ≡ line.old.items ++ (word.now ++ who_text tree.now.nodes sequences.now.started who.now ++ 32 ∷ [])) }
+{
+    line.extend_from_slice(word)?;
+    push_who(who, tree, sequences, line)?;
+    line.push(b' ')?;
+    Ok(())
 }
 
 fn push_passage(
     fifo: NodeId,
     passage: &Passage,
     tree: &Tree,
+    sequences: &Sequences,
     line: &mut Vec<u8>,
 ) -> Result<(), AllocError>
-    ensures { OnOk result (line.new.items ≡ line.old.items ++ entry_text tree.now.nodes (Passed fifo passage.now)) }
+    ensures { OnOk result (line.new.items ≡ line.old.items ++ entry_text tree.now.nodes sequences.now.started (Passed fifo passage.now)) }
 {
-    line.extend_from_slice(b"passed ")?;
-    push_path(fifo, tree, line)?;
+    push_node(b"passed ", fifo, tree, line)?;
     push_two(b" ", move_text(passage.kind), line)?;
     line.push(b' ')?;
-    push_who(&passage.who, tree, line)
+    push_who(&passage.who, tree, sequences, line)
+}
+
+// A word and a node.
+pub(crate) fn push_node(
+    word: &[u8],
+    node: NodeId,
+    tree: &Tree,
+    line: &mut Vec<u8>,
+) -> Result<(), AllocError>
+    ensures { OnOk result (line.new.items ≡ line.old.items ++ (word.now ++ shown_path (path_at tree.now.nodes node))) }
+{
+    line.extend_from_slice(word)?;
+    line.extend_from_slice(shown_path(node, tree))
 }
 
 pub(crate) fn push_two(front: &[u8], back: &str, line: &mut Vec<u8>) -> Result<(), AllocError>
@@ -90,20 +128,6 @@ pub(crate) fn push_two(front: &[u8], back: &str, line: &mut Vec<u8>) -> Result<(
 {
     line.extend_from_slice(front)?;
     line.extend_from_slice(back.as_bytes())
-}
-
-fn push_who(who: &Who, tree: &Tree, line: &mut Vec<u8>) -> Result<(), AllocError>
-    ensures { OnOk result (line.new.items ≡ line.old.items ++ who_text tree.now.nodes who.now) }
-{
-    match who {
-        Who::Node(node) => push_path(*node, tree, line),
-    }
-}
-
-fn push_path(node: NodeId, tree: &Tree, line: &mut Vec<u8>) -> Result<(), AllocError>
-    ensures { OnOk result (line.new.items ≡ line.old.items ++ shown_path (path_at tree.now.nodes node)) }
-{
-    line.extend_from_slice(shown_path(node, tree))
 }
 
 /// How a node is shown in lines: by its path; the top, and a node that the tree does not have, is `uvm_top`. Takes no memory.
@@ -137,6 +161,17 @@ fn push_call(call: &Call, line: &mut Vec<u8>) -> Result<(), AllocError>
         Call::TryTaken { port, item } => push_taken(port, item, line),
         Call::Peeked { port, item } => push_named_item(b"peeked ", port, item, line),
         Call::Written { imp, item } => push_named_item(b"written ", imp, item, line),
+        Call::NextItem { port, item } => push_next_item(port, item, line),
+        Call::PreStart => line.extend_from_slice(b"pre_start"),
+        Call::Body => line.extend_from_slice(b"body"),
+        Call::PostStart => line.extend_from_slice(b"post_start"),
+        Call::Grant => line.extend_from_slice(b"grant"),
+        Call::ItemDone { response } => {
+            line.extend_from_slice(b"item_done ")?;
+            push_some_item(response, line)
+        }
+        Call::Held => line.extend_from_slice(b"held"),
+        Call::Finished { name, id } => push_finished(name, *id, line),
     }
 }
 
@@ -173,12 +208,15 @@ fn push_outcome(outcome: &Outcome, line: &mut Vec<u8>) -> Result<(), AllocError>
             line.extend_from_slice(b"made ")?;
             line.extend_from_slice(type_name.as_bytes())
         }
+        Outcome::Started(id) => push_ticks(b"started ", id.number(), line),
         Outcome::Value(value) => {
             line.extend_from_slice(b"value ")?;
             push_value(*value, line)
         }
         Outcome::Stored(stored) => line.extend_from_slice(answer_text(*stored).as_bytes()),
         Outcome::Taken(item) => line.extend_from_slice(answer_text(item.is_some()).as_bytes()),
+        Outcome::Waits(waits) => line.extend_from_slice(answer_text(*waits).as_bytes()),
+        Outcome::Finished => line.extend_from_slice(b"finished"),
         Outcome::Refused(fatal) => push_two(b"refused ", fatal.id(), line),
     }
 }

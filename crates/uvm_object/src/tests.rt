@@ -1,6 +1,7 @@
 //! Examples of the lines, and that each call succeeds where there is memory.
 
 mod items;
+mod sequences;
 
 use crate::{
     Act, Acts, Call, Deed, Entry, Fatal, Log, LogFault, LoggedOutcome, Outcome, Reason, What, Who,
@@ -12,6 +13,7 @@ use std::test::Fail;
 use uvm_glob::{Glob, Name, Path};
 use uvm_phase::{Cause, Phase};
 use uvm_report::{Actions, Report, Severity, Text, Which};
+use uvm_sequencer::Sequences;
 use uvm_tlm::PortKind;
 use uvm_tree::{NodeId, NodeKind, Tree};
 
@@ -471,16 +473,23 @@ fn the_top_is_shown_by_its_name(rt: HostRuntime) -> Result<(), Fail> {
     Ok(())
 }
 
-// Whether that is the line of an entry.
+// Whether that is the line of an entry, where no sequence was started.
 fn line_is(alloc: Global, tree: &Tree, entry: Entry, want: &str) -> Result<bool, Fail> {
     let mut line = Vec::new(alloc);
-    line_of(&entry, tree, &mut line)?;
+    line_of(&entry, tree, &Sequences::new(alloc), &mut line)?;
     Ok(line.as_slice() == want.as_bytes())
 }
 
 #[test]
 fn fatal_reports_have_ids_and_texts(rt: HostRuntime) {
     for (fatal, id, text) in [
+        (Fatal::NotOpen, "ILLACT", "act not open to this object"),
+        (Fatal::NoSequencer, "NOSQR", "no such sequencer"),
+        (Fatal::NoDriver, "SQRERR", "no driver"),
+        (Fatal::AskedTwice, "SQRERR", "asked twice"),
+        (Fatal::NothingOut, "SQRERR", "nothing out"),
+        (Fatal::NotGranted, "SQRERR", "not granted"),
+        (Fatal::NotHeld, "SQRERR", "not held"),
         (Fatal::CreatedAfterBuild, "ILLCRT", "created after build"),
         (Fatal::TooManyActs, "ACTLIM", "more than 64 acts"),
         (
@@ -551,10 +560,13 @@ fn word(outcome: &LoggedOutcome) -> &'static str {
     match outcome.get() {
         Outcome::Done => "done",
         Outcome::Made(_) => "made",
+        Outcome::Started(_) => "started",
         Outcome::Value(None) => "no value",
         Outcome::Value(Some(_)) => "value",
         Outcome::Stored(_) => "stored",
         Outcome::Taken(_) => "taken",
+        Outcome::Waits(_) => "waits",
+        Outcome::Finished => "finished",
         Outcome::Refused(_) => "refused",
     }
 }
@@ -575,5 +587,5 @@ fn outcomes_are_told(rt: HostRuntime) -> Result<(), Fail> {
 #[test]
 fn entries_are_small(rt: HostRuntime) {
     let size = size_of::<Entry>();
-    assert!(rt; size <= 32, "{size} bytes");
+    assert!(rt; size <= 56, "{size} bytes");
 }

@@ -1,14 +1,15 @@
 -- What is said of sequences by their parents and their steps, and of an item in hand.
-use Rattle.std.proofs.Common.{◌≡◌, ◌<◌, ℕ, suc, Bool, true, false, List, [], ◌∷◌, length, Option, Some, None, IsSome, IfSome, refl, ap, ◌∙◌, arith, if◌then◌else◌}
+use Rattle.std.proofs.Common.{◌≡◌, ◌<◌, ℕ, suc, Bool, true, false, List, [], ◌∷◌, ◌++◌, length, Option, Some, None, IsSome, IfSome, refl, ap, sym, ◌∙◌, arith, append_assoc, if◌then◌else◌}
 use Rattle.std.specs.Prelude.{◌==◌}
 use Rattle.std.proofs.lemmas.Bool.Decides.{nat_tests}
-use Rattle.std.specs.Option.{option_and_then, option_map, option_map_or}
+use Rattle.std.specs.List.{filter_map}
+use Rattle.std.specs.Option.{option_and_then, option_map, option_map_or, option_to_list}
 use Rattle.uvm_sequencer.specs.declared.drivers.Driver.{Driver}
 use Rattle.uvm_sequencer.specs.declared.drivers.Driver.TheVariants.{Idle, Waiting, Granted, InHand}
 use Rattle.uvm_sequencer.specs.declared.faults.SeqFault.TheVariants.{NoDriver, Twice}
 use Rattle.uvm_sequencer.specs.declared.starts.SeqStep.{SeqStep}
 use Rattle.uvm_sequencer.specs.Drivers.{hand_of}
-use Rattle.uvm_sequencer.specs.Sequences.{Start, ancestors_of, numbered, parent_of, with_step}
+use Rattle.uvm_sequencer.specs.Sequences.{Start, AreStarted, ancestors_of, name_at, numbered, parent_of, with_step}
 use Rattle.uvm_sequencer.specs.Sequencers.{SequencerValue, is_driver}
 use Rattle.uvm_sequencer.specs.Laws.{AncestorsByParents, IsOut, LiveIsStarted, OneItemOut, StepsChangeAlone}
 use Rattle.uvm_sequencer.proofs.Unders.{ancestors-none, ancestors-parent, parent-older}
@@ -19,6 +20,29 @@ by_parent started id (Some parent) is older = ancestors-parent started id parent
 
 pub ancestors_by_parents : AncestorsByParents
 ancestors_by_parents started are id = by_parent started id (parent_of started id) refl (parent-older started id are)
+
+-- a sequence and its ancestors, if there is one
+abbrev pub lineage : List Start → Option ℕ → List ℕ
+lineage started None = []
+lineage started (Some id) = id ∷ ancestors_of started id
+
+-- it is the sequence, and then its parent with its ancestors
+parents_by : (started : List Start) (parent : Option ℕ) → option_map_or (λ above. above ∷ ancestors_of started above) parent [] ≡ lineage started parent
+parents_by started None = refl
+parents_by started (Some parent) = refl
+
+pub lineage-parent : (started : List Start) (id : ℕ) → AreStarted started → lineage started (Some id) ≡ id ∷ lineage started (parent_of started id)
+lineage-parent started id are = ap (λ above. id ∷ above) (ancestors_by_parents started are id ∙ parents_by started (parent_of started id))
+
+-- the name of its first goes before the names of the others
+joined : (started : List Start) (id : ℕ) (names : List (List ℕ)) (above : List ℕ) (found : Option (List ℕ)) → name_at started id ≡ found → (names ++ option_to_list found) ++ filter_map (name_at started) above ≡ names ++ filter_map (name_at started) (id ∷ above)
+joined started id names above None is = rw is (append_assoc names [] (filter_map (name_at started) above))
+joined started id names above (Some name) is = rw is (append_assoc names (name ∷ []) (filter_map (name_at started) above))
+
+pub names-parent : (started : List Start) (id : ℕ) (names : List (List ℕ)) → AreStarted started
+    → (names ++ option_to_list (name_at started id)) ++ filter_map (name_at started) (lineage started (parent_of started id)) ≡ names ++ filter_map (name_at started) (lineage started (Some id))
+names-parent started id names are =
+    joined started id names (lineage started (parent_of started id)) (name_at started id) refl ∙ ap (λ up. names ++ filter_map (name_at started) up) (sym (lineage-parent started id are))
 
 -- lists of one length have the same numbers
 as_long_by : {X Y : Type 0} (y : Y) (xs : Option X) (ys : Option Y) (x : X) (b : Bool) → (IsSome xs → IsSome ys) → IsSome (if b then Some x else xs) → IsSome (if b then Some y else ys)

@@ -1,7 +1,7 @@
 -- The sequences that were started, the newest first: on which sequencer, by whom, at which step, live or not. A sequence has the
 -- number of its start, so that the oldest has number 1.
-use Rattle.std.specs.Prelude.{◌≡◌, ℕ, Bool, ◌==◌, ◌||◌, ◌<◌, List, [], ◌∷◌, length, Option, Some, None, option_and_then, if◌then◌else◌}
-use Rattle.std.specs.List.{list_any}
+use Rattle.std.specs.Prelude.{◌≡◌, ℕ, Bool, ◌==◌, ◌||◌, ◌<◌, List, [], ◌∷◌, length, reverse, Option, Some, None, option_map, option_and_then, if◌then◌else◌}
+use Rattle.std.specs.List.{filter_map, list_any}
 use Rattle.std.specs.Option.{option_map_or, ForSome}
 use Rattle.uvm_sequencer.specs.declared.starts.SeqStep.{SeqStep}
 use Rattle.uvm_sequencer.specs.declared.starts.SeqStep.TheVariants.{PreStart, Body, PostStart}
@@ -39,6 +39,13 @@ ancestors_of (start ∷ older) id =
 -- a sequence is another, or that is one of its ancestors
 abbrev pub is_under : List Start → ℕ → ℕ → Bool
 is_under started id above = (id == above) || list_any (λ ancestor. ancestor == above) (ancestors_of started id)
+
+-- the name of a sequence, if it was started, and the names from its root sequence down to itself
+abbrev pub name_at : List Start → ℕ → Option (List ℕ)
+name_at started id = option_map (λ start. start.name) (numbered started id)
+
+abbrev pub names_of : List Start → ℕ → List (List ℕ)
+names_of started id = reverse (filter_map (name_at started) (id ∷ ancestors_of started id))
 
 -- the step at which a live sequence is
 abbrev pub step_at : List (Option SeqStep) → ℕ → Option SeqStep

@@ -1,8 +1,8 @@
 //! The sequences that were started.
 
-ghost use Rattle.std.specs.Prelude.{◌≡◌, ◌+◌, ◌<◌, ◌∷◌, [], length, None, Some, OnOk, OnErr, IfOk, IfSome, IsOk, IsSome, is_some, option_map, vec_len, vec_capacity};
-ghost use Rattle.std.specs.Option.{option_copied, option_and_then, ForSome};
-ghost use Rattle.uvm_sequencer.specs.Sequences.{numbered, parent_of, step_at, step_after, with_step, stepped, finished, is_under, IsSequences};
+ghost use Rattle.std.specs.Prelude.{◌≡◌, ◌+◌, ◌<◌, ◌∷◌, ◌++◌, [], length, None, Some, OnOk, OnErr, IfOk, IfSome, IsOk, IsSome, is_some, option_map, vec_len, vec_capacity};
+ghost use Rattle.std.specs.Option.{option_copied, option_and_then, option_to_list, ForSome};
+ghost use Rattle.uvm_sequencer.specs.Sequences.{name_at, names_of, numbered, parent_of, step_at, step_after, with_step, stepped, finished, is_under, IsSequences};
 ghost use Rattle.uvm_sequencer.specs.Kept.{place_in, start_of, starts_of, steps_of};
 
 use std::alloc::{AllocError, Global};
@@ -197,7 +197,7 @@ impl Sequences {
 
     /// The name of a sequence. Sequences may have one name.
     pub fn name(&self, id: SeqId) -> Option<&Name>
-        ensures { option_copied result ≡ option_map (λ start. start.name) (numbered self.now.started id) }
+        ensures { option_copied result ≡ name_at self.now.started id }
     {
         Some(&self.sequence(id)?.name)
     }
@@ -209,6 +209,22 @@ impl Sequences {
     {
         let _ = &self.sequences;
         Some(self.sequence(id)?.priority)
+    }
+
+    /// The names from the root of a sequence, which no sequence started, down to itself; none where it was not started. The error is
+    /// want of memory.
+    pub fn names(&self, alloc: Global, id: SeqId) -> Result<Vec<Name>, AllocError>
+        ensures { IfOk result (λ names. names.items ≡ names_of self.now.started id) }
+    {
+        let _ = &self.sequences;
+        let mut names = Vec::new(alloc);
+        let mut next = Some(id);
+        while let Some(at) = next {
+            push_some(&mut names, self.name(at))?;
+            next = self.parent(at);
+        }
+        names.reverse();
+        Ok(names)
     }
 
     /// Whether a sequence is another, or the other is its parent, the parent of that, and so on. Dead ones count as live ones.
@@ -237,6 +253,16 @@ impl Sequences {
             None => None,
         }
     }
+}
+
+// Puts a name behind others, if there is one. The error is want of memory.
+fn push_some(names: &mut Vec<Name>, name: Option<&Name>) -> Result<(), AllocError>
+    ensures { OnOk result (names.new.items ≡ names.old.items ++ option_to_list (option_copied name.entry)) }
+{
+    if let Some(name) = name {
+        names.push(*name)?;
+    }
+    Ok(())
 }
 
 // Writes the step of a sequence, if it was started.

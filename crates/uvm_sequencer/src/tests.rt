@@ -81,6 +81,21 @@ fn start(sequences: &mut Sequences, parent: Option<SeqId>) -> Result<SeqId, Fail
 }
 
 #[test]
+fn names_go_from_the_root_sequence_down(rt: HostRuntime) -> Result<(), Fail> {
+    let mut sequences = Sequences::new(rt.alloc());
+    let root = sequences.start(NodeId::TOP, None, Name::new(b"a")?, 100)?;
+    let child = sequences.start(NodeId::TOP, Some(root), Name::new(b"b")?, 100)?;
+    // Also through one that has ended.
+    sequences.finish(root);
+    let names = sequences.names(rt.alloc(), child)?;
+    assert_eq!(rt;
+        names.as_slice(),
+        [Name::new(b"a")?, Name::new(b"b")?].as_slice()
+    );
+    Ok(())
+}
+
+#[test]
 fn sequences_stand_under_their_ancestors(rt: HostRuntime) -> Result<(), Fail> {
     let mut sequences = Sequences::new(rt.alloc());
     sequences.reserve()?;

@@ -6,6 +6,7 @@ use std::test::Fail;
 use uvm_glob::{Name, Path};
 use uvm_object::{Act, Acts, What};
 use uvm_phase::Phase;
+use uvm_sequencer::Mode;
 use uvm_tlm::PortKind;
 
 /// Ends that are added to the test, and what is connected then, by paths below it.
@@ -29,6 +30,10 @@ pub(super) const GET: What = What::Port {
 
 pub(super) const ANALYSIS: What = What::Port {
     kind: PortKind::Analysis,
+};
+
+const SEQ: What = What::Port {
+    kind: PortKind::Seq,
 };
 
 pub(super) const FIFO: What = What::Fifo { size: 1 };
@@ -233,4 +238,28 @@ note CONNERR uvm_test_top.a
 note CONNERR uvm_test_top.b
 end connect
 begin end_of_elaboration
+";
+
+#[test]
+fn second_seq_port_at_a_sequencer_has_too_many_connections(rt: HostRuntime) -> Result<(), Fail> {
+    const WIRES: Wires = Wires {
+        added: &[
+            Added("q", What::Sequencer { mode: Mode::Fifo }),
+            Added("b", SEQ),
+            Added("a", SEQ),
+        ],
+        connected: &[("b", "q"), ("a", "q")],
+    };
+    let text = transcript(rt.alloc(), Bench::Wired(Phase::Connect, WIRES))?;
+    assert!(rt; text.as_slice().ends_with(SECOND_DRIVER_END));
+    Ok(())
+}
+
+const SECOND_DRIVER_END: &[u8] = b"begin connect
+heard uvm_test_top connect: 2
+did uvm_test_top connect (b) (q): done
+did uvm_test_top connect (a) (q): done
+note CONNERR uvm_test_top.b
+UVM_FATAL @ 0: uvm_test_top.b [CONNERR] too many connections
+over exit
 ";

@@ -15,7 +15,7 @@ pub insert-requires-clause-apart : goal.insert-requires-clause-apart
 insert-requires-clause-apart g c =
     let m = g.O.UvmObject in
     let kernel : KernelValue g.row.O.Denot = record { core = c.self.inside.core; held = held_in c.self.inside.seats.taken; failed = c.self.inside.failed; unknown = c.self.inside.unknown } in
-    rw (c.reserve.ensures.taken, c.made-who.ensures.who) (node-new c.hold.ensures m.view m.name m.says kernel c.self.invariant.0)
+    rw (c.reserve.ensures.taken, c.node-node.ensures, c.made-who.ensures.who) (node-new c.hold.ensures m.view m.name m.says kernel c.self.invariant.0)
 
 pub invariant_of-self-2 : goal.invariant_of-self-2
 invariant_of-self-2 g c =
@@ -24,7 +24,7 @@ invariant_of-self-2 g c =
     let need = c.in-Some.need.now in
     let taken = c.self.inside.seats.taken in
     let node : ℕ = length (nodes_of kernel.core.history) in
-    let seated : IsPermutation (record { path = need.path; who = Node node; object = c.args.object } ∷ taken) c.insert.new.self.taken = rw (c.in-Ok-Ok.ensures, c.made-who.ensures.who, c.reserve.ensures.taken) at (c.insert.ensures) in
+    let seated : IsPermutation (record { path = need.path; who = Node node; object = c.args.object } ∷ taken) c.insert.new.self.taken = rw (c.in-Ok-Ok.ensures, c.node-node.ensures, c.made-who.ensures.who, c.reserve.ensures.taken) at (c.insert.ensures) in
     let same = IsPermutation-map (λ (seat : Taken g.row.O.Denot). (seat.who, seat.object)) (record { path = need.path; who = Node node; object = c.args.object } ∷ taken) c.insert.new.self.taken seated in
     let sits = IsPermutation-map (λ (seat : Taken g.row.O.Denot). (seat.path, seat.who)) (record { path = need.path; who = Node node; object = c.args.object } ∷ taken) c.insert.new.self.taken seated in
     let fits : m.name c.args.object ≡ need.type_name = search rules in
@@ -40,7 +40,7 @@ returns-clause-ok g c =
     let need = c.in-Some.need.now in
     let taken = c.self.inside.seats.taken in
     let node : ℕ = length (nodes_of kernel.core.history) in
-    let seated : IsPermutation (record { path = need.path; who = Node node; object = c.args.object } ∷ taken) c.insert.new.self.taken = rw (c.in-Ok-Ok.ensures, c.made-who.ensures.who, c.reserve.ensures.taken) at (c.insert.ensures) in
+    let seated : IsPermutation (record { path = need.path; who = Node node; object = c.args.object } ∷ taken) c.insert.new.self.taken = rw (c.in-Ok-Ok.ensures, c.node-node.ensures, c.made-who.ensures.who, c.reserve.ensures.taken) at (c.insert.ensures) in
     let same = IsPermutation-map (λ (seat : Taken g.row.O.Denot). (seat.who, seat.object)) (record { path = need.path; who = Node node; object = c.args.object } ∷ taken) c.insert.new.self.taken seated in
     let fits : m.name c.args.object ≡ wanted_in kernel = search rules in
     rw (← c.self.view_is)

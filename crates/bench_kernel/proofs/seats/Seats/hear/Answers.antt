@@ -4,6 +4,7 @@ use Rattle.std.proofs.lemmas.Option.{same_Some}
 use Rattle.std.specs.Map.{lookup}
 use Rattle.slab.specs.Slab.{get}
 use Rattle.uvm_object.specs.Acts.{node_of}
+use Rattle.uvm_object.specs.declared.acts.Who.TheVariants.{Node}
 use Rattle.bench_kernel.specs.Seats.{Taken, held_in}
 use Rattle.bench_kernel.specs.Places.{taken_in}
 use Rattle.bench_kernel.proofs.Places.{AreSeats-write, place-of, taken_in-write}
@@ -39,7 +40,7 @@ returns-clause-asked g c =
     let key : place.place.1 ≡ c.in-Some.key = same_Some place.place.1 c.in-Some.key (sym place.found ∙ found) in
     let there : get seats.taken c.in-Some.key ≡ Some c.in-Some-get_mut.seat.now = sym c.get_mut.follows ∙ (rw c.in-Some-get_mut.is refl) in
     let same : place.seat ≡ c.in-Some-get_mut.seat.now = same_Some place.seat c.in-Some-get_mut.seat.now (sym place.there ∙ ap (get seats.taken) key ∙ there) in
-    let who : c.in-Some-get_mut.seat.now.who ≡ c.args.who.now = ap (λ s. s.who) (sym same) ∙ place.same_who in
+    let who : Node c.in-Some-get_mut.seat.now.node ≡ c.args.who.now = ap (λ s. Node s.node) (sym same) ∙ place.same_who in
     let written = taken_in-write seats.taken seats.components.entries (heap_items seats.down) c.in-Some.key c.in-Some-get_mut.seat.now c.hear.new.self there c.self.invariant place.place place.others key place.is in
     rw (← c.self.view_is, ← who)
     (record {

@@ -22,6 +22,7 @@ returns c = λ script factory settings reporting.
       stations = stations-first c.new-4.ensures.empty;
       passed = passed-first;
       unsettled = search (rules, unsettled);
+      sequences = search rules;
       objections = objecting-first c.new-2.result c.nodes_grow.ensures.0 c.new-2.ensures;
       factory = factory;
       turns = search rules;

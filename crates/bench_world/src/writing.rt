@@ -92,7 +92,7 @@ fn store_all(stations: &mut Stations, targets: &[NodeId], item: Item) -> Result<
     Ok(())
 }
 
-// Something may pass at some FIFOs, and nowhere else.
+// Something may pass at some of the targets, and nowhere else.
 fn look_at_all(unsettled: &mut Vec<NodeId>, targets: &[NodeId]) -> Result<(), AllocError>
     ensures { OnOk result (unsettled.new.items ≡ targets.now) }
 {

@@ -17,6 +17,10 @@ pub(super) enum Passing {
     Memory,
     /// The test does all by itself.
     Alone,
+    /// The test tries, writes to three targets, and puts through a port that it does not have.
+    Trying,
+    /// The test puts in build.
+    Early,
 }
 
 const ITEM: Item = Item([1, 0, 10, 0]);
@@ -53,6 +57,20 @@ const OWN_WIRES: Wires = Wires {
     connected: &[("p", "f"), ("g", "f"), ("a", "u"), ("a", "i")],
 };
 
+// With one more imp.
+const TRIED_WIRES: Wires = Wires {
+    added: &[
+        Added("f", FIFO),
+        Added("u", What::Fifo { size: 0 }),
+        Added("i", What::Imp),
+        Added("j", What::Imp),
+        Added("p", PUT),
+        Added("g", GET),
+        Added("a", ANALYSIS),
+    ],
+    connected: &[("p", "f"), ("g", "f"), ("a", "j"), ("a", "u"), ("a", "i")],
+};
+
 // What somebody answers.
 pub(super) fn acts_of(
     alloc: Global,
@@ -65,7 +83,9 @@ pub(super) fn acts_of(
         (Passing::Memory, true) => ask(alloc, call, &mut acts)?,
         (Passing::Memory, false) => serve(call, &mut acts)?,
         (Passing::Alone, true) => pass_alone(alloc, call, &mut acts)?,
-        (Passing::Alone, false) => (),
+        (Passing::Trying, true) => try_alone(alloc, call, &mut acts)?,
+        (Passing::Early, true) => put_early(call, &mut acts)?,
+        (Passing::Alone | Passing::Trying | Passing::Early, false) => (),
     }
     Ok(acts)
 }
@@ -132,6 +152,37 @@ fn pass_alone(alloc: Global, call: Call, acts: &mut Acts) -> Result<(), Fail> {
     Ok(())
 }
 
+// The test that tries, and puts through a port that it does not have once it was told of all else.
+fn try_alone(alloc: Global, call: Call, acts: &mut Acts) -> Result<(), Fail> {
+    match call {
+        Call::Phase(Phase::Build) => TRIED_WIRES.add(acts)?,
+        Call::Phase(Phase::Connect) => TRIED_WIRES.connect(alloc, acts)?,
+        Call::Phase(Phase::Run) => {
+            let (port, item) = (Name::new(b"p")?, ITEM);
+            acts.push(Act::TryPut { port, item })?;
+            acts.push(Act::TryTake {
+                port: Name::new(b"g")?,
+            })?;
+            acts.push(Act::Write {
+                port: Name::new(b"a")?,
+                item,
+            })?;
+            acts.push(Act::Wait { ticks: 0, tag: 1 })?;
+        }
+        Call::Wake { .. } => acts.push(put(b"x")?)?,
+        _ => (),
+    }
+    Ok(())
+}
+
+// The test that puts before time passes.
+fn put_early(call: Call, acts: &mut Acts) -> Result<(), Fail> {
+    if let Call::Phase(Phase::Build) = call {
+        acts.push(put(b"p")?)?;
+    }
+    Ok(())
+}
+
 fn put(port: &[u8]) -> Result<Act, Fail> {
     Ok(Act::Put {
         port: Name::new(port)?,
@@ -156,6 +207,20 @@ fn item_goes_to_the_memory_and_back(rt: HostRuntime) -> Result<(), Fail> {
 fn what_can_pass_goes_before_the_next_act(rt: HostRuntime) -> Result<(), Fail> {
     let text = transcript(rt.alloc(), Bench::Passing(Passing::Alone))?;
     assert!(rt; text.as_slice().ends_with(ALONE_END));
+    Ok(())
+}
+
+#[test]
+fn tries_succeed_and_a_write_reaches_each_target(rt: HostRuntime) -> Result<(), Fail> {
+    let text = transcript(rt.alloc(), Bench::Passing(Passing::Trying))?;
+    assert!(rt; text.as_slice().ends_with(TRIED_END));
+    Ok(())
+}
+
+#[test]
+fn items_go_through_ports_in_run_alone(rt: HostRuntime) -> Result<(), Fail> {
+    let text = transcript(rt.alloc(), Bench::Passing(Passing::Early))?;
+    assert!(rt; text.as_slice().ends_with(EARLY_END));
     Ok(())
 }
 
@@ -273,4 +338,27 @@ begin final
 heard uvm_test_top final: 0
 end final
 over finished
+";
+
+const TRIED_END: &[u8] = b"begin run
+heard uvm_test_top run: 4
+did uvm_test_top try_put p [1,0,10,0]: yes
+did uvm_test_top try_take g: yes
+did uvm_test_top write a [1,0,10,0]: done
+did uvm_test_top wait 0 1: done
+heard uvm_test_top try_stored p yes: 0
+heard uvm_test_top try_taken g [1,0,10,0]: 0
+heard uvm_test_top written i [1,0,10,0]: 0
+heard uvm_test_top written j [1,0,10,0]: 0
+heard uvm_test_top wake 1: 1
+did uvm_test_top put x [1,0,10,0]: refused NOPORT
+UVM_FATAL @ 0: uvm_test_top [NOPORT] no such port
+over exit
+";
+
+const EARLY_END: &[u8] = b"begin build
+heard uvm_test_top build: 1
+did uvm_test_top put p [1,0,10,0]: refused NOTTASK
+UVM_FATAL @ 0: uvm_test_top [NOTTASK] act outside a task phase
+over exit
 ";

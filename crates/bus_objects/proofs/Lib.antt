@@ -1,3 +1,4 @@
+pub mod Functions
 pub mod LastWritten
 pub mod Printed
 pub mod Shown

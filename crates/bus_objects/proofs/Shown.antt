@@ -3,11 +3,13 @@ use Rattle.std.proofs.Common.{◌≡◌, ℕ, ◌+◌, ◌*◌, ◌/◌, ◌%◌
 use Rattle.std.specs.Prelude.{ℤ, pos, negsuc}
 use Rattle.std.proofs.lemmas.List.{length-map}
 use Rattle.std.proofs.Math.Seq.{drop-append_seam, take-append_seam}
+use Rattle.uvm_tlm.specs.declared.items.Item.{Item}
 use Rattle.bus_objects.specs.declared.memory.Memory.{Memory}
 use Rattle.bus_objects.specs.declared.bus_scoreboard.Score.{Score}
 use Rattle.bus_objects.specs.Words.{Words, integer_of, number_of, words_of, words_view}
 use Rattle.bus_objects.specs.Memory.{memory_of, memory_view}
 use Rattle.bus_objects.specs.BusScoreboard.{score_of, score_view}
+use Rattle.bus_objects.specs.SlowDriver.{item_of, item_view}
 
 integer_of-even : (n : ℕ) → integer_of (2 * n) ≡ pos n
 integer_of-even n =
@@ -37,6 +39,10 @@ scores_show_themselves score = rw (words_of-words_view score.words)
 integers-of-numbers : (words : List ℤ) → map integer_of (map number_of words) ≡ words
 integers-of-numbers [] = refl
 integers-of-numbers (word ∷ words) = rw (integer_of-number_of word, integers-of-numbers words)
+
+pub items_show_themselves : (item : Item) → item_of (item_view item) ≡ item
+unfolding item_of item_view
+items_show_themselves item = rw (integers-of-numbers item.0)
 
 pub memories_show_themselves : (memory : Memory) → memory_of (memory_view memory) ≡ memory
 unfolding memory_of memory_view

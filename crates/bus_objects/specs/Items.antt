@@ -1,5 +1,5 @@
 -- The items of the bus: an operation, an address, data, and 0. The operation 1 writes, and any other reads.
-use Rattle.std.specs.Prelude.{ℕ, ℤ, pos, Bool, List, ◌∷◌, ◌++◌, codes, slice_index_or, slice_set, if◌then◌else◌}
+use Rattle.std.specs.Prelude.{ℕ, ℤ, pos, Bool, List, [], ◌∷◌, ◌++◌, codes, slice_index_or, slice_set, if◌then◌else◌}
 use Rattle.std.specs.Ordering.{int_eq}
 use Rattle.std.specs.Fmt.{signed_decimal}
 use Rattle.uvm_tlm.specs.declared.items.Item.{Item}
@@ -15,6 +15,13 @@ address_of item = word_of item 1
 
 abbrev pub data_of : Item → ℤ
 data_of item = word_of item 2
+
+-- the item that writes a word at an address, and the one that reads there
+abbrev pub write_item : ℕ → ℕ → Item
+write_item address word = record { 0 = pos 1 ∷ pos address ∷ pos word ∷ pos 0 ∷ [] }
+
+abbrev pub read_item : ℕ → Item
+read_item address = record { 0 = pos 0 ∷ pos address ∷ pos 0 ∷ pos 0 ∷ [] }
 
 -- the item with other data
 abbrev pub with_data : Item → ℤ → Item

@@ -1,13 +1,19 @@
 -- What the definitions say, in other words.
-use Rattle.std.specs.Prelude.{◌≡◌, ℤ, ◌&&◌, if◌then◌else◌}
+use Rattle.std.specs.Prelude.{◌≡◌, ℤ, ◌&&◌, List, if◌then◌else◌}
 use Rattle.std.specs.Ordering.{int_eq}
 use Rattle.uvm_tlm.specs.declared.items.Item.{Item}
+use Rattle.uvm_object.specs.Objects.{View}
+use Rattle.uvm_object.specs.declared.acts.Act.{Act}
+use Rattle.uvm_object.specs.declared.acts.Call.{Call}
+use Rattle.bus_objects.specs.declared.objects.BusObject.{BusObject}
 use Rattle.bus_objects.specs.declared.memory.Memory.{Memory}
 use Rattle.bus_objects.specs.declared.bus_scoreboard.Score.{Score}
 use Rattle.bus_objects.specs.Items.{address_of, data_of, is_write}
 use Rattle.bus_objects.specs.Words.{Words, word_at, words_after}
 use Rattle.bus_objects.specs.Memory.{memory_of, memory_view}
 use Rattle.bus_objects.specs.BusScoreboard.{score_of, score_view}
+use Rattle.bus_objects.specs.SlowDriver.{item_of, item_view}
+use Rattle.bus_objects.specs.Objects.{says_of}
 
 -- after a write its data is the word at its address; every other word stays, as does each after a read
 abbrev pub LastWrittenIsFound : Type 0
@@ -22,3 +28,16 @@ MemoriesShowThemselves = (memory : Memory) → memory_of (memory_view memory) �
 -- so are two scores
 abbrev pub ScoresShowThemselves : Type 0
 ScoresShowThemselves = (score : Score) → score_of (score_view score) ≡ score
+
+-- so are two items that are kept
+abbrev pub ItemsShowThemselves : Type 0
+ItemsShowThemselves = (item : Item) → item_of (item_view item) ≡ item
+
+-- exactly one answer, and one next view, are allowed
+abbrev pub AllowsOne : (List Act → View → Type 0) → Type 0
+AllowsOne allowed =
+    (acts : List Act) × (after : View) × (allowed acts after × ((others : List Act) (next : View) → allowed others next → (others ≡ acts) × (next ≡ after)))
+
+-- what an object does is a function of what it shows and of the call
+abbrev pub ObjectsAreFunctions : Type 0
+ObjectsAreFunctions = (object : BusObject) (before : View) (call : Call) → AllowsOne (says_of object before call)

@@ -1,14 +1,14 @@
 //! What the memories of the bus share.
 
-ghost use Rattle.std.specs.Prelude.{◌≡◌, None, IfOk, OnOk, OnErr};
-ghost use Rattle.uvm_glob.specs.Names.{name_fault};
+ghost use Rattle.std.specs.Prelude.{◌≡◌, IfOk, OnOk, OnErr};
 ghost use Rattle.bus_objects.specs.Memory.{MemorySays, data_read, memory_acts, memory_after, memory_view, new_memory, result_of, waits_kept};
 
+use crate::acts::port_act;
 use crate::items::{address_of, is_write, with_data};
 use crate::texts::name_of;
 use crate::words::WordMap;
 use std::alloc::{AllocError, Global};
-use uvm_object::{Act, Acts, Call, What};
+use uvm_object::{Act, Acts, Call};
 use uvm_phase::Phase;
 use uvm_tlm::{Item, PortKind};
 
@@ -126,17 +126,6 @@ impl Memory {
             let word = self.words.at(address_of(&self.item));
             with_data(&self.item, reading.data_read(word))
         }
-    }
-}
-
-// To add a port.
-fn port_act(name: &[u8], kind: PortKind) -> Act
-    requires { name_fault name.now ≡ None }
-    ensures { result ≡ Act.Add name.now (What.Port kind) }
-{
-    Act::Add {
-        name: name_of(name),
-        what: What::Port { kind },
     }
 }
 

@@ -2,14 +2,22 @@
 
 ghost use Rattle.std.specs.Prelude.{◌≡◌};
 
+use crate::bus_agent::BusAgent;
+use crate::bus_driver::BusDriver;
+use crate::bus_env::BusEnv;
 use crate::bus_mem::BusMem;
 use crate::bus_mem_bad::BusMemBad;
 use crate::bus_monitor::BusMonitor;
 use crate::bus_scoreboard::BusScoreboard;
+use crate::bus_test::BusTest;
 use crate::idle::Idle;
 use crate::loud::Loud;
 use crate::pulse::Pulse;
+use crate::seq_burst::SeqBurst;
+use crate::seq_pair::SeqPair;
+use crate::seq_smoke::SeqSmoke;
 use crate::sleeper::Sleeper;
+use crate::slow_driver::SlowDriver;
 use crate::spinner::Spinner;
 use std::alloc::{AllocError, Global};
 use uvm_glob::Name;
@@ -18,6 +26,12 @@ use uvm_object::{Acts, Call, UvmObject};
 /// An object of one of the bench's types. It shows and says what the object of that type does.
 #[derive(Drop)]
 pub enum BusObject {
+    /// Of the type `bus_agent`.
+    BusAgent(BusAgent),
+    /// Of the type `bus_driver`.
+    BusDriver(BusDriver),
+    /// Of the type `bus_env`.
+    BusEnv(BusEnv),
     /// Of the type `bus_mem`.
     BusMem(BusMem),
     /// Of the type `bus_mem_bad`.
@@ -26,36 +40,40 @@ pub enum BusObject {
     BusMonitor(BusMonitor),
     /// Of the type `bus_scoreboard`.
     BusScoreboard(BusScoreboard),
+    /// Of the type `bus_test`.
+    BusTest(BusTest),
     /// Of the type `idle`.
     Idle(Idle),
     /// Of the type `loud`.
     Loud(Loud),
     /// Of the type `pulse`.
     Pulse(Pulse),
+    /// Of the type `seq_burst`.
+    SeqBurst(SeqBurst),
+    /// Of the type `seq_pair`.
+    SeqPair(SeqPair),
+    /// Of the type `seq_smoke`.
+    SeqSmoke(SeqSmoke),
     /// Of the type `sleeper`.
     Sleeper(Sleeper),
+    /// Of the type `slow_driver`.
+    SlowDriver(SlowDriver),
     /// Of the type `spinner`.
     Spinner(Spinner),
 }
 
 impl BusObject {
-    ghost use Rattle.bus_objects.specs.Objects.{object_named};
+    ghost use Rattle.bus_objects.specs.Objects.{object_named, part_named, sequence_named};
 
     /// A new object of the type of this name, if the bench has the type. Takes no memory.
     pub fn of_type(alloc: Global, type_name: &Name) -> Option<BusObject>
         ensures { result ≡ object_named type_name.now }
     {
-        if let Some(bus_mem) = BusMem::of_type(alloc, type_name) {
-            return Some(BusObject::BusMem(bus_mem));
+        if let Some(part) = BusObject::part_of_type(alloc, type_name) {
+            return Some(part);
         }
-        if let Some(bus_mem_bad) = BusMemBad::of_type(alloc, type_name) {
-            return Some(BusObject::BusMemBad(bus_mem_bad));
-        }
-        if let Some(bus_monitor) = BusMonitor::of_type(type_name) {
-            return Some(BusObject::BusMonitor(bus_monitor));
-        }
-        if let Some(bus_scoreboard) = BusScoreboard::of_type(alloc, type_name) {
-            return Some(BusObject::BusScoreboard(bus_scoreboard));
+        if let Some(sequence) = BusObject::sequence_of_type(type_name) {
+            return Some(sequence);
         }
         if let Some(idle) = Idle::of_type(type_name) {
             return Some(BusObject::Idle(idle));
@@ -71,6 +89,50 @@ impl BusObject {
         }
         Spinner::of_type(type_name).map(BusObject::Spinner)
     }
+
+    // A new object of the type of this name, if it is that of a component of the bus.
+    fn part_of_type(alloc: Global, type_name: &Name) -> Option<BusObject>
+        ensures { result ≡ part_named type_name.now }
+    {
+        if let Some(bus_agent) = BusAgent::of_type(type_name) {
+            return Some(BusObject::BusAgent(bus_agent));
+        }
+        if let Some(bus_driver) = BusDriver::of_type(type_name) {
+            return Some(BusObject::BusDriver(bus_driver));
+        }
+        if let Some(bus_env) = BusEnv::of_type(type_name) {
+            return Some(BusObject::BusEnv(bus_env));
+        }
+        if let Some(bus_mem) = BusMem::of_type(alloc, type_name) {
+            return Some(BusObject::BusMem(bus_mem));
+        }
+        if let Some(bus_mem_bad) = BusMemBad::of_type(alloc, type_name) {
+            return Some(BusObject::BusMemBad(bus_mem_bad));
+        }
+        if let Some(bus_monitor) = BusMonitor::of_type(type_name) {
+            return Some(BusObject::BusMonitor(bus_monitor));
+        }
+        if let Some(bus_scoreboard) = BusScoreboard::of_type(alloc, type_name) {
+            return Some(BusObject::BusScoreboard(bus_scoreboard));
+        }
+        if let Some(bus_test) = BusTest::of_type(type_name) {
+            return Some(BusObject::BusTest(bus_test));
+        }
+        SlowDriver::of_type(type_name).map(BusObject::SlowDriver)
+    }
+
+    // A new object of the type of this name, if it is that of a sequence.
+    fn sequence_of_type(type_name: &Name) -> Option<BusObject>
+        ensures { result ≡ sequence_named type_name.now }
+    {
+        if let Some(seq_burst) = SeqBurst::of_type(type_name) {
+            return Some(BusObject::SeqBurst(seq_burst));
+        }
+        if let Some(seq_pair) = SeqPair::of_type(type_name) {
+            return Some(BusObject::SeqPair(seq_pair));
+        }
+        SeqSmoke::of_type(type_name).map(BusObject::SeqSmoke)
+    }
 }
 
 impl UvmObject for BusObject {
@@ -84,28 +146,44 @@ impl UvmObject for BusObject {
 
     fn type_name(&self) -> &Name {
         match self {
+            BusObject::BusAgent(bus_agent) => bus_agent.type_name(),
+            BusObject::BusDriver(bus_driver) => bus_driver.type_name(),
+            BusObject::BusEnv(bus_env) => bus_env.type_name(),
             BusObject::BusMem(bus_mem) => bus_mem.type_name(),
             BusObject::BusMemBad(bus_mem_bad) => bus_mem_bad.type_name(),
             BusObject::BusMonitor(bus_monitor) => bus_monitor.type_name(),
             BusObject::BusScoreboard(bus_scoreboard) => bus_scoreboard.type_name(),
+            BusObject::BusTest(bus_test) => bus_test.type_name(),
             BusObject::Idle(idle) => idle.type_name(),
             BusObject::Loud(loud) => loud.type_name(),
             BusObject::Pulse(pulse) => pulse.type_name(),
+            BusObject::SeqBurst(seq_burst) => seq_burst.type_name(),
+            BusObject::SeqPair(seq_pair) => seq_pair.type_name(),
+            BusObject::SeqSmoke(seq_smoke) => seq_smoke.type_name(),
             BusObject::Sleeper(sleeper) => sleeper.type_name(),
+            BusObject::SlowDriver(slow_driver) => slow_driver.type_name(),
             BusObject::Spinner(spinner) => spinner.type_name(),
         }
     }
 
     fn hear(&mut self, alloc: Global, call: &Call) -> Result<Acts, AllocError> {
         match self {
+            BusObject::BusAgent(bus_agent) => bus_agent.hear(alloc, call),
+            BusObject::BusDriver(bus_driver) => bus_driver.hear(alloc, call),
+            BusObject::BusEnv(bus_env) => bus_env.hear(alloc, call),
             BusObject::BusMem(bus_mem) => bus_mem.hear(alloc, call),
             BusObject::BusMemBad(bus_mem_bad) => bus_mem_bad.hear(alloc, call),
             BusObject::BusMonitor(bus_monitor) => bus_monitor.hear(alloc, call),
             BusObject::BusScoreboard(bus_scoreboard) => bus_scoreboard.hear(alloc, call),
+            BusObject::BusTest(bus_test) => bus_test.hear(alloc, call),
             BusObject::Idle(idle) => idle.hear(alloc, call),
             BusObject::Loud(loud) => loud.hear(alloc, call),
             BusObject::Pulse(pulse) => pulse.hear(alloc, call),
+            BusObject::SeqBurst(seq_burst) => seq_burst.hear(alloc, call),
+            BusObject::SeqPair(seq_pair) => seq_pair.hear(alloc, call),
+            BusObject::SeqSmoke(seq_smoke) => seq_smoke.hear(alloc, call),
             BusObject::Sleeper(sleeper) => sleeper.hear(alloc, call),
+            BusObject::SlowDriver(slow_driver) => slow_driver.hear(alloc, call),
             BusObject::Spinner(spinner) => spinner.hear(alloc, call),
         }
     }

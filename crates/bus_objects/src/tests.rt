@@ -6,7 +6,9 @@ use uvm_glob::Name;
 use uvm_object::{Act, Call, UvmObject};
 use uvm_phase::Phase;
 use uvm_report::{Report, Severity};
+use uvm_sequencer::Sequences;
 use uvm_tlm::Item;
+use uvm_tree::NodeId;
 
 fn made(alloc: Global, type_name: &[u8]) -> Result<BusObject, Fail> {
     let type_name = Name::new(type_name)?;
@@ -38,16 +40,62 @@ fn told(value: Option<i64>) -> Result<Call, Fail> {
     })
 }
 
+fn next_item(words: Option<[i64; 4]>) -> Result<Call, Fail> {
+    Ok(Call::NextItem {
+        port: Name::new(b"sqp")?,
+        item: words.map(Item),
+    })
+}
+
+fn stored(port: &[u8]) -> Result<Call, Fail> {
+    Ok(Call::Stored {
+        port: Name::new(port)?,
+    })
+}
+
+fn finished(alloc: Global, name: &[u8]) -> Result<Call, Fail> {
+    let name = Name::new(name)?;
+    let id = Sequences::new(alloc).start(NodeId::TOP, None, name, 100)?;
+    Ok(Call::Finished { name, id })
+}
+
 // An act that one of the objects of the bus answers, in words.
 fn act_text(alloc: Global, act: &Act) -> Result<String, Fail> {
     Ok(match act {
+        Act::Create { type_name, name } => format!(in alloc; "create {type_name} {name}")?,
         Act::Add { name, what } => format!(in alloc; "add {name} {what:?}")?,
+        Act::Connect { from, to } => format!(in alloc; "connect {from} {to}")?,
         Act::Get { field } => format!(in alloc; "get {field}")?,
+        Act::RaiseObjection { count } => format!(in alloc; "raise {count}")?,
+        Act::DropObjection { count } => format!(in alloc; "drop {count}")?,
         Act::Put { port, item } => format!(in alloc; "put {port} {:?}", item.0)?,
         Act::Take { port } => format!(in alloc; "take {port}")?,
         Act::Write { port, item } => format!(in alloc; "write {port} {:?}", item.0)?,
         Act::Wait { ticks, tag } => format!(in alloc; "wait {ticks} {tag}")?,
         Act::Report { report } => report_text(alloc, report)?,
+        _ => sequence_act_text(alloc, act)?,
+    })
+}
+
+// An act that has to do with sequences, in words.
+fn sequence_act_text(alloc: Global, act: &Act) -> Result<String, Fail> {
+    Ok(match act {
+        Act::Ask { port, how } => format!(in alloc; "ask {port} {how:?}")?,
+        Act::ItemDone { port, response } => match response {
+            Some(item) => format!(in alloc; "done {port} {:?}", item.0)?,
+            None => format!(in alloc; "done {port}")?,
+        },
+        Act::Start {
+            type_name,
+            name,
+            on,
+            priority,
+        } => format!(in alloc; "start {type_name} {name} ({on}) {priority:?}")?,
+        Act::Request { priority } => format!(in alloc; "request {priority:?}")?,
+        Act::Lock => String::from_str(alloc, "lock")?,
+        Act::Unlock => String::from_str(alloc, "unlock")?,
+        Act::Send { item } => format!(in alloc; "send {:?}", item.0)?,
+        Act::EndStep => String::from_str(alloc, "end")?,
         _ => String::from_str(alloc, "another act")?,
     })
 }
@@ -258,6 +306,203 @@ fn bus_scoreboard_reports_bad_reads_and_its_counts(rt: HostRuntime) -> Result<()
 }
 
 #[test]
+fn bus_test_starts_a_sequence_under_an_objection(rt: HostRuntime) -> Result<(), Fail> {
+    let alloc = rt.alloc();
+    let mut test = made(alloc, b"bus_test")?;
+    for (call, want) in [
+        (Call::Phase(Phase::Build), "create bus_env env;"),
+        (Call::Phase(Phase::Connect), ""),
+        (
+            Call::Phase(Phase::Run),
+            "raise 1;start seq_smoke seq (env.agent.sqr) None;",
+        ),
+        (finished(alloc, b"seq")?, "drop 1;"),
+        (Call::Phase(Phase::Extract), ""),
+    ] {
+        assert_eq!(rt; answer(alloc, &mut test, &call)?.as_str(), want);
+    }
+    Ok(())
+}
+
+#[test]
+fn bus_env_creates_and_connects_its_parts(rt: HostRuntime) -> Result<(), Fail> {
+    let alloc = rt.alloc();
+    let mut environment = made(alloc, b"bus_env")?;
+    for (call, want) in [
+        (
+            Call::Phase(Phase::Build),
+            "create bus_agent agent;create bus_mem mem;create bus_scoreboard sb;\
+            add reqf Fifo { size: 1 };add rspf Fifo { size: 1 };",
+        ),
+        (
+            Call::Phase(Phase::Connect),
+            "connect agent.drv.req reqf;connect agent.drv.rsp rspf;connect mem.req reqf;\
+            connect mem.rsp rspf;connect agent.mon.ap sb.seen;",
+        ),
+        (Call::Phase(Phase::Run), ""),
+    ] {
+        assert_eq!(rt; answer(alloc, &mut environment, &call)?.as_str(), want);
+    }
+    Ok(())
+}
+
+#[test]
+fn bus_agent_adds_the_sequencer_that_it_is_told(rt: HostRuntime) -> Result<(), Fail> {
+    let alloc = rt.alloc();
+    let mut agent = made(alloc, b"bus_agent")?;
+    assert_eq!(rt;
+        answer(alloc, &mut agent, &Call::Phase(Phase::Build))?.as_str(),
+        "get arb;"
+    );
+    for (value, mode) in [
+        (Some(0), "Fifo"),
+        (Some(1), "Weighted"),
+        (Some(2), "Random"),
+        (Some(3), "StrictFifo"),
+        (Some(4), "StrictRandom"),
+        (Some(5), "Fifo"),
+        (Some(-1), "Fifo"),
+        (None, "Fifo"),
+    ] {
+        let want = format!(in alloc;
+            "add sqr Sequencer {{ mode: {mode} }};create bus_driver drv;create bus_monitor mon;"
+        )?;
+        assert_eq!(rt;
+            answer(alloc, &mut agent, &told(value)?)?.as_str(),
+            want.as_str()
+        );
+    }
+    assert_eq!(rt;
+        answer(alloc, &mut agent, &Call::Phase(Phase::Connect))?.as_str(),
+        "connect drv.sqp sqr;connect drv.ap mon.bus;"
+    );
+    assert_eq!(rt;
+        answer(alloc, &mut agent, &Call::Phase(Phase::Run))?.as_str(),
+        ""
+    );
+    Ok(())
+}
+
+// What both drivers answer when they build, in run, when an item is stored and with its result.
+const PORTS_ADDED: &str =
+    "add sqp Port { kind: Seq };add req Port { kind: Put };add rsp Port { kind: Get };add ap Port { kind: Analysis };";
+
+const RESULT: [i64; 4] = [1, 2, 3, 0];
+
+const RESULT_TOLD: &str = "write ap [1, 2, 3, 0];done sqp [1, 2, 3, 0];ask sqp Next;";
+
+#[test]
+fn bus_driver_puts_each_item_and_responds(rt: HostRuntime) -> Result<(), Fail> {
+    let alloc = rt.alloc();
+    let mut driver = made(alloc, b"bus_driver")?;
+    for (call, want) in [
+        (Call::Phase(Phase::Build), PORTS_ADDED),
+        (Call::Phase(Phase::Run), "ask sqp Next;"),
+        (next_item(None)?, ""),
+        (next_item(Some([0, 2, 0, 0]))?, "put req [0, 2, 0, 0];"),
+        (stored(b"req")?, "take rsp;"),
+        (taken(RESULT)?, RESULT_TOLD),
+        (Call::Wake { tag: 1 }, ""),
+        (Call::Body, ""),
+    ] {
+        assert_eq!(rt; answer(alloc, &mut driver, &call)?.as_str(), want);
+    }
+    Ok(())
+}
+
+#[test]
+fn slow_driver_puts_each_item_when_it_wakes(rt: HostRuntime) -> Result<(), Fail> {
+    let alloc = rt.alloc();
+    let mut driver = made(alloc, b"slow_driver")?;
+    for (call, want) in [
+        (Call::Phase(Phase::Build), PORTS_ADDED),
+        (Call::Phase(Phase::Run), "ask sqp Next;"),
+        (Call::Wake { tag: 1 }, "put req [0, 0, 0, 0];"),
+        (next_item(Some([0, 2, -4, 0]))?, "wait 3 1;"),
+        (next_item(None)?, ""),
+        (Call::Wake { tag: 7 }, "put req [0, 2, -4, 0];"),
+        (stored(b"req")?, "take rsp;"),
+        (taken(RESULT)?, RESULT_TOLD),
+        (Call::Wake { tag: 1 }, "put req [0, 2, -4, 0];"),
+        (Call::Phase(Phase::Report), ""),
+    ] {
+        assert_eq!(rt; answer(alloc, &mut driver, &call)?.as_str(), want);
+    }
+    Ok(())
+}
+
+#[test]
+fn seq_smoke_sends_two_items(rt: HostRuntime) -> Result<(), Fail> {
+    let alloc = rt.alloc();
+    let mut sequence = made(alloc, b"seq_smoke")?;
+    let done = Call::ItemDone { response: None };
+    for (call, want) in [
+        (Call::PreStart, "end;"),
+        (Call::Body, "request None;"),
+        (Call::Grant, "send [1, 0, 10, 0];"),
+        (done, "request None;"),
+        (Call::Grant, "send [0, 0, 0, 0];"),
+        (done, "end;"),
+        (Call::PostStart, "end;"),
+        (Call::Grant, ""),
+        (Call::Held, ""),
+        (Call::Wake { tag: 1 }, ""),
+    ] {
+        assert_eq!(rt; answer(alloc, &mut sequence, &call)?.as_str(), want);
+    }
+    Ok(())
+}
+
+#[test]
+fn seq_burst_sends_four_items_under_a_lock(rt: HostRuntime) -> Result<(), Fail> {
+    let alloc = rt.alloc();
+    let mut sequence = made(alloc, b"seq_burst")?;
+    let done = Call::ItemDone {
+        response: Some(Item(RESULT)),
+    };
+    for (call, want) in [
+        (Call::PreStart, "end;"),
+        (Call::Body, "lock;"),
+        (Call::Held, "request None;"),
+        (Call::Grant, "send [1, 0, 20, 0];"),
+        (done, "request None;"),
+        (Call::Grant, "send [1, 1, 21, 0];"),
+        (done, "request None;"),
+        (Call::Grant, "send [0, 0, 0, 0];"),
+        (done, "request None;"),
+        (Call::Grant, "send [0, 1, 0, 0];"),
+        (done, "unlock;end;"),
+        (Call::PostStart, "end;"),
+        (Call::Grant, ""),
+        (Call::Phase(Phase::Run), ""),
+    ] {
+        assert_eq!(rt; answer(alloc, &mut sequence, &call)?.as_str(), want);
+    }
+    Ok(())
+}
+
+#[test]
+fn seq_pair_ends_at_the_second_of_its_children(rt: HostRuntime) -> Result<(), Fail> {
+    let alloc = rt.alloc();
+    let mut sequence = made(alloc, b"seq_pair")?;
+    for (call, want) in [
+        (Call::PreStart, "end;"),
+        (
+            Call::Body,
+            "start seq_smoke a () None;start seq_burst b () Some(200);",
+        ),
+        (finished(alloc, b"b")?, ""),
+        (Call::Grant, ""),
+        (finished(alloc, b"a")?, "end;"),
+        (Call::PostStart, "end;"),
+        (finished(alloc, b"a")?, ""),
+    ] {
+        assert_eq!(rt; answer(alloc, &mut sequence, &call)?.as_str(), want);
+    }
+    Ok(())
+}
+
+#[test]
 fn idle_answers_with_no_acts(rt: HostRuntime) -> Result<(), Fail> {
     let name = Name::new(b"idle")?;
     let mut idle = BusObject::of_type(rt.alloc(), &name).ok_or("no object")?;
@@ -343,7 +588,16 @@ fn spinner_waits_again_and_again(rt: HostRuntime) -> Result<(), Fail> {
 
 #[test]
 fn other_types_have_no_object(rt: HostRuntime) -> Result<(), Fail> {
-    for name in ["idl", "idles", "Idle", "other", "bus_memo", "bus_mem_ba"] {
+    for name in [
+        "idl",
+        "idles",
+        "Idle",
+        "other",
+        "bus_memo",
+        "bus_mem_ba",
+        "seq",
+        "seq_smok",
+    ] {
         let name = Name::new(name.as_bytes())?;
         assert!(rt;
             BusObject::of_type(rt.alloc(), &name).is_none(),

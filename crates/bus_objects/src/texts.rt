@@ -1,11 +1,12 @@
-//! Names and texts that are known to have no fault.
+//! Names, paths and texts that are known to have no fault.
 
 ghost use Rattle.std.specs.Prelude.{◌≡◌, None, IfOk};
 ghost use Rattle.uvm_glob.specs.Names.{name_fault};
+ghost use Rattle.uvm_glob.specs.Paths.{between_dots, path_fault};
 ghost use Rattle.uvm_report.specs.Texts.{text_fault};
 
 use std::alloc::{AllocError, Global};
-use uvm_glob::Name;
+use uvm_glob::{Name, Path, PathFault};
 use uvm_report::{Text, TextFault};
 
 // The name with these bytes.
@@ -17,6 +18,20 @@ pub(crate) fn name_of(bytes: &[u8]) -> Name
         unreachable!()
     };
     name
+}
+
+// The path with this text. The error is want of memory.
+pub(crate) fn path_of(alloc: Global, text: &[u8]) -> Result<Path, AllocError>
+    requires { path_fault (between_dots text.now) ≡ None }
+    ensures { IfOk result (λ path. path ≡ between_dots text.now) }
+{
+    match Path::parse(alloc, text) {
+        Ok(path) => Ok(path),
+        Err(PathFault::Memory) => Err(AllocError),
+        Err(PathFault::Empty | PathFault::TooLong | PathFault::BadByte | PathFault::TooDeep) => {
+            unreachable!()
+        }
+    }
 }
 
 // The text with these bytes. The error is want of memory.

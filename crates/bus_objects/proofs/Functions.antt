@@ -1,0 +1,15 @@
+-- What an object does is a function of what it shows and of the call.
+use Rattle.std.proofs.Common.{◌≡◌, List, refl}
+use Rattle.uvm_object.specs.Objects.{View}
+use Rattle.uvm_object.specs.declared.acts.Act.{Act}
+use Rattle.bus_objects.specs.declared.objects.BusObject.TheVariants.{Idle}
+use Rattle.bus_objects.specs.Laws.{AllowsOne, ObjectsAreFunctions}
+
+-- an answer and a view that are given are the ones that are allowed
+given : (acts : List Act) (after : View) → AllowsOne (λ others next. (others ≡ acts) × (next ≡ after))
+given acts after = (acts, after, ((refl, refl), λ others next same. same))
+
+-- each object's relation is of that form
+pub objects_are_functions : ObjectsAreFunctions
+objects_are_functions (Idle idle) before call = given _ _
+objects_are_functions object before call = given _ _

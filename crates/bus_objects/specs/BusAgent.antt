@@ -1,0 +1,46 @@
+-- What an object of the type `bus_agent` is: it asks how to arbitrate, creates the sequencer, the driver and the monitor, connects them, and stays as
+-- it is.
+use Rattle.std.specs.Prelude.{◌≡◌, ℕ, ℤ, pos, negsuc, ◌==◌, List, [], ◌∷◌, Option, Some, None, codes, if◌then◌else◌, bytes_eq}
+use Rattle.uvm_phase.specs.declared.phases.Phase.TheVariants as phase
+use Rattle.uvm_sequencer.specs.declared.modes.Mode.{Mode}
+use Rattle.uvm_sequencer.specs.declared.modes.Mode.TheVariants.{Fifo, Weighted, Random, StrictFifo, StrictRandom}
+use Rattle.uvm_object.specs.Objects.{View}
+use Rattle.uvm_object.specs.declared.acts.What.TheVariants.{Sequencer}
+use Rattle.uvm_object.specs.declared.acts.Call.{Call}
+use Rattle.uvm_object.specs.declared.acts.Call.TheVariants.{Phase, Config}
+use Rattle.uvm_object.specs.declared.acts.Act.{Act}
+use Rattle.uvm_object.specs.declared.acts.Act.TheVariants.{Create, Add, Get}
+use Rattle.bus_objects.specs.declared.bus_agent.BusAgent.{BusAgent}
+use Rattle.bus_objects.specs.Acts.{connect_act}
+
+-- it shows nothing of itself
+abbrev pub bus_agent_view : BusAgent → View
+bus_agent_view bus_agent = []
+
+-- how the sequencer chooses, for the value of a field: in order, where none is given or none of these
+abbrev pub mode_of : Option ℤ → Mode
+mode_of None = Fifo
+mode_of (Some (negsuc below)) = Fifo
+mode_of (Some (pos number)) =
+    if number == 1 then Weighted
+    else if number == 2 then Random
+    else if number == 3 then StrictFifo
+    else if number == 4 then StrictRandom
+    else Fifo
+
+-- to add the sequencer, and to create the driver and the monitor
+abbrev pub agent_parts : Mode → List Act
+agent_parts mode = Add (codes "sqr") (Sequencer mode) ∷ Create (codes "bus_driver") (codes "drv") ∷ Create (codes "bus_monitor") (codes "mon") ∷ []
+
+abbrev pub bus_agent_acts : Call → List Act
+bus_agent_acts (Phase phase.Build) = Get (codes "arb") ∷ []
+bus_agent_acts (Config field value) = agent_parts (mode_of value)
+bus_agent_acts (Phase phase.Connect) = connect_act (codes "drv.sqp") (codes "sqr") ∷ connect_act (codes "drv.ap") (codes "mon.bus") ∷ []
+bus_agent_acts call = []
+
+abbrev pub BusAgentSays : View → Call → List Act → View → Type 0
+BusAgentSays before call acts after = (acts ≡ bus_agent_acts call) × (after ≡ before)
+
+-- the new object of the type of this name, if it is that type
+abbrev pub bus_agent_named : List ℕ → Option BusAgent
+bus_agent_named name = if bytes_eq name (codes "bus_agent") then Some (record { type_name = name }) else None

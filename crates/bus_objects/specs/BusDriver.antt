@@ -1,0 +1,23 @@
+-- What an object of the type `bus_driver` is: a driver that puts an item as soon as it comes. It stays as it is.
+use Rattle.std.specs.Prelude.{◌≡◌, ℕ, List, [], ◌∷◌, Option, Some, None, codes, if◌then◌else◌, bytes_eq}
+use Rattle.uvm_object.specs.Objects.{View}
+use Rattle.uvm_object.specs.declared.acts.Call.{Call}
+use Rattle.uvm_object.specs.declared.acts.Call.TheVariants.{NextItem}
+use Rattle.uvm_object.specs.declared.acts.Act.{Act}
+use Rattle.bus_objects.specs.declared.bus_driver.BusDriver.{BusDriver}
+use Rattle.bus_objects.specs.Driver.{driver_acts, put_act}
+
+-- it shows nothing of itself
+abbrev pub bus_driver_view : BusDriver → View
+bus_driver_view bus_driver = []
+
+abbrev pub bus_driver_acts : Call → List Act
+bus_driver_acts (NextItem port (Some item)) = put_act item ∷ []
+bus_driver_acts call = driver_acts call
+
+abbrev pub BusDriverSays : View → Call → List Act → View → Type 0
+BusDriverSays before call acts after = (acts ≡ bus_driver_acts call) × (after ≡ before)
+
+-- the new object of the type of this name, if it is that type
+abbrev pub bus_driver_named : List ℕ → Option BusDriver
+bus_driver_named name = if bytes_eq name (codes "bus_driver") then Some (record { type_name = name }) else None

@@ -1,0 +1,47 @@
+-- What an object of the type `bus_env` is: it creates the parts of the bus, connects them through two FIFOs, and stays as it is.
+use Rattle.std.specs.Prelude.{◌≡◌, ℕ, List, [], ◌∷◌, Option, Some, None, codes, if◌then◌else◌, bytes_eq}
+use Rattle.uvm_phase.specs.declared.phases.Phase.TheVariants as phase
+use Rattle.uvm_object.specs.Objects.{View}
+use Rattle.uvm_object.specs.declared.acts.What.TheVariants.{Fifo}
+use Rattle.uvm_object.specs.declared.acts.Call.{Call}
+use Rattle.uvm_object.specs.declared.acts.Call.TheVariants.{Phase}
+use Rattle.uvm_object.specs.declared.acts.Act.{Act}
+use Rattle.uvm_object.specs.declared.acts.Act.TheVariants.{Create, Add}
+use Rattle.bus_objects.specs.declared.bus_env.BusEnv.{BusEnv}
+use Rattle.bus_objects.specs.Acts.{connect_act}
+
+-- it shows nothing of itself
+abbrev pub bus_env_view : BusEnv → View
+bus_env_view bus_env = []
+
+-- to create the parts, and to add the FIFOs for requests and responses
+abbrev pub parts : List Act
+parts =
+    Create (codes "bus_agent") (codes "agent")
+    ∷ Create (codes "bus_mem") (codes "mem")
+    ∷ Create (codes "bus_scoreboard") (codes "sb")
+    ∷ Add (codes "reqf") (Fifo 1)
+    ∷ Add (codes "rspf") (Fifo 1)
+    ∷ []
+
+-- to connect the driver and the memory to the FIFOs, and the monitor to the scoreboard
+abbrev pub connections : List Act
+connections =
+    connect_act (codes "agent.drv.req") (codes "reqf")
+    ∷ connect_act (codes "agent.drv.rsp") (codes "rspf")
+    ∷ connect_act (codes "mem.req") (codes "reqf")
+    ∷ connect_act (codes "mem.rsp") (codes "rspf")
+    ∷ connect_act (codes "agent.mon.ap") (codes "sb.seen")
+    ∷ []
+
+abbrev pub bus_env_acts : Call → List Act
+bus_env_acts (Phase phase.Build) = parts
+bus_env_acts (Phase phase.Connect) = connections
+bus_env_acts call = []
+
+abbrev pub BusEnvSays : View → Call → List Act → View → Type 0
+BusEnvSays before call acts after = (acts ≡ bus_env_acts call) × (after ≡ before)
+
+-- the new object of the type of this name, if it is that type
+abbrev pub bus_env_named : List ℕ → Option BusEnv
+bus_env_named name = if bytes_eq name (codes "bus_env") then Some (record { type_name = name }) else None

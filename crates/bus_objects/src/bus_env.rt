@@ -1,0 +1,79 @@
+//! The object `bus_env`.
+
+ghost use Rattle.std.specs.Prelude.{◌≡◌};
+
+use crate::acts::{connect_act, create_act};
+use crate::texts::name_of;
+use std::alloc::{AllocError, Global};
+use uvm_glob::Name;
+use uvm_object::{Act, Acts, Call, UvmObject, What};
+use uvm_phase::Phase;
+
+/// The environment of the bus bench. It creates a `bus_agent` as `agent`, a `bus_mem` as `mem` and a `bus_scoreboard` as `sb` when it
+/// builds, and adds the FIFOs `reqf` and `rspf`, each for one item. In connect it connects the driver of the agent and the
+/// memory to the FIFOs, and the monitor of the agent to the scoreboard (IEEE 1800.2-2020, Clause 12). It answers each other call
+/// with no acts, and shows nothing of itself.
+#[derive(Drop)]
+pub struct BusEnv {
+    type_name: Name,
+}
+
+impl BusEnv {
+    ghost use Rattle.bus_objects.specs.BusEnv.{bus_env_named};
+
+    /// A new object, if the type is this one's.
+    pub fn of_type(type_name: &Name) -> Option<BusEnv>
+        ensures { result ≡ bus_env_named type_name.now }
+    {
+        if type_name.as_bytes() == b"bus_env".as_slice() {
+            Some(BusEnv {
+                type_name: *type_name,
+            })
+        } else {
+            None
+        }
+    }
+}
+
+impl UvmObject for BusEnv {
+    ghost use Rattle.bus_objects.specs.BusEnv.{BusEnvSays, bus_env_view};
+
+    ghost view = { bus_env_view };
+
+    ghost name = { λ bus_env. bus_env.type_name };
+
+    ghost says = { λ _. BusEnvSays };
+
+    fn type_name(&self) -> &Name {
+        &self.type_name
+    }
+
+    #[tactic(auto, unfolding(uvm_glob::specs::Names::name_fault, uvm_glob::specs::Paths::path_fault))]
+    fn hear(&mut self, alloc: Global, call: &Call) -> Result<Acts, AllocError> {
+        let mut acts = Acts::new(alloc);
+        match call {
+            Call::Phase(Phase::Build) => {
+                acts.push(create_act(b"bus_agent", b"agent"))?;
+                acts.push(create_act(b"bus_mem", b"mem"))?;
+                acts.push(create_act(b"bus_scoreboard", b"sb"))?;
+                acts.push(Act::Add {
+                    name: name_of(b"reqf"),
+                    what: What::Fifo { size: 1 },
+                })?;
+                acts.push(Act::Add {
+                    name: name_of(b"rspf"),
+                    what: What::Fifo { size: 1 },
+                })?;
+            }
+            Call::Phase(Phase::Connect) => {
+                acts.push(connect_act(alloc, b"agent.drv.req", b"reqf")?)?;
+                acts.push(connect_act(alloc, b"agent.drv.rsp", b"rspf")?)?;
+                acts.push(connect_act(alloc, b"mem.req", b"reqf")?)?;
+                acts.push(connect_act(alloc, b"mem.rsp", b"rspf")?)?;
+                acts.push(connect_act(alloc, b"agent.mon.ap", b"sb.seen")?)?;
+            }
+            _ => (),
+        }
+        Ok(acts)
+    }
+}

@@ -1,0 +1,71 @@
+//! The object `slow_driver`.
+
+ghost use Rattle.std.specs.Prelude.{◌≡◌};
+
+use crate::driver::driver_acts;
+use crate::texts::name_of;
+use std::alloc::{AllocError, Global};
+use uvm_glob::Name;
+use uvm_object::{Act, Acts, Call, UvmObject};
+use uvm_tlm::Item;
+
+/// As `BusDriver`, but it keeps an item that comes, waits for 3 ticks, and puts it when it wakes. A new one keeps an item of zeros. It
+/// shows the words of the item.
+#[derive(Drop)]
+pub struct SlowDriver {
+    type_name: Name,
+    // The item that came last.
+    item: Item,
+}
+
+impl SlowDriver {
+    ghost use Rattle.bus_objects.specs.SlowDriver.{slow_driver_named};
+
+    /// A new object, if the type is this one's.
+    pub fn of_type(type_name: &Name) -> Option<SlowDriver>
+        ensures { result ≡ slow_driver_named type_name.now }
+    {
+        if type_name.as_bytes() == b"slow_driver".as_slice() {
+            Some(SlowDriver {
+                type_name: *type_name,
+                item: Item([0; 4]),
+            })
+        } else {
+            None
+        }
+    }
+}
+
+impl UvmObject for SlowDriver {
+    ghost use Rattle.bus_objects.specs.SlowDriver.{SlowDriverSays, slow_driver_view};
+
+    ghost view = { slow_driver_view };
+
+    ghost name = { λ slow_driver. slow_driver.type_name };
+
+    ghost says = { λ _. SlowDriverSays };
+
+    fn type_name(&self) -> &Name {
+        &self.type_name
+    }
+
+    #[tactic(auto, unfolding(uvm_glob::specs::Names::name_fault))]
+    fn hear(&mut self, alloc: Global, call: &Call) -> Result<Acts, AllocError> {
+        let mut acts = driver_acts(alloc, call)?;
+        match call {
+            Call::NextItem {
+                item: Some(item),
+                ..
+            } => {
+                acts.push(Act::Wait { ticks: 3, tag: 1 })?;
+                self.item = *item;
+            }
+            Call::Wake { .. } => acts.push(Act::Put {
+                port: name_of(b"req"),
+                item: self.item,
+            })?,
+            _ => (),
+        }
+        Ok(acts)
+    }
+}

@@ -6,30 +6,30 @@ use Rattle.bench_history.specs.Limits.{log_limit}
 use Rattle.bench_history.specs.History.{is_over}
 use Rattle.bench_history.specs.Cases as next
 use Rattle.bench_history.specs.Next.{next_of, IsLegal}
-use Rattle.bench_history.specs.Laws.{AskedAreComponents, IsSomething, SomethingBeforeOver}
+use Rattle.bench_history.specs.Laws.{AskedAreThere, IsSomething, SomethingBeforeOver}
 use Rattle.bench_core.specs.declared.cores.Turn as turn
 use Rattle.bench_core.specs.declared.faults.CoreFault.{CoreFault}
-use Rattle.bench_core.specs.Cores.{Standing, Nothing, Needed, Asked, CoreValue, Comes, HasRoom, IsTurn, IsRequest, IsNextTurn, AsksComponent, turn_of}
+use Rattle.bench_core.specs.Cores.{Standing, Nothing, Needed, Asked, CoreValue, Comes, HasRoom, IsTurn, IsRequest, IsNextTurn, AsksThere, turn_of}
 
--- who was asked is a component
-pub told-component : AskedAreComponents → (script : ScriptValue) (history : List Entry) (standing : Standing) (told : turn.Turn) → IsLegal script history → Comes standing (next_of script history) → turn_of standing ≡ Some told → AsksComponent told history
-told-component components script history Nothing told legal comes e = cc
-told-component components script history (Needed need) told legal comes e = let same : turn.TheVariants.Need ≡ told = cc in subst (λ t. AsksComponent t history) same tt
-told-component components script history (Asked hearer call cause) told legal comes e =
+-- who was asked is there
+pub told-there : AskedAreThere → (script : ScriptValue) (history : List Entry) (standing : Standing) (told : turn.Turn) → IsLegal script history → Comes standing (next_of script history) → turn_of standing ≡ Some told → AsksThere told history
+told-there components script history Nothing told legal comes e = cc
+told-there components script history (Needed need) told legal comes e = let same : turn.TheVariants.Need ≡ told = cc in subst (λ t. AsksThere t history) same tt
+told-there components script history (Asked hearer call cause) told legal comes e =
     let same : turn.TheVariants.Ask hearer call ≡ told = cc in
-    subst (λ t. AsksComponent t history) same (components script history hearer call cause legal.each comes)
+    subst (λ t. AsksThere t history) same (components script history hearer call cause legal.each comes)
 
 -- and so is who is asked now
-turn-component : AskedAreComponents → (old new : CoreValue) (result : turn.Turn) (comes : next.Next) → next_of old.script old.history ≡ comes → IsLegal old.script old.history → IsTurn comes result old new → AsksComponent result old.history
-turn-component components old new result (next.Exactly entry) is legal t = subst (λ r. AsksComponent r old.history) (sym t.0) tt
-turn-component components old new result (next.Answer hearer call cause) is legal t = subst (λ r. AsksComponent r old.history) (sym t.0) (components old.script old.history hearer call cause legal.each is)
-turn-component components old new result (next.Need need performer act) is legal t = subst (λ r. AsksComponent r old.history) (sym t.0) tt
-turn-component components old new result next.Nothing is legal t = subst (λ r. AsksComponent r old.history) (sym t.0) tt
+turn-there : AskedAreThere → (old new : CoreValue) (result : turn.Turn) (comes : next.Next) → next_of old.script old.history ≡ comes → IsLegal old.script old.history → IsTurn comes result old new → AsksThere result old.history
+turn-there components old new result (next.Exactly entry) is legal t = subst (λ r. AsksThere r old.history) (sym t.0) tt
+turn-there components old new result (next.Answer hearer call cause) is legal t = subst (λ r. AsksThere r old.history) (sym t.0) (components old.script old.history hearer call cause legal.each is)
+turn-there components old new result (next.Need need made performer act) is legal t = subst (λ r. AsksThere r old.history) (sym t.0) tt
+turn-there components old new result next.Nothing is legal t = subst (λ r. AsksThere r old.history) (sym t.0) tt
 
--- so that a call of the machine asks a component, if anybody
-pub next-component : AskedAreComponents → (old new : CoreValue) (result : Result turn.Turn CoreFault) → IsLegal old.script old.history → IsNextTurn Nothing result old new → IfOk result (λ r. AsksComponent r old.history)
-next-component components old new (Ok result) legal t = turn-component components old new result (next_of old.script old.history) refl legal t.1
-next-component components old new (Err fault) legal t = tt
+-- so that a call of the machine asks who is there, if anybody
+pub next-there : AskedAreThere → (old new : CoreValue) (result : Result turn.Turn CoreFault) → IsLegal old.script old.history → IsNextTurn Nothing result old new → IfOk result (λ r. AsksThere r old.history)
+next-there components old new (Ok result) legal t = turn-there components old new result (next_of old.script old.history) refl legal t.1
+next-there components old new (Err fault) legal t = tt
 
 -- where nothing comes the run is over
 over-at : (script : ScriptValue) (history : List Entry) (over : Bool) → (is_over history ≡ false → IsSomething (next_of script history)) → next_of script history ≡ next.Nothing → is_over history ≡ over → is_over history ≡ true
@@ -40,7 +40,7 @@ over-at script history false some none e = absurd (subst IsSomething none (some 
 turn-over : SomethingBeforeOver → (old new : CoreValue) (result : turn.Turn) (comes : next.Next) → next_of old.script old.history ≡ comes → IsLegal old.script old.history → IsTurn comes result old new → result ≡ turn.TheVariants.Over → is_over new.history ≡ true
 turn-over some old new result (next.Exactly entry) is legal t over = let moved = t.0 in cc
 turn-over some old new result (next.Answer hearer call cause) is legal t over = let asks = t.0 in cc
-turn-over some old new result (next.Need need performer act) is legal t over = let needs = t.0 in cc
+turn-over some old new result (next.Need need made performer act) is legal t over = let needs = t.0 in cc
 turn-over some old new result next.Nothing is legal t over =
     rw t.1 (over-at old.script old.history (is_over old.history) (some old.script old.history legal.each) is refl)
 
@@ -53,7 +53,7 @@ next-over some old new (Err fault) legal t = tt
 turn-room : (old new : CoreValue) (result : turn.Turn) (comes : next.Next) → next_of old.script old.history ≡ comes → HasRoom old → IsTurn comes result old new → IsRequest result → length new.history < log_limit new.script
 turn-room old new result (next.Exactly entry) is room t asks = let moved = t.0 in absurd (subst IsRequest t.0 asks)
 turn-room old new result (next.Answer hearer call cause) is room t asks = rw t.1 (room (rw is tt))
-turn-room old new result (next.Need need performer act) is room t asks = rw t.1 (room (rw is tt))
+turn-room old new result (next.Need need made performer act) is room t asks = rw t.1 (room (rw is tt))
 turn-room old new result next.Nothing is room t asks = absurd (subst IsRequest t.0 asks)
 
 pub next-room : (old new : CoreValue) (result : Result turn.Turn CoreFault) → IsNextTurn Nothing result old new → IfOk result (λ r. IsRequest r → length new.history < log_limit new.script)

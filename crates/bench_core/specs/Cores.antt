@@ -10,10 +10,10 @@ use Rattle.uvm_object.specs.declared.entries.Entry.TheVariants.{Heard}
 use Rattle.uvm_object.specs.Lines.{entry_line}
 use Rattle.bench_script.specs.Scripts.{ScriptValue}
 use Rattle.bench_history.specs.Limits.{log_limit}
-use Rattle.bench_history.specs.History.{nodes_of, components_of}
-use Rattle.bench_history.specs.Sequences.{sequences_of}
+use Rattle.bench_history.specs.History.{nodes_of}
+use Rattle.bench_history.specs.Sequences.{sequences_of, leaving_of}
 use Rattle.bench_history.specs.Reports.{report_text}
-use Rattle.bench_history.specs.Laws.{IsComponent, IsSomething}
+use Rattle.bench_history.specs.Laws.{IsSomething, IsThere}
 use Rattle.bench_history.specs.declared.needs.Need.{Need}
 use Rattle.bench_core.specs.declared.cores.Health.{Health}
 use Rattle.bench_core.specs.declared.cores.Health.TheVariants.{Good, Full, Broken}
@@ -37,12 +37,13 @@ standing_of (Some need) question = Needed need
 standing_of None (Some question) = Asked question.who question.call question.cause
 standing_of None None = Nothing
 
--- the script, the entries with the newest first, what was asked, and how the machine is
+-- the script, the entries with the newest first, what was asked, how the machine is, and the sequences that have ended and were not told yet
 pub record CoreValue : Type 0 where
   pub script : ScriptValue
   pub history : List Entry
   pub standing : Standing
   pub health : Health
+  pub leaving : List Who
 
 -- it goes on; and what it keeps is what the log says, as long as memory was not refused
 abbrev pub is_good : Health → Bool
@@ -53,9 +54,9 @@ abbrev pub is_sound : Health → Bool
 is_sound Broken = false
 is_sound health = true
 
--- one more entry, which answers what was asked
+-- one more entry, which answers what was asked; the sequences that it ends are to be told
 abbrev pub core_after : Entry → CoreValue → CoreValue
-core_after entry core = record core { history = entry ∷ core.history; standing = Nothing }
+core_after entry core = record core { history = entry ∷ core.history; standing = Nothing; leaving = leaving_of (entry ∷ core.history) }
 
 -- the machine has failed, with nothing asked
 abbrev pub failed_from : Health → CoreValue → CoreValue
@@ -72,19 +73,22 @@ abbrev pub AsksSomething : Standing → Type 0
 AsksSomething Nothing = ⊥
 AsksSomething standing = Unit {0}
 
--- while memory was not refused the world is sound; what was asked comes next, and is asked of a machine that goes on
-pub record IsCore (world : WorldValue) (question : Option Question) (health : Health) : Type 0 where
+-- while memory was not refused the world is sound; what was asked comes next, and is asked of a machine that goes on. A machine that has failed has told
+-- all sequences that have ended, and so has one that asks for something
+pub record IsCore (world : WorldValue) (question : Option Question) (health : Health) (leaving : List Who) : Type 0 where
   pub sound : is_sound health ≡ true → world.sound ≡ true
   pub comes : Comes (standing_of world.waiting question) (next_of world.script world.history)
   pub one : IsSome world.waiting → question ≡ None
   pub room : AsksSomething (standing_of world.waiting question) → length world.history < log_limit world.script
   pub none : is_good health ≡ false → standing_of world.waiting question ≡ Nothing
+  pub all_told : is_good health ≡ false → leaving ≡ []
+  pub told_first : AsksSomething (standing_of world.waiting question) → leaving ≡ []
 
 -- what a turn is, by what comes next
 abbrev pub IsTurn : next.Next → turn.Turn → CoreValue → CoreValue → Type 0
 IsTurn (next.Exactly entry) result old new = (result ≡ turn.TheVariants.Moved) × (new ≡ core_after entry old)
 IsTurn (next.Answer hearer call cause) result old new = (result ≡ turn.TheVariants.Ask hearer call) × (new ≡ record old { standing = Asked hearer call cause })
-IsTurn (next.Need need performer act) result old new = (result ≡ turn.TheVariants.Need) × (new ≡ record old { standing = Needed need })
+IsTurn (next.Need need made performer act) result old new = (result ≡ turn.TheVariants.Need) × (new ≡ record old { standing = Needed need })
 IsTurn next.Nothing result old new = (result ≡ turn.TheVariants.Over) × (new ≡ old)
 
 -- why a turn is refused: something would come, and the log is full, or it is not and memory is refused; or it was before
@@ -98,12 +102,17 @@ IsRefusedTurn NoTest old new = ⊥
 abbrev pub HasRoom : CoreValue → Type 0
 HasRoom core = IsSomething (next_of core.script core.history) → length core.history < log_limit core.script
 
--- what `next` gives: what stands is told again, else what comes next is done
+-- what `next` gives once all that ended are told: what stands is told again, else what comes next is done
 abbrev pub IsNextTurn : Standing → Result turn.Turn CoreFault → CoreValue → CoreValue → Type 0
 IsNextTurn Nothing (Ok result) old new = (old.health ≡ Good) × IsTurn (next_of old.script old.history) result old new × HasRoom old
 IsNextTurn Nothing (Err fault) old new = IsRefusedTurn fault old new
 IsNextTurn (Needed need) result old new = (result ≡ Ok turn.TheVariants.Need) × (new ≡ old)
 IsNextTurn (Asked hearer call cause) result old new = (result ≡ Ok (turn.TheVariants.Ask hearer call)) × (new ≡ old)
+
+-- before that the next of them is told
+abbrev pub IsToldTurn : List Who → Result turn.Turn CoreFault → CoreValue → CoreValue → Type 0
+IsToldTurn [] result old new = IsNextTurn old.standing result old new
+IsToldTurn (who ∷ others) result old new = (result ≡ Ok (turn.TheVariants.Leave who)) × (new ≡ record old { leaving = others })
 
 -- why there is no machine of a script
 abbrev pub IsUnmade : ScriptValue → CoreFault → Type 0
@@ -124,10 +133,10 @@ IsRequest turn.TheVariants.Need = Unit {0}
 IsRequest (turn.TheVariants.Ask hearer call) = Unit {0}
 IsRequest result = ⊥
 
--- who is called, if somebody is, is a component
-abbrev pub AsksComponent : turn.Turn → List Entry → Type 0
-AsksComponent (turn.TheVariants.Ask hearer call) history = IsComponent (components_of history) hearer
-AsksComponent result history = Unit {0}
+-- who is called, if somebody is, is there: a component, or a sequence that lives
+abbrev pub AsksThere : turn.Turn → List Entry → Type 0
+AsksThere (turn.TheVariants.Ask hearer call) history = IsThere history hearer
+AsksThere result history = Unit {0}
 
 -- somebody is called
 abbrev pub IsAsk : Option turn.Turn → Type 0

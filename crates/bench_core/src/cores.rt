@@ -1,10 +1,9 @@
 //! The machine.
 
-ghost use Rattle.std.specs.Prelude.{◌≡◌, ◌<◌, [], true, false, OnOk, OnErr, IfOk, IfErr, IfSome, IsSome, is_some, Some, None, ◌&&◌, length, ◌++◌, nat_lt, if◌then◌else◌, option_map};
+ghost use Rattle.std.specs.Prelude.{◌≡◌, ◌<◌, ◌∷◌, [], true, false, OnOk, OnErr, IfOk, IfErr, IfSome, IfNone, IsSome, is_some, Some, None, ◌&&◌, length, ◌++◌, nat_lt, if◌then◌else◌, option_map};
 ghost use Rattle.std.specs.Bool.{OnTrue, OnFalse};
 ghost use Rattle.std.specs.Option.{option_copied};
 ghost use Rattle.uvm_tree.specs.Nodes.{node_at, number_at};
-ghost use Rattle.uvm_object.specs.declared.acts.Who.TheVariants as who;
 ghost use Rattle.bench_history.specs.Limits.{log_limit};
 ghost use Rattle.bench_history.specs.History.{is_over, nodes_of, now_of, running, stage_of};
 ghost use Rattle.uvm_glob.specs.Paths.{path_text};
@@ -18,8 +17,8 @@ ghost use Rattle.uvm_report.specs.Changes.{Gives};
 ghost use Rattle.bench_history.specs.Next.{next_of, made_in, declined_in, IsLegal};
 ghost use Rattle.bench_history.specs.Cases as comes;
 ghost use Rattle.bench_history.specs.Laws.{IsSomething};
-ghost use Rattle.bench_core.specs.Cores.{IsNextTurn, IsTurn, IsUnmade, core_after, failed_from, is_sound, turn_of, need_of, answer_in, IsAsk, AsksComponent, last_line, last_text};
-ghost use Rattle.bench_world.specs.Worlds.{MayEnter, broken, world_after};
+ghost use Rattle.bench_core.specs.Cores.{IsNextTurn, IsToldTurn, IsTurn, IsUnmade, core_after, failed_from, is_sound, turn_of, need_of, answer_in, IsAsk, AsksThere, last_line, last_text};
+ghost use Rattle.bench_world.specs.Worlds.{MayEnter, broken, made_who, world_after};
 ghost use Rattle.bench_core.specs.Choices.{entry_of};
 ghost use Rattle.bench_core.specs.Cores.{Nothing, IsRequest};
 
@@ -44,6 +43,8 @@ pub enum Turn {
     Need,
     /// Somebody is called.
     Ask { who: Who, call: Call },
+    /// A sequence has ended (IEEE 1800.2-2020, Clause 14).
+    Leave { who: Who },
     /// An entry was made.
     Moved,
     /// The run is over.
@@ -81,28 +82,32 @@ pub enum Health {
 }
 
 /// The machine of a testbench, with answers as values. Contracts see the script, the log with the newest entry first, what was
-/// asked, and how the machine is.
+/// asked, how the machine is, and the sequences that have ended and were not told yet.
 #[derive(Drop)]
 pub struct Core {
     world: World,
     question: Option<Question>,
     health: Health,
+    // How many of the sequences that the newest entry has ended were told.
+    told: usize,
 }
 
 impl Model for Core {
+    ghost use Rattle.std.specs.Prelude.{drop};
+    ghost use Rattle.bench_history.specs.Sequences.{leaving_of};
     ghost use Rattle.bench_core.specs.Cores.{CoreValue, IsCore, standing_of};
 
     ghost Value = { CoreValue };
 
-    ghost view = { λ c. record { script = c.world.script; history = c.world.history; standing = standing_of c.world.waiting c.question; health = c.health } };
+    ghost view = { λ c. record { script = c.world.script; history = c.world.history; standing = standing_of c.world.waiting c.question; health = c.health; leaving = drop c.told (leaving_of c.world.history) } };
 
-    ghost invariant = { λ c. IsCore c.world c.question c.health };
+    ghost invariant = { λ c. IsCore c.world c.question c.health (drop c.told (leaving_of c.world.history)) };
 }
 
 impl Core {
     /// The machine of a script, before the first entry (`NoTest` where the script has no test, else `Memory`).
     pub fn new(alloc: Global, script: Script) -> Result<Core, CoreFault>
-        ensures ok { IfOk result (λ core. IsSome script.test × (core ≡ record { script = script; history = []; standing = Nothing; health = Health.Good })) }
+        ensures ok { IfOk result (λ core. IsSome script.test × (core ≡ record { script = script; history = []; standing = Nothing; health = Health.Good; leaving = [] })) }
         ensures err { IfErr result (IsUnmade script) }
     {
         if script.test().is_none() {
@@ -113,32 +118,27 @@ impl Core {
                 world,
                 question: None,
                 health: Health::Good,
+                told: 0,
             }),
             Err(_) => Err(CoreFault::Memory),
         }
     }
 
-    /// Makes the next entry, or says what it needs: an object (`Need`) or an answer (`Ask`), again and again until that is
-    /// there; `Over` once the run is over. Whoever is asked is a component. `LogFull` where an entry would be next and the log is
-    /// full, `Memory` where memory is refused, and `Failed` from then on. No word is drawn yet.
+    /// Tells a sequence that has ended (`Leave`), once each, in rising number and before any further entry; else makes the next
+    /// entry, or says what it needs: an object (`Need`) or an answer (`Ask`), again and again until that is there; `Over` once
+    /// the run is over. Whoever is asked is a component, or a sequence that lives. `LogFull` where an entry would be next and the
+    /// log is full, `Memory` where memory is refused, and `Failed` from then on. No word is drawn yet.
     pub fn next<R: Rng>(&mut self, _words: &mut R) -> Result<Turn, CoreFault>
-        ensures turn { IsNextTurn self.old.standing result self.old self.new }
-        ensures asked { IfOk result (λ turn. AsksComponent turn self.old.history) }
+        ensures turn { IsToldTurn self.old.leaving result self.old self.new }
+        ensures asked { IfOk result (λ turn. AsksThere turn self.old.history) }
         ensures over { IfOk result (λ turn. turn ≡ Turn.Over → is_over self.new.history ≡ true) }
         ensures room { IfOk result (λ turn. IsRequest turn → length self.new.history < log_limit self.new.script) }
         ensures words { _words.new ≡ _words.old }
     {
-        // The log is legal, so whoever is asked is a component, and a run goes on to its end.
-        let _log = self.log();
-        laws::asked_are_components();
-        laws::something_before_over();
-        if let Some(turn) = self.turn() {
-            return Ok(turn);
+        if let Some(who) = self.tell_next() {
+            return Ok(Turn::Leave { who });
         }
-        match self.health {
-            Health::Good => self.go_on(),
-            Health::Full | Health::Broken => Err(CoreFault::Failed),
-        }
+        self.turn_on()
     }
 
     /// What was asked: an object, or an answer. None where neither was.
@@ -159,13 +159,14 @@ impl Core {
         self.world.need()
     }
 
-    /// The needed object was made: the component that it is now. Takes no memory.
+    /// The needed object was made: the component, or the sequence, that it is now. Takes no memory.
     pub fn made(&mut self) -> Who
         requires { turn_of self.old.standing ≡ Some Turn.Need }
-        ensures who { result ≡ who.Node (length (nodes_of self.old.history)) }
+        ensures who { made_who self.old.history (next_of self.old.script self.old.history) ≡ Some result }
         ensures entry { IfSome (made_in (next_of self.old.script self.old.history)) (λ entry. self.new ≡ core_after entry self.old) }
         ensures one { IsSome (made_in (next_of self.old.script self.old.history)) }
     {
+        self.told = 0;
         self.world.made()
     }
 
@@ -175,6 +176,7 @@ impl Core {
         ensures entry { IfSome (declined_in (next_of self.old.script self.old.history)) (λ entry. self.new ≡ core_after entry self.old) }
         ensures one { IsSome (declined_in (next_of self.old.script self.old.history)) }
     {
+        self.told = 0;
         self.world.declined();
     }
 
@@ -194,6 +196,7 @@ impl Core {
         };
         match heard {
             Ok(()) => {
+                self.told = 0;
                 self.health = Health::Good;
                 Ok(())
             }
@@ -336,10 +339,46 @@ impl Core {
         }
     }
 
+    // The next of the sequences that have ended, which is told now.
+    fn tell_next(&mut self) -> Option<Who>
+        ensures none { IfNone result ((self.old.leaving ≡ []) × (self.new ≡ self.old)) }
+        ensures some { IfSome result (λ who. self.old.leaving ≡ who ∷ self.new.leaving) }
+        ensures rest { self.new ≡ record self.old { leaving = self.new.leaving } }
+    {
+        let Health::Good = self.health else {
+            return None;
+        };
+        let who = self.world.leaving().get(self.told)?.copy();
+        self.told += 1;
+        Some(who)
+    }
+
+    // What was asked is told again, or what comes next is done.
+    fn turn_on(&mut self) -> Result<Turn, CoreFault>
+        requires { self.old.leaving ≡ [] }
+        ensures turn { IsNextTurn self.old.standing result self.old self.new }
+        ensures asked { IfOk result (λ turn. AsksThere turn self.old.history) }
+        ensures over { IfOk result (λ turn. turn ≡ Turn.Over → is_over self.new.history ≡ true) }
+        ensures room { IfOk result (λ turn. IsRequest turn → length self.new.history < log_limit self.new.script) }
+    {
+        // The log is legal, so whoever is asked is there, and a run goes on to its end.
+        let _log = self.log();
+        laws::asked_are_there();
+        laws::something_before_over();
+        if let Some(turn) = self.turn() {
+            return Ok(turn);
+        }
+        match self.health {
+            Health::Good => self.go_on(),
+            Health::Full | Health::Broken => Err(CoreFault::Failed),
+        }
+    }
+
     // Does what comes next, or gives up.
     fn go_on(&mut self) -> Result<Turn, CoreFault>
         requires standing { self.old.standing ≡ Nothing }
         requires health { self.old.health ≡ Health.Good }
+        requires told { self.old.leaving ≡ [] }
         ensures { IsNextTurn Nothing result self.old self.new }
     {
         if is_over(&self.world) {
@@ -359,6 +398,7 @@ impl Core {
     fn advance(&mut self) -> Result<Turn, AllocError>
         requires standing { self.old.standing ≡ Nothing }
         requires health { self.old.health ≡ Health.Good }
+        requires told { self.old.leaving ≡ [] }
         requires room { length self.old.history < log_limit self.old.script }
         ensures ok { IfOk result (λ turn. IsTurn (next_of self.old.script self.old.history) turn self.old self.new) }
         ensures err { OnErr result (self.new ≡ failed_from Health.Broken self.old) }
@@ -368,17 +408,21 @@ impl Core {
             Choice::Nothing => Turn::Over,
             Choice::Enter(mark) => {
                 enter(&mut self.world, mark)?;
+                self.told = 0;
                 Turn::Moved
             }
             Choice::Pass(fifo, passage) => {
                 self.world.passed(fifo, passage)?;
+                self.told = 0;
                 Turn::Moved
             }
             Choice::Act => {
                 self.world.did()?;
-                match self.world.need() {
-                    None => Turn::Moved,
-                    Some(_) => Turn::Need,
+                if self.world.need().is_some() {
+                    Turn::Need
+                } else {
+                    self.told = 0;
+                    Turn::Moved
                 }
             }
             Choice::Ask(who, call, cause) => {

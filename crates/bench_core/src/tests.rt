@@ -3,6 +3,7 @@
 mod connections;
 mod objections;
 mod passages;
+mod sequences;
 
 use crate::{Core, CoreFault, Turn};
 use rand_pcg::Pcg32;
@@ -60,6 +61,8 @@ enum Bench {
     Wired(Phase, connections::Wires),
     /// Items go through FIFOs.
     Passing(passages::Passing),
+    /// Sequences start and end.
+    Starting(sequences::Starting),
 }
 
 /// What is done to the objections of the test, and waits.
@@ -239,7 +242,7 @@ fn fill_log(alloc: Global, core: &mut Core) -> Result<Option<CoreFault>, Fail> {
     for _ in 0..1_000_100 {
         match core.next(&mut words) {
             Ok(Turn::Over) => return Ok(None),
-            Ok(Turn::Moved) => (),
+            Ok(Turn::Moved | Turn::Leave { .. }) => (),
             Ok(Turn::Need) => meet(core, Bench::Children),
             Ok(Turn::Ask { .. }) => {
                 let mut acts = Acts::new(alloc);
@@ -321,15 +324,20 @@ fn machine(alloc: Global) -> Result<Core, Fail> {
     Ok(Core::new(alloc, bench_script::read(alloc, SCRIPT)?)?)
 }
 
-// Runs to the end.
+// Runs to the end. Where a sequence is told to leave stands a line of its own.
 fn play(alloc: Global, core: &mut Core, bench: Bench) -> Result<Vec<u8>, Fail> {
     let test = test_path(alloc)?;
     let mut text = Vec::new(alloc);
     for _ in 0..200 {
+        let entries = core.log().len();
         if !step(alloc, core, bench, &test)? {
             break;
         }
-        core.last_text(true, &mut text)?;
+        if core.log().len() > entries {
+            core.last_text(true, &mut text)?;
+        } else {
+            text.extend_from_slice(b"leave\n")?;
+        }
     }
     if core.is_over() {
         Ok(text)
@@ -338,12 +346,12 @@ fn play(alloc: Global, core: &mut Core, bench: Bench) -> Result<Vec<u8>, Fail> {
     }
 }
 
-// Makes one entry, unless the run is over.
+// Makes one entry, or hears that a sequence has ended, unless the run is over.
 fn step(alloc: Global, core: &mut Core, bench: Bench, test: &Path) -> Result<bool, Fail> {
     let mut words = Pcg32::new(42, 54);
     match core.next(&mut words)? {
         Turn::Over => Ok(false),
-        Turn::Moved => Ok(true),
+        Turn::Moved | Turn::Leave { .. } => Ok(true),
         Turn::Need => {
             meet(core, bench);
             Ok(true)
@@ -383,6 +391,9 @@ fn test_path(alloc: Global) -> Result<Path, Fail> {
 fn acts_of(alloc: Global, bench: Bench, is_test: bool, call: Call) -> Result<Acts, Fail> {
     if let Bench::Passing(passing) = bench {
         return passages::acts_of(alloc, passing, is_test, call);
+    }
+    if let Bench::Starting(starting) = bench {
+        return sequences::acts_of(alloc, starting, is_test, call);
     }
     let mut acts = Acts::new(alloc);
     match (bench, call) {

@@ -1,8 +1,8 @@
 -- Who waits at FIFOs, and who owns imps, are components.
-use Rattle.std.proofs.Common.{◌≡◌, ℕ, suc, zero, ◌<◌, ◌==◌, ◌⊎◌, inl, inr, nat_eq, Bool, true, false, not, ◌&&◌, List, [], ◌∷◌, ◌++◌, length, map, filter, slice_get, Option, Some, None, option_map, option_and_then, IfSome, refl, ap, ◌∙◌, sym, subst, arith, length-append, if◌then◌else◌}
+use Rattle.std.proofs.Common.{◌≡◌, ℕ, suc, zero, ◌<◌, ◌==◌, ◌⊎◌, inl, inr, nat_eq, Bool, true, false, List, [], ◌∷◌, ◌++◌, length, map, filter, slice_get, Option, Some, None, option_map, option_and_then, IfSome, refl, arith, length-append, if◌then◌else◌}
 use Rattle.std.specs.List.{All, Contains, filter_map, cons_option}
 use Rattle.std.proofs.lemmas.Bool.Decides.{nat_tests}
-use Rattle.std.proofs.lemmas.List.Elements.{All-nil, All-cons, All-head, All-tail, All-push, All-append, All-weaker, All-filter, filter_passes}
+use Rattle.std.proofs.lemmas.List.Elements.{All-nil, All-cons, All-head, All-tail, All-push, All-filter, filter_passes}
 use Rattle.uvm_glob.specs.Lists.{first_given}
 use Rattle.uvm_phase.specs.declared.phases.Phase.{Phase}
 use Rattle.uvm_tree.specs.declared.nodes.Node.{Node}
@@ -14,15 +14,14 @@ use Rattle.uvm_tlm.specs.declared.fifos.MoveKind.{MoveKind}
 use Rattle.uvm_tlm.specs.declared.fifos.MoveKind.TheVariants as move
 use Rattle.uvm_tlm.specs.declared.items.Item.{Item}
 use Rattle.uvm_tlm.specs.Fifos.{next_move}
-use Rattle.uvm_tlm.specs.Wirings.{WiringValue, end_at}
+use Rattle.uvm_tlm.specs.Wirings.{WiringValue}
 use Rattle.uvm_object.specs.Acts.{node_of}
 use Rattle.uvm_object.specs.declared.acts.Who.{Who}
 use Rattle.uvm_object.specs.declared.acts.Who.TheVariants as who
 use Rattle.uvm_object.specs.declared.acts.Call.{Call}
 use Rattle.uvm_object.specs.declared.acts.Call.TheVariants as call
-use Rattle.uvm_object.specs.declared.acts.What.{What}
 use Rattle.uvm_object.specs.declared.acts.Act.{Act}
-use Rattle.uvm_object.specs.declared.acts.Act.TheVariants.{Add, Connect, Put, Take, Peek, Write}
+use Rattle.uvm_object.specs.declared.acts.Act.TheVariants.{Add, Connect}
 use Rattle.uvm_object.specs.declared.entries.Outcome.{Outcome}
 use Rattle.uvm_object.specs.declared.entries.Outcome.TheVariants.{Done}
 use Rattle.uvm_object.specs.declared.entries.Passage.{Passage}
@@ -31,11 +30,12 @@ use Rattle.bench_script.specs.Scripts.{ScriptValue}
 use Rattle.bench_history.specs.declared.askers.Asker.{Asker}
 use Rattle.bench_history.specs.declared.askers.Gate.{Gate}
 use Rattle.bench_history.specs.History.{stage_of, running, nodes_of, nodes_after, opening}
-use Rattle.bench_history.specs.Wires.{wiring_of, wiring_after, with_both, closed_wiring, node_below, end_of}
-use Rattle.bench_history.specs.Ports.{fifo_size, is_imp_at, gate_below, imps_below, outlets_below}
+use Rattle.bench_history.specs.Wires.{wiring_of, wiring_after, with_both, end_of}
+use Rattle.bench_history.specs.Ports.{fifo_size, is_imp_at, gate_below}
 use Rattle.bench_history.specs.Laws.{IsComponent}
-use Rattle.bench_history.specs.Dues.{written_to, written_calls}
-use Rattle.bench_history.specs.Passing.{Request, Station, with_last, put_in, take_in, request_by, request_at, puts_asked, takes_asked, puts_waiting, takes_waiting, is_waiting, station_of, station_at, asker_of, first_asker, passage_by, passage_for, passage_in, passing_at, next_passed}
+use Rattle.bench_history.specs.Dues.{written_to}
+use Rattle.bench_history.specs.Refusals.{is_open_to}
+use Rattle.bench_history.specs.Passing.{Request, Station, with_last, request_by, request_at, puts_asked, takes_asked, is_waiting, station_of, asker_of, first_asker, passage_by, passage_for, passage_in, passing_at, next_passed}
 
 -- what holds of each element holds of the first
 pub head-holds : {A : Type 0} (P : A → Type 0) (xs : List A) → All P xs → IfSome (slice_get xs 0) P
@@ -131,6 +131,8 @@ pub record IsAdded (nodes : List Node) (performer : Who) (outcome : Outcome) (ac
   pub below : node < length (nodes_after nodes performer outcome act)
   pub under : IfSome (under_at (nodes_after nodes performer outcome act) node) (λ under. under.0 ≡ node_of performer)
   pub other : (script : ScriptValue) → act ≡ opening script → ⊥
+  pub closed : (id home : ℕ) → is_open_to act (who.Sequence id home) ≡ false
+  pub done : outcome ≡ Done
 
 pub get-before : (xs ys : List Node) (k : ℕ) → k < length xs → slice_get (xs ++ ys) k ≡ slice_get xs k
 get-before [] ys k lt = absurd (omega arith)
@@ -154,7 +156,7 @@ imp-after nodes wiring performer Done (Add name what) node is = tested (nat_eq n
     tested : (same : Bool) → nat_eq node (length nodes) ≡ same → is_imp_at (record wiring { ends = (length nodes, end_of what) ∷ wiring.ends }) node ≡ true → (is_imp_at wiring node ≡ true) ⊎ IsAdded nodes performer Done (Add name what) node
     tested true e is =
         let at : node ≡ length nodes = grind (arith, nat_tests) in
-        inr (rw at (record { below = simp length-append (omega arith); under = rw get-behind refl; other = λ script same. cc }))
+        inr (rw at (record { below = simp length-append (omega arith); under = rw get-behind refl; other = λ script same. cc; closed = λ id home. refl; done = refl }))
     tested false e is = inl (rw e at is)
 imp-after nodes wiring performer Done (Connect from to) node is = inl (rw both-ends at is)
 imp-after nodes wiring performer outcome act node is = inl is

@@ -1,52 +1,61 @@
--- Who is called: a component, which is a node of the tree.
-use Rattle.std.proofs.Common.{◌≡◌, ℕ, ◌<◌, ◌≤◌, ◌==◌, ◌⊎◌, inl, inr, suc, Bool, true, false, not, filter, if◌then◌else◌, List, [], ◌∷◌, length, slice_get, Option, Some, None, option_and_then, IfSome, OnSome, refl, ap, ◌∙◌, sym, subst, arith}
-use Rattle.std.specs.List.{All, Contains, flat_map}
+-- Who is called: a component, which is a node of the tree, or a sequence that lives.
+use Rattle.std.proofs.Common.{◌≡◌, ℕ, ◌<◌, ◌≤◌, ◌==◌, ◌⊎◌, inl, inr, suc, Bool, true, false, not, ◌&&◌, filter, if◌then◌else◌, List, [], ◌∷◌, length, slice_get, Option, Some, None, option_and_then, IfSome, OnSome, refl, ap, ◌∙◌, sym, subst, arith}
+use Rattle.std.specs.List.{All, Contains, flat_map, list_any}
 use Rattle.std.proofs.lemmas.Bool.Decides.{nat_tests}
-use Rattle.std.proofs.lemmas.List.Elements.{All-nil, All-cons, All-head, All-tail, All-push, All-append, All-weaker, All-filter, All-contains, All-contains_itself, Contains-append_left}
+use Rattle.std.proofs.lemmas.List.Elements.{All-nil, All-cons, All-head, All-tail, All-push, All-append, All-weaker, All-filter, All-contains, All-contains_itself, Contains-append_left, filter_passes}
 use Rattle.std.proofs.lemmas.List.Sorted.{All-permutation}
 use Rattle.uvm_phase.specs.declared.phases.Phase.{Phase}
 use Rattle.uvm_phase.specs.declared.agendas.Cause.{Cause}
+use Rattle.uvm_phase.specs.Phases.{same_phase}
 use Rattle.uvm_phase.specs.Dues.{in_order}
 use Rattle.uvm_phase.specs.Laws.{OrderKeepsAll}
 use Rattle.uvm_tree.specs.declared.nodes.Node as tree
 use Rattle.uvm_tree.specs.Nodes.{under_at}
 use Rattle.uvm_tree.specs.Cursors.{is_before}
 use Rattle.uvm_object.specs.Acts.{node_of}
-use Rattle.uvm_object.specs.Objects.{exchanged_in}
+use Rattle.uvm_object.specs.Objects.{exchanged_in, same_who}
 use Rattle.uvm_object.specs.declared.acts.Who.{Who}
 use Rattle.uvm_object.specs.declared.acts.Who.TheVariants.{Node, Sequence}
+use Rattle.uvm_sequencer.specs.declared.starts.SeqStep.{SeqStep}
 use Rattle.uvm_object.specs.declared.acts.Call.{Call}
+use Rattle.uvm_object.specs.declared.acts.Call.TheVariants as call
+use Rattle.uvm_object.specs.declared.fatals.Fatal.TheVariants.{NotOpen}
 use Rattle.uvm_object.specs.declared.acts.Act.{Act}
-use Rattle.uvm_object.specs.declared.acts.Act.TheVariants.{Write}
+use Rattle.uvm_object.specs.declared.acts.Act.TheVariants.{Put, Take, Peek, Write, EndStep}
 use Rattle.uvm_object.specs.declared.entries.Outcome.{Outcome}
-use Rattle.uvm_object.specs.declared.entries.Outcome.TheVariants.{Done, Made, Value}
+use Rattle.uvm_object.specs.declared.entries.Outcome.TheVariants.{Done, Made, Started, Value, Finished, Refused}
 use Rattle.uvm_object.specs.declared.entries.Passage.{Passage}
 use Rattle.uvm_object.specs.declared.entries.Entry.{Entry}
-use Rattle.uvm_object.specs.declared.entries.Entry.TheVariants.{Heard, Did, Passed, Drained, Note}
+use Rattle.uvm_object.specs.declared.entries.Entry.TheVariants.{Begin, End, Heard, Did, Passed, Drained, Note, Over}
+use Rattle.bench_history.specs.declared.stages.Stage.TheVariants.{Ended}
+use Rattle.bench_history.specs.Sequences.{Beginning, begun_of, finished_of, next_step, sequence_in, sequences_of, start_by}
+use Rattle.bench_history.specs.Refusals.{is_open_to}
 use Rattle.bench_script.specs.Scripts.{ScriptValue}
 use Rattle.bench_history.specs.declared.needs.Need as declared
 use Rattle.uvm_objection.specs.declared.objections.Due as drain
 use Rattle.uvm_objection.specs.Nodes as objection
 use Rattle.uvm_objection.specs.Totals.{drains_begun, drains_ended}
 use Rattle.bench_history.specs.declared.owners.Owner.{Owner}
-use Rattle.bench_history.specs.declared.owners.Owner.TheVariants.{Object}
+use Rattle.bench_history.specs.declared.owners.Owner.TheVariants.{Object, Drain}
 use Rattle.bench_history.specs.Owners.{Event, who_of, is_drain_of}
 use Rattle.bench_history.specs.Objections.{objections_of}
-use Rattle.bench_history.specs.History.{stage_of, now_of, running, nodes_of, components_of, left_of, rest_of, speaker_of, phase_order, called_of, had_call, next_call, opening}
+use Rattle.bench_history.specs.History.{stage_of, now_of, running, nodes_of, components_of, left_of, left_after, rest_of, speaker_of, phase_order, called_of, had_call, next_call, opening, ended_of}
 use Rattle.bench_history.specs.Wires.{wiring_of, closed_wiring}
 use Rattle.bench_history.specs.Ports.{is_imp_at, imps_below, outlets_below}
-use Rattle.bench_history.specs.Passing.{puts_asked, takes_asked, next_passed, put_in, take_in}
+use Rattle.bench_history.specs.Passing.{puts_asked, takes_asked, put_in, take_in}
 use Rattle.uvm_tlm.specs.declared.ends.PortKind.TheVariants as through
 use Rattle.uvm_tlm.specs.declared.items.Item.{Item}
-use Rattle.bench_history.specs.Dues.{event_in, told_by, told_of, written_calls, calls_numbered, due_after, due_from, calls_from, drain_from, with_drains, moves_drains, caused_at, caused_of, heard_of, ended_of, is_open, due_events, first_due, due_at, due_now}
+use Rattle.bench_history.specs.Dues.{event_in, told_by, told_of, told_step, step_call, finished_by, calls_told, calls_numbered, due_after, due_from, calls_from, drain_from, with_drains, moves_drains, caused_at, caused_of, heard_of, is_open, due_events, first_due, due_at, due_now}
 use Rattle.bench_history.specs.Cases.{Next, Exactly, Answer, Need, Nothing}
-use Rattle.bench_history.specs.Next.{next_of, Allows, IsNext, EachIsNext}
-use Rattle.bench_history.specs.Laws.{HasGrown, IsComponent, AskedAreComponents, ComponentsAreNodes, NewNodesAreUnasked}
-use Rattle.bench_history.proofs.Inversion.{IsOwn, Case, AtEnd, ByOwn, ByNeed, ByDeed, ByDue, ByTurn, ByEnd, ByBegin, case-of}
-use Rattle.bench_history.proofs.Needed.{needed}
+use Rattle.bench_history.specs.Next.{next_of, Allows, IsAct, IsNext, EachIsNext}
+use Rattle.bench_history.specs.Laws.{HasGrown, HasMade, IsComponent, IsLivingSequence, IsThere, AskedAreThere, WaitersAreComponents, PerformersAreThere, ComponentsAreNodes, NewNodesAreUnasked, NewSequencesAreUnasked}
+use Rattle.bench_history.proofs.Inversion.{Case, AtEnd, ByOwn, ByNeed, ByDeed, ByDue, ByTurn, ByEnd, ByBegin, case-of}
+use Rattle.bench_history.proofs.Ended.{nothing-comes, none-after}
 use Rattle.bench_history.proofs.Leasts.{least-holds}
+use Rattle.bench_history.proofs.Deeds.{IsDeed, deed-next, closed-refused, started-next, starts-act, finished-next}
 use Rattle.bench_history.proofs.Asking.{IsAskedBy, asked-more, passing-holds, IsOwned, IsAdded, get-before, imp-after, written-hold}
 use Rattle.bench_history.proofs.Performed.{passages_go_in_order}
+use Rattle.bench_history.proofs.Living.{numbered-within, numbered-newest, numbered-holds, begun-count, begin-left, end-left, Runs, IsSequence, sequence-more, living-of, runs-still}
 use Rattle.bench_history.proofs.Grown.{IsPlain, IsPlainNext, plain-next, exact-keeps-components, nodes_stay, nodes-more, components-grow, made_objects_are_new}
 
 -- the components are below the nodes of one more entry, too
@@ -66,12 +75,17 @@ below-made entry before path g below =
     subst (All (λ node. node < length (nodes_of (entry ∷ before)))) (sym g.components)
     (All-push (λ node. node < length (nodes_of (entry ∷ before))) (components_of before) (length (nodes_of before)) (below-weaker entry before below) (omega (arith, count)))
 
+below-need : (before : List Entry) (need : declared.Need) (made : Outcome) (performer : Who) (act : Act) → HasMade before need made performer act → All (λ node. node < length (nodes_of before)) (components_of before) → All (λ node. node < length (nodes_of (Did performer made act ∷ before))) (components_of (Did performer made act ∷ before))
+below-need before need (Made type_name) performer act has below = below-made (Did performer (Made type_name) act) before need.path has below
+below-need before need (Started id) performer act has below = below-same (Did performer (Started id) act) before refl below
+below-need before need other performer act has below = absurd has
+
 -- and so does each entry that is next
 below-next : (script : ScriptValue) (before : List Entry) (entry : Entry) (next : Next) → next_of script before ≡ next → Allows next entry → All (λ node. node < length (nodes_of before)) (components_of before) → All (λ node. node < length (nodes_of (entry ∷ before))) (components_of (entry ∷ before))
 below-next script before entry (Exactly expected) is allows below = below-same entry before (exact-keeps-components script before entry (is ∙ ap Exactly (sym allows))) below
 below-next script before entry (Answer performer call cause) is allows below = below-same entry before (ap (λ (e : Entry). components_of (e ∷ before)) allows.1) below
-below-next script before entry (Need need performer act) is (inl made) below = below-made entry before need.path (subst (HasGrown before need.path) (sym made) (made_objects_are_new script before need performer act is)) below
-below-next script before entry (Need need performer act) is (inr declined) below = below-same entry before (ap (λ (e : Entry). components_of (e ∷ before)) declined) below
+below-next script before entry (Need need made performer act) is (inl e) below = subst (λ (one : Entry). All (λ node. node < length (nodes_of (one ∷ before))) (components_of (one ∷ before))) (sym e) (below-need before need made performer act (made_objects_are_new script before need made performer act is) below)
+below-next script before entry (Need need made performer act) is (inr declined) below = below-same entry before (ap (λ (e : Entry). components_of (e ∷ before)) declined) below
 below-next script before entry Nothing is allows below = absurd allows
 
 -- each component is a node of the tree
@@ -94,26 +108,76 @@ component-node : (components : List ℕ) (performer : Who) → IsComponent compo
 component-node components (Node node) has = has
 component-node components (Sequence id home) has = absurd has
 
--- whoever is to hear the call of an event is one of the components
-abbrev IsCallTo : List ℕ → Event → Type 0
-IsCallTo components event = OnSome event.notice (IsComponent components (who_of event.owner))
+-- who is to hear something in a phase: a component, or a sequence that was started in that phase
+abbrev IsExpected : List Entry → Phase → Who → Type 0
+IsExpected history phase (Node node) = Contains (components_of history) node
+IsExpected history phase (Sequence id home) = IsSequence history phase id home
+
+-- who has spoken and may act: a component, or a sequence whose phase runs and that has not finished
+record IsSpeaking (history : List Entry) (id home : ℕ) : Type 0 where
+  phase : Phase
+  sequence : IsSequence history phase id home
+  runs : running (stage_of history) ≡ Some phase
+  unfinished : list_any (same_who (Sequence id home)) (finished_of history) ≡ false
+  unended : list_any (same_phase phase) (ended_of history) ≡ false
+
+abbrev IsSpeaker : List Entry → Who → Type 0
+IsSpeaker history (Node node) = Contains (components_of history) node
+IsSpeaker history (Sequence id home) = IsSpeaking history id home
+
+abbrev GoesOn : List Entry → Type 0
+GoesOn history = stage_of history ≡ Ended → ⊥
+
+expected-more : (script : ScriptValue) (before : List Entry) (entry : Entry) (phase : Phase) (who : Who) → IsNext script before entry → GoesOn (entry ∷ before) → IsExpected before phase who → IsExpected (entry ∷ before) phase who
+expected-more script before entry phase (Node node) next on has = contains-more entry before node has
+expected-more script before entry phase (Sequence id home) next on has = sequence-more script before entry phase id home next on has
+
+component-expected : (history : List Entry) (phase : Phase) (who : Who) → IsComponent (components_of history) who → IsExpected history phase who
+component-expected history phase (Node node) has = has
+component-expected history phase (Sequence id home) has = absurd has
+
+-- who speaks is to hear what is caused now
+speaker-expected : (history : List Entry) (phase : Phase) (who : Who) → running (stage_of history) ≡ Some phase → IsSpeaker history who → IsExpected history phase who
+speaker-expected history phase (Node node) runs has = has
+speaker-expected history phase (Sequence id home) runs s =
+    let same : Some s.phase ≡ Some phase = sym s.runs ∙ runs in
+    let is : s.phase ≡ phase = cc in
+    subst (λ (p : Phase). IsSequence history p id home) is s.sequence
+
+speaker-there : (history : List Entry) (who : Who) → IsSpeaker history who → IsThere history who
+speaker-there history (Node node) has = has
+speaker-there history (Sequence id home) s = living-of history s.phase id home s.sequence s.unfinished s.unended
+
+-- whoever is to hear the call of an event is expected in its phase
+abbrev IsCallTo : List Entry → Event → Type 0
+IsCallTo history event = OnSome event.notice (IsExpected history event.phase (who_of event.owner))
+
+-- so is whoever started a sequence, in the phase in which he did
+abbrev IsStartedBy : List Entry → Beginning → Type 0
+IsStartedBy history beginning = (phase : Phase) → beginning.phase ≡ Some phase → IsExpected history phase beginning.starter
 
 -- somebody is one of the components
 abbrev IsOne : List ℕ → Who → Type 0
 IsOne components who = IsComponent components who
 
--- whoever waits for a call is a component, and so is whoever spoke last, unless nobody did and the answer is the script's; so is who waits at a
--- FIFO, and who owns an imp
+-- no act is left, or the script's opening alone, or who gave the last answer may act
+data Speaking (script : ScriptValue) (history : List Entry) : Type 0 where
+  NoneLeft : left_of script history ≡ [] → Speaking script history
+  Opens : All (λ act. act ≡ opening script) (left_of script history) → Speaking script history
+  Speaks : IsSpeaker history (speaker_of history) → Speaking script history
+
+-- whoever waits for a call is expected, and whoever spoke last may act; who waits at a FIFO is a component, and who owns an imp
 record Known (script : ScriptValue) (history : List Entry) : Type 0 where
-  owners : All (IsCallTo (components_of history)) (caused_of history)
-  speaker : IsComponent (components_of history) (speaker_of history) ⊎ All (λ act. act ≡ opening script) (left_of script history)
+  owners : All (IsCallTo history) (caused_of history)
+  starters : All (IsStartedBy history) (begun_of history)
+  speaker : Speaking script history
   putters : (fifo : ℕ) → All (IsAskedBy {Wish = Item} (IsOne (components_of history))) (puts_asked history fifo)
   takers : (fifo : ℕ) → All (IsAskedBy {Wish = Bool} (IsOne (components_of history))) (takes_asked history fifo)
   imps : (node : ℕ) → is_imp_at (wiring_of history) node ≡ true → IsOwned (nodes_of history) (components_of history) node
 
--- who is asked is a component
+-- who is asked may act
 abbrev AsksOne : List Entry → Next → Type 0
-AsksOne history (Answer performer call cause) = IsComponent (components_of history) performer
+AsksOne history (Answer performer call cause) = IsSpeaker history performer
 AsksOne history next = Unit {0}
 
 -- the node whose turn has come is a component
@@ -139,144 +203,120 @@ due-holds : (P : Event → Type 0) (now : ℕ) (first : Option Event) → IfSome
 due-holds P now None holds = tt
 due-holds P now (Some due) holds = due-tested P due (due.time == now) holds
 
+-- what is due was caused, and is open
+abbrev open_now : List Entry → Event → Bool
+open_now history event = is_open (heard_of history) (ended_of history) (finished_of history) event
+
+record IsOpenCall (history : List Entry) (event : Event) : Type 0 where
+  call : IsCallTo history event
+  is : open_now history event ≡ true
+
+pub both-hold : {A : Type 0} (P Q R : A → Type 0) (xs : List A) → ((x : A) → P x → Q x → R x) → All P xs → All Q xs → All R xs
+both-hold P Q R [] make ps qs = All-nil R
+both-hold P Q R (x ∷ xs) make ps qs = All-cons R x xs (make x (All-head P x xs ps) (All-head Q x xs qs)) (both-hold P Q R xs make (All-tail P x xs ps) (All-tail Q x xs qs))
+
+open-calls : (history : List Entry) → All (IsCallTo history) (caused_of history) → All (IsOpenCall history) (due_events history)
+open-calls history calls =
+    both-hold (IsCallTo history) (λ event. open_now history event ≡ true) (IsOpenCall history) (due_events history) (λ event call is. record { call = call; is = is })
+    (All-filter (open_now history) (IsCallTo history) (caused_of history) calls) (filter_passes (open_now history) (caused_of history))
+
+-- so that who is to hear it may act
+and-parts : (a b c : Bool) → a && b && c ≡ true → (b ≡ true) × (c ≡ true)
+and-parts true true true e = (refl, refl)
+and-parts true true false e = cc
+and-parts true false c e = cc
+and-parts false b c e = cc
+
+not-true : (b : Bool) → not b ≡ true → b ≡ false
+not-true true e = cc
+not-true false e = refl
+
+open-speaker : (history : List Entry) (time : ℕ) (cause : Cause) (phase : Phase) (owner : Owner) (notice : Option Call) → IsExpected history phase (who_of owner) → open_now history (record { time = time; cause = cause; phase = phase; owner = owner; notice = notice }) ≡ true → IsSpeaker history (who_of owner)
+open-speaker history time cause phase (Object (Node node)) notice has is = has
+open-speaker history time cause phase (Drain node) notice has is = has
+open-speaker history time cause phase (Object (Sequence id home)) notice s is =
+    let parts = and-parts _ (not (list_any (same_phase phase) (ended_of history))) (not (list_any (same_who (Sequence id home)) (finished_of history))) is in
+    let unended = not-true (list_any (same_phase phase) (ended_of history)) parts.0 in
+    record { phase = phase; sequence = s; runs = runs-still history phase s.stands unended; unfinished = not-true (list_any (same_who (Sequence id home)) (finished_of history)) parts.1; unended = unended }
+
 module _ (keeps : OrderKeepsAll Owner (Option Call)) where
-  -- of all events that were caused, of the one that is due now
-  due-one : (history : List Entry) (P : Event → Type 0) → All P (caused_of history) → IfSome (due_now history) P
+  -- of the event that is due now
+  due-one : (history : List Entry) (P : Event → Type 0) → All P (due_events history) → IfSome (due_now history) P
   unfolding due_now
   due-one history P all =
       due-holds P (now_of history) (first_due history)
-      (first-of P (in_order (due_events history)) (All-permutation P (due_events history) (in_order (due_events history)) (keeps (due_events history)) (All-filter (is_open (heard_of history) (ended_of history)) P (caused_of history) all)))
+      (first-of P (in_order (due_events history)) (All-permutation P (due_events history) (in_order (due_events history)) (keeps (due_events history)) all))
 
-  -- its owner is a component
-  asks-due :
-      (history : List Entry) (event : Event) (call : Call) → All (IsCallTo (components_of history)) (caused_of history) → due_now history ≡ Some event → event.notice ≡ Some call
-      → IsComponent (components_of history) (who_of event.owner)
+  -- its owner may act
+  asks-due : (history : List Entry) (event : Event) (call : Call) → All (IsCallTo history) (caused_of history) → due_now history ≡ Some event → event.notice ≡ Some call → IsSpeaker history (who_of event.owner)
   asks-due history event call owners now is_call =
-      let P : Event → Type 0 = IsCallTo (components_of history) in
-      let here = subst (λ (found : Option Event). IfSome found P) now (due-one history P owners) in
-      subst (λ (notice : Option Call). OnSome notice (IsComponent (components_of history) (who_of event.owner))) is_call here
+      let here = subst (λ (found : Option Event). IfSome found (IsOpenCall history)) now (due-one history (IsOpenCall history) (open-calls history owners)) in
+      let expected = subst (λ (notice : Option Call). OnSome notice (IsExpected history event.phase (who_of event.owner))) is_call here.call in
+      open-speaker history event.time event.cause event.phase event.owner event.notice expected here.is
 
-  -- in each case of the machine a component is asked, if anybody is
+  -- in each case of the machine who may act is asked, if anybody is
   asks-case : (script : ScriptValue) (history : List Entry) (next : Next) → Known script history → Case script history next → AsksOne history next
   asks-case script history next known (AtEnd ended e) = subst (AsksOne history) (sym e) tt
   asks-case script history next known (ByOwn entry own e) = subst (AsksOne history) (sym e) tt
-  asks-case script history next known (ByNeed act need left upshot e) = subst (AsksOne history) (sym e) tt
+  asks-case script history next known (ByNeed act need made left upshot e) = subst (AsksOne history) (sym e) tt
   asks-case script history next known (ByDeed act outcome left plain comes e) = subst (AsksOne history) (sym e) tt
   asks-case script history next known (ByDue event call now is_call e) = subst (AsksOne history) (sym e) (asks-due history event call known.owners now is_call)
   asks-case script history next known (ByTurn phase node turn e) = subst (AsksOne history) (sym e) (subst (λ (found : Option ℕ). IfSome found (Contains (components_of history))) turn (turn-one history phase))
   asks-case script history next known (ByEnd phase runs e) = subst (AsksOne history) (sym e) tt
   asks-case script history next known (ByBegin phase may e) = subst (AsksOne history) (sym e) tt
 
-  -- so that an answer is a component's
-  asks-one : (script : ScriptValue) (history : List Entry) (performer : Who) (call : Call) (cause : Option Cause) → Known script history → next_of script history ≡ Answer performer call cause → IsComponent (components_of history) performer
+  -- so that an answer is of one who may act
+  asks-one : (script : ScriptValue) (history : List Entry) (performer : Who) (call : Call) (cause : Option Cause) → Known script history → next_of script history ≡ Answer performer call cause → IsSpeaker history performer
   asks-one script history performer call cause known e = subst (AsksOne history) e (asks-case script history _ known (case-of script history))
 
   -- an answer was asked for
   heard-asked : (performer : Who) (call : Call) (cause : Option Cause) (acts : List Act) (next : Next) → IsPlainNext next → Allows next (Heard performer call cause acts) → next ≡ Answer performer call cause
   heard-asked performer call cause acts (Exactly entry) plain allows = absurd (subst IsPlain (sym allows) plain)
   heard-asked performer call cause acts (Answer other asked why) plain allows = let same : Heard performer call cause acts ≡ Heard other asked why allows.0 = allows.1 in cc
-  heard-asked performer call cause acts (Need need other act) plain (inl made) = cc
-  heard-asked performer call cause acts (Need need other act) plain (inr declined) = cc
+  heard-asked performer call cause acts (Need need made other act) plain (inl is) = cc
+  heard-asked performer call cause acts (Need need made other act) plain (inr declined) = cc
   heard-asked performer call cause acts Nothing plain allows = absurd allows
 
-  -- and who was heard is a component
-  heard-one : (script : ScriptValue) (before : List Entry) (performer : Who) (call : Call) (cause : Option Cause) (acts : List Act) → Known script before → IsNext script before (Heard performer call cause acts) → IsComponent (components_of before) performer
+  -- and who was heard may act
+  heard-one : (script : ScriptValue) (before : List Entry) (performer : Who) (call : Call) (cause : Option Cause) (acts : List Act) → Known script before → IsNext script before (Heard performer call cause acts) → IsSpeaker before performer
   heard-one script before performer call cause acts known next =
       asks-one script before performer call cause known (heard-asked performer call cause acts (next_of script before) (plain-next script before) next)
 
--- an act was the speaker's next
-record IsDeed (script : ScriptValue) (history : List Entry) (performer : Who) (act : Act) : Type 0 where
-  performer_is : performer ≡ speaker_of history
-  left : left_of script history ≡ act ∷ rest_of (left_of script history)
-
--- the entry that alone is next, where it is an act's
-abbrev DeedIn : ScriptValue → List Entry → Next → Type 0
-DeedIn script history (Exactly (Did performer outcome act)) = IsDeed script history performer act
-DeedIn script history next = Unit {0}
-
--- what the machine writes by itself is no act's
-deed-own : (script : ScriptValue) (history : List Entry) (entry : Entry) → IsOwn script history entry → DeedIn script history (Exactly entry)
-deed-own script history (Did performer outcome act) own = absurd own
-deed-own script history entry own = tt
-
--- in each case of the machine an act that comes is the speaker's next
-deed-case : (script : ScriptValue) (history : List Entry) (next : Next) → Case script history next → DeedIn script history next
-deed-case script history next (AtEnd ended e) = subst (DeedIn script history) (sym e) tt
-deed-case script history next (ByOwn entry own e) = subst (DeedIn script history) (sym e) (deed-own script history entry own)
-deed-case script history next (ByNeed act need left upshot e) = subst (DeedIn script history) (sym e) tt
-deed-case script history next (ByDeed act outcome left plain comes e) = subst (DeedIn script history) (sym e) (record { performer_is = refl; left = left })
-deed-case script history next (ByDue event call now is_call e) = subst (DeedIn script history) (sym e) tt
-deed-case script history next (ByTurn phase node turn e) = subst (DeedIn script history) (sym e) tt
-deed-case script history next (ByEnd phase runs e) = subst (DeedIn script history) (sym e) tt
-deed-case script history next (ByBegin phase may e) = subst (DeedIn script history) (sym e) tt
-
--- and so is one that needs an object
-deed-needed :
-    (script : ScriptValue) (history : List Entry) (need : declared.Need) (performer other : Who) (outcome expected : Outcome) (act deed : Act)
-    → next_of script history ≡ Need need other deed → Did performer outcome act ≡ Did other expected deed → IsDeed script history performer act
-deed-needed script history need performer other outcome expected act deed is e =
-    let n = needed script history need other deed is in
-    let who : performer ≡ other = cc in
-    let what : act ≡ deed = cc in
-    record { performer_is = who ∙ n.performer_is; left = rw what n.left }
-
--- an entry of an act that is next is of the speaker's next act
-deed-next : (script : ScriptValue) (history : List Entry) (performer : Who) (outcome : Outcome) (act : Act) (next : Next) → next_of script history ≡ next → Allows next (Did performer outcome act) → IsDeed script history performer act
-deed-next script history performer outcome act (Exactly expected) is allows =
-    let here : DeedIn script history (Exactly expected) = subst (DeedIn script history) is (deed-case script history _ (case-of script history)) in
-    subst (λ (entry : Entry). DeedIn script history (Exactly entry)) (sym allows) here
-deed-next script history performer outcome act (Answer other call cause) is allows = let same : Did performer outcome act ≡ Heard other call cause allows.0 = allows.1 in cc
-deed-next script history performer outcome act (Need need other deed) is (inl made) = deed-needed script history need performer other outcome (Made need.type_name) act deed is made
-deed-next script history performer outcome act (Need need other deed) is (inr declined) = deed-needed script history need performer other outcome _ act deed is declined
-deed-next script history performer outcome act Nothing is allows = absurd allows
+-- what is caused is told to who is expected in the phase
+one-owner : (history : List Entry) (phase : Option Phase) (time : ℕ) (cause : Cause) (owner : Owner) (notice : Option Call) → ((p : Phase) → phase ≡ Some p → OnSome notice (IsExpected history p (who_of owner))) → All (IsCallTo history) (event_in phase time cause owner notice)
+one-owner history None time cause owner notice there = All-nil (IsCallTo history)
+one-owner history (Some phase) time cause owner notice there = All-cons (IsCallTo history) _ [] (there phase refl) (All-nil (IsCallTo history))
 
 -- the call that an act causes is its performer's
 due-owner :
-    (components : List ℕ) (notice : Option Call) (performer : Who) (phase : Option Phase) (time : ℕ) (cause : Cause) → (notice ≡ None) ⊎ IsComponent components performer
-    → All (IsCallTo components) (due_from notice performer phase time cause)
-due-owner components None performer phase time cause who = All-nil _
-due-owner components (Some call) performer None time cause who = All-nil _
-due-owner components (Some call) performer (Some phase) time cause (inl none) = cc
-due-owner components (Some call) performer (Some phase) time cause (inr has) = All-cons (IsCallTo components) _ [] has (All-nil (IsCallTo components))
+    (history : List Entry) (notice : Option Call) (performer : Who) (phase : Option Phase) (time : ℕ) (cause : Cause) → (notice ≡ None) ⊎ ((p : Phase) → phase ≡ Some p → IsExpected history p performer)
+    → All (IsCallTo history) (due_from notice performer phase time cause)
+due-owner history None performer phase time cause who = All-nil _
+due-owner history (Some call) performer phase time cause (inl none) = cc
+due-owner history (Some call) performer phase time cause (inr has) = one-owner history phase time cause (Object performer) (Some call) has
 
 -- and drains call nobody
-drain-calls : (components : List ℕ) (phase : Option Phase) (cause : Cause) (begun : drain.Due) → All (IsCallTo components) (drain_from phase cause begun)
-drain-calls components None cause begun = All-nil _
-drain-calls components (Some phase) cause begun = All-cons (IsCallTo components) _ [] tt (All-nil (IsCallTo components))
+drains-call : (history : List Entry) (phase : Option Phase) (cause : Cause) (begun : List drain.Due) → All (IsCallTo history) (flat_map (drain_from phase cause) begun)
+drains-call history phase cause [] = All-nil _
+drains-call history phase cause (first ∷ begun) =
+    All-append (IsCallTo history) (drain_from phase cause first) (flat_map (drain_from phase cause) begun) (one-owner history phase first.at cause (Drain first.node) None (λ p runs. tt)) (drains-call history phase cause begun)
 
-drains-call : (components : List ℕ) (phase : Option Phase) (cause : Cause) (begun : List drain.Due) → All (IsCallTo components) (flat_map (drain_from phase cause) begun)
-drains-call components phase cause [] = All-nil _
-drains-call components phase cause (first ∷ begun) = All-append (IsCallTo components) (drain_from phase cause first) (flat_map (drain_from phase cause) begun) (drain-calls components phase cause first) (drains-call components phase cause begun)
-
-with-drains-call : (components : List ℕ) (phase : Option Phase) (cause : Cause) (earlier nodes : List objection.Node) (caused : List Event) → All (IsCallTo components) caused → All (IsCallTo components) (with_drains phase cause earlier nodes caused)
-with-drains-call components phase cause earlier nodes caused owners =
-    All-append (IsCallTo components) (flat_map (drain_from phase cause) (drains_begun earlier nodes)) (filter (λ event. not (is_drain_of (drains_ended earlier nodes) event.owner)) caused) (drains-call components phase cause (drains_begun earlier nodes))
-    (All-filter (λ event. not (is_drain_of (drains_ended earlier nodes) event.owner)) (IsCallTo components) caused owners)
+with-drains-call : (history : List Entry) (phase : Option Phase) (cause : Cause) (earlier nodes : List objection.Node) (caused : List Event) → All (IsCallTo history) caused → All (IsCallTo history) (with_drains phase cause earlier nodes caused)
+with-drains-call history phase cause earlier nodes caused owners =
+    All-append (IsCallTo history) (flat_map (drain_from phase cause) (drains_begun earlier nodes)) (filter (λ event. not (is_drain_of (drains_ended earlier nodes) event.owner)) caused) (drains-call history phase cause (drains_begun earlier nodes))
+    (All-filter (λ event. not (is_drain_of (drains_ended earlier nodes) event.owner)) (IsCallTo history) caused owners)
 
 moved-call :
-    (components : List ℕ) (moves : Bool) (phase : Option Phase) (cause : Cause) (earlier nodes : List objection.Node) (caused : List Event) → All (IsCallTo components) caused
-    → All (IsCallTo components) (if moves then with_drains phase cause earlier nodes caused else caused)
-moved-call components true phase cause earlier nodes caused owners = with-drains-call components phase cause earlier nodes caused owners
-moved-call components false phase cause earlier nodes caused owners = owners
+    (history : List Entry) (moves : Bool) (phase : Option Phase) (cause : Cause) (earlier nodes : List objection.Node) (caused : List Event) → All (IsCallTo history) caused
+    → All (IsCallTo history) (if moves then with_drains phase cause earlier nodes caused else caused)
+moved-call history true phase cause earlier nodes caused owners = with-drains-call history phase cause earlier nodes caused owners
+moved-call history false phase cause earlier nodes caused owners = owners
 
 -- the opening of the run is a creation, which causes no call
 opening-tells : (script : ScriptValue) (outcome : Outcome) → told_by outcome (opening script) ≡ None
 opening-tells script (Value value) = refl
 opening-tells script Done = refl
 opening-tells script outcome = refl
-
--- with one more entry the owners stay components
-owners-more : (script : ScriptValue) (before : List Entry) (entry : Entry) → Known script before → All (IsCallTo (components_of (entry ∷ before))) (caused_of before)
-owners-more script before entry known =
-    All-weaker (IsCallTo (components_of before)) (IsCallTo (components_of (entry ∷ before))) (λ event. some-more event.notice (who_of event.owner)) (caused_of before) known.owners
-  where
-    some-more : (notice : Option Call) (hearer : Who) → OnSome notice (IsComponent (components_of before) hearer) → OnSome notice (IsComponent (components_of (entry ∷ before)) hearer)
-    some-more None hearer has = tt
-    some-more (Some call) hearer has = component-more entry before hearer has
-
-opening-writes : (script : ScriptValue) (before : List Entry) (performer : Who) (outcome : Outcome) → written_calls before performer outcome (opening script) ≡ []
-opening-writes script before performer Done = refl
-opening-writes script before performer outcome = refl
 
 -- nor does it ask for anything at a FIFO
 opening-puts : (script : ScriptValue) (outcome : Outcome) → put_in outcome (opening script) ≡ None
@@ -287,66 +327,146 @@ opening-takes : (script : ScriptValue) (outcome : Outcome) → take_in outcome (
 opening-takes script Done = refl
 opening-takes script outcome = refl
 
--- an act is the opening, or its performer is a component
-deed-owner :
-    (script : ScriptValue) (before : List Entry) (entry : Entry) (performer : Who) (act : Act) → IsDeed script before performer act
-    → IsComponent (components_of before) (speaker_of before) ⊎ All (λ act. act ≡ opening script) (left_of script before)
-    → (act ≡ opening script) ⊎ IsComponent (components_of (entry ∷ before)) performer
-deed-owner script before entry performer act deed (inl has) = inr (component-more entry before performer (rw deed.performer_is has))
-deed-owner script before entry performer act deed (inr opens) =
+-- with one more entry the owners stay expected, and the starters
+call-more : (script : ScriptValue) (before : List Entry) (entry : Entry) (event : Event) → IsNext script before entry → GoesOn (entry ∷ before) → IsCallTo before event → IsCallTo (entry ∷ before) event
+call-more script before entry event next on call = some-more event.notice call
+  where
+    some-more : (notice : Option Call) → OnSome notice (IsExpected before event.phase (who_of event.owner)) → OnSome notice (IsExpected (entry ∷ before) event.phase (who_of event.owner))
+    some-more None has = tt
+    some-more (Some call) has = expected-more script before entry event.phase (who_of event.owner) next on has
+
+owners-more : (script : ScriptValue) (before : List Entry) (entry : Entry) → IsNext script before entry → GoesOn (entry ∷ before) → Known script before → All (IsCallTo (entry ∷ before)) (caused_of before)
+owners-more script before entry next on known = All-weaker (IsCallTo before) (IsCallTo (entry ∷ before)) (λ event. call-more script before entry event next on) (caused_of before) known.owners
+
+starters-more : (script : ScriptValue) (before : List Entry) (entry : Entry) → IsNext script before entry → GoesOn (entry ∷ before) → Known script before → All (IsStartedBy (entry ∷ before)) (begun_of before)
+starters-more script before entry next on known =
+    All-weaker (IsStartedBy before) (IsStartedBy (entry ∷ before)) (λ beginning by phase is. expected-more script before entry phase beginning.starter next on (by phase is)) (begun_of before) known.starters
+
+-- an act is the opening, or its performer may act
+deed-owner : (script : ScriptValue) (before : List Entry) (performer : Who) (act : Act) → IsDeed script before performer act → Speaking script before → (act ≡ opening script) ⊎ IsSpeaker before performer
+deed-owner script before performer act deed (NoneLeft none) = let both : act ∷ rest_of (left_of script before) ≡ [] = sym deed.left ∙ none in cc
+deed-owner script before performer act deed (Opens opens) =
     let first = subst (All (λ one. one ≡ opening script)) deed.left opens in
     inl (All-head (λ one. one ≡ opening script) act (rest_of (left_of script before)) first)
+deed-owner script before performer act deed (Speaks speaks) = inr (rw deed.performer_is speaks)
 
--- so that what the opening does not do is done by a component
+-- so that what the opening does not do is done by who may act
 unless-opening : (Idle : Act → Type 0) {One : Type 0} (script : ScriptValue) (act : Act) → Idle (opening script) → (act ≡ opening script) ⊎ One → Idle act ⊎ One
 unless-opening Idle script act here (inl same) = inl (subst Idle (sym same) here)
 unless-opening Idle script act here (inr one) = inr one
 
--- the calls that a write causes are those of components
-one-owner : (components : List ℕ) (phase : Option Phase) (time : ℕ) (cause : Cause) (told : Who × Call) → IsComponent components told.0 → All (IsCallTo components) (event_in phase time cause (Object told.0) (Some told.1))
-one-owner components None time cause told there = All-nil (IsCallTo components)
-one-owner components (Some phase) time cause told there = All-cons (IsCallTo components) _ [] there (All-nil (IsCallTo components))
+-- so who asks at a FIFO is a component, and who adds an imp
+closed-puts : (outcome : Outcome) (act : Act) (id home : ℕ) → (is_open_to act (Sequence id home) ≡ false → outcome ≡ Refused NotOpen) → put_in outcome act ≡ None
+closed-puts Done (Put name item) id home refused = let e : Done ≡ Refused NotOpen = refused refl in cc
+closed-puts outcome act id home refused = refl
 
-numbered-owners :
-    (components : List ℕ) (phase : Option Phase) (time place number : ℕ) (calls : List (Who × Call)) → All (λ told. IsComponent components told.0) calls
-    → All (IsCallTo components) (calls_numbered phase time place number calls)
-numbered-owners components phase time place number [] all = All-nil _
-numbered-owners components phase time place number (told ∷ calls) all =
-    All-append (IsCallTo components) (calls_numbered phase time place (suc number) calls) (event_in phase time (record { place = place; number = number }) (Object told.0) (Some told.1))
-    (numbered-owners components phase time place (suc number) calls (All-tail (λ told. IsComponent components told.0) told calls all))
-    (one-owner components phase time (record { place = place; number = number }) told (All-head (λ told. IsComponent components told.0) told calls all))
+closed-takes : (outcome : Outcome) (act : Act) (id home : ℕ) → (is_open_to act (Sequence id home) ≡ false → outcome ≡ Refused NotOpen) → take_in outcome act ≡ None
+closed-takes Done (Take name) id home refused = let e : Done ≡ Refused NotOpen = refused refl in cc
+closed-takes Done (Peek name) id home refused = let e : Done ≡ Refused NotOpen = refused refl in cc
+closed-takes outcome act id home refused = refl
+
+component-or : (Idle : Type 0) (before : List Entry) (performer : Who) → ((id home : ℕ) → performer ≡ Sequence id home → Idle) → Idle ⊎ IsSpeaker before performer → Idle ⊎ IsComponent (components_of before) performer
+component-or Idle before performer closed (inl idle) = inl idle
+component-or Idle before (Node node) closed (inr has) = inr has
+component-or Idle before (Sequence id home) closed (inr has) = inl (closed id home refl)
+
+-- what is told to who is expected is such a call
+abbrev IsTold : List Entry → Option Phase → Who × Call → Type 0
+IsTold history phase told = (p : Phase) → phase ≡ Some p → IsExpected history p told.0
+
+numbered-owners : (history : List Entry) (phase : Option Phase) (time place number : ℕ) (calls : List (Who × Call)) → All (IsTold history phase) calls → All (IsCallTo history) (calls_numbered phase time place number calls)
+numbered-owners history phase time place number [] all = All-nil _
+numbered-owners history phase time place number (told ∷ calls) all =
+    All-append (IsCallTo history) (calls_numbered phase time place (suc number) calls) (event_in phase time (record { place = place; number = number }) (Object told.0) (Some told.1))
+    (numbered-owners history phase time place (suc number) calls (All-tail (IsTold history phase) told calls all))
+    (one-owner history phase time (record { place = place; number = number }) (Object told.0) (Some told.1) (All-head (IsTold history phase) told calls all))
 
 -- what is told by a write is told to components
 written-owners :
-    (script : ScriptValue) (before : List Entry) (performer : Who) (outcome : Outcome) (act : Act) → ((node : ℕ) → is_imp_at (wiring_of before) node ≡ true → IsOwned (nodes_of before) (components_of before) node)
-    → All (λ told. IsComponent (components_of before) told.0) (written_calls before performer outcome act)
+    (script : ScriptValue) (before : List Entry) (entry : Entry) (performer : Who) (item : Item) (port : List ℕ) → ((node : ℕ) → is_imp_at (wiring_of before) node ≡ true → IsOwned (nodes_of before) (components_of before) node)
+    → All (IsTold (entry ∷ before) (running (stage_of before))) (calls_told before performer Done (Write port item))
 unfolding imps_below
-written-owners script before performer Done (Write port item) owned = written-hold (nodes_of before) (components_of before) item (closed_wiring before) (outlets_below before performer port) owned
-written-owners script before performer outcome act owned = search (All-nil {X = Who × Call})
+written-owners script before entry performer item port owned =
+    All-weaker (λ told. IsComponent (components_of before) told.0) (IsTold (entry ∷ before) (running (stage_of before)))
+    (λ told has p runs. component-expected (entry ∷ before) p told.0 (component-more entry before told.0 has)) _
+    (written-hold (nodes_of before) (components_of before) item (closed_wiring before) (outlets_below before performer port) owned)
+
+-- what a sequence is told of its steps is told to who speaks
+step-owners : (script : ScriptValue) (before : List Entry) (entry : Entry) (performer : Who) (step : Option SeqStep) → IsNext script before entry → GoesOn (entry ∷ before) → IsSpeaker before performer → All (IsTold (entry ∷ before) (running (stage_of before))) (told_step performer step)
+step-owners script before entry performer None next on speaks = All-nil _
+step-owners script before entry performer (Some step) next on speaks =
+    All-cons (IsTold (entry ∷ before) (running (stage_of before))) (performer, step_call step) []
+    (λ p runs. expected-more script before entry p performer next on (speaker-expected before p performer runs speaks)) (All-nil _)
+
+-- and that one has finished is told to who started it
+finished-owners :
+    (script : ScriptValue) (before : List Entry) (entry : Entry) (performer : Who) → IsNext script before entry → GoesOn (entry ∷ before) → All (IsStartedBy before) (begun_of before) → IsSpeaker before performer
+    → All (IsTold (entry ∷ before) (running (stage_of before))) (finished_by before (sequence_in performer))
+finished-owners script before entry (Node node) next on starters speaks = All-nil _
+finished-owners script before entry (Sequence id home) next on starters speaks =
+    rw speaks.sequence.begun
+    (All-cons (IsTold (entry ∷ before) (running (stage_of before))) (speaks.sequence.beginning.starter, call.Finished speaks.sequence.beginning.start.name id) [] told (All-nil _))
+  where
+    told : (p : Phase) → running (stage_of before) ≡ Some p → IsExpected (entry ∷ before) p speaks.sequence.beginning.starter
+    told p runs =
+        let at : speaks.sequence.beginning.phase ≡ Some p = speaks.sequence.phase_is ∙ sym speaks.runs ∙ runs in
+        expected-more script before entry p speaks.sequence.beginning.starter next on
+        (numbered-holds (IsStartedBy before) (begun_of before) id speaks.sequence.beginning starters speaks.sequence.begun p at)
+
+-- it is told that it was started
+started-owners :
+    (script : ScriptValue) (before : List Entry) (performer : Who) (id : ℕ) (act : Act) → IsNext script before (Did performer (Started id) act)
+    → All (IsTold (Did performer (Started id) act ∷ before) (running (stage_of before))) (calls_told before performer (Started id) act)
+started-owners script before performer id act next =
+    All-cons (IsTold (Did performer (Started id) act ∷ before) (running (stage_of before))) _ [] told (All-nil _)
+  where
+    told : (p : Phase) → running (stage_of before) ≡ Some p → IsSequence (Did performer (Started id) act ∷ before) p id (start_by (nodes_of before) (sequences_of before) performer act).home
+    told p runs = record {
+      beginning = record { start = start_by (nodes_of before) (sequences_of before) performer act; starter = performer; phase = running (stage_of before) };
+      begun = numbered-newest _ (begun_of before) id (started-next script before performer id act (next_of script before) refl next);
+      home_is = refl;
+      phase_is = runs;
+      stands = Runs runs;
+    }
+
+-- whatever an act causes
+told-owners :
+    (script : ScriptValue) (before : List Entry) (performer : Who) (outcome : Outcome) (act : Act) → Known script before → IsNext script before (Did performer outcome act) → GoesOn (Did performer outcome act ∷ before) → (act ≡ opening script) ⊎ IsSpeaker before performer
+    → All (IsTold (Did performer outcome act ∷ before) (running (stage_of before))) (calls_told before performer outcome act)
+told-owners script before performer Done (Write port item) known next on who = written-owners script before (Did performer Done (Write port item)) performer item port known.imps
+told-owners script before performer Done EndStep known next on (inl opens) = cc
+told-owners script before performer Done EndStep known next on (inr speaks) = step-owners script before (Did performer Done EndStep) performer (next_step before performer) next on speaks
+told-owners script before performer (Started id) act known next on who = started-owners script before performer id act next
+told-owners script before performer Finished act known next on (inl opens) = let ends = finished-next script before performer act next in let e : EndStep ≡ opening script = sym ends ∙ opens in cc
+told-owners script before performer Finished act known next on (inr speaks) = finished-owners script before (Did performer Finished act) performer next on known.starters speaks
+told-owners script before performer outcome act known next on who = All-nil (IsTold (Did performer outcome act ∷ before) (running (stage_of before)))
 
 -- an imp of one more entry's wiring is a component's
 imps-more :
     (script : ScriptValue) (before : List Entry) (performer : Who) (outcome : Outcome) (act : Act) → ((node : ℕ) → is_imp_at (wiring_of before) node ≡ true → IsOwned (nodes_of before) (components_of before) node)
-    → (act ≡ opening script) ⊎ IsComponent (components_of (Did performer outcome act ∷ before)) performer
+    → (act ≡ opening script) ⊎ IsSpeaker before performer → ((id home : ℕ) → performer ≡ Sequence id home → is_open_to act performer ≡ false → outcome ≡ Refused NotOpen)
     → (node : ℕ) → is_imp_at (wiring_of (Did performer outcome act ∷ before)) node ≡ true → IsOwned (nodes_of (Did performer outcome act ∷ before)) (components_of (Did performer outcome act ∷ before)) node
-imps-more script before performer outcome act owned who node is = by (imp-after (nodes_of before) (wiring_of before) performer outcome act node is)
+imps-more script before performer outcome act owned who closed node is = by (imp-after (nodes_of before) (wiring_of before) performer outcome act node is)
   where
-    entry : Entry
-    entry = Did performer outcome act
-
     stays : (under other : Option (ℕ × List ℕ)) → other ≡ under → IfSome under (λ under. Contains (components_of before) under.0) → IfSome other (λ under. Contains (components_of (Did performer outcome act ∷ before)) under.0)
     stays None other e has = rw e tt
     stays (Some under) other e has = rw e (contains-more (Did performer outcome act) before under.0 has)
 
-    added : (found : Option (ℕ × List ℕ)) → IfSome found (λ under. under.0 ≡ node_of performer) → IsComponent (components_of (Did performer outcome act ∷ before)) performer
+    added : (found : Option (ℕ × List ℕ)) → IfSome found (λ under. under.0 ≡ node_of performer) → Contains (components_of (Did performer outcome act ∷ before)) (node_of performer)
         → IfSome found (λ under. Contains (components_of (Did performer outcome act ∷ before)) under.0)
     added None is has = tt
-    added (Some under) is has = rw is (component-node (components_of (Did performer outcome act ∷ before)) performer has)
+    added (Some under) is has = rw is has
 
-    new : IsAdded (nodes_of before) performer outcome act node → (act ≡ opening script) ⊎ IsComponent (components_of (Did performer outcome act ∷ before)) performer
+    there : (who : Who) → performer ≡ who → IsAdded (nodes_of before) performer outcome act node → IsSpeaker before who → Contains (components_of before) (node_of who)
+    there (Node other) same a has = has
+    there (Sequence id home) same a has =
+        let refused : outcome ≡ Refused NotOpen = closed id home same (rw same (a.closed id home)) in
+        let e : Done ≡ Refused NotOpen = sym a.done ∙ refused in cc
+
+    new : IsAdded (nodes_of before) performer outcome act node → (act ≡ opening script) ⊎ IsSpeaker before performer
         → IsOwned (nodes_of (Did performer outcome act ∷ before)) (components_of (Did performer outcome act ∷ before)) node
     new a (inl opens) = absurd (a.other script opens)
-    new a (inr has) = record { below = a.below; owner = added _ a.under has }
+    new a (inr speaks) = record { below = a.below; owner = added _ a.under (contains-more (Did performer outcome act) before (node_of performer) (there performer refl a speaks)) }
 
     by : (is_imp_at (wiring_of before) node ≡ true) ⊎ IsAdded (nodes_of before) performer outcome act node → IsOwned (nodes_of (Did performer outcome act ∷ before)) (components_of (Did performer outcome act ∷ before)) node
     by (inl old) =
@@ -359,20 +479,12 @@ imps-more script before performer outcome act owned who node is = by (imp-after 
         }
     by (inr a) = new a who
 
--- with one more entry that is no answer the speaker stays a component, or nobody spoke
-speaker-more :
-    (script : ScriptValue) (before : List Entry) (entry : Entry) → (All (λ act. act ≡ opening script) (left_of script before) → All (λ act. act ≡ opening script) (left_of script (entry ∷ before)))
-    → IsComponent (components_of before) (speaker_of before) ⊎ All (λ act. act ≡ opening script) (left_of script before)
-    → IsComponent (components_of (entry ∷ before)) (speaker_of before) ⊎ All (λ act. act ≡ opening script) (left_of script (entry ∷ before))
-speaker-more script before entry more (inl has) = inl (component-more entry before (speaker_of before) has)
-speaker-more script before entry more (inr opens) = inr (more opens)
-
 -- what passes comes alone
 passed-alone : (fifo : ℕ) (passage : Passage) (next : Next) → Allows next (Passed fifo passage) → next ≡ Exactly (Passed fifo passage)
 passed-alone fifo passage (Exactly entry) allows = rw allows refl
 passed-alone fifo passage (Answer performer call cause) allows = let other = allows.1 in cc
-passed-alone fifo passage (Need need performer act) (inl made) = cc
-passed-alone fifo passage (Need need performer act) (inr declined) = cc
+passed-alone fifo passage (Need need made performer act) (inl e) = cc
+passed-alone fifo passage (Need need made performer act) (inr declined) = cc
 passed-alone fifo passage Nothing allows = absurd allows
 
 -- what holds of all acts holds of the rest of them
@@ -380,70 +492,177 @@ rest-all : (P : Act → Type 0) (acts : List Act) → All P acts → All P (rest
 rest-all P [] all = all
 rest-all P (act ∷ acts) all = All-tail P act acts all
 
+left-all : (P : Act → Type 0) (outcome : Outcome) (acts : List Act) → All P acts → All P (left_after outcome acts)
+left-all P Finished acts all = All-nil P
+left-all P outcome acts all = rest-all P acts all
+
+left-none : (outcome : Outcome) (acts : List Act) → acts ≡ [] → left_after outcome acts ≡ []
+left-none Finished acts e = refl
+left-none outcome acts e = ap rest_of e
+
+-- who may act may act still, unless a phase begins or ends, or he has finished
+speaker-stays :
+    (script : ScriptValue) (before : List Entry) (entry : Entry) (who : Who) → IsNext script before entry → GoesOn (entry ∷ before) → running (stage_of (entry ∷ before)) ≡ running (stage_of before) → ended_of (entry ∷ before) ≡ ended_of before → finished_of (entry ∷ before) ≡ finished_of before
+    → IsSpeaker before who → IsSpeaker (entry ∷ before) who
+speaker-stays script before entry (Node node) next on stage ended finished has = contains-more entry before node has
+speaker-stays script before entry (Sequence id home) next on stage ended finished s = record {
+  phase = s.phase;
+  sequence = sequence-more script before entry s.phase id home next on s.sequence;
+  runs = stage ∙ s.runs;
+  unfinished = ap (list_any (same_who (Sequence id home))) finished ∙ s.unfinished;
+  unended = ap (list_any (same_phase s.phase)) ended ∙ s.unended;
+}
+
+-- an act leaves its performer speaking, unless it was his last
+speaking-did : (script : ScriptValue) (before : List Entry) (performer : Who) (outcome : Outcome) (act : Act) → IsNext script before (Did performer outcome act) → GoesOn (Did performer outcome act ∷ before) → Speaking script before → Speaking script (Did performer outcome act ∷ before)
+speaking-did script before performer outcome act next on (NoneLeft none) = NoneLeft (left-none outcome (left_of script before) none)
+speaking-did script before performer outcome act next on (Opens opens) = Opens (left-all (λ one. one ≡ opening script) outcome (left_of script before) opens)
+speaking-did script before performer Finished act next on (Speaks speaks) = NoneLeft refl
+speaking-did script before performer outcome act next on (Speaks speaks) = Speaks (speaker-stays script before (Did performer outcome act) (speaker_of before) next on refl refl refl speaks)
+
+-- so does what the machine writes by itself, but for a note
+speaking-on :
+    (script : ScriptValue) (before : List Entry) (entry : Entry) → IsNext script before entry → GoesOn (entry ∷ before) → running (stage_of (entry ∷ before)) ≡ running (stage_of before) → ended_of (entry ∷ before) ≡ ended_of before → finished_of (entry ∷ before) ≡ finished_of before
+    → left_of script (entry ∷ before) ≡ left_of script before → speaker_of (entry ∷ before) ≡ speaker_of before → Speaking script before → Speaking script (entry ∷ before)
+speaking-on script before entry next on stage ended finished left speaker (NoneLeft none) = NoneLeft (left ∙ none)
+speaking-on script before entry next on stage ended finished left speaker (Opens opens) = Opens (subst (All (λ one. one ≡ opening script)) (sym left) opens)
+speaking-on script before entry next on stage ended finished left speaker (Speaks speaks) = Speaks (subst (IsSpeaker (entry ∷ before)) (sym speaker) (speaker-stays script before entry (speaker_of before) next on stage ended finished speaks))
+
+-- one more sequence was started by who speaks
+begun-starters :
+    (script : ScriptValue) (before : List Entry) (performer : Who) (outcome : Outcome) (act : Act) → Known script before → IsNext script before (Did performer outcome act) → GoesOn (Did performer outcome act ∷ before) → (act ≡ opening script) ⊎ IsSpeaker before performer
+    → All (IsStartedBy (Did performer outcome act ∷ before)) (begun_of (Did performer outcome act ∷ before))
+begun-starters script before performer (Started id) act known next on who =
+    All-cons (IsStartedBy (Did performer (Started id) act ∷ before)) _ (begun_of before) (by who) (starters-more script before (Did performer (Started id) act) next on known)
+  where
+    by : (act ≡ opening script) ⊎ IsSpeaker before performer → (phase : Phase) → running (stage_of before) ≡ Some phase → IsExpected (Did performer (Started id) act ∷ before) phase performer
+    by (inl opens) phase runs = absurd (starts-act script before performer id act (next_of script before) refl next opens)
+    by (inr speaks) phase runs = expected-more script before (Did performer (Started id) act) phase performer next on (speaker-expected before phase performer runs speaks)
+begun-starters script before performer outcome act known next on who = starters-more script before (Did performer outcome act) next on known
+
+-- what the opening tells nobody is told to who speaks
+expected-unless :
+    (script : ScriptValue) (before : List Entry) (performer : Who) (outcome : Outcome) (act : Act) → IsNext script before (Did performer outcome act) → GoesOn (Did performer outcome act ∷ before) → (told_by outcome act ≡ None) ⊎ IsSpeaker before performer
+    → (told_by outcome act ≡ None) ⊎ ((p : Phase) → running (stage_of before) ≡ Some p → IsExpected (Did performer outcome act ∷ before) p performer)
+expected-unless script before performer outcome act next on (inl none) = inl none
+expected-unless script before performer outcome act next on (inr speaks) = inr (λ p runs. expected-more script before (Did performer outcome act) p performer next on (speaker-expected before p performer runs speaks))
+
+more-component : {Idle : Type 0} (before : List Entry) (entry : Entry) (performer : Who) → Idle ⊎ IsComponent (components_of before) performer → Idle ⊎ IsComponent (components_of (entry ∷ before)) performer
+more-component before entry performer (inl idle) = inl idle
+more-component before entry performer (inr has) = inr (component-more entry before performer has)
+
 module _ (keeps : OrderKeepsAll Owner (Option Call)) where
+  speaking-more : (script : ScriptValue) (before : List Entry) (entry : Entry) → Known script before → IsNext script before entry → GoesOn (entry ∷ before) → Speaking script (entry ∷ before)
+  speaking-more script before (Heard performer call cause acts) known next on = Speaks (speaker-stays script before (Heard performer call cause acts) performer next on refl refl refl (heard-one keeps script before performer call cause acts known next))
+  speaking-more script before (Did performer outcome act) known next on = speaking-did script before performer outcome act next on known.speaker
+  speaking-more script before (Begin phase) known next on = NoneLeft (begin-left script before phase next)
+  speaking-more script before (End phase) known next on = NoneLeft (end-left script before phase next)
+  speaking-more script before (Note fatal node) known next on = NoneLeft refl
+  speaking-more script before (Over reason) known next on = absurd (on refl)
+  speaking-more script before entry known next on = speaking-on script before entry next on refl refl refl refl refl known.speaker
+
   -- an act keeps what is known
-  known-did : (script : ScriptValue) (before : List Entry) (performer : Who) (outcome : Outcome) (act : Act) → Known script before → IsNext script before (Did performer outcome act) → Known script (Did performer outcome act ∷ before)
-  known-did script before performer outcome act known next =
+  known-did : (script : ScriptValue) (before : List Entry) (performer : Who) (outcome : Outcome) (act : Act) → Known script before → IsNext script before (Did performer outcome act) → GoesOn (Did performer outcome act ∷ before) → Known script (Did performer outcome act ∷ before)
+  known-did script before performer outcome act known next on =
       let entry = Did performer outcome act in
       let deed = deed-next script before performer outcome act (next_of script before) refl next in
       let components = components_of (entry ∷ before) in
       let phase = running (stage_of before) in
-      let who = deed-owner script before entry performer act deed known.speaker in
+      let who = deed-owner script before performer act deed known.speaker in
+      let closed = closed-refused script before performer outcome act deed next in
       record {
         owners =
-            All-append (IsCallTo components) (calls_numbered phase (now_of before) (length before) 0 (written_calls before performer outcome act)) _
-            (numbered-owners components phase (now_of before) (length before) 0 (written_calls before performer outcome act)
-            (All-weaker (λ told. IsComponent (components_of before) told.0) (λ told. IsComponent components told.0) (λ told. component-more entry before told.0) (written_calls before performer outcome act) (written-owners script before performer outcome act known.imps)))
-            (All-append (IsCallTo components) (calls_from outcome act performer phase (now_of before) (length before)) _
-            (due-owner components (told_by outcome act) performer phase (due_after (now_of before) act) (caused_at (length before)) (unless-opening (λ act. told_by outcome act ≡ None) script act (opening-tells script outcome) who))
-            (moved-call components (moves_drains outcome act) phase (caused_at (length before)) (objections_of before) (objections_of (entry ∷ before)) (caused_of before) (owners-more script before entry known)));
-        speaker = speaker-more script before entry (rest-all (λ one. one ≡ opening script) (left_of script before)) known.speaker;
+            All-append (IsCallTo (entry ∷ before)) (calls_numbered phase (now_of before) (length before) 0 (calls_told before performer outcome act)) _
+            (numbered-owners (entry ∷ before) phase (now_of before) (length before) 0 (calls_told before performer outcome act) (told-owners script before performer outcome act known next on who))
+            (All-append (IsCallTo (entry ∷ before)) (calls_from outcome act performer phase (now_of before) (length before)) _
+            (due-owner (entry ∷ before) (told_by outcome act) performer phase (due_after (now_of before) act) (caused_at (length before)) (expected-unless script before performer outcome act next on (unless-opening (λ act. told_by outcome act ≡ None) script act (opening-tells script outcome) who)))
+            (moved-call (entry ∷ before) (moves_drains outcome act) phase (caused_at (length before)) (objections_of before) (objections_of (entry ∷ before)) (caused_of before) (owners-more script before entry next on known)));
+        starters = begun-starters script before performer outcome act known next on who;
+        speaker = speaking-did script before performer outcome act next on known.speaker;
         putters = λ fifo. asked-more (IsOne components) before fifo performer through.Put (put_in outcome act) (puts_asked before fifo)
             (All-weaker (IsAskedBy (IsOne (components_of before))) (IsAskedBy (IsOne components)) (λ request. component-more entry before request.asker.who) (puts_asked before fifo) (known.putters fifo))
-            (unless-opening (λ act. put_in outcome act ≡ None) script act (opening-puts script outcome) who);
+            (more-component before entry performer (component-or (put_in outcome act ≡ None) before performer (λ id home same. closed-puts outcome act id home (rw same at closed)) (unless-opening (λ act. put_in outcome act ≡ None) script act (opening-puts script outcome) who)));
         takers = λ fifo. asked-more (IsOne components) before fifo performer through.Get (take_in outcome act) (takes_asked before fifo)
             (All-weaker (IsAskedBy (IsOne (components_of before))) (IsAskedBy (IsOne components)) (λ request. component-more entry before request.asker.who) (takes_asked before fifo) (known.takers fifo))
-            (unless-opening (λ act. take_in outcome act ≡ None) script act (opening-takes script outcome) who);
-        imps = imps-more script before performer outcome act known.imps who;
+            (more-component before entry performer (component-or (take_in outcome act ≡ None) before performer (λ id home same. closed-takes outcome act id home (rw same at closed)) (unless-opening (λ act. take_in outcome act ≡ None) script act (opening-takes script outcome) who)));
+        imps = imps-more script before performer outcome act known.imps who (λ id home same. closed);
       }
 
   -- what passes is a component's
-  known-passed : (script : ScriptValue) (before : List Entry) (fifo : ℕ) (passage : Passage) → Known script before → IsNext script before (Passed fifo passage) → Known script (Passed fifo passage ∷ before)
-  known-passed script before fifo passage known next =
+  known-passed : (script : ScriptValue) (before : List Entry) (fifo : ℕ) (passage : Passage) → Known script before → IsNext script before (Passed fifo passage) → GoesOn (Passed fifo passage ∷ before) → Known script (Passed fifo passage ∷ before)
+  known-passed script before fifo passage known next on =
+      let entry = Passed fifo passage in
       let passes = passages_go_in_order script before fifo passage (passed-alone fifo passage (next_of script before) next) in
       let has : IsOne (components_of before) passage.who = subst (λ (passed : Option (ℕ × Passage)). IfSome passed (λ passed. IsOne (components_of before) passed.1.who)) passes (passing-holds (IsOne (components_of before)) before known.putters known.takers) in
       record {
-        owners = All-append (IsCallTo (components_of before)) (due_from (Some (told_of passage.kind passage)) passage.who (running (stage_of before)) (now_of before) (caused_at (length before))) (caused_of before)
-            (due-owner (components_of before) (Some (told_of passage.kind passage)) passage.who (running (stage_of before)) (now_of before) (caused_at (length before)) (inr has)) known.owners;
-        speaker = known.speaker;
+        owners = All-append (IsCallTo (entry ∷ before)) (due_from (Some (told_of passage.kind passage)) passage.who (running (stage_of before)) (now_of before) (caused_at (length before))) (caused_of before)
+            (due-owner (entry ∷ before) (Some (told_of passage.kind passage)) passage.who (running (stage_of before)) (now_of before) (caused_at (length before)) (inr (λ p runs. component-expected (entry ∷ before) p passage.who (component-more entry before passage.who has))))
+            (owners-more script before entry next on known);
+        starters = starters-more script before entry next on known;
+        speaker = speaking-on script before entry next on refl refl refl refl refl known.speaker;
         putters = known.putters;
         takers = known.takers;
         imps = known.imps;
       }
 
   -- so does each entry that is next
-  known-more : (script : ScriptValue) (before : List Entry) (entry : Entry) → Known script before → IsNext script before entry → Known script (entry ∷ before)
-  known-more script before (Heard performer call cause acts) known next = record { owners = known.owners; speaker = inl (heard-one keeps script before performer call cause acts known next); putters = known.putters; takers = known.takers; imps = known.imps }
-  known-more script before (Did performer outcome act) known next = known-did script before performer outcome act known next
-  known-more script before (Passed fifo passage) known next = known-passed script before fifo passage known next
-  known-more script before (Drained node cause) known next = record {
-    owners = with-drains-call (components_of before) (running (stage_of before)) (caused_at (length before)) (objections_of before) (objections_of (Drained node cause ∷ before)) (caused_of before) known.owners;
-    speaker = known.speaker;
+  known-more : (script : ScriptValue) (before : List Entry) (entry : Entry) → Known script before → IsNext script before entry → GoesOn (entry ∷ before) → Known script (entry ∷ before)
+  known-more script before (Did performer outcome act) known next on = known-did script before performer outcome act known next on
+  known-more script before (Passed fifo passage) known next on = known-passed script before fifo passage known next on
+  known-more script before (Drained node cause) known next on = record {
+    owners = with-drains-call (Drained node cause ∷ before) (running (stage_of before)) (caused_at (length before)) (objections_of before) (objections_of (Drained node cause ∷ before)) (caused_of before) (owners-more script before (Drained node cause) next on known);
+    starters = starters-more script before (Drained node cause) next on known;
+    speaker = speaking-on script before (Drained node cause) next on refl refl refl refl refl known.speaker;
     putters = known.putters;
     takers = known.takers;
     imps = known.imps;
   }
-  known-more script before (Note fatal node) known next = record { owners = known.owners; speaker = speaker-more script before (Note fatal node) (λ opens. All-nil (λ one. one ≡ opening script)) known.speaker; putters = known.putters; takers = known.takers; imps = known.imps }
-  known-more script before entry known next = record { owners = known.owners; speaker = known.speaker; putters = known.putters; takers = known.takers; imps = known.imps }
+  known-more script before (Over reason) known next on = absurd (on refl)
+  known-more script before entry known next on = record {
+    owners = owners-more script before entry next on known;
+    starters = starters-more script before entry next on known;
+    speaker = speaking-more script before entry known next on;
+    putters = known.putters;
+    takers = known.takers;
+    imps = known.imps;
+  }
 
-  -- so that it is known of every log of which each entry was next
-  known-of : (script : ScriptValue) (history : List Entry) → EachIsNext script history → Known script history
-  known-of script [] each = record { owners = All-nil _; speaker = inr (All-cons (λ one. one ≡ opening script) (opening script) [] refl (All-nil (λ one. one ≡ opening script))); putters = λ fifo. All-nil _; takers = λ fifo. All-nil _; imps = λ node is. cc }
-  known-of script (entry ∷ before) each = known-more script before entry (known-of script before each.1) each.0
+  -- so that it is known of every log that goes on, of which each entry was next
+  went-on : (script : ScriptValue) (before : List Entry) (entry : Entry) → IsNext script before entry → GoesOn before
+  went-on script before entry next ended = none-after script before entry next ended
 
-  -- who is asked is a component
-  pub asked_are_components : AskedAreComponents
-  asked_are_components script history performer call cause each e = asks-one keeps script history performer call cause (known-of script history each) e
+  known-of : (script : ScriptValue) (history : List Entry) → EachIsNext script history → GoesOn history → Known script history
+  known-of script [] each on = record {
+    owners = All-nil _;
+    starters = All-nil _;
+    speaker = Opens (All-cons (λ one. one ≡ opening script) (opening script) [] refl (All-nil (λ one. one ≡ opening script)));
+    putters = λ fifo. All-nil _;
+    takers = λ fifo. All-nil _;
+    imps = λ node is. cc;
+  }
+  known-of script (entry ∷ before) each on = known-more script before entry (known-of script before each.1 (went-on script before entry each.0)) each.0 on
+
+  -- who is asked is there
+  asked-speaks : (script : ScriptValue) (history : List Entry) (performer : Who) (call : Call) (cause : Option Cause) → EachIsNext script history → next_of script history ≡ Answer performer call cause → IsSpeaker history performer
+  asked-speaks script history performer call cause each e =
+      asks-one keeps script history performer call cause (known-of script history each (λ ended. let none : Nothing ≡ Answer performer call cause = sym (nothing-comes script history ended) ∙ e in cc)) e
+
+  pub asked_are_there : AskedAreThere
+  asked_are_there script history performer call cause each e = speaker-there history performer (asked-speaks script history performer call cause each e)
+
+  -- so is who performs an act, but the script
+  acts-before-end : (script : ScriptValue) (history : List Entry) → IsAct (next_of script history) → GoesOn history
+  acts-before-end script history is ended = subst IsAct (nothing-comes script history ended) is
+
+  performer-there : (script : ScriptValue) (history : List Entry) (act : Act) → left_of script history ≡ act ∷ rest_of (left_of script history) → Speaking script history → (act ≡ opening script) ⊎ IsThere history (speaker_of history)
+  performer-there script history act left (NoneLeft none) = let both : act ∷ rest_of (left_of script history) ≡ [] = sym left ∙ none in cc
+  performer-there script history act left (Opens opens) =
+      let first = subst (All (λ one. one ≡ opening script)) left opens in
+      inl (All-head (λ one. one ≡ opening script) act (rest_of (left_of script history)) first)
+  performer-there script history act left (Speaks speaks) = inr (speaker-there history (speaker_of history) speaks)
+
+  pub performers_are_there : PerformersAreThere
+  performers_are_there script history act each is left = performer-there script history act left (known-of script history each (acts-before-end script history is)).speaker
 
   -- an answer of another is not the node's
   apart : (performer : Who) (node : ℕ) (call : Call) (cause : Option Cause) (acts : List Act) → node_of performer < node → exchanged_in (Node node) (Heard performer call cause acts) ≡ []
@@ -452,12 +671,19 @@ module _ (keeps : OrderKeepsAll Owner (Option Call)) where
       rw differs refl
   apart (Sequence id home) node call cause acts lt = refl
 
+  -- who has an answer had spoken
+  answered : (script : ScriptValue) (before : List Entry) (performer : Who) (call : Call) (cause : Option Cause) (acts : List Act) → EachIsNext script before → IsNext script before (Heard performer call cause acts) → IsSpeaker before performer
+  answered script before performer call cause acts each next = heard-one keeps script before performer call cause acts (known-of script before each (went-on script before (Heard performer call cause acts) next)) next
+
+  unasked-node : (script : ScriptValue) (before : List Entry) (node : ℕ) (performer : Who) (call : Call) (cause : Option Cause) (acts : List Act) → EachIsNext script before → IsSpeaker before performer → length (nodes_of before) ≤ node → exchanged_in (Node node) (Heard performer call cause acts) ≡ []
+  unasked-node script before node (Node other) call cause acts each has le =
+      let lt : other < length (nodes_of before) = All-contains (λ other. other < length (nodes_of before)) (components_of before) other (components_are_nodes script before each) has in
+      apart (Node other) node call cause acts (omega (arith, lt, le))
+  unasked-node script before node (Sequence id home) call cause acts each speaks le = refl
+
   -- an entry that is next asks no node behind those of the tree
   unasked-in : (script : ScriptValue) (before : List Entry) (node : ℕ) (entry : Entry) → EachIsNext script before → IsNext script before entry → length (nodes_of before) ≤ node → exchanged_in (Node node) entry ≡ []
-  unasked-in script before node (Heard performer call cause acts) each next le =
-      let has = heard-one keeps script before performer call cause acts (known-of script before each) next in
-      let lt : node_of performer < length (nodes_of before) = All-contains (λ other. other < length (nodes_of before)) (components_of before) (node_of performer) (components_are_nodes script before each) (component-node (components_of before) performer has) in
-      apart performer node call cause acts (omega (arith, lt, le))
+  unasked-in script before node (Heard performer call cause acts) each next le = unasked-node script before node performer call cause acts each (answered script before performer call cause acts each next) le
   unasked-in script before node entry each next le = refl
 
   -- behind the nodes of the tree nobody was asked
@@ -467,3 +693,44 @@ module _ (keeps : OrderKeepsAll Owner (Option Call)) where
       let more = nodes-more entry before in
       let fewer : length (nodes_of before) ≤ node = omega (arith, more, le) in
       rw (unasked-in script before node entry each.1 each.0 fewer) (new_nodes_are_unasked script before node each.1 fewer)
+
+  -- nor behind the sequences that were started
+  unasked-sequence : (before : List Entry) (id home : ℕ) (performer : Who) (call : Call) (cause : Option Cause) (acts : List Act) → IsSpeaker before performer → length (begun_of before) < id → exchanged_in (Sequence id home) (Heard performer call cause acts) ≡ []
+  unasked-sequence before id home (Node node) call cause acts has lt = refl
+  unasked-sequence before id home (Sequence other at) call cause acts speaks lt =
+      let low = numbered-within (begun_of before) other speaks.sequence.beginning speaks.sequence.begun in
+      let differs : (other == id) ≡ false = grind (arith, nat_tests, low, lt) in
+      rw differs refl
+
+  unstarted-in : (script : ScriptValue) (before : List Entry) (id home : ℕ) (entry : Entry) → EachIsNext script before → IsNext script before entry → length (begun_of before) < id → exchanged_in (Sequence id home) entry ≡ []
+  unstarted-in script before id home (Heard performer call cause acts) each next lt = unasked-sequence before id home performer call cause acts (answered script before performer call cause acts each next) lt
+  unstarted-in script before id home entry each next lt = refl
+
+  pub new_sequences_are_unasked : NewSequencesAreUnasked
+  new_sequences_are_unasked script [] id home each lt = refl
+  new_sequences_are_unasked script (entry ∷ before) id home each lt =
+      let more = begun-count entry before in
+      let fewer : length (begun_of before) < id = omega (arith, more, lt) in
+      rw (unstarted-in script before id home entry each.1 each.0 fewer) (new_sequences_are_unasked script before id home each.1 fewer)
+
+  -- who finishes is a sequence that lived
+  finisher-there : (script : ScriptValue) (before : List Entry) (performer : Who) (act : Act) → IsNext script before (Did performer Finished act) → IsDeed script before performer act → (act ≡ opening script) ⊎ IsSpeaker before performer → IsLivingSequence before performer
+  finisher-there script before performer act next deed (inl opens) =
+      let ends = finished-next script before performer act next in
+      let e : EndStep ≡ opening script = sym ends ∙ opens in cc
+  finisher-there script before (Node node) act next deed (inr speaks) =
+      let ends = finished-next script before (Node node) act next in
+      let e : Finished ≡ Refused NotOpen = closed-refused script before (Node node) Finished act deed next (rw ends refl) in cc
+  finisher-there script before (Sequence id home) act next deed (inr speaks) = speaker-there before (Sequence id home) speaks
+
+  pub finisher_lives : (script : ScriptValue) (before : List Entry) (performer : Who) (act : Act) → EachIsNext script before → IsNext script before (Did performer Finished act) → IsLivingSequence before performer
+  finisher_lives script before performer act each next =
+      let deed = deed-next script before performer Finished act (next_of script before) refl next in
+      let known = known-of script before each (went-on script before (Did performer Finished act) next) in
+      finisher-there script before performer act next deed (deed-owner script before performer act deed known.speaker)
+
+  -- who waited at a FIFO is a component
+  pub waiters_are_components : WaitersAreComponents
+  waiters_are_components script history fifo passage each is =
+      let known = known-of script history each (λ ended. let none : Nothing ≡ Exactly (Passed fifo passage) = sym (nothing-comes script history ended) ∙ is in cc) in
+      subst (λ (passed : Option (ℕ × Passage)). IfSome passed (λ passed. IsOne (components_of history) passed.1.who)) (passages_go_in_order script history fifo passage is) (passing-holds (IsOne (components_of history)) history known.putters known.takers)

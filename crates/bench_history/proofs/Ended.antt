@@ -34,14 +34,14 @@ nothing-comes script history e =
 some-case : (script : ScriptValue) (history : List Entry) (next : Next) → (stage_of history ≡ Ended → ⊥) → Case script history next → IsSomething next
 some-case script history next on (AtEnd ended e) = absurd (on ended)
 some-case script history next on (ByOwn entry own e) = subst IsSomething (sym e) tt
-some-case script history next on (ByNeed act need left upshot e) = subst IsSomething (sym e) tt
+some-case script history next on (ByNeed act need made left upshot e) = subst IsSomething (sym e) tt
 some-case script history next on (ByDeed act outcome left plain comes e) = subst IsSomething (sym e) tt
 some-case script history next on (ByDue event call now is_call e) = subst IsSomething (sym e) tt
 some-case script history next on (ByTurn phase node turn e) = subst IsSomething (sym e) tt
 some-case script history next on (ByEnd phase runs e) = subst IsSomething (sym e) tt
 some-case script history next on (ByBegin phase may e) = subst IsSomething (sym e) tt
 
-none-after : (script : ScriptValue) (before : List Entry) (entry : Entry) → IsNext script before entry → stage_of before ≡ Ended → ⊥
+pub none-after : (script : ScriptValue) (before : List Entry) (entry : Entry) → IsNext script before entry → stage_of before ≡ Ended → ⊥
 none-after script before entry next ended = subst (λ (comes : Next). Allows comes entry) (nothing-comes script before ended) next
 
 -- where the stage is the end the entry that came last is it

@@ -1,7 +1,7 @@
 -- What one more entry adds to a log: nodes, components, and what somebody was asked.
-use Rattle.std.proofs.Common.{◌≡◌, ℕ, ◌≤◌, List, [], ◌∷◌, ◌++◌, length, slice_get, Option, Some, refl, ap, ◌∙◌, sym, subst, arith}
+use Rattle.std.proofs.Common.{◌≡◌, ℕ, suc, ◌≤◌, List, [], ◌∷◌, ◌++◌, length, slice_get, Option, Some, refl, ap, ◌∙◌, sym, subst, arith}
 use Rattle.std.specs.Option.{option_map_or}
-use Rattle.std.proofs.lemmas.List.{append-nil, length-append}
+use Rattle.std.proofs.lemmas.List.{append-nil, length-append, length-map}
 use Rattle.uvm_tree.specs.declared.nodes.Node.{Node}
 use Rattle.uvm_tree.specs.declared.nodes.NodeKind.TheVariants.{Component}
 use Rattle.uvm_tree.specs.Nodes.{child}
@@ -11,14 +11,17 @@ use Rattle.uvm_object.specs.declared.acts.Who.{Who}
 use Rattle.uvm_object.specs.declared.acts.Act.{Act}
 use Rattle.uvm_object.specs.declared.acts.Act.TheVariants.{Add}
 use Rattle.uvm_object.specs.declared.entries.Outcome.{Outcome}
-use Rattle.uvm_object.specs.declared.entries.Outcome.TheVariants.{Done, Made}
+use Rattle.uvm_object.specs.declared.entries.Outcome.TheVariants.{Done, Made, Started}
 use Rattle.uvm_object.specs.declared.entries.Entry.{Entry}
 use Rattle.uvm_object.specs.declared.entries.Entry.TheVariants.{Heard, Did}
 use Rattle.bench_script.specs.Scripts.{ScriptValue}
-use Rattle.bench_history.specs.History.{created_name, nodes_of, nodes_after, components_of, components_after}
+use Rattle.bench_history.specs.declared.needs.Need as declared
+use Rattle.uvm_phase.specs.declared.phases.Phase.{Phase}
+use Rattle.bench_history.specs.History.{stage_of, running, created_name, nodes_of, nodes_after, components_of, components_after, speaker_of}
+use Rattle.bench_history.specs.Sequences.{Beginning, starts_in, begun_after, begun_of}
 use Rattle.bench_history.specs.Cases.{Next, Exactly}
 use Rattle.bench_history.specs.Next.{next_of}
-use Rattle.bench_history.specs.Laws.{MachineEntriesAreSilent, NodesStay, MadeObjectsAreNew}
+use Rattle.bench_history.specs.Laws.{IsMadeBy, HasMade, MachineEntriesAreSilent, NodesStay, MadeObjectsAreNew}
 use Rattle.bench_history.proofs.Inversion.{IsOwn, NotMade, Case, AtEnd, ByOwn, ByNeed, ByDeed, ByDue, ByTurn, ByEnd, ByBegin, case-of}
 use Rattle.bench_history.proofs.Needed.{needed}
 
@@ -43,7 +46,7 @@ plain-own script history entry own = tt
 plain-case : (script : ScriptValue) (history : List Entry) (next : Next) → Case script history next → IsPlainNext next
 plain-case script history next (AtEnd ended e) = subst IsPlainNext (sym e) tt
 plain-case script history next (ByOwn entry own e) = subst IsPlainNext (sym e) (plain-own script history entry own)
-plain-case script history next (ByNeed act need left upshot e) = subst IsPlainNext (sym e) tt
+plain-case script history next (ByNeed act need made left upshot e) = subst IsPlainNext (sym e) tt
 plain-case script history next (ByDeed act outcome left plain comes e) = subst IsPlainNext (sym e) plain
 plain-case script history next (ByDue event call now is_call e) = subst IsPlainNext (sym e) tt
 plain-case script history next (ByTurn phase node turn e) = subst IsPlainNext (sym e) tt
@@ -67,15 +70,23 @@ silent hearer entry plain = refl
 exact-is-silent : (script : ScriptValue) (history : List Entry) (entry : Entry) (hearer : Who) → next_of script history ≡ Exactly entry → exchanged_in hearer entry ≡ []
 exact-is-silent script history entry hearer e = silent hearer entry (exact-plain script history entry e)
 
--- an outcome that makes no object adds no component
+-- an outcome that makes no object adds no component, and starts no sequence
 keeps-outcome : (node : ℕ) (components : List ℕ) (outcome : Outcome) → NotMade outcome → components_after node components outcome ≡ components
 keeps-outcome node components (Made type_name) plain = absurd plain
 keeps-outcome node components outcome plain = refl
+
+keeps-begun : (nodes : List Node) (phase : Option Phase) (begun : List Beginning) (performer : Who) (outcome : Outcome) (act : Act) → NotMade outcome → begun_after nodes phase begun performer outcome act ≡ begun
+keeps-begun nodes phase begun performer (Started id) act plain = absurd plain
+keeps-begun nodes phase begun performer outcome act plain = refl
 
 -- nor does a plain entry
 keeps-components : (history : List Entry) (entry : Entry) → IsPlain entry → components_of (entry ∷ history) ≡ components_of history
 keeps-components history (Did performer outcome act) plain = keeps-outcome (length (nodes_of history)) (components_of history) outcome plain
 keeps-components history entry plain = refl
+
+pub keeps-sequences : (history : List Entry) (entry : Entry) → IsPlain entry → begun_of (entry ∷ history) ≡ begun_of history
+keeps-sequences history (Did performer outcome act) plain = keeps-begun (nodes_of history) (running (stage_of history)) (begun_of history) performer outcome act plain
+keeps-sequences history entry plain = refl
 
 -- and makes no component
 pub exact-keeps-components : (script : ScriptValue) (history : List Entry) (entry : Entry) → next_of script history ≡ Exactly entry → components_of (entry ∷ history) ≡ components_of history
@@ -83,7 +94,11 @@ exact-keeps-components script history entry e = keeps-components history entry (
 
 -- so it is the machine's own
 pub machine_entries_are_silent : MachineEntriesAreSilent
-machine_entries_are_silent script history entry e = record { silent = λ node. exact-is-silent script history entry node e; keeps = exact-keeps-components script history entry e }
+machine_entries_are_silent script history entry e = record {
+  silent = λ node. exact-is-silent script history entry node e;
+  keeps = exact-keeps-components script history entry e;
+  starts_none = keeps-sequences history entry (exact-plain script history entry e);
+}
 
 -- a list that has more than another, at its end
 abbrev pub HasMore : {A : Type 0} → List A → List A → Type 0
@@ -131,12 +146,27 @@ get-behind : (xs : List Node) (x : Node) → slice_get (xs ++ x ∷ []) (length 
 get-behind [] x = refl
 get-behind (y ∷ ys) x = get-behind ys x
 
--- an object is made
-pub made_objects_are_new : MadeObjectsAreNew
-made_objects_are_new script history need performer act e =
-    let made = child (nodes_of history) (node_of performer) (created_name act) Component in
+-- there are as many starts as sequences
+starts-count : (begun : List Beginning) → length (starts_in begun) ≡ length begun
+starts-count begun = length-map begun (λ (beginning : Beginning). beginning.start)
+
+-- an object is made, or a sequence started
+made-by : (script : ScriptValue) (history : List Entry) (need : declared.Need) (made : Outcome) (performer : Who) (act : Act) → performer ≡ speaker_of history → IsMadeBy script history need made act → HasMade history need made performer act
+made-by script history need (Made type_name) performer act speaks makes =
+    let new = child (nodes_of history) (node_of performer) (created_name act) Component in
     record {
       components = refl;
-      count = omega (arith, length-append (nodes_of history) (made ∷ []));
-      path_is = ap (λ (found : Option Node). option_map_or (λ node. node.path) found []) (get-behind (nodes_of history) made) ∙ sym (needed script history need performer act e).path_is;
+      count = omega (arith, length-append (nodes_of history) (new ∷ []));
+      path_is = ap (λ (found : Option Node). option_map_or (λ node. node.path) found []) (get-behind (nodes_of history) new) ∙ rw speaks (sym makes.path_is);
+      starts_none = refl;
     }
+made-by script history need (Started id) performer act speaks makes =
+    let count = starts-count (begun_of history) in
+    let number : id ≡ suc (length (begun_of history)) = makes.number ∙ ap suc count in
+    record { components = refl; all = rw number refl; number = number }
+made-by script history need other performer act speaks makes = absurd makes
+
+pub made_objects_are_new : MadeObjectsAreNew
+made_objects_are_new script history need made performer act e =
+    let n = needed script history need made performer act e in
+    made-by script history need made performer act n.performer_is n.makes

@@ -3,7 +3,6 @@ use Rattle.std.proofs.Common.{◌≡◌, ℕ, Bool, true, false, List, [], ◌�
 use Rattle.std.proofs.lemmas.Bool.Decides.{nat_tests}
 use Rattle.uvm_phase.specs.declared.phases.Phase.{Phase}
 use Rattle.uvm_phase.specs.Phases.{is_task}
-use Rattle.uvm_object.specs.declared.acts.Who.{Who}
 use Rattle.uvm_object.specs.declared.acts.Who.TheVariants as who
 use Rattle.uvm_object.specs.declared.acts.Call.{Call}
 use Rattle.uvm_object.specs.declared.acts.Call.TheVariants as call
@@ -12,9 +11,9 @@ use Rattle.uvm_object.specs.declared.fatals.Fatal.{Fatal}
 use Rattle.uvm_object.specs.declared.fatals.Fatal.TheVariants.{TooManyActs, Timeout, Stall}
 use Rattle.uvm_object.specs.Acts.{node_of}
 use Rattle.uvm_object.specs.declared.entries.Outcome.{Outcome}
-use Rattle.uvm_object.specs.declared.entries.Outcome.TheVariants.{Done, Made, Value, Stored, Taken, Refused}
+use Rattle.uvm_object.specs.declared.entries.Outcome.TheVariants.{Done, Made, Started, Value, Stored, Taken, Finished, Refused}
 use Rattle.uvm_object.specs.declared.entries.Reason.{Reason}
-use Rattle.uvm_object.specs.declared.entries.Reason.TheVariants.{Finished}
+use Rattle.uvm_object.specs.declared.entries.Reason.TheVariants as reason
 use Rattle.uvm_object.specs.declared.entries.Passage.{Passage}
 use Rattle.uvm_object.specs.declared.entries.Entry.{Entry}
 use Rattle.uvm_object.specs.declared.entries.Entry.TheVariants.{Begin, End, Time, Heard, Did, Passed, Drained, Note, Over}
@@ -30,7 +29,7 @@ use Rattle.bench_history.specs.Objections.{objections_of, stands}
 use Rattle.bench_history.specs.Dues.{first_due, due_at, due_now}
 use Rattle.bench_history.specs.Wires.{next_unsound}
 use Rattle.bench_history.specs.Passing.{next_passed}
-use Rattle.bench_history.specs.Upshots.{Upshot, Needs, Does, Finds, Stores, Takes, Refuses, upshot_of}
+use Rattle.bench_history.specs.Upshots.{Upshot, Needs, Does, Finds, Stores, Takes, Finishes, Refuses, upshot_of}
 use Rattle.bench_history.specs.Cases.{Next, Exactly, Answer, Need, Nothing, end_reached, giving_up, passing, first_act, by_upshot, by_act, by_call, event_due, phase_call, in_connect, port_check, phase_end, time_passes, phase_begin, phase_to_begin, finish}
 use Rattle.bench_history.specs.Next.{first_next, next_of}
 use Rattle.bench_history.specs.Laws.{IsDue, IsDrainDue}
@@ -47,9 +46,10 @@ IsOwn script history (Passed fifo passage) = next_passed history ≡ Some (fifo,
 IsOwn script history (Drained node cause) = IsDrainDue history node cause
 IsOwn script history entry = Unit {0}
 
--- no object was made
+-- no object was made, and no sequence started
 abbrev pub NotMade : Outcome → Type 0
 NotMade (Made type_name) = ⊥
+NotMade (Started id) = ⊥
 NotMade outcome = Unit {0}
 
 pub data Case (script : ScriptValue) (history : List Entry) (next : Next) : Type 0 where
@@ -58,7 +58,7 @@ pub data Case (script : ScriptValue) (history : List Entry) (next : Next) : Type
   -- or what comes is an entry of the machine's own
   ByOwn : (entry : Entry) → IsOwn script history entry → next ≡ Exactly entry → Case script history next
   -- or an act that was not performed yet: it needs an object
-  ByNeed : (act : Act) (need : declared.Need) → left_of script history ≡ act ∷ rest_of (left_of script history) → upshot_of script history (speaker_of history) act ≡ Needs need → next ≡ Need need (speaker_of history) act → Case script history next
+  ByNeed : (act : Act) (need : declared.Need) (made : Outcome) → left_of script history ≡ act ∷ rest_of (left_of script history) → upshot_of script history (speaker_of history) act ≡ Needs need made → next ≡ Need need made (speaker_of history) act → Case script history next
   -- or comes to something at once, by which no object is made
   ByDeed : (act : Act) (outcome : Outcome) → left_of script history ≡ act ∷ rest_of (left_of script history) → NotMade outcome → by_act script history (speaker_of history) act ≡ Exactly (Did (speaker_of history) outcome act) → next ≡ Exactly (Did (speaker_of history) outcome act) → Case script history next
   -- or a call is due
@@ -80,7 +80,7 @@ act_cases script history = event_due (due_now history) ∷ phase_cases script hi
 
 case-begin : (script : ScriptValue) (history : List Entry) (next : Next) (begins : Option Phase) → phase_to_begin (stage_of history) ≡ begins → next ≡ first_next (phase_begin begins ∷ finish ∷ []) → Case script history next
 case-begin script history next (Some phase) is e = ByBegin phase is e
-case-begin script history next None is e = ByOwn (Over Finished) tt e
+case-begin script history next None is e = ByOwn (Over reason.Finished) tt e
 
 -- where time would pass
 case-limit : (script : ScriptValue) (history : List Entry) (next : Next) (event : Event) (late : Bool) → nat_lt script.time_limit event.time ≡ late → next ≡ Exactly (if late then Note Timeout 0 else Time event.time) → Case script history next
@@ -150,11 +150,12 @@ case-due script history next (Some event) is e = case-event script history next 
 case-due script history next None is e = case-phase script history next (running (stage_of history)) refl e
 
 case-upshot : (script : ScriptValue) (history : List Entry) (next : Next) (act : Act) (upshot : Upshot) → left_of script history ≡ act ∷ rest_of (left_of script history) → upshot_of script history (speaker_of history) act ≡ upshot → next ≡ by_upshot (speaker_of history) act upshot → Case script history next
-case-upshot script history next act (Needs need) left is e = ByNeed act need left is e
+case-upshot script history next act (Needs need made) left is e = ByNeed act need made left is e
 case-upshot script history next act Does left is e = ByDeed act Done left tt (ap (by_upshot (speaker_of history) act) is) e
 case-upshot script history next act (Finds value) left is e = ByDeed act (Value value) left tt (ap (by_upshot (speaker_of history) act) is) e
 case-upshot script history next act (Stores stored) left is e = ByDeed act (Stored stored) left tt (ap (by_upshot (speaker_of history) act) is) e
 case-upshot script history next act (Takes item) left is e = ByDeed act (Taken item) left tt (ap (by_upshot (speaker_of history) act) is) e
+case-upshot script history next act Finishes left is e = ByDeed act Finished left tt (ap (by_upshot (speaker_of history) act) is) e
 case-upshot script history next act (Refuses fatal) left is e = ByDeed act (Refused fatal) left tt (ap (by_upshot (speaker_of history) act) is) e
 
 -- the note of an answer of too many acts
@@ -184,9 +185,9 @@ case-passing script history next (Some passed) is e = ByOwn (Passed passed.0 pas
 case-passing script history next None is e = case-left script history next (left_of script history) refl e
 
 case-reason :
-    (script : ScriptValue) (history : List Entry) (next : Next) (reason : Option Reason) → reason_of script history ≡ reason
-    → next ≡ first_next (giving_up reason ∷ passing (next_passed history) ∷ answer_cases script history (left_of script history)) → Case script history next
-case-reason script history next (Some reason) is e = ByOwn (Over reason) tt e
+    (script : ScriptValue) (history : List Entry) (next : Next) (why : Option Reason) → reason_of script history ≡ why
+    → next ≡ first_next (giving_up why ∷ passing (next_passed history) ∷ answer_cases script history (left_of script history)) → Case script history next
+case-reason script history next (Some why) is e = ByOwn (Over why) tt e
 case-reason script history next None is e = case-passing script history next (next_passed history) refl e
 
 case-stage :

@@ -5,8 +5,13 @@ mod Needed
 mod Grown
 mod Leasts
 mod Asking
-mod Called
 mod Ended
+mod Living
+mod Running
+mod Deeds
+mod Called
+mod Leaving
+mod Homes
 mod Reported
 mod Timed
 mod Wired

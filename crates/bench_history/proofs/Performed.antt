@@ -2,7 +2,6 @@
 use Rattle.std.proofs.Common.{◌≡◌, ℕ, List, ◌∷◌, Option, Some, None, refl, ap, sym, ◌∙◌, subst}
 use Rattle.uvm_phase.specs.declared.agendas.Cause.{Cause}
 use Rattle.uvm_object.specs.declared.acts.Who.{Who}
-use Rattle.uvm_object.specs.declared.acts.Who.TheVariants as who
 use Rattle.uvm_object.specs.declared.acts.Call.{Call}
 use Rattle.uvm_object.specs.declared.acts.Act.{Act}
 use Rattle.uvm_object.specs.declared.entries.Passage.{Passage}
@@ -13,11 +12,10 @@ use Rattle.bench_script.specs.Scripts.{ScriptValue}
 use Rattle.bench_history.specs.Owners.{who_of}
 use Rattle.bench_history.specs.declared.stages.Stage.{Stage}
 use Rattle.bench_history.specs.declared.stages.Stage.TheVariants.{Before, During, After, Ended}
-use Rattle.bench_history.specs.History.{stage_of, running, left_of, speaker_of}
+use Rattle.bench_history.specs.History.{stage_of, speaker_of}
 use Rattle.bench_history.specs.Reports.{reason_of}
-use Rattle.bench_history.specs.Dues.{due_now}
 use Rattle.bench_history.specs.Passing.{next_passed}
-use Rattle.bench_history.specs.Cases.{Next, Exactly, Answer, end_reached, giving_up, passing, long_answer, first_act, event_due, phase_call, port_check, phase_end, phase_begin, phase_to_begin, finish, by_upshot}
+use Rattle.bench_history.specs.Cases.{Next, Exactly, Answer, end_reached, giving_up, passing, by_upshot}
 use Rattle.bench_history.specs.Next.{first_next, next_of, IsAct}
 use Rattle.bench_history.specs.Laws.{IsDrainDue, IsDue, IsFirstAct, ActsGoInOrder, PassagesGoInOrder, DueCallsGoInOrder, DrainsGoInOrder}
 use Rattle.bench_history.proofs.Inversion.{IsOwn, Case, AtEnd, ByOwn, ByNeed, ByDeed, ByDue, ByTurn, ByEnd, ByBegin, case-of, due-first}
@@ -45,7 +43,7 @@ settled-of script history is = settled-after (stage_of history) (reason_of scrip
 act-case : (script : ScriptValue) (history : List Entry) (next : Next) → next_of script history ≡ next → IsAct next → Case script history next → (act : Act) × IsFirstAct script history act
 act-case script history next is did (AtEnd ended e) = absurd (subst IsAct e did)
 act-case script history next is did (ByOwn entry own e) = absurd (no-own script history entry own (subst IsAct e did))
-act-case script history next is did (ByNeed act need left upshot e) = (act, record { settled = settled-of script history (subst IsAct (sym is) did); left = left; next = is ∙ e ∙ ap (by_upshot (speaker_of history) act) (sym upshot) })
+act-case script history next is did (ByNeed act need made left upshot e) = (act, record { settled = settled-of script history (subst IsAct (sym is) did); left = left; next = is ∙ e ∙ ap (by_upshot (speaker_of history) act) (sym upshot) })
 act-case script history next is did (ByDeed act outcome left plain comes e) = (act, record { settled = settled-of script history (subst IsAct (sym is) did); left = left; next = is ∙ e ∙ sym comes })
 act-case script history next is did (ByDue event call now is_call e) = absurd (subst IsAct e did)
 act-case script history next is did (ByTurn phase node turn e) = absurd (subst IsAct e did)
@@ -58,7 +56,7 @@ acts_go_in_order script history did = act-case script history (next_of script hi
 due-case : (script : ScriptValue) (history : List Entry) (hearer : Who) (call : Call) (cause : Cause) (next : Next) → next ≡ Answer hearer call (Some cause) → Case script history next → IsDue history hearer (Some call) cause
 due-case script history hearer call cause next asks (AtEnd ended e) = cc
 due-case script history hearer call cause next asks (ByOwn entry own e) = cc
-due-case script history hearer call cause next asks (ByNeed act need left is e) = cc
+due-case script history hearer call cause next asks (ByNeed act need made left is e) = cc
 due-case script history hearer call cause next asks (ByDeed act outcome left plain comes e) = cc
 due-case script history hearer call cause next asks (ByDue event heard now is e) =
     let d = due-first history event now in
@@ -77,7 +75,7 @@ due_calls_go_in_order script history hearer call cause asks = due-case script hi
 drain-case : (script : ScriptValue) (history : List Entry) (node : ℕ) (cause : Cause) (next : Next) → next ≡ Exactly (Drained node cause) → Case script history next → IsDrainDue history node cause
 drain-case script history node cause next ends (AtEnd ended e) = cc
 drain-case script history node cause next ends (ByOwn entry own e) = let same : entry ≡ Drained node cause = cc in subst (IsOwn script history) same own
-drain-case script history node cause next ends (ByNeed act need left is e) = cc
+drain-case script history node cause next ends (ByNeed act need made left is e) = cc
 drain-case script history node cause next ends (ByDeed act outcome left plain comes e) = cc
 drain-case script history node cause next ends (ByDue event call now is e) = cc
 drain-case script history node cause next ends (ByTurn phase other turn e) = cc
@@ -90,7 +88,7 @@ drains_go_in_order script history node cause ends = drain-case script history no
 passage-case : (script : ScriptValue) (history : List Entry) (fifo : ℕ) (passage : Passage) (next : Next) → next ≡ Exactly (Passed fifo passage) → Case script history next → next_passed history ≡ Some (fifo, passage)
 passage-case script history fifo passage next passes (AtEnd ended e) = cc
 passage-case script history fifo passage next passes (ByOwn entry own e) = let same : entry ≡ Passed fifo passage = cc in subst (IsOwn script history) same own
-passage-case script history fifo passage next passes (ByNeed act need left is e) = cc
+passage-case script history fifo passage next passes (ByNeed act need made left is e) = cc
 passage-case script history fifo passage next passes (ByDeed act outcome left plain comes e) = cc
 passage-case script history fifo passage next passes (ByDue event call now is e) = cc
 passage-case script history fifo passage next passes (ByTurn phase other turn e) = cc

@@ -10,8 +10,7 @@ use Rattle.uvm_object.specs.declared.entries.Entry.TheVariants.{Begin, End, Over
 use Rattle.bench_script.specs.Scripts.{ScriptValue}
 use Rattle.bench_history.specs.declared.stages.Stage.{Stage}
 use Rattle.bench_history.specs.declared.stages.Stage.TheVariants.{Before, During, After, Ended}
-use Rattle.bench_history.specs.History.{stage_of}
-use Rattle.bench_history.specs.Dues.{ended_of}
+use Rattle.bench_history.specs.History.{stage_of, ended_of}
 use Rattle.bench_history.specs.Cases.{Next, Exactly, Answer, Need, Nothing, phase_to_begin}
 use Rattle.bench_history.specs.Next.{next_of, Allows, IsNext}
 use Rattle.bench_history.specs.Laws.{next_number, ArePhasesInOrder, PhasesGoInOrder}
@@ -45,7 +44,7 @@ begin-on Ended phase may ended = cc
 begin-case : (script : ScriptValue) (history : List Entry) (phase : Phase) (next : Next) → next ≡ Exactly (Begin phase) → Case script history next → (phase_number phase ≡ next_number (stage_of history)) × (stage_of history ≡ Ended → ⊥)
 begin-case script history phase next is (AtEnd over e) = cc
 begin-case script history phase next is (ByOwn entry own e) = let same : entry ≡ Begin phase = cc in absurd (subst (IsOwn script history) same own)
-begin-case script history phase next is (ByNeed act need left upshot e) = cc
+begin-case script history phase next is (ByNeed act need made left upshot e) = cc
 begin-case script history phase next is (ByDeed act outcome left plain comes e) = cc
 begin-case script history phase next is (ByDue event call now is_call e) = cc
 begin-case script history phase next is (ByTurn running node turn e) = cc
@@ -53,10 +52,10 @@ begin-case script history phase next is (ByEnd running runs e) = cc
 begin-case script history phase next is (ByBegin begins may e) = let same : begins ≡ phase = cc in rw (← same) (begin-number (stage_of history) begins may, begin-on (stage_of history) begins may)
 
 -- a phase that ends is the one that runs
-end-case : (script : ScriptValue) (history : List Entry) (phase : Phase) (next : Next) → next ≡ Exactly (End phase) → Case script history next → stage_of history ≡ During phase
+pub end-case : (script : ScriptValue) (history : List Entry) (phase : Phase) (next : Next) → next ≡ Exactly (End phase) → Case script history next → stage_of history ≡ During phase
 end-case script history phase next is (AtEnd over e) = cc
 end-case script history phase next is (ByOwn entry own e) = let same : entry ≡ End phase = cc in absurd (subst (IsOwn script history) same own)
-end-case script history phase next is (ByNeed act need left upshot e) = cc
+end-case script history phase next is (ByNeed act need made left upshot e) = cc
 end-case script history phase next is (ByDeed act outcome left plain comes e) = cc
 end-case script history phase next is (ByDue event call now is_call e) = cc
 end-case script history phase next is (ByTurn running node turn e) = cc
@@ -64,18 +63,18 @@ end-case script history phase next is (ByEnd running runs e) = let same : runnin
 end-case script history phase next is (ByBegin begins may e) = cc
 
 -- a mark of a phase comes alone
-begin-alone : (phase : Phase) (next : Next) → Allows next (Begin phase) → next ≡ Exactly (Begin phase)
+pub begin-alone : (phase : Phase) (next : Next) → Allows next (Begin phase) → next ≡ Exactly (Begin phase)
 begin-alone phase (Exactly entry) allows = rw allows refl
 begin-alone phase (Answer performer call cause) allows = let other = allows.1 in cc
-begin-alone phase (Need need performer act) (inl made) = cc
-begin-alone phase (Need need performer act) (inr declined) = cc
+begin-alone phase (Need need made performer act) (inl e) = cc
+begin-alone phase (Need need made performer act) (inr declined) = cc
 begin-alone phase Nothing allows = absurd allows
 
-end-alone : (phase : Phase) (next : Next) → Allows next (End phase) → next ≡ Exactly (End phase)
+pub end-alone : (phase : Phase) (next : Next) → Allows next (End phase) → next ≡ Exactly (End phase)
 end-alone phase (Exactly entry) allows = rw allows refl
 end-alone phase (Answer performer call cause) allows = let other = allows.1 in cc
-end-alone phase (Need need performer act) (inl made) = cc
-end-alone phase (Need need performer act) (inr declined) = cc
+end-alone phase (Need need made performer act) (inl e) = cc
+end-alone phase (Need need made performer act) (inr declined) = cc
 end-alone phase Nothing allows = absurd allows
 
 below : (phase : Phase) → phase_number phase < 9

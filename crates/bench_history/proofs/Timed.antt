@@ -13,14 +13,14 @@ use Rattle.bench_history.proofs.Inversion.{IsOwn, Case, AtEnd, ByOwn, ByNeed, By
 time-alone : (time : ℕ) (next : Next) → Allows next (Time time) → next ≡ Exactly (Time time)
 time-alone time (Exactly entry) allows = rw allows refl
 time-alone time (Answer performer call cause) allows = let other = allows.1 in cc
-time-alone time (Need need performer act) (inl made) = cc
-time-alone time (Need need performer act) (inr declined) = cc
+time-alone time (Need need made performer act) (inl e) = cc
+time-alone time (Need need made performer act) (inr declined) = cc
 time-alone time Nothing allows = absurd allows
 
 time-case : (script : ScriptValue) (history : List Entry) (time : ℕ) (next : Next) → next ≡ Exactly (Time time) → Case script history next → time ≤ script.time_limit
 time-case script history time next is (AtEnd over e) = cc
 time-case script history time next is (ByOwn entry own e) = let same : entry ≡ Time time = cc in subst (IsOwn script history) same own
-time-case script history time next is (ByNeed act need left upshot e) = cc
+time-case script history time next is (ByNeed act need made left upshot e) = cc
 time-case script history time next is (ByDeed act outcome left plain comes e) = cc
 time-case script history time next is (ByDue event call now is_call e) = cc
 time-case script history time next is (ByTurn running node turn e) = cc

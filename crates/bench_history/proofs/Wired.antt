@@ -1,27 +1,27 @@
 -- Once connect has nothing left, nothing is connected any more.
-use Rattle.std.proofs.Common.{◌≡◌, ℕ, Bool, true, false, not, ◌&&◌, ◌||◌, ◌==◌, List, [], ◌∷◌, ◌++◌, length, reverse, take, Option, Some, None, option_map, is_none, refl, ap, sym, ◌∙◌, subst, if◌then◌else◌}
-use Rattle.std.specs.List.{list_any, flat_map}
+use Rattle.std.proofs.Common.{◌≡◌, ℕ, Bool, true, false, ◌&&◌, ◌||◌, List, [], ◌∷◌, reverse, take, Option, Some, None, is_none, refl, ap, ◌∙◌, subst}
+use Rattle.std.specs.List.{list_any}
 use Rattle.uvm_phase.specs.declared.phases.Phase.{Phase}
 use Rattle.uvm_phase.specs.declared.phases.Phase.TheVariants.{Build, Connect, EndOfElaboration, StartOfSimulation, Run, Extract, Check, Report, Final}
-use Rattle.uvm_phase.specs.Phases.{phases, is_task}
+use Rattle.uvm_phase.specs.Phases.{phases}
 use Rattle.uvm_object.specs.declared.acts.Act.{Act}
 use Rattle.uvm_object.specs.declared.fatals.Fatal.{Fatal}
 use Rattle.uvm_object.specs.declared.entries.Reason.{Reason}
 use Rattle.uvm_object.specs.declared.entries.Passage.{Passage}
 use Rattle.uvm_object.specs.declared.entries.Entry.{Entry}
-use Rattle.uvm_object.specs.declared.entries.Entry.TheVariants.{Begin, End, Time, Heard, Did, Drained, Note, Over}
+use Rattle.uvm_object.specs.declared.entries.Entry.TheVariants.{End, Note, Over}
 use Rattle.bench_script.specs.Scripts.{ScriptValue}
 use Rattle.bench_history.specs.declared.stages.Stage.{Stage}
 use Rattle.bench_history.specs.declared.stages.Stage.TheVariants.{Before, During, After, Ended}
 use Rattle.bench_history.specs.Owners.{Event}
-use Rattle.bench_history.specs.History.{stage_of, running, left_of, head_of, next_call, is_built, ends_build}
+use Rattle.bench_history.specs.History.{stage_of, running, left_of, head_of, next_call, is_built, ends_build, ended_of}
 use Rattle.bench_history.specs.Reports.{reason_of}
-use Rattle.bench_history.specs.Dues.{due_now, ended_of, ended_in}
+use Rattle.bench_history.specs.Dues.{due_now}
 use Rattle.bench_history.specs.Wires.{is_past_connect, ends_connect, next_unsound}
 use Rattle.bench_history.specs.Passing.{next_passed}
-use Rattle.bench_history.specs.Cases.{Next, Exactly, Nothing, end_reached, giving_up, passing, long_answer, first_act, event_due, phase_call, port_check, phase_end, phase_begin, phase_to_begin, finish}
-use Rattle.bench_history.specs.Next.{first_next, next_of, Allows, IsNext}
-use Rattle.bench_history.specs.Laws.{PhasesGoInOrder, IsWired, StaysWired, WiringStays, ConnectFollowsBuild, TasksFollowConnect, is_connect_last, is_in_connect, has_nothing_left, next_number}
+use Rattle.bench_history.specs.Cases.{Next, Exactly}
+use Rattle.bench_history.specs.Next.{next_of, Allows, IsNext}
+use Rattle.bench_history.specs.Laws.{WiringStays, ConnectFollowsBuild, TasksFollowConnect, is_connect_last, is_in_connect, has_nothing_left, next_number}
 use Rattle.bench_history.specs.Refusals.{in_task}
 use Rattle.bench_history.proofs.Ended.{nothing-comes}
 use Rattle.bench_history.proofs.Phased.{phases_go_in_order}

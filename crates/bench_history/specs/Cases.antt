@@ -12,9 +12,10 @@ use Rattle.uvm_object.specs.declared.acts.Call.{Call}
 use Rattle.uvm_object.specs.declared.acts.Call.TheVariants as call
 use Rattle.uvm_object.specs.declared.acts.Act.{Act}
 use Rattle.uvm_object.specs.declared.fatals.Fatal.TheVariants.{TooManyActs, Timeout, Stall}
-use Rattle.uvm_object.specs.declared.entries.Outcome.TheVariants.{Done, Value, Stored, Taken, Refused}
+use Rattle.uvm_object.specs.declared.entries.Outcome.{Outcome}
+use Rattle.uvm_object.specs.declared.entries.Outcome.TheVariants.{Done, Value, Stored, Taken, Finished, Refused}
 use Rattle.uvm_object.specs.declared.entries.Reason.{Reason}
-use Rattle.uvm_object.specs.declared.entries.Reason.TheVariants.{Finished}
+use Rattle.uvm_object.specs.declared.entries.Reason.TheVariants as reason
 use Rattle.uvm_object.specs.declared.entries.Passage.{Passage}
 use Rattle.uvm_object.specs.declared.entries.Entry.{Entry}
 use Rattle.uvm_object.specs.declared.entries.Entry.TheVariants.{Begin, End, Time, Did, Passed, Drained, Note, Over}
@@ -29,13 +30,13 @@ use Rattle.bench_history.specs.History.{next_call, speaker_of}
 use Rattle.bench_history.specs.Objections.{objections_of, stands}
 use Rattle.bench_history.specs.Dues.{first_due}
 use Rattle.bench_history.specs.Wires.{next_unsound}
-use Rattle.bench_history.specs.Upshots.{Upshot, Needs, Does, Finds, Stores, Takes, Refuses, upshot_of}
+use Rattle.bench_history.specs.Upshots.{Upshot, Needs, Does, Finds, Stores, Takes, Finishes, Refuses, open_upshot, upshot_of}
 
 -- what comes next: this entry; the answer of a hearer to a call, caused or a phase's; an object for a performer's act, made or declined; or nothing
 pub data Next : Type 0 where
   Exactly : (entry : Entry) → Next
   Answer : (hearer : Who) → (call : Call) → (cause : Option Cause) → Next
-  Need : (need : declared.Need) → (performer : Who) → (act : Act) → Next
+  Need : (need : declared.Need) → (made : Outcome) → (performer : Who) → (act : Act) → Next
   Nothing : Next
 
 -- the run is over: nothing comes any more
@@ -45,7 +46,7 @@ end_reached stage = None
 
 -- the run is given up: the test was refused, or a report asked for exit, and nothing but its end comes
 abbrev pub giving_up : Option Reason → Option Next
-giving_up reason = option_map (λ reason. Exactly (Over reason)) reason
+giving_up why = option_map (λ why. Exactly (Over why)) why
 
 -- what somebody waits for at a FIFO comes to pass
 abbrev pub passing : Option (ℕ × Passage) → Option Next
@@ -57,15 +58,20 @@ long_answer history left = if nat_lt most_acts (length left) then Some (Exactly 
 
 -- an act needs an object first, or has its entry at once, with what it came to
 abbrev pub by_upshot : Who → Act → Upshot → Next
-by_upshot performer act (Needs need) = Need need performer act
+by_upshot performer act (Needs need made) = Need need made performer act
 by_upshot performer act Does = Exactly (Did performer Done act)
 by_upshot performer act (Finds value) = Exactly (Did performer (Value value) act)
 by_upshot performer act (Stores stored) = Exactly (Did performer (Stored stored) act)
 by_upshot performer act (Takes item) = Exactly (Did performer (Taken item) act)
+by_upshot performer act Finishes = Exactly (Did performer Finished act)
 by_upshot performer act (Refuses fatal) = Exactly (Did performer (Refused fatal) act)
 
 abbrev pub by_act : ScriptValue → List Entry → Who → Act → Next
 by_act script history performer act = by_upshot performer act (upshot_of script history performer act)
+
+-- and so does one that is open to its performer
+abbrev pub by_open : ScriptValue → List Entry → Who → Act → Next
+by_open script history performer act = by_upshot performer act (open_upshot script history performer act)
 
 -- of the acts that are left the first is next, done by who gave the answer
 abbrev pub first_act : ScriptValue → List Entry → List Act → Option Next
@@ -115,4 +121,4 @@ phase_begin phase = option_map (λ phase. Exactly (Begin phase)) phase
 
 -- the last phase has ended: the run is over
 abbrev pub finish : Option Next
-finish = Some (Exactly (Over Finished))
+finish = Some (Exactly (Over reason.Finished))

@@ -1,5 +1,5 @@
 -- The events that a log has caused and that have not happened yet: calls, and the ends of drains.
-use Rattle.std.specs.Prelude.{ℕ, Bool, true, false, not, ◌+◌, suc, ◌&&◌, ◌==◌, List, [], ◌∷◌, ◌++◌, length, filter, slice_get, Option, Some, None, option_map, if◌then◌else◌}
+use Rattle.std.specs.Prelude.{ℕ, Bool, true, false, not, ◌+◌, suc, ◌&&◌, ◌==◌, List, [], ◌∷◌, ◌++◌, length, filter, slice_get, Option, Some, None, option_map, option_to_list, if◌then◌else◌}
 use Rattle.std.specs.List.{filter_map, flat_map, list_any}
 use Rattle.uvm_phase.specs.declared.phases.Phase.{Phase}
 use Rattle.uvm_phase.specs.declared.agendas.Cause.{Cause}
@@ -9,6 +9,9 @@ use Rattle.uvm_phase.specs.Dues.{same_cause, in_order}
 use Rattle.uvm_objection.specs.declared.objections.Due as drain
 use Rattle.uvm_objection.specs.Nodes.{Node}
 use Rattle.uvm_objection.specs.Totals.{drains_begun, drains_ended}
+use Rattle.uvm_sequencer.specs.declared.starts.SeqStep.{SeqStep}
+use Rattle.uvm_sequencer.specs.declared.starts.SeqStep.TheVariants.{PreStart, Body, PostStart}
+use Rattle.uvm_sequencer.specs.Sequences.{numbered}
 use Rattle.uvm_tree.specs.declared.nodes.Node as tree
 use Rattle.uvm_tree.specs.Nodes.{under_at}
 use Rattle.uvm_tlm.specs.declared.fifos.MoveKind.{MoveKind}
@@ -16,19 +19,22 @@ use Rattle.uvm_tlm.specs.declared.fifos.MoveKind.TheVariants as move
 use Rattle.uvm_tlm.specs.declared.items.Item.{Item}
 use Rattle.uvm_object.specs.declared.acts.Who.{Who}
 use Rattle.uvm_object.specs.declared.acts.Who.TheVariants as who
+use Rattle.uvm_object.specs.Objects.{same_who}
 use Rattle.uvm_object.specs.declared.acts.Call.{Call}
 use Rattle.uvm_object.specs.declared.acts.Call.TheVariants as call
 use Rattle.uvm_object.specs.declared.acts.Act.{Act}
-use Rattle.uvm_object.specs.declared.acts.Act.TheVariants.{Get, TryPut, TryTake, Write, RaiseObjection, DropObjection, Wait}
+use Rattle.uvm_object.specs.declared.acts.Act.TheVariants.{Get, TryPut, TryTake, Write, EndStep, RaiseObjection, DropObjection, Wait}
 use Rattle.uvm_object.specs.declared.entries.Outcome.{Outcome}
-use Rattle.uvm_object.specs.declared.entries.Outcome.TheVariants.{Done, Value, Stored, Taken}
+use Rattle.uvm_object.specs.declared.entries.Outcome.TheVariants.{Done, Started, Value, Stored, Taken, Finished}
 use Rattle.uvm_object.specs.declared.entries.Passage.{Passage}
 use Rattle.uvm_object.specs.declared.entries.Entry.{Entry}
-use Rattle.uvm_object.specs.declared.entries.Entry.TheVariants.{End, Heard, Did, Passed, Drained}
+use Rattle.uvm_object.specs.declared.entries.Entry.TheVariants.{Heard, Did, Passed, Drained}
+use Rattle.bench_history.specs.declared.owners.Owner.{Owner}
 use Rattle.bench_history.specs.declared.owners.Owner.TheVariants.{Object, Drain}
 use Rattle.bench_history.specs.Owners.{Event, is_drain_of}
-use Rattle.bench_history.specs.History.{stage_of, now_of, running, nodes_of}
+use Rattle.bench_history.specs.History.{stage_of, now_of, running, nodes_of, ended_of}
 use Rattle.bench_history.specs.Objections.{objections_of}
+use Rattle.bench_history.specs.Sequences.{Beginning, begun_of, finished_of, next_step, sequence_in, sequences_of, start_by}
 use Rattle.bench_history.specs.Ports.{imps_below}
 
 -- an event is due while a phase runs
@@ -67,10 +73,31 @@ calls_from outcome act performer phase time place = due_from (told_by outcome ac
 abbrev pub written_to : List tree.Node → Item → ℕ → Option (Who × Call)
 written_to nodes item imp = option_map (λ under. (who.Node under.0, call.Written under.1 item)) (under_at nodes imp)
 
--- the calls to others that an act causes: a Write one for each imp that it reaches, in path order
-abbrev pub written_calls : List Entry → Who → Outcome → Act → List (Who × Call)
-written_calls before performer Done (Write port item) = filter_map (written_to (nodes_of before) item) (imps_below before performer port)
-written_calls before performer outcome act = []
+-- a sequence is told which step it has come to
+abbrev pub step_call : SeqStep → Call
+step_call PreStart = call.PreStart
+step_call Body = call.Body
+step_call PostStart = call.PostStart
+
+abbrev pub told_step : Who → Option SeqStep → List (Who × Call)
+told_step performer step = option_to_list (option_map (λ step. (performer, step_call step)) step)
+
+-- who started a sequence is told that it has finished
+abbrev pub told_finished : ℕ → Option Beginning → List (Who × Call)
+told_finished id beginning = option_to_list (option_map (λ beginning. (beginning.starter, call.Finished beginning.start.name id)) beginning)
+
+abbrev pub finished_by : List Entry → Option ℕ → List (Who × Call)
+finished_by before None = []
+finished_by before (Some id) = told_finished id (numbered (begun_of before) id)
+
+-- the calls that an act causes and that tell more than its outcome, or others than its performer: a Write one for each imp that it reaches, in path
+-- order; a Start tells the new sequence; the end of a step tells what comes next, or that the sequence has finished
+abbrev pub calls_told : List Entry → Who → Outcome → Act → List (Who × Call)
+calls_told before performer Done (Write port item) = filter_map (written_to (nodes_of before) item) (imps_below before performer port)
+calls_told before performer Done EndStep = told_step performer (next_step before performer)
+calls_told before performer (Started id) act = (who.Sequence id (start_by (nodes_of before) (sequences_of before) performer act).home, call.PreStart) ∷ []
+calls_told before performer Finished act = finished_by before (sequence_in performer)
+calls_told before performer outcome act = []
 
 -- they are numbered in this order, and due at once; the newest first
 abbrev pub calls_numbered : Option Phase → ℕ → ℕ → ℕ → List (Who × Call) → List Event
@@ -107,7 +134,7 @@ moves_drains outcome act = false
 abbrev pub caused_of : List Entry → List Event
 caused_of [] = []
 caused_of (Did performer outcome act ∷ before) =
-    calls_numbered (running (stage_of before)) (now_of before) (length before) 0 (written_calls before performer outcome act)
+    calls_numbered (running (stage_of before)) (now_of before) (length before) 0 (calls_told before performer outcome act)
     ++ (calls_from outcome act performer (running (stage_of before)) (now_of before) (length before)
     ++ (if moves_drains outcome act then with_drains_of (Did performer outcome act) before (caused_of before) else caused_of before))
 caused_of (Passed fifo passage ∷ before) = due_from (Some (told_of passage.kind passage)) passage.who (running (stage_of before)) (now_of before) (caused_at (length before)) ++ caused_of before
@@ -122,21 +149,18 @@ heard_in entry = []
 abbrev pub heard_of : List Entry → List Cause
 heard_of history = flat_map heard_in history
 
-abbrev pub ended_in : Entry → List Phase
-ended_in (End phase) = phase ∷ []
-ended_in entry = []
+-- an event is that of a sequence among some
+abbrev pub is_of_one : List Who → Owner → Bool
+is_of_one whos (Object (who.Sequence id home)) = list_any (same_who (who.Sequence id home)) whos
+is_of_one whos owner = false
 
--- the phases that have ended
-abbrev pub ended_of : List Entry → List Phase
-ended_of history = flat_map ended_in history
-
--- neither was the call heard, nor has the event's phase ended
-abbrev pub is_open : List Cause → List Phase → Event → Bool
-is_open heard ended event = not (list_any (same_cause event.cause) heard) && not (list_any (same_phase event.phase) ended)
+-- the call was not heard, the event's phase has not ended, and the sequence that is to hear it has not finished
+abbrev pub is_open : List Cause → List Phase → List Who → Event → Bool
+is_open heard ended finished event = not (list_any (same_cause event.cause) heard) && not (list_any (same_phase event.phase) ended) && not (is_of_one finished event.owner)
 
 -- the events that are due: those that were caused and are open
 abbrev pub due_events : List Entry → List Event
-due_events history = filter (is_open (heard_of history) (ended_of history)) (caused_of history)
+due_events history = filter (is_open (heard_of history) (ended_of history) (finished_of history)) (caused_of history)
 
 -- of the events that are due the first, by time, then by the place of the entry that caused it, then by its number among the events of that entry
 abbrev pub first_due : List Entry → Option Event

@@ -2,7 +2,7 @@
 -- answered with acts; an act was done by its performer, and came to an outcome, which may be that it was refused; the machine notes a fault; the
 -- run is over.
 use Rattle.std.specs.Prelude.{ℕ, Bool, true, false, not, ◌==◌, List, [], ◌∷◌, ◌++◌, length, reverse, filter, slice_get, codes, Option, Some, None, if◌then◌else◌}
-use Rattle.std.specs.List.{list_any}
+use Rattle.std.specs.List.{flat_map, list_any}
 use Rattle.std.specs.Option.{option_map_or}
 use Rattle.uvm_glob.specs.Paths.{path_text, dotted}
 use Rattle.uvm_glob.specs.Orders.{PathOrder, down_cmp, up_cmp}
@@ -25,7 +25,7 @@ use Rattle.uvm_object.specs.declared.acts.What.TheVariants as what
 use Rattle.uvm_object.specs.declared.acts.Act.{Act}
 use Rattle.uvm_object.specs.declared.acts.Act.TheVariants.{Create, Add, OverrideType, OverrideInst}
 use Rattle.uvm_object.specs.declared.entries.Outcome.{Outcome}
-use Rattle.uvm_object.specs.declared.entries.Outcome.TheVariants.{Done, Made}
+use Rattle.uvm_object.specs.declared.entries.Outcome.TheVariants.{Done, Made, Finished}
 use Rattle.uvm_object.specs.declared.entries.Entry.{Entry}
 use Rattle.uvm_object.specs.declared.entries.Entry.TheVariants.{Time, Begin, End, Heard, Did, Note, Over}
 use Rattle.bench_script.specs.Scripts.{ScriptValue}
@@ -118,12 +118,16 @@ abbrev pub rest_of : List Act → List Act
 rest_of [] = []
 rest_of (act ∷ acts) = acts
 
--- the acts of the last answer that are left: one goes with each of their entries, performed or refused, and a note leaves none. Before
--- any answer the script's is left
+-- one goes with each of their entries, performed or refused; a sequence that has finished leaves none
+abbrev pub left_after : Outcome → List Act → List Act
+left_after Finished left = []
+left_after outcome left = rest_of left
+
+-- the acts of the last answer that are left; a note leaves none. Before any answer the script's is left
 abbrev pub left_of : ScriptValue → List Entry → List Act
 left_of script [] = opening script ∷ []
 left_of script (Heard hearer call cause acts ∷ before) = acts
-left_of script (Did performer outcome act ∷ before) = rest_of (left_of script before)
+left_of script (Did performer outcome act ∷ before) = left_after outcome (left_of script before)
 left_of script (Note fatal node ∷ before) = []
 left_of script (entry ∷ before) = left_of script before
 
@@ -168,3 +172,11 @@ abbrev pub is_over : List Entry → Bool
 is_over [] = false
 is_over (Over reason ∷ before) = true
 is_over (entry ∷ before) = false
+
+abbrev pub ended_in : Entry → List Phase
+ended_in (End phase) = phase ∷ []
+ended_in entry = []
+
+-- the phases that have ended
+abbrev pub ended_of : List Entry → List Phase
+ended_of history = flat_map ended_in history

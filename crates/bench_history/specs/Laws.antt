@@ -1,8 +1,9 @@
 -- What holds of all logs, or of all in which each entry was next, as in each legal one, and of what comes next in them.
-use Rattle.std.specs.Prelude.{◌≡◌, ◌<◌, ◌≤◌, ◌+◌, ℕ, suc, Bool, true, false, ◌&&◌, is_none, List, [], ◌∷◌, ◌++◌, length, reverse, take, Option, Some, None, IsSome, All, Contains}
+use Rattle.std.specs.Prelude.{◌≡◌, ◌<◌, ◌≤◌, ◌+◌, ◌⊎◌, ℕ, suc, Bool, true, false, ◌&&◌, is_none, List, [], ◌∷◌, ◌++◌, length, reverse, take, Option, Some, None, option_and_then, option_map, IsSome, All, Contains}
 use Rattle.uvm_phase.specs.declared.agendas.Cause.{Cause}
 use Rattle.uvm_phase.specs.declared.phases.Phase.TheVariants.{Connect}
 use Rattle.uvm_phase.specs.Phases.{phases, phase_number}
+use Rattle.uvm_sequencer.specs.Sequences.{numbered}
 use Rattle.uvm_tree.specs.declared.nodes.Node.{Node}
 use Rattle.uvm_tree.specs.Nodes.{node_at, path_at}
 use Rattle.uvm_report.specs.Counts.{issued_number}
@@ -13,8 +14,9 @@ use Rattle.uvm_object.specs.declared.acts.Who.{Who}
 use Rattle.uvm_object.specs.declared.acts.Who.TheVariants as who
 use Rattle.uvm_object.specs.declared.acts.Call.{Call}
 use Rattle.uvm_object.specs.declared.acts.Act.{Act}
-use Rattle.uvm_object.specs.declared.acts.Act.TheVariants.{Create}
-use Rattle.uvm_object.specs.declared.entries.Outcome.TheVariants.{Made}
+use Rattle.uvm_object.specs.declared.acts.Act.TheVariants.{Create, Start}
+use Rattle.uvm_object.specs.declared.entries.Outcome.{Outcome}
+use Rattle.uvm_object.specs.declared.entries.Outcome.TheVariants.{Made, Started}
 use Rattle.uvm_object.specs.declared.entries.Passage.{Passage}
 use Rattle.uvm_object.specs.declared.entries.Entry.{Entry}
 use Rattle.uvm_object.specs.declared.entries.Entry.TheVariants.{Did, Passed, Drained}
@@ -23,12 +25,14 @@ use Rattle.bench_history.specs.declared.needs.Need as declared
 use Rattle.bench_history.specs.declared.stages.Stage.{Stage}
 use Rattle.bench_history.specs.declared.stages.Stage.TheVariants.{Before, During, After, Ended}
 use Rattle.bench_history.specs.Owners.{Event, who_of}
-use Rattle.bench_history.specs.History.{now_of, stage_of, running, nodes_of, components_of, created_name, left_of, head_of, rest_of, speaker_of, is_built, is_over, next_call}
-use Rattle.bench_history.specs.Dues.{ended_of, first_due, due_now}
+use Rattle.bench_history.specs.History.{now_of, stage_of, running, nodes_of, components_of, created_name, left_of, head_of, rest_of, speaker_of, opening, is_built, is_over, next_call, ended_of}
+use Rattle.bench_history.specs.Dues.{first_due, due_now}
 use Rattle.bench_history.specs.Wires.{is_past_connect}
 use Rattle.bench_history.specs.Passing.{next_passed}
 use Rattle.bench_history.specs.Reports.{report_commands}
-use Rattle.bench_history.specs.Refusals.{child_refusal, in_task}
+use Rattle.bench_history.specs.Refusals.{child_refusal, in_task, starting_refusal}
+use Rattle.bench_history.specs.Sequences.{all_begun, begun_of, is_live, leaving_of, sequences_of, start_by}
+use Rattle.bench_history.specs.Upshots.{starting_now}
 use Rattle.bench_history.specs.Cases.{Next, Exactly, Answer, Need, Nothing, by_act}
 use Rattle.bench_history.specs.Next.{next_of, need_in, IsAct, IsNext, EachIsNext}
 
@@ -53,13 +57,31 @@ abbrev pub IsComponent : List ℕ → Who → Type 0
 IsComponent components (who.Node node) = Contains components node
 IsComponent components (who.Sequence id home) = ⊥
 
--- whoever is asked is a component
-abbrev pub AskedAreComponents : Type 0
-AskedAreComponents = (script : ScriptValue) (history : List Entry) (hearer : Who) (call : Call) (cause : Option Cause) → EachIsNext script history → next_of script history ≡ Answer hearer call cause → IsComponent (components_of history) hearer
+-- a sequence lives, and was started on this sequencer
+pub record IsLiving (history : List Entry) (id home : ℕ) : Type 0 where
+  pub lives : is_live history id ≡ true
+  pub home_is : option_map (λ beginning. beginning.start.home) (numbered (begun_of history) id) ≡ Some home
+
+-- somebody is one of the components, or a sequence that lives
+abbrev pub IsThere : List Entry → Who → Type 0
+IsThere history (who.Node node) = Contains (components_of history) node
+IsThere history (who.Sequence id home) = IsLiving history id home
+
+-- whoever is asked is there
+abbrev pub AskedAreThere : Type 0
+AskedAreThere = (script : ScriptValue) (history : List Entry) (hearer : Who) (call : Call) (cause : Option Cause) → EachIsNext script history → next_of script history ≡ Answer hearer call cause → IsThere history hearer
+
+-- so is whoever performs an act, but the script, which has the first act of all
+abbrev pub PerformersAreThere : Type 0
+PerformersAreThere = (script : ScriptValue) (history : List Entry) (act : Act) → EachIsNext script history → IsAct (next_of script history) → left_of script history ≡ act ∷ rest_of (left_of script history) → (act ≡ opening script) ⊎ IsThere history (speaker_of history)
 
 -- and each component is a node of the tree
 abbrev pub ComponentsAreNodes : Type 0
 ComponentsAreNodes = (script : ScriptValue) (history : List Entry) → EachIsNext script history → All (λ node. node < length (nodes_of history)) (components_of history)
+
+-- and so is each sequencer on which a sequence was started
+abbrev pub HomesAreNodes : Type 0
+HomesAreNodes = (script : ScriptValue) (history : List Entry) → EachIsNext script history → All (λ beginning. beginning.start.home < length (nodes_of history)) (begun_of history)
 
 -- what happens is the event that is due first, at its time
 pub record IsDue (history : List Entry) (hearer : Who) (notice : Option Call) (cause : Cause) : Type 0 where
@@ -87,6 +109,10 @@ DrainsGoInOrder = (script : ScriptValue) (history : List Entry) (node : ℕ) (ca
 abbrev pub PassagesGoInOrder : Type 0
 PassagesGoInOrder = (script : ScriptValue) (history : List Entry) (fifo : ℕ) (passage : Passage) → next_of script history ≡ Exactly (Passed fifo passage) → next_passed history ≡ Some (fifo, passage)
 
+-- and who waited there is a component
+abbrev pub WaitersAreComponents : Type 0
+WaitersAreComponents = (script : ScriptValue) (history : List Entry) (fifo : ℕ) (passage : Passage) → EachIsNext script history → next_of script history ≡ Exactly (Passed fifo passage) → IsComponent (components_of history) passage.who
+
 -- where an act is next, nothing passes, and it is the first of those that are left
 pub record IsFirstAct (script : ScriptValue) (history : List Entry) (act : Act) : Type 0 where
   pub settled : next_passed history ≡ None
@@ -101,19 +127,40 @@ abbrev pub IsCreation : Act → Type 0
 IsCreation (Create type_name name) = Unit {0}
 IsCreation act = ⊥
 
--- an act that needs an object creates it, under a name that is free, and its performer stands at a node of the tree
-pub record IsWanted (script : ScriptValue) (history : List Entry) (act : Act) : Type 0 where
-  pub need : declared.Need
-  pub next : next_of script history ≡ Need need (speaker_of history) act
+-- an act creates the object that is needed, under a name that is free, before the end of build, and its performer stands at a node of the tree
+pub record IsCreated (history : List Entry) (need : declared.Need) (type_name : List ℕ) (act : Act) : Type 0 where
   pub creates : IsCreation act
-  pub settled : next_passed history ≡ None
+  pub type_is : type_name ≡ need.type_name
   pub path_is : need.path ≡ path_at (nodes_of history) (node_of (speaker_of history)) ++ created_name act ∷ []
   pub free : child_refusal (nodes_of history) (node_of (speaker_of history)) (created_name act) ≡ None
   pub speaker : IsSome (node_at (nodes_of history) (node_of (speaker_of history)))
   pub building : is_built history ≡ false
 
-abbrev pub NeedsAreCreations : Type 0
-NeedsAreCreations = (script : ScriptValue) (history : List Entry) → IsSome (need_in (next_of script history)) → (act : Act) × (left_of script history ≡ act ∷ rest_of (left_of script history)) × IsWanted script history act
+-- an act starts the sequence that is needed, which has the next number; nothing speaks against it
+pub record IsBegun (script : ScriptValue) (history : List Entry) (id : ℕ) (act : Act) : Type 0 where
+  pub asked : List ℕ
+  pub name : List ℕ
+  pub on : List (List ℕ)
+  pub priority : Option ℕ
+  pub starts : act ≡ Start asked name on priority
+  pub number : id ≡ suc (length (sequences_of history))
+  pub may : starting_refusal (starting_now script history (speaker_of history) asked name on priority) ≡ None
+
+abbrev pub IsMadeBy : ScriptValue → List Entry → declared.Need → Outcome → Act → Type 0
+IsMadeBy script history need (Made type_name) act = IsCreated history need type_name act
+IsMadeBy script history need (Started id) act = IsBegun script history id act
+IsMadeBy script history need outcome act = ⊥
+
+-- an act that needs an object creates it, or starts it where it is a sequence's
+pub record IsWanted (script : ScriptValue) (history : List Entry) (act : Act) : Type 0 where
+  pub need : declared.Need
+  pub made : Outcome
+  pub next : next_of script history ≡ Need need made (speaker_of history) act
+  pub settled : next_passed history ≡ None
+  pub makes : IsMadeBy script history need made act
+
+abbrev pub NeedsAreWanted : Type 0
+NeedsAreWanted = (script : ScriptValue) (history : List Entry) → IsSome (need_in (next_of script history)) → (act : Act) × (left_of script history ≡ act ∷ rest_of (left_of script history)) × IsWanted script history act
 
 -- connect is at its end: nothing passes, no act is left, no event is due now, and each component had its call
 abbrev pub runs_connect : Stage → Bool
@@ -171,10 +218,11 @@ NothingAfterOver = (script : ScriptValue) (history : List Entry) → is_over his
 abbrev pub SomethingBeforeOver : Type 0
 SomethingBeforeOver = (script : ScriptValue) (history : List Entry) → EachIsNext script history → is_over history ≡ false → IsSomething (next_of script history)
 
--- an entry that alone may come next is nobody's answer, and makes no component
+-- an entry that alone may come next is nobody's answer, and makes no component and starts no sequence
 pub record IsMachines (history : List Entry) (entry : Entry) : Type 0 where
   pub silent : (hearer : Who) → exchanged_in hearer entry ≡ []
   pub keeps : components_of (entry ∷ history) ≡ components_of history
+  pub starts_none : begun_of (entry ∷ history) ≡ begun_of history
 
 abbrev pub MachineEntriesAreSilent : Type 0
 MachineEntriesAreSilent = (script : ScriptValue) (history : List Entry) (entry : Entry) → next_of script history ≡ Exactly entry → IsMachines history entry
@@ -188,13 +236,59 @@ pub record HasGrown (history : List Entry) (path : List (List ℕ)) (entry : Ent
   pub components : components_of (entry ∷ history) ≡ components_of history ++ length (nodes_of history) ∷ []
   pub count : length (nodes_of (entry ∷ history)) ≡ suc (length (nodes_of history))
   pub path_is : path_at (nodes_of (entry ∷ history)) (length (nodes_of history)) ≡ path
+  pub starts_none : begun_of (entry ∷ history) ≡ begun_of history
+
+-- and one that is started a sequence more, with the number behind those that were there
+pub record HasBegun (history : List Entry) (id : ℕ) (performer : Who) (act : Act) (entry : Entry) : Type 0 where
+  pub components : components_of (entry ∷ history) ≡ components_of history
+  pub all : all_begun (begun_of (entry ∷ history)) ≡ all_begun (begun_of history) ++ who.Sequence id (start_by (nodes_of history) (sequences_of history) performer act).home ∷ []
+  pub number : id ≡ suc (length (begun_of history))
+
+abbrev pub HasMade : List Entry → declared.Need → Outcome → Who → Act → Type 0
+HasMade history need (Made type_name) performer act = HasGrown history need.path (Did performer (Made type_name) act)
+HasMade history need (Started id) performer act = HasBegun history id performer act (Did performer (Started id) act)
+HasMade history need outcome performer act = ⊥
 
 abbrev pub MadeObjectsAreNew : Type 0
-MadeObjectsAreNew = (script : ScriptValue) (history : List Entry) (need : declared.Need) (performer : Who) (act : Act) → next_of script history ≡ Need need performer act → HasGrown history need.path (Did performer (Made need.type_name) act)
+MadeObjectsAreNew = (script : ScriptValue) (history : List Entry) (need : declared.Need) (made : Outcome) (performer : Who) (act : Act) → next_of script history ≡ Need need made performer act → HasMade history need made performer act
 
--- behind the nodes of the tree nobody was asked
+-- behind the nodes of the tree, and behind the sequences that were started, nobody was asked
 abbrev pub NewNodesAreUnasked : Type 0
 NewNodesAreUnasked = (script : ScriptValue) (history : List Entry) (node : ℕ) → EachIsNext script history → length (nodes_of history) ≤ node → life_of (who.Node node) history ≡ []
+
+abbrev pub NewSequencesAreUnasked : Type 0
+NewSequencesAreUnasked = (script : ScriptValue) (history : List Entry) (id home : ℕ) → EachIsNext script history → length (begun_of history) < id → life_of (who.Sequence id home) history ≡ []
+
+-- a sequence that was started before an entry, and lives after it, lived
+abbrev pub LivingLived : Type 0
+LivingLived = (entry : Entry) (before : List Entry) (id home : ℕ) → id ≤ length (begun_of before) → IsLiving (entry ∷ before) id home → IsLiving before id home
+
+-- a sequence that lives was started in the phase that runs, while the run goes on
+abbrev pub LivingRun : Type 0
+LivingRun = (script : ScriptValue) (history : List Entry) (id home : ℕ) → EachIsNext script history → (stage_of history ≡ Ended → ⊥) → IsLiving history id home → option_and_then (λ beginning. beginning.phase) (numbered (begun_of history) id) ≡ running (stage_of history)
+
+-- somebody is a sequence that lives, and no component
+abbrev pub IsLivingSequence : List Entry → Who → Type 0
+IsLivingSequence history (who.Node node) = ⊥
+IsLivingSequence history (who.Sequence id home) = IsLiving history id home
+
+abbrev pub number_of : Who → ℕ
+number_of (who.Node node) = 0
+number_of (who.Sequence id home) = id
+
+-- each has a greater number than those before
+abbrev pub AreRising : List Who → Type 0
+AreRising [] = Unit {0}
+AreRising (first ∷ others) = All (λ other. number_of first < number_of other) others × AreRising others
+
+-- the sequences that an entry ends lived before it, live no longer, and go in rising number
+pub record AreLeaving (before : List Entry) (entry : Entry) : Type 0 where
+  pub lived : All (IsLivingSequence before) (leaving_of (entry ∷ before))
+  pub gone : All (λ who. IsLivingSequence (entry ∷ before) who → ⊥) (leaving_of (entry ∷ before))
+  pub rising : AreRising (leaving_of (entry ∷ before))
+
+abbrev pub LeaversLived : Type 0
+LeaversLived = (script : ScriptValue) (before : List Entry) (entry : Entry) → EachIsNext script before → IsNext script before entry → AreLeaving before entry
 
 -- no more reports were issued than there are entries
 abbrev pub ReportsAreFew : Type 0

@@ -3,7 +3,7 @@ use Rattle.std.specs.Prelude.{◌≡◌, ◌≤◌, List, [], ◌∷◌, length,
 use Rattle.uvm_glob.specs.Lists.{first_given}
 use Rattle.uvm_object.specs.declared.acts.Act.{Act}
 use Rattle.uvm_object.specs.declared.fatals.Fatal.TheVariants.{NoObject}
-use Rattle.uvm_object.specs.declared.entries.Outcome.TheVariants.{Made, Refused}
+use Rattle.uvm_object.specs.declared.entries.Outcome.TheVariants.{Refused}
 use Rattle.uvm_object.specs.declared.entries.Entry.{Entry}
 use Rattle.uvm_object.specs.declared.entries.Entry.TheVariants.{Heard, Did}
 use Rattle.bench_script.specs.Scripts.{ScriptValue}
@@ -39,7 +39,7 @@ next_of script history =
 abbrev pub Allows : Next → Entry → Type 0
 Allows (Exactly expected) entry = entry ≡ expected
 Allows (Answer hearer call cause) entry = (acts : List Act) × (entry ≡ Heard hearer call cause acts)
-Allows (Need need performer act) entry = (entry ≡ Did performer (Made need.type_name) act) ⊎ (entry ≡ Did performer (Refused NoObject) act)
+Allows (Need need made performer act) entry = (entry ≡ Did performer made act) ⊎ (entry ≡ Did performer (Refused NoObject) act)
 Allows Nothing entry = ⊥
 
 abbrev pub IsNext : ScriptValue → List Entry → Entry → Type 0
@@ -58,19 +58,19 @@ pub record IsLegal (script : ScriptValue) (history : List Entry) : Type 0 where
 -- what comes next is the entry of an act, or the object for one
 abbrev pub IsAct : Next → Type 0
 IsAct (Exactly (Did performer outcome act)) = Unit {0}
-IsAct (Need need performer act) = Unit {0}
+IsAct (Need need made performer act) = Unit {0}
 IsAct next = ⊥
 
 -- the object that is needed
 abbrev pub need_in : Next → Option declared.Need
-need_in (Need need performer act) = Some need
+need_in (Need need made performer act) = Some need
 need_in next = None
 
 -- the entry where it is made, and where it is declined
 abbrev pub made_in : Next → Option Entry
-made_in (Need need performer act) = Some (Did performer (Made need.type_name) act)
+made_in (Need need made performer act) = Some (Did performer made act)
 made_in next = None
 
 abbrev pub declined_in : Next → Option Entry
-declined_in (Need need performer act) = Some (Did performer (Refused NoObject) act)
+declined_in (Need need made performer act) = Some (Did performer (Refused NoObject) act)
 declined_in next = None

@@ -26,10 +26,9 @@ use Rattle.uvm_object.specs.declared.entries.Entry.{Entry}
 use Rattle.uvm_object.specs.declared.entries.Entry.TheVariants.{Did, Passed}
 use Rattle.bench_history.specs.declared.askers.Asker.{Asker}
 use Rattle.bench_history.specs.declared.askers.Gate.{Gate}
-use Rattle.bench_history.specs.History.{stage_of, running, nodes_of}
+use Rattle.bench_history.specs.History.{stage_of, running, nodes_of, ended_of}
 use Rattle.bench_history.specs.Wires.{wiring_of}
 use Rattle.bench_history.specs.Ports.{fifo_size, gate_below, fifos_below}
-use Rattle.bench_history.specs.Dues.{ended_of}
 
 -- a list with one more element behind it, if there is one
 abbrev pub with_last : {A : Type 0} → List A → Option A → List A

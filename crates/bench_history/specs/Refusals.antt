@@ -1,9 +1,9 @@
--- Why acts are refused: for each sort of act the refusals in the order in which they are looked for. What is still refused after these is an
--- object that nobody supplies (Next, `Allows`).
-use Rattle.std.specs.Prelude.{ℕ, Bool, false, not, ◌&&◌, List, [], ◌∷◌, ◌++◌, length, slice_get, Option, Some, None, option_map, option_and_then, is_none, nat_le, nat_lt}
+-- Why acts are refused: for each sort of act the refusals in the order in which they are looked for. Before these an act is refused that is not open to
+-- its performer, and after them an object that nobody supplies (Next, `Allows`).
+use Rattle.std.specs.Prelude.{ℕ, Bool, true, false, not, ◌&&◌, ◌==◌, List, [], ◌∷◌, ◌++◌, length, slice_get, Option, Some, None, option_map, option_and_then, is_none, is_some, nat_le, nat_lt}
 use Rattle.uvm_glob.specs.Faults.{fault_if}
 use Rattle.uvm_glob.specs.Lists.{first_given}
-use Rattle.uvm_glob.specs.Paths.{path_text}
+use Rattle.uvm_glob.specs.Paths.{path_fault, path_text}
 use Rattle.uvm_factory.specs.declared.types.Kind.{Kind}
 use Rattle.uvm_factory.specs.declared.types.Kind.TheVariants.{Component, Sequence}
 use Rattle.uvm_factory.specs.declared.overrides.Override.{Override}
@@ -19,8 +19,12 @@ use Rattle.uvm_tree.specs.declared.nodes.Node.{Node}
 use Rattle.uvm_tree.specs.declared.faults.TreeFault.{TreeFault}
 use Rattle.uvm_tree.specs.declared.faults.TreeFault.TheVariants.{NameTaken}
 use Rattle.uvm_tree.specs.Nodes.{path_at, add_fault}
+use Rattle.uvm_object.specs.declared.acts.Who.{Who}
+use Rattle.uvm_object.specs.declared.acts.Who.TheVariants as who
+use Rattle.uvm_object.specs.declared.acts.Act.{Act}
+use Rattle.uvm_object.specs.declared.acts.Act.TheVariants.{Create, Add, Connect, Put, TryPut, Take, TryTake, Peek, Write, Ask, ItemDone, Request, Lock, Grab, Unlock, Send, EndStep}
 use Rattle.uvm_object.specs.declared.fatals.Fatal.{Fatal}
-use Rattle.uvm_object.specs.declared.fatals.Fatal.TheVariants.{CreatedAfterBuild, InvalidType, ChildTaken, TreeLimit, OverrideLoop, TooManySettings, ConnectedTooLate, UnknownNode, KindsDiffer, NoPort, OutsideTask, ObjectionBelowZero, OutOfRange}
+use Rattle.uvm_object.specs.declared.fatals.Fatal.TheVariants.{CreatedAfterBuild, InvalidType, ChildTaken, TreeLimit, OverrideLoop, TooManySettings, ConnectedTooLate, UnknownNode, KindsDiffer, NoPort, NoSequencer, OutsideTask, ObjectionBelowZero, OutOfRange}
 
 -- a creation that is asked for below a node: of which type by name, under which name, and what it depends on, the overrides with the newest first
 pub record Creation : Type 0 where
@@ -76,6 +80,51 @@ creation_refusal creation =
 unfoldable pub addition_refusal : Bool → List Node → ℕ → List ℕ → Option Fatal
 addition_refusal built nodes parent name = first_given (fault_if built CreatedAfterBuild ∷ child_refusal nodes parent name ∷ [])
 
+-- a phase runs that takes time
+abbrev pub in_task : Option Phase → Bool
+in_task None = false
+in_task (Some phase) = is_task phase
+
+-- a sequence that is to be started: of which type by name, on which sequencer, at which path and with which priority, and what that depends on
+pub record Starting : Type 0 where
+  pub running : Option Phase
+  pub types : Types
+  pub overrides : List Override
+  pub type_name : List ℕ
+  pub home : Option ℕ
+  pub path : List (List ℕ)
+  pub priority : Option ℕ
+
+abbrev pub sequence_from : ℕ → Option (List ℕ × Kind) → Option ℕ
+sequence_from type_id None = None
+sequence_from type_id (Some (name, Component)) = None
+sequence_from type_id (Some (name, Sequence)) = Some type_id
+
+-- the number of the type of a name, if it is a sequence's; and the type that the factory makes of it
+abbrev pub sequence_named : Types → List ℕ → Option ℕ
+sequence_named types name = option_and_then (λ type_id. sequence_from type_id (slice_get types type_id)) (type_named types name)
+
+abbrev pub sequence_made : Starting → Option ℕ
+sequence_made starting = option_and_then (made_type starting.overrides (length starting.types) (path_text starting.path)) (sequence_named starting.types starting.type_name)
+
+-- a priority of 0 is given
+abbrev pub is_none_at_all : Option ℕ → Bool
+is_none_at_all None = false
+is_none_at_all (Some priority) = priority == 0
+
+-- a sequence is started in a phase that takes time, with a priority of at least 1; the type has to be a sequence's; a sequencer has to be there; its path
+-- has to be within the limits of paths; the overrides must be no loop
+unfoldable pub starting_refusal : Starting → Option Fatal
+starting_refusal starting =
+    first_given (
+    fault_if (not (in_task starting.running)) OutsideTask
+    ∷ fault_if (is_none_at_all starting.priority) OutOfRange
+    ∷ fault_if (is_none (sequence_named starting.types starting.type_name)) InvalidType
+    ∷ fault_if (is_none starting.home) NoSequencer
+    ∷ fault_if (is_some (path_fault starting.path)) TreeLimit
+    ∷ fault_if (is_none (sequence_made starting)) OverrideLoop
+    ∷ [])
+
 -- more settings than these are not accepted, the script's among them
 unfoldable pub setting_refusal : ℕ → Option Fatal
 setting_refusal count = fault_if (nat_le most_settings count) TooManySettings
@@ -100,11 +149,6 @@ connection_refusal connected from to =
     ∷ fault_if (not (may_connect from to)) KindsDiffer
     ∷ [])
 
--- a phase runs that takes time
-abbrev pub in_task : Option Phase → Bool
-in_task None = false
-in_task (Some phase) = is_task phase
-
 -- what goes through ports goes in such a phase, through a port that is there
 unfoldable pub passing_refusal : Option Phase → Bool → Option Fatal
 passing_refusal running is_there = first_given (fault_if (not (in_task running)) OutsideTask ∷ fault_if (not is_there) NoPort ∷ [])
@@ -124,3 +168,28 @@ drain_refusal ticks = fault_if (nat_lt most_ticks ticks) OutOfRange
 -- a wait is for such a phase, but one of no ticks is for any; and is not too long
 unfoldable pub wait_refusal : Option Phase → ℕ → Option Fatal
 wait_refusal running ticks = first_given (fault_if (nat_lt 0 ticks && not (in_task running)) OutsideTask ∷ fault_if (nat_lt most_ticks ticks) OutOfRange ∷ [])
+
+-- an act is open to a component, to a sequence, or to both
+abbrev pub is_component : Who → Bool
+is_component (who.Node node) = true
+is_component (who.Sequence id home) = false
+
+abbrev pub is_open_to : Act → Who → Bool
+is_open_to (Create type_name name) performer = is_component performer
+is_open_to (Add name what) performer = is_component performer
+is_open_to (Connect from to) performer = is_component performer
+is_open_to (Put port item) performer = is_component performer
+is_open_to (TryPut port item) performer = is_component performer
+is_open_to (Take port) performer = is_component performer
+is_open_to (TryTake port) performer = is_component performer
+is_open_to (Peek port) performer = is_component performer
+is_open_to (Write port item) performer = is_component performer
+is_open_to (Ask port how) performer = is_component performer
+is_open_to (ItemDone port response) performer = is_component performer
+is_open_to (Request priority) performer = not (is_component performer)
+is_open_to Lock performer = not (is_component performer)
+is_open_to Grab performer = not (is_component performer)
+is_open_to Unlock performer = not (is_component performer)
+is_open_to (Send item) performer = not (is_component performer)
+is_open_to EndStep performer = not (is_component performer)
+is_open_to act performer = true

@@ -1,19 +1,28 @@
--- The sequences that were started (IEEE 1800.2-2020, Clause 14): on which sequencer, by which sequence, under which name and with which priority. What
--- became of them is not said here.
-use Rattle.std.specs.Prelude.{ℕ, List, [], ◌∷◌, Option, Some, None, option_and_then, unwrap_or}
+-- The sequences that were started (IEEE 1800.2-2020, Clause 14): on which sequencer, by whom, under which name and with which priority; at which step each
+-- of them is, and which have ended.
+use Rattle.std.specs.Prelude.{ℕ, Bool, true, false, not, ◌&&◌, ◌==◌, List, [], ◌∷◌, ◌++◌, length, map, filter, slice_get, count_by, Option, Some, None, option_and_then, unwrap_or, if◌then◌else◌}
+use Rattle.std.specs.List.{flat_map, list_any}
 use Rattle.std.specs.Option.{option_map_or}
-use Rattle.uvm_sequencer.specs.Sequences.{Start, numbered}
+use Rattle.uvm_phase.specs.declared.phases.Phase.{Phase}
+use Rattle.uvm_phase.specs.Phases.{same_phase}
+use Rattle.uvm_sequencer.specs.declared.starts.SeqStep.{SeqStep}
+use Rattle.uvm_sequencer.specs.declared.starts.SeqStep.TheVariants.{PreStart, Body, PostStart}
+use Rattle.uvm_sequencer.specs.Sequences.{Start, names_of, numbered, step_after}
 use Rattle.uvm_tree.specs.declared.nodes.Node.{Node}
+use Rattle.uvm_tree.specs.declared.nodes.NodeKind.{NodeKind}
+use Rattle.uvm_tree.specs.declared.nodes.NodeKind.TheVariants as kind
+use Rattle.uvm_tree.specs.Nodes.{node_at, path_at}
 use Rattle.uvm_object.specs.declared.acts.Who.{Who}
 use Rattle.uvm_object.specs.declared.acts.Who.TheVariants as who
+use Rattle.uvm_object.specs.Objects.{same_who}
 use Rattle.uvm_object.specs.declared.acts.Act.{Act}
 use Rattle.uvm_object.specs.declared.acts.Act.TheVariants as act
 use Rattle.uvm_object.specs.declared.entries.Outcome.{Outcome}
-use Rattle.uvm_object.specs.declared.entries.Outcome.TheVariants.{Started}
+use Rattle.uvm_object.specs.declared.entries.Outcome.TheVariants.{Done, Started, Finished}
 use Rattle.uvm_object.specs.declared.entries.Entry.{Entry}
-use Rattle.uvm_object.specs.declared.entries.Entry.TheVariants.{Did}
+use Rattle.uvm_object.specs.declared.entries.Entry.TheVariants.{Did, End}
 use Rattle.bench_history.specs.Limits.{usual_priority}
-use Rattle.bench_history.specs.History.{nodes_of}
+use Rattle.bench_history.specs.History.{stage_of, running, nodes_of, ended_of}
 use Rattle.bench_history.specs.Wires.{node_below}
 
 -- the sequence that somebody is, which starts its children
@@ -21,10 +30,32 @@ abbrev pub sequence_in : Who → Option ℕ
 sequence_in (who.Node node) = None
 sequence_in (who.Sequence id home) = Some id
 
--- the node on which somebody starts a sequence: a component at a path below itself, a sequence where it runs itself
+-- somebody is this sequence
+abbrev pub is_sequence : ℕ → Who → Bool
+is_sequence id (who.Node node) = false
+is_sequence id (who.Sequence other home) = other == id
+
+-- a sequencer stands at a node
+abbrev pub is_sequencer : NodeKind → Bool
+is_sequencer kind.Sequencer = true
+is_sequencer other = false
+
+abbrev pub if_sequencer : List Node → ℕ → Option ℕ
+if_sequencer nodes node = if option_map_or (λ n. is_sequencer n.kind) (node_at nodes node) false then Some node else None
+
+-- the sequencer on which somebody starts a sequence: a component at a path below itself, a sequence where it runs itself, by the empty path
 abbrev pub home_asked : List Node → Who → List (List ℕ) → Option ℕ
-home_asked nodes (who.Node node) on = node_below nodes (who.Node node) on
-home_asked nodes (who.Sequence id home) on = Some home
+home_asked nodes (who.Node node) on = option_and_then (if_sequencer nodes) (node_below nodes (who.Node node) on)
+home_asked nodes (who.Sequence id home) [] = Some home
+home_asked nodes (who.Sequence id home) (name ∷ on) = None
+
+-- the path by which the factory knows a sequence: that of its home, and the names from its root sequence down
+abbrev pub parent_names : List Start → Who → List (List ℕ)
+parent_names started (who.Node node) = []
+parent_names started (who.Sequence id home) = names_of started id
+
+abbrev pub sequence_path : List Node → List Start → Who → List (List ℕ) → List ℕ → List (List ℕ)
+sequence_path nodes started performer on name = path_at nodes (unwrap_or (home_asked nodes performer on) 0) ++ parent_names started performer ++ name ∷ []
 
 -- the priority of a sequence that is started: the one that is given, else its parent's, else the usual one
 abbrev pub parent_priority : List Start → Option ℕ → ℕ
@@ -33,13 +64,92 @@ parent_priority started parent = option_map_or (λ start. start.priority) (optio
 abbrev pub start_priority : List Start → Option ℕ → Option ℕ → ℕ
 start_priority started parent given = unwrap_or given (parent_priority started parent)
 
-abbrev pub started_after : List Node → List Start → Who → Outcome → Act → List Start
-started_after nodes started performer (Started id) (act.Start type_name name on priority) =
-    record { home = unwrap_or (home_asked nodes performer on) 0; parent = sequence_in performer; name = name; priority = start_priority started (sequence_in performer) priority } ∷ started
-started_after nodes started performer outcome act = started
+-- how an act starts a sequence
+abbrev pub start_by : List Node → List Start → Who → Act → Start
+start_by nodes started performer (act.Start type_name name on priority) =
+    record { home = unwrap_or (home_asked nodes performer on) 0; parent = sequence_in performer; name = name; priority = start_priority started (sequence_in performer) priority }
+start_by nodes started performer act = record { home = 0; parent = None; name = []; priority = usual_priority }
+
+-- how a sequence was started, by whom, and in which phase
+pub record Beginning : Type 0 where
+  pub start : Start
+  pub starter : Who
+  pub phase : Option Phase
+
+abbrev pub starts_in : List Beginning → List Start
+starts_in beginnings = map (λ beginning. beginning.start) beginnings
+
+abbrev pub begun_after : List Node → Option Phase → List Beginning → Who → Outcome → Act → List Beginning
+begun_after nodes phase begun performer (Started id) act = record { start = start_by nodes (starts_in begun) performer act; starter = performer; phase = phase } ∷ begun
+begun_after nodes phase begun performer outcome act = begun
 
 -- all sequences that were started, the newest first: each by an accepted act
+abbrev pub begun_of : List Entry → List Beginning
+begun_of [] = []
+begun_of (Did performer outcome act ∷ before) = begun_after (nodes_of before) (running (stage_of before)) (begun_of before) performer outcome act
+begun_of (entry ∷ before) = begun_of before
+
 abbrev pub sequences_of : List Entry → List Start
-sequences_of [] = []
-sequences_of (Did performer outcome act ∷ before) = started_after (nodes_of before) (sequences_of before) performer outcome act
-sequences_of (entry ∷ before) = sequences_of before
+sequences_of history = starts_in (begun_of history)
+
+-- a sequence ends one of its steps, but for the last
+abbrev pub ends_step : ℕ → Entry → Bool
+ends_step id (Did performer Done act.EndStep) = is_sequence id performer
+ends_step id entry = false
+
+-- and the last
+abbrev pub finished_in : Entry → List Who
+finished_in (Did performer Finished act) = performer ∷ []
+finished_in entry = []
+
+-- the sequences that have finished
+abbrev pub finished_of : List Entry → List Who
+finished_of history = flat_map finished_in history
+
+-- its phase has ended
+abbrev pub is_over_phase : List Phase → Option Phase → Bool
+is_over_phase ended None = true
+is_over_phase ended (Some phase) = list_any (same_phase phase) ended
+
+-- a sequence that was started in a phase lives until it finishes, or the phase ends
+abbrev pub lives : List Entry → ℕ → Beginning → Bool
+lives history id beginning = not (list_any (same_who (who.Sequence id beginning.start.home)) (finished_of history)) && not (is_over_phase (ended_of history) beginning.phase)
+
+unfoldable pub is_live : List Entry → ℕ → Bool
+is_live history id = option_map_or (lives history id) (numbered (begun_of history) id) false
+
+-- the step at which it is then: it goes through three, and ends each by an act
+abbrev pub all_steps : List SeqStep
+all_steps = PreStart ∷ Body ∷ PostStart ∷ []
+
+abbrev pub step_in : List Entry → ℕ → Option SeqStep
+step_in history id = slice_get all_steps (count_by (ends_step id) history)
+
+unfoldable pub step_of : List Entry → ℕ → Option SeqStep
+step_of history id = if is_live history id then step_in history id else None
+
+-- the step that a sequence comes to when it ends the one at which it is
+abbrev pub next_step : List Entry → Who → Option SeqStep
+next_step history performer = option_and_then step_after (option_and_then (step_of history) (sequence_in performer))
+
+-- all that were started, the oldest first
+abbrev pub all_begun : List Beginning → List Who
+all_begun [] = []
+all_begun (beginning ∷ older) = all_begun older ++ who.Sequence (length (beginning ∷ older)) beginning.start.home ∷ []
+
+-- somebody is a sequence that lives
+abbrev pub is_living : List Entry → Who → Bool
+is_living history (who.Node node) = false
+is_living history (who.Sequence id home) = is_live history id
+
+-- the sequences that the newest entry has ended: one finishes alone, and at the end of a phase those end that lived and live no longer, in the order of
+-- their starts
+abbrev pub leaving_after : Who → Outcome → List Who
+leaving_after performer Finished = performer ∷ []
+leaving_after performer outcome = []
+
+abbrev pub leaving_of : List Entry → List Who
+leaving_of [] = []
+leaving_of (Did performer outcome act ∷ before) = leaving_after performer outcome
+leaving_of (End phase ∷ before) = filter (λ who. is_living before who && not (is_living (End phase ∷ before) who)) (all_begun (begun_of before))
+leaving_of (entry ∷ before) = []

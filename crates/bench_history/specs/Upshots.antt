@@ -1,9 +1,11 @@
 -- What an act comes to, after a log: the outcome of its entry, foreseen.
-use Rattle.std.specs.Prelude.{ℕ, ℤ, Bool, List, length, Option, Some, None, is_some}
+use Rattle.std.specs.Prelude.{ℕ, ℤ, suc, Bool, not, List, length, Option, Some, None, is_some}
 use Rattle.std.specs.Option.{option_map_or}
+use Rattle.uvm_glob.specs.Faults.{fault_if}
 use Rattle.uvm_glob.specs.Paths.{path_text}
+use Rattle.uvm_sequencer.specs.declared.starts.SeqStep.{SeqStep}
 use Rattle.uvm_config.specs.Answers.{config_answer}
-use Rattle.uvm_factory.specs.declared.types.Kind.TheVariants.{Component}
+use Rattle.uvm_factory.specs.declared.types.Kind.TheVariants.{Component, Sequence}
 use Rattle.uvm_tlm.specs.declared.ends.PortKind.TheVariants as through
 use Rattle.uvm_tlm.specs.declared.items.Item.{Item}
 use Rattle.uvm_tree.specs.Nodes.{path_at}
@@ -14,6 +16,8 @@ use Rattle.uvm_object.specs.declared.acts.Act.{Act}
 use Rattle.uvm_object.specs.declared.acts.Act.TheVariants.{Create, Add, Set, Get, OverrideType, OverrideInst, Connect, Put, TryPut, Take, TryTake, Peek, Write, Ask, ItemDone, Start, Request, Lock, Grab, Unlock, Send, EndStep, Report, Verbosity, Actions, Severity, RaiseObjection, DropObjection, SetDrain, Wait}
 use Rattle.uvm_object.specs.declared.fatals.Fatal.{Fatal}
 use Rattle.uvm_object.specs.declared.fatals.Fatal.TheVariants.{NotOpen}
+use Rattle.uvm_object.specs.declared.entries.Outcome.{Outcome}
+use Rattle.uvm_object.specs.declared.entries.Outcome.TheVariants.{Made, Started}
 use Rattle.uvm_object.specs.declared.entries.Entry.{Entry}
 use Rattle.bench_script.specs.Scripts.{ScriptValue}
 use Rattle.bench_history.specs.declared.needs.Need.{Need}
@@ -21,17 +25,20 @@ use Rattle.bench_history.specs.History.{stage_of, running, nodes_of, overrides_o
 use Rattle.bench_history.specs.Configuration.{settings_of}
 use Rattle.bench_history.specs.Objections.{objections_of}
 use Rattle.bench_history.specs.Wires.{end_below, wiring_of, is_past_connect}
+use Rattle.bench_history.specs.Sequences.{home_asked, next_step, sequence_path, sequences_of}
 use Rattle.bench_history.specs.Ports.{port_below, gate_below}
 use Rattle.bench_history.specs.Passing.{station_below, puts_now, takes_now}
-use Rattle.bench_history.specs.Refusals.{Creation, created_path, type_made, creation_refusal, addition_refusal, setting_refusal, overriding_refusal, connection_refusal, passing_refusal, raise_refusal, drop_refusal, drain_refusal, wait_refusal}
+use Rattle.bench_history.specs.Refusals.{Creation, Starting, created_path, is_open_to, sequence_made, starting_refusal, type_made, creation_refusal, addition_refusal, setting_refusal, overriding_refusal, connection_refusal, passing_refusal, raise_refusal, drop_refusal, drain_refusal, wait_refusal}
 
--- what an act comes to: an object is needed first; or at once it is performed, or finds a value, or puts or takes an item or does not, or is refused
+-- what an act comes to: an object is needed first, and with it the act comes to an outcome; or at once it is performed, or finds a value, or puts or
+-- takes an item or does not, or ends the last step of a sequence, or is refused
 pub data Upshot : Type 0 where
-  Needs : (need : Need) → Upshot
+  Needs : (need : Need) → (made : Outcome) → Upshot
   Does : Upshot
   Finds : (value : Option ℤ) → Upshot
   Stores : (stored : Bool) → Upshot
   Takes : (item : Option Item) → Upshot
+  Finishes : Upshot
   Refuses : (fatal : Fatal) → Upshot
 
 -- it is refused, or else it comes to this
@@ -44,48 +51,76 @@ abbrev pub needed_object : Creation → Need
 needed_object creation = record { kind = Component; type_name = option_map_or (λ made. type_name_or creation.types made creation.type_name) (type_made creation) creation.type_name; path = created_path creation }
 
 abbrev pub creation_upshot : Creation → Upshot
-creation_upshot creation = unless_refused (creation_refusal creation) (Needs (needed_object creation))
+creation_upshot creation = unless_refused (creation_refusal creation) (Needs (needed_object creation) (Made (needed_object creation).type_name))
 
 -- a creation after a log
 abbrev pub creation_now : ScriptValue → List Entry → Who → List ℕ → List ℕ → Creation
 creation_now script history performer type_name name =
     record { built = is_built history; types = script.types; overrides = overrides_of script history; nodes = nodes_of history; parent = node_of performer; type_name = type_name; name = name }
 
--- what each act comes to; those of sequences, and the driver's, are open to nobody yet
-abbrev pub upshot_of : ScriptValue → List Entry → Who → Act → Upshot
-upshot_of script history performer (Create type_name name) = creation_upshot (creation_now script history performer type_name name)
-upshot_of script history performer (Add name what) = unless_refused (addition_refusal (is_built history) (nodes_of history) (node_of performer) name) Does
-upshot_of script history performer (Set glob field value) = unless_refused (setting_refusal (length (settings_of script history))) Does
-upshot_of script history performer (Get field) = Finds (config_answer (settings_of script history) (path_text (path_at (nodes_of history) (node_of performer))) field)
-upshot_of script history performer (OverrideType original new replace) = unless_refused (overriding_refusal script.types original new) Does
-upshot_of script history performer (OverrideInst original new glob) = unless_refused (overriding_refusal script.types original new) Does
-upshot_of script history performer (Connect from to) =
+-- the sequence that a start needs, of the type that is made; and its number
+abbrev pub needed_sequence : Starting → Need
+needed_sequence starting = record { kind = Sequence; type_name = option_map_or (λ made. type_name_or starting.types made starting.type_name) (sequence_made starting) starting.type_name; path = starting.path }
+
+abbrev pub starting_upshot : ℕ → Starting → Upshot
+starting_upshot count starting = unless_refused (starting_refusal starting) (Needs (needed_sequence starting) (Started (suc count)))
+
+-- a start after a log
+abbrev pub starting_now : ScriptValue → List Entry → Who → List ℕ → List ℕ → List (List ℕ) → Option ℕ → Starting
+starting_now script history performer type_name name on priority = record {
+  running = running (stage_of history);
+  types = script.types;
+  overrides = overrides_of script history;
+  type_name = type_name;
+  home = home_asked (nodes_of history) performer on;
+  path = sequence_path (nodes_of history) (sequences_of history) performer on name;
+  priority = priority;
+}
+
+-- a sequence ends one of its steps, or the last
+abbrev pub step_upshot : Option SeqStep → Upshot
+step_upshot None = Finishes
+step_upshot (Some step) = Does
+
+-- what each act comes to, if it is open to its performer; the driver's, and what sequences ask of a sequencer, are open to nobody yet
+abbrev pub open_upshot : ScriptValue → List Entry → Who → Act → Upshot
+open_upshot script history performer (Create type_name name) = creation_upshot (creation_now script history performer type_name name)
+open_upshot script history performer (Add name what) = unless_refused (addition_refusal (is_built history) (nodes_of history) (node_of performer) name) Does
+open_upshot script history performer (Set glob field value) = unless_refused (setting_refusal (length (settings_of script history))) Does
+open_upshot script history performer (Get field) = Finds (config_answer (settings_of script history) (path_text (path_at (nodes_of history) (node_of performer))) field)
+open_upshot script history performer (OverrideType original new replace) = unless_refused (overriding_refusal script.types original new) Does
+open_upshot script history performer (OverrideInst original new glob) = unless_refused (overriding_refusal script.types original new) Does
+open_upshot script history performer (Connect from to) =
     unless_refused (connection_refusal (is_past_connect history) (end_below (nodes_of history) (wiring_of history) performer from) (end_below (nodes_of history) (wiring_of history) performer to)) Does
-upshot_of script history performer (Put name item) = unless_refused (passing_refusal (running (stage_of history)) (is_some (gate_below history performer through.Put name))) Does
-upshot_of script history performer (TryPut name item) =
+open_upshot script history performer (Put name item) = unless_refused (passing_refusal (running (stage_of history)) (is_some (gate_below history performer through.Put name))) Does
+open_upshot script history performer (TryPut name item) =
     unless_refused (passing_refusal (running (stage_of history)) (is_some (gate_below history performer through.Put name))) (Stores (puts_now (station_below history performer through.Put name)))
-upshot_of script history performer (Take name) = unless_refused (passing_refusal (running (stage_of history)) (is_some (gate_below history performer through.Get name))) Does
-upshot_of script history performer (TryTake name) =
+open_upshot script history performer (Take name) = unless_refused (passing_refusal (running (stage_of history)) (is_some (gate_below history performer through.Get name))) Does
+open_upshot script history performer (TryTake name) =
     unless_refused (passing_refusal (running (stage_of history)) (is_some (gate_below history performer through.Get name))) (Takes (takes_now (station_below history performer through.Get name)))
-upshot_of script history performer (Peek name) = unless_refused (passing_refusal (running (stage_of history)) (is_some (gate_below history performer through.Get name))) Does
-upshot_of script history performer (Write name item) = unless_refused (passing_refusal (running (stage_of history)) (is_some (port_below history performer through.Analysis name))) Does
-upshot_of script history performer (Ask port how) = Refuses NotOpen
-upshot_of script history performer (ItemDone port response) = Refuses NotOpen
-upshot_of script history performer (Start type_name name on priority) = Refuses NotOpen
-upshot_of script history performer (Request priority) = Refuses NotOpen
-upshot_of script history performer Lock = Refuses NotOpen
-upshot_of script history performer Grab = Refuses NotOpen
-upshot_of script history performer Unlock = Refuses NotOpen
-upshot_of script history performer (Send item) = Refuses NotOpen
-upshot_of script history performer EndStep = Refuses NotOpen
-upshot_of script history performer (Report report) = Does
-upshot_of script history performer (Verbosity which level) = Does
-upshot_of script history performer (Actions which actions) = Does
-upshot_of script history performer (Severity from id to) = Does
-upshot_of script history performer (RaiseObjection count) = unless_refused (raise_refusal (running (stage_of history))) Does
-upshot_of script history performer (DropObjection count) = unless_refused (drop_refusal (running (stage_of history)) (source_of (node_of performer) (objections_of history)) count) Does
-upshot_of script history performer (SetDrain ticks) = unless_refused (drain_refusal ticks) Does
-upshot_of script history performer (Wait ticks tag) = unless_refused (wait_refusal (running (stage_of history)) ticks) Does
+open_upshot script history performer (Peek name) = unless_refused (passing_refusal (running (stage_of history)) (is_some (gate_below history performer through.Get name))) Does
+open_upshot script history performer (Write name item) = unless_refused (passing_refusal (running (stage_of history)) (is_some (port_below history performer through.Analysis name))) Does
+open_upshot script history performer (Ask port how) = Refuses NotOpen
+open_upshot script history performer (ItemDone port response) = Refuses NotOpen
+open_upshot script history performer (Start type_name name on priority) = starting_upshot (length (sequences_of history)) (starting_now script history performer type_name name on priority)
+open_upshot script history performer (Request priority) = Refuses NotOpen
+open_upshot script history performer Lock = Refuses NotOpen
+open_upshot script history performer Grab = Refuses NotOpen
+open_upshot script history performer Unlock = Refuses NotOpen
+open_upshot script history performer (Send item) = Refuses NotOpen
+open_upshot script history performer EndStep = step_upshot (next_step history performer)
+open_upshot script history performer (Report report) = Does
+open_upshot script history performer (Verbosity which level) = Does
+open_upshot script history performer (Actions which actions) = Does
+open_upshot script history performer (Severity from id to) = Does
+open_upshot script history performer (RaiseObjection count) = unless_refused (raise_refusal (running (stage_of history))) Does
+open_upshot script history performer (DropObjection count) = unless_refused (drop_refusal (running (stage_of history)) (source_of (node_of performer) (objections_of history)) count) Does
+open_upshot script history performer (SetDrain ticks) = unless_refused (drain_refusal ticks) Does
+open_upshot script history performer (Wait ticks tag) = unless_refused (wait_refusal (running (stage_of history)) ticks) Does
+
+-- what each act comes to
+abbrev pub upshot_of : ScriptValue → List Entry → Who → Act → Upshot
+upshot_of script history performer act = unless_refused (fault_if (not (is_open_to act performer)) NotOpen) (open_upshot script history performer act)
 
 -- why an act is refused, if it is
 abbrev pub refusal_in : Upshot → Option Fatal

@@ -3,7 +3,6 @@ use Rattle.std.specs.Prelude.{ℕ, Bool, true, false, nat_eq, is_none, List, [],
 use Rattle.std.specs.List.{list_any, after_first}
 use Rattle.uvm_glob.specs.Lists.{first_given, newest}
 use Rattle.uvm_glob.specs.Paths.{path_fault}
-use Rattle.uvm_phase.specs.declared.phases.Phase.{Phase}
 use Rattle.uvm_phase.specs.declared.phases.Phase.TheVariants.{Connect}
 use Rattle.uvm_tree.specs.declared.nodes.Node.{Node}
 use Rattle.uvm_tree.specs.Nodes.{path_at, number_at}

@@ -1,7 +1,7 @@
 //! What holds of all logs, or of all in which each entry was next, as in each legal one, and of what comes next in them. The functions do
 //! nothing that shows; their contracts are the laws (`specs/Laws.antt`), for all scripts.
 
-ghost use Rattle.bench_history.specs.Laws.{PhasesGoInOrder, AskedAreComponents, ComponentsAreNodes, DueCallsGoInOrder, DrainsGoInOrder, PassagesGoInOrder, ActsGoInOrder, NeedsAreCreations, NothingAfterOver, SomethingBeforeOver, MachineEntriesAreSilent, NodesStay, MadeObjectsAreNew, NewNodesAreUnasked, ReportsAreFew, TimeStaysWithin, WiringStays, ConnectFollowsBuild, TasksFollowConnect};
+ghost use Rattle.bench_history.specs.Laws.{PhasesGoInOrder, AskedAreThere, PerformersAreThere, ComponentsAreNodes, HomesAreNodes, DueCallsGoInOrder, DrainsGoInOrder, PassagesGoInOrder, WaitersAreComponents, ActsGoInOrder, NeedsAreWanted, NothingAfterOver, SomethingBeforeOver, MachineEntriesAreSilent, NodesStay, MadeObjectsAreNew, NewNodesAreUnasked, NewSequencesAreUnasked, LivingLived, LivingRun, LeaversLived, ReportsAreFew, TimeStaysWithin, WiringStays, ConnectFollowsBuild, TasksFollowConnect};
 
 use crate::owners::Owner;
 use uvm_object::Call;
@@ -15,9 +15,16 @@ pub fn phases_go_in_order()
     ensures { PhasesGoInOrder }
 {}
 
-/// Whoever is asked is a component.
-pub fn asked_are_components()
-    ensures { AskedAreComponents }
+/// Whoever is asked is there: a component, or a sequence that lives.
+pub fn asked_are_there()
+    ensures { AskedAreThere }
+{
+    agenda::order_keeps_all::<Owner, Option<Call>>();
+}
+
+/// Whoever performs an act is there, but the script, which has the first act of all.
+pub fn performers_are_there()
+    ensures { PerformersAreThere }
 {
     agenda::order_keeps_all::<Owner, Option<Call>>();
 }
@@ -27,6 +34,13 @@ pub fn asked_are_components()
 pub fn components_are_nodes()
     ensures { ComponentsAreNodes }
 {}
+
+/// Each sequencer on which a sequence was started is a node of the tree.
+pub fn homes_are_nodes()
+    ensures { HomesAreNodes }
+{
+    agenda::order_keeps_all::<Owner, Option<Call>>();
+}
 
 /// A call that has a cause is that of the event which is due first, now, and its owner's.
 #[tactic(auto, using(crate::proofs::Performed::due_calls_go_in_order))]
@@ -46,16 +60,23 @@ pub fn passages_go_in_order()
     ensures { PassagesGoInOrder }
 {}
 
+/// And who waited there is a component.
+pub fn waiters_are_components()
+    ensures { WaitersAreComponents }
+{
+    agenda::order_keeps_all::<Owner, Option<Call>>();
+}
+
 /// Where an act is next, nothing passes, and it is the first of the last answer's that are left.
 #[tactic(auto, using(crate::proofs::Performed::acts_go_in_order))]
 pub fn acts_go_in_order()
     ensures { ActsGoInOrder }
 {}
 
-/// An act that needs an object creates it, under a name that is free.
-#[tactic(auto, using(crate::proofs::Needed::needs_are_creations))]
-pub fn needs_are_creations()
-    ensures { NeedsAreCreations }
+/// An act that needs an object creates it, under a name that is free, or starts it where it is a sequence's.
+#[tactic(auto, using(crate::proofs::Needed::needs_are_wanted))]
+pub fn needs_are_wanted()
+    ensures { NeedsAreWanted }
 {}
 
 /// Nothing comes after the end of a run.
@@ -81,7 +102,7 @@ pub fn nodes_stay()
     ensures { NodesStay }
 {}
 
-/// An object that is made is one component more, the newest node.
+/// An object that is made is one component more, the newest node, or the newest sequence.
 #[tactic(auto, using(crate::proofs::Grown::made_objects_are_new))]
 pub fn made_objects_are_new()
     ensures { MadeObjectsAreNew }
@@ -90,6 +111,32 @@ pub fn made_objects_are_new()
 /// Behind the nodes of the tree nobody was asked.
 pub fn new_nodes_are_unasked()
     ensures { NewNodesAreUnasked }
+{
+    agenda::order_keeps_all::<Owner, Option<Call>>();
+}
+
+/// Behind the sequences that were started nobody was asked.
+pub fn new_sequences_are_unasked()
+    ensures { NewSequencesAreUnasked }
+{
+    agenda::order_keeps_all::<Owner, Option<Call>>();
+}
+
+/// A sequence that was started before an entry, and lives after it, lived.
+#[tactic(auto, using(crate::proofs::Leaving::living_lived))]
+pub fn living_lived()
+    ensures { LivingLived }
+{}
+
+/// A sequence that lives was started in the phase that runs, while the run goes on.
+#[tactic(auto, using(crate::proofs::Running::living_run))]
+pub fn living_run()
+    ensures { LivingRun }
+{}
+
+/// The sequences that an entry ends lived before it, live no longer, and go in rising number.
+pub fn leavers_lived()
+    ensures { LeaversLived }
 {
     agenda::order_keeps_all::<Owner, Option<Call>>();
 }

@@ -1,43 +1,45 @@
 -- What stays true of a kernel.
-use Rattle.std.proofs.Common.{◌≡◌, ◌≢◌, ◌∙◌, ◌<◌, ◌++◌, ℕ, Bool, true, false, List, [], ◌∷◌, length, Option, Some, None, IfSome, IfNone, Ok, Result, inl, inr, refl, sym, ap, subst, arith}
-use Rattle.std.proofs.lemmas.List.Elements.{All-cons, All-contains, All-nil, All-tail}
-use Rattle.std.proofs.lemmas.List.Sorted.{All-permutation, IsPermutation-map, IsPermutation-sym}
+use Rattle.std.proofs.Common.{◌≡◌, ◌≢◌, ◌∙◌, ◌<◌, ℕ, suc, Bool, true, false, List, [], ◌∷◌, length, Option, Some, None, Ok, Result, inl, inr, refl, sym, ap, subst, arith}
+use Rattle.std.proofs.lemmas.List.Elements.{All-contains, All-head, All-nil, All-weaker}
+use Rattle.std.proofs.lemmas.List.Sorted.{Contains-permutation, IsPermutation-map, IsPermutation-sym}
 use Rattle.std.specs.Prelude.{All, Contains}
 use Rattle.std.specs.List.{IsDistinct}
 use Rattle.std.specs.List.Sorted.{IsPermutation}
 use Rattle.std.specs.Map.{keys_of}
 use Rattle.std.specs.declared.alloc.AllocError.{AllocError}
 use Rattle.uvm_phase.specs.declared.agendas.Cause.{Cause}
-use Rattle.uvm_tree.specs.Nodes.{path_at}
-use Rattle.uvm_object.specs.Acts.{node_of}
-use Rattle.uvm_object.specs.Objects.{View, Says, IsHonestNow, life_of, same_who}
+use Rattle.uvm_object.specs.Objects.{View, Says, IsHonestNow, exchanged_in, life_of, same_who}
 use Rattle.uvm_object.specs.declared.acts.Who.{Who}
 use Rattle.uvm_object.specs.declared.acts.Who.TheVariants.{Node, Sequence}
 use Rattle.uvm_object.specs.declared.acts.Call.{Call}
 use Rattle.uvm_object.specs.declared.acts.Act.{Act}
-use Rattle.uvm_object.specs.declared.entries.Outcome.TheVariants.{Made, Refused}
+use Rattle.uvm_object.specs.declared.entries.Outcome.{Outcome}
+use Rattle.uvm_object.specs.declared.entries.Outcome.TheVariants.{Refused}
 use Rattle.uvm_object.specs.declared.entries.Entry.{Entry}
 use Rattle.uvm_object.specs.declared.entries.Entry.TheVariants.{Heard, Did}
 use Rattle.uvm_object.specs.declared.fatals.Fatal.TheVariants.{NoObject}
 use Rattle.bench_script.specs.Scripts.{ScriptValue}
 use Rattle.bench_history.specs.History.{nodes_of, components_of, is_over}
+use Rattle.bench_history.specs.Sequences.{begun_of, leaving_of}
 use Rattle.bench_history.specs.declared.needs.Need.{Need}
 use Rattle.bench_history.specs.Cases as next
 use Rattle.bench_history.specs.Next as coming
 use Rattle.bench_history.specs.Cases.{Next, Exactly, Answer}
-use Rattle.bench_history.specs.Next.{next_of, EachIsNext}
-use Rattle.bench_core.specs.Cores.{Nothing, Needed}
+use Rattle.bench_history.specs.Next.{next_of, EachIsNext, IsNext}
+use Rattle.bench_history.specs.Laws.{NothingAfterOver, IsLiving, IsSomething, IsThere}
+use Rattle.bench_world.specs.Worlds.{made_who}
+use Rattle.bench_core.specs.Cores.{CoreValue, Nothing, Needed, core_after}
 use Rattle.bench_core.specs.declared.cores.Health.TheVariants.{Good}
-use Rattle.bench_history.specs.Laws.{NothingAfterOver, IsComponent, IsSomething}
-use Rattle.bench_core.specs.Cores.{CoreValue, core_after}
 use Rattle.bench_kernel.specs.Asked.{IsAsked}
 use Rattle.bench_kernel.specs.Laws.{LogLaws}
-use Rattle.bench_kernel.specs.Seats.{IsTakenOut, Taken, held_in, paths_in}
-use Rattle.bench_kernel.specs.Orders.{IsFirstDown}
-use Rattle.bench_kernel.specs.Kernels.{KernelValue, IsKernel, ArePlaced, is_done, types_made, who_held}
+use Rattle.bench_kernel.specs.Seating.{all_held}
+use Rattle.bench_kernel.specs.Seats.{Taken, paths_in}
+use Rattle.bench_kernel.specs.Kernels.{AreSeated, AreToldNext, HasEnded, IsKernel, KernelValue, WasMade, is_done, types_made, who_held}
 use Rattle.bench_kernel.specs.Steps.{IsSameLog}
-use Rattle.bench_kernel.proofs.Held.{AreHeld-asked, AreHeld-later, AreHeld-less, AreHeld-more, ArePlaced-later, first-taken_out, held-below, types-same}
+use Rattle.bench_kernel.proofs.Custody.{AreAllHeld-come, AreAllHeld-later, AreAllHeld-told, WasMade-same, has-come, told-less, told-next, types-same}
+use Rattle.bench_kernel.proofs.Held.{AreHeld-asked, AreHeld-come, AreHeld-later, AreHeld-less, Sits}
 use Rattle.bench_kernel.proofs.Lives.{LiveHonestly-heard, LiveHonestly-unanswered, LiveHonestly-silent, LiveHonestly-more, LiveHonestly-less}
+use Rattle.bench_kernel.proofs.Sitting.{components-hold}
 
 -- where something comes the run is not over
 pub on-where-some : NothingAfterOver → (script : ScriptValue) (history : List Entry) (comes : Next) → next_of script history ≡ comes → IsSomething comes → is_over history ≡ false
@@ -47,9 +49,13 @@ on-where-some over script history comes is some = go (is_over history) refl
     go false e = e
     go true e = absurd (subst IsSomething (sym is ∙ over script history e) some)
 
--- each of some sits at a path of the log
-abbrev Sits : List Entry → List (List ℕ) × Who → Type 0
-Sits history place = path_at (nodes_of history) (node_of place.1) ≡ place.0
+-- a run that has somebody to tell goes on
+on-where-told : (history : List Entry) (who : Who) (others leaving : List Who) → leaving ≡ who ∷ others → AreToldNext history leaving → is_over history ≡ false
+on-where-told history who others leaving is told = go (is_over history) refl
+  where
+    go : (b : Bool) → is_over history ≡ b → is_over history ≡ false
+    go false e = e
+    go true e = let bad = sym is ∙ told.over e in cc
 
 module _ {O : Type 0} (view : O → View) (name : O → List ℕ) (says : O → Says) where
   -- an object gave no answer
@@ -62,11 +68,12 @@ module _ {O : Type 0} (view : O → View) (name : O → List ℕ) (says : O → 
         each = rw (same, same_log.script) kept.each;
         honest = rw same (LiveHonestly-unanswered view name says performer call answer kernel.held held kernel.core.history asked (rw (kept.known going) at (kept.honest)));
         custody =
-            rw same
-            (AreHeld-later name (is_done kernel) true kernel.core.history kernel.core.history held refl refl (λ on. cc)
-            (AreHeld-asked name view says performer call answer kernel.held held (is_done kernel) kernel.core.history asked kept.custody));
+            rw (same, same_log.script)
+            (AreHeld-later name (is_done kernel) true kernel.core.script kernel.core.history kernel.core.history kernel.core.leaving core.leaving held (λ who made. made) refl (λ on. cc)
+            (AreHeld-asked name view says performer call answer kernel.held held (is_done kernel) kernel.core.script kernel.core.history kernel.core.leaving asked kept.custody));
         good = λ h. cc;
         comes = λ h. cc;
+        told = λ h. cc;
         known = λ h. cc;
       })
 
@@ -79,6 +86,7 @@ module _ {O : Type 0} (view : O → View) (name : O → List ℕ) (says : O → 
     custody = kept.custody;
     good = kept.good;
     comes = λ going. comes;
+    told = kept.told;
     known = kept.known;
   }
 
@@ -87,181 +95,204 @@ module _ {O : Type 0} (view : O → View) (name : O → List ℕ) (says : O → 
   kept-failed kernel core same kept = record {
     each = rw (same.history, same.script) kept.each;
     honest = rw same.history kept.honest;
-    custody = rw same.history (AreHeld-later name (is_done kernel) true kernel.core.history kernel.core.history kernel.held refl refl (λ on. cc) kept.custody);
+    custody =
+        rw (same.history, same.script)
+        (AreHeld-later name (is_done kernel) true kernel.core.script kernel.core.history kernel.core.history kernel.core.leaving core.leaving kernel.held (λ who made. made) refl (λ on. cc) kept.custody);
     good = λ going. cc;
     comes = λ going. cc;
+    told = λ going. cc;
     known = λ going. cc;
   }
 
-  -- an object was given back
+  -- an object was given back once the kernel was done
   pub kept-given : (kernel : KernelValue O) (held : List (Who × O)) (back : Who × O) → is_done kernel ≡ true → IsPermutation (back ∷ held) kernel.held → IsKernel view name says kernel
       → IsKernel view name says (record kernel { held = held })
   kept-given kernel held back done same kept = record {
     each = kept.each;
     honest = LiveHonestly-less view name says kernel.held held back kernel.core.history kernel.unknown same kept.honest;
-    custody = AreHeld-less name kernel.core.history kernel.held held back (is_done kernel) done same kept.custody;
+    custody =
+        AreHeld-less name kernel.core.script kernel.core.history kernel.core.leaving kernel.core.leaving kernel.held held back (is_done kernel) (is_done kernel) same
+        (λ on. let bad : true ≡ false = sym done ∙ on in cc) kept.custody;
     good = kept.good;
     comes = kept.comes;
+    told = kept.told;
     known = kept.known;
   }
 
-module _ (laws : LogLaws) {O : Type 0} (view : O → View) (name : O → List ℕ) (says : O → Says) where
-  -- each keeps its place after an entry
-  pub placed-later : (kernel : KernelValue O) (entry : Entry) (paths : List (List (List ℕ) × Who)) → All (λ (place : List (List ℕ) × Who). node_of place.1 < length (nodes_of kernel.core.history)) paths
-      → ArePlaced kernel.core.history paths → ArePlaced (entry ∷ kernel.core.history) paths
-  placed-later kernel entry paths below placed = ArePlaced-later laws.nodes entry kernel.core.history paths below placed
+  -- the first of those that are to be told has ended, and is held
+  pub leaver-ended : (kernel : KernelValue O) (who : Who) (others : List Who) → kernel.core.leaving ≡ who ∷ others → kernel.failed ≡ false → IsKernel view name says kernel → HasEnded kernel.core.history who
+  leaver-ended kernel who others is going kept = All-head (HasEnded kernel.core.history) who others (subst (All (HasEnded kernel.core.history)) is (kept.told going).have_ended)
 
-  -- who is held stands at a node
-  pub below : (kernel : KernelValue O) → IsKernel view name says kernel → All (λ who. node_of who < length (nodes_of kernel.core.history)) (who_held kernel)
-  below kernel kept = held-below laws.components kernel.core.script kernel.core.history (who_held kernel) kept.each kept.custody.made
+  pub leaver-held : (kernel : KernelValue O) (who : Who) (others : List Who) → kernel.core.leaving ≡ who ∷ others → kernel.failed ≡ false → IsKernel view name says kernel → Contains (who_held kernel) who
+  leaver-held kernel who others is going kept =
+      let on : is_over kernel.core.history ≡ false = on-where-told kernel.core.history who others kernel.core.leaving is (kept.told going) in
+      let whole = kept.custody.whole (rw (going, on) refl) in
+      All-head (Contains (who_held kernel)) who others (subst (All (Contains (who_held kernel))) is whole.ended)
+
+  -- and is given back
+  pub kept-told : (kernel : KernelValue O) (who : Who) (others : List Who) (object : O) (held : List (Who × O)) → kernel.core.leaving ≡ who ∷ others → kernel.failed ≡ false → IsPermutation ((who, object) ∷ held) kernel.held → IsKernel view name says kernel
+      → IsKernel view name says (record kernel { core = record kernel.core { leaving = others }; held = held })
+  kept-told kernel who others object held is going same kept =
+      let history = kernel.core.history in
+      let keys : IsPermutation (keys_of kernel.held) (who ∷ keys_of held) =
+      IsPermutation-map (λ (seat : Who × O). seat.0) kernel.held ((who, object) ∷ held) (IsPermutation-sym ((who, object) ∷ held) kernel.held same) in
+      record {
+        each = kept.each;
+        honest = LiveHonestly-less view name says kernel.held held (who, object) history kernel.unknown same kept.honest;
+        custody =
+            AreHeld-less name kernel.core.script history kernel.core.leaving others kernel.held held (who, object) (is_done kernel) (is_done kernel) same
+            (λ on. AreAllHeld-told history who others (keys_of kernel.held) (keys_of held) kernel.core.leaving is keys (kept.told going) (kept.custody.whole on)) kept.custody;
+        good = kept.good;
+        comes = kept.comes;
+        told = λ h. told-less history who others kernel.core.leaving is (kept.told going);
+        known = kept.known;
+      }
+
+module _ (laws : LogLaws) {O : Type 0} (view : O → View) (name : O → List ℕ) (says : O → Says) where
+  -- the components that are held are nodes
+  pub below : (kernel : KernelValue O) (taken : List (Taken O)) (sequences : List (Who × O)) → kernel.held ≡ all_held taken sequences → IsKernel view name says kernel
+      → All (λ (place : List (List ℕ) × ℕ). place.1 < length (nodes_of kernel.core.history)) (paths_in taken)
+  below kernel taken sequences is kept =
+      let made : All (WasMade kernel.core.history) (keys_of (all_held taken sequences)) = subst (λ (held : List (Who × O)). All (WasMade kernel.core.history) (keys_of held)) is kept.custody.made in
+      All-weaker (λ (place : List (List ℕ) × ℕ). WasMade kernel.core.history (Node place.1)) (λ place. place.1 < length (nodes_of kernel.core.history))
+      (λ place there. All-contains (λ node. node < length (nodes_of kernel.core.history)) (components_of kernel.core.history) place.1 (laws.components kernel.core.script kernel.core.history kept.each) there)
+      (paths_in taken) (components-hold (WasMade kernel.core.history) taken sequences made)
+
+  -- an entry that makes nobody, of which no life tells
+  kept-later : (kernel : KernelValue O) (entry : Entry) → kernel.failed ≡ false → is_over kernel.core.history ≡ false → IsNext kernel.core.script kernel.core.history entry → ((hearer : Who) → exchanged_in hearer entry ≡ [])
+      → components_of (entry ∷ kernel.core.history) ≡ components_of kernel.core.history → begun_of (entry ∷ kernel.core.history) ≡ begun_of kernel.core.history → IsKernel view name says kernel
+      → IsKernel view name says (record kernel { core = core_after entry kernel.core })
+  kept-later kernel entry going on comes silent components begun kept =
+      let script = kernel.core.script in
+      let history = kernel.core.history in
+      let leave = laws.leavers script history entry kept.each comes in
+      record {
+        each = (comes, kept.each);
+        honest = LiveHonestly-silent view name says entry history kernel.held kernel.unknown silent kept.honest;
+        custody =
+            AreHeld-later name (is_done kernel) (is_done (record kernel { core = core_after entry kernel.core })) script history (entry ∷ history) kernel.core.leaving (leaving_of (entry ∷ history)) kernel.held
+            (WasMade-same history (entry ∷ history) components begun) (types-same script entry history components begun)
+            (λ more. AreAllHeld-later laws.lived entry history kernel.core.leaving (who_held kernel) components begun leave (kept.custody.whole (rw (going, on) refl))) kept.custody;
+        good = kept.good;
+        comes = λ h. tt;
+        told = λ h. told-next history entry leave;
+        known = kept.known;
+      }
 
   -- the machine made an entry
   pub kept-moved : (kernel : KernelValue O) (entry : Entry) → next_of kernel.core.script kernel.core.history ≡ Exactly entry
       → kernel.failed ≡ false → IsKernel view name says kernel → IsKernel view name says (record kernel { core = core_after entry kernel.core })
   kept-moved kernel entry exact going kept =
-      let history = kernel.core.history in
-      let on : is_over history ≡ false = on-where-some laws.over kernel.core.script history (Exactly entry) exact tt in
-      let machines = laws.silent kernel.core.script history entry exact in
-      record {
-        each = (rw exact refl, kept.each);
-        honest = LiveHonestly-silent view name says entry history kernel.held kernel.unknown machines.silent kept.honest;
-        custody = AreHeld-later name (is_done kernel) (is_done (record kernel { core = core_after entry kernel.core })) history (entry ∷ history) kernel.held machines.keeps (types-same entry history machines.keeps) (λ _. rw (going, on) refl) kept.custody;
-        good = kept.good;
-        comes = λ h. tt;
-        known = kept.known;
-      }
+      let on : is_over kernel.core.history ≡ false = on-where-some laws.over kernel.core.script kernel.core.history (Exactly entry) exact tt in
+      let machines = laws.silent kernel.core.script kernel.core.history entry exact in
+      kept-later kernel entry going on (rw exact refl) machines.silent machines.keeps machines.starts_none kept
+
+  -- a needed object was declined
+  pub kept-declined : (kernel : KernelValue O) (need : Need) (made : Outcome) (performer : Who) (act : Act) → next_of kernel.core.script kernel.core.history ≡ next.Need need made performer act → kernel.failed ≡ false
+      → IsKernel view name says kernel → IsKernel view name says (record kernel { core = core_after (Did performer (Refused NoObject) act) kernel.core })
+  kept-declined kernel need made performer act needs going kept =
+      let on : is_over kernel.core.history ≡ false = on-where-some laws.over kernel.core.script kernel.core.history (next.Need need made performer act) needs tt in
+      kept-later kernel (Did performer (Refused NoObject) act) going on (rw needs (inr refl)) (λ hearer. refl) refl refl kept
 
   -- who is asked is held
   pub asked-held : (kernel : KernelValue O) (performer : Who) (call : Call) (cause : Option Cause) → next_of kernel.core.script kernel.core.history ≡ Answer performer call cause → kernel.failed ≡ false
-      → IsComponent (components_of kernel.core.history) performer → IsKernel view name says kernel → Contains (who_held kernel) performer
+      → IsThere kernel.core.history performer → IsKernel view name says kernel → Contains (who_held kernel) performer
   asked-held kernel (Node node) call cause answers going there kept =
       let on : is_over kernel.core.history ≡ false = on-where-some laws.over kernel.core.script kernel.core.history (Answer (Node node) call cause) answers tt in
-      All-contains (λ node. Contains (who_held kernel) (Node node)) (components_of kernel.core.history) node (kept.custody.whole (rw (going, on) refl)) there
-  asked-held kernel (Sequence id home) call cause answers going there kept = absurd there
+      All-contains (λ node. Contains (who_held kernel) (Node node)) (components_of kernel.core.history) node (kept.custody.whole (rw (going, on) refl)).components there
+  asked-held kernel (Sequence id home) call cause answers going there kept =
+      let on : is_over kernel.core.history ≡ false = on-where-some laws.over kernel.core.script kernel.core.history (Answer (Sequence id home) call cause) answers tt in
+      (kept.custody.whole (rw (going, on) refl)).living id home there
 
   -- an object answered
   pub kept-heard : (kernel : KernelValue O) (core : CoreValue) (held : List (Who × O)) (performer : Who) (call : Call) (cause : Option Cause) (acts : List Act)
-      → next_of kernel.core.script kernel.core.history ≡ Answer performer call cause → kernel.failed ≡ false → core ≡ core_after (Heard performer call cause acts) kernel.core
+      → next_of kernel.core.script kernel.core.history ≡ next.Answer performer call cause → kernel.failed ≡ false → core ≡ core_after (Heard performer call cause acts) kernel.core
       → IsAsked view name says performer call (Ok acts) kernel.held held → IsKernel view name says kernel
       → IsKernel view name says (record { core = core; held = held; failed = false; unknown = None })
   kept-heard kernel core held performer call cause acts answers going is asked kept =
+      let script = kernel.core.script in
       let history = kernel.core.history in
-      let on : is_over history ≡ false = on-where-some laws.over kernel.core.script history (Answer performer call cause) answers tt in
+      let entry : Entry = Heard performer call cause acts in
+      let on : is_over history ≡ false = on-where-some laws.over script history (Answer performer call cause) answers tt in
+      let comes : IsNext script history (Heard performer call cause acts) = rw answers (acts, refl) in
+      let leave = laws.leavers script history (Heard performer call cause acts) kept.each comes in
+      let were = AreHeld-asked name view says performer call (Ok acts) kernel.held held (is_done kernel) script history kernel.core.leaving asked kept.custody in
       rw is (record {
-        each = (rw answers (acts, refl), kept.each);
+        each = (comes, kept.each);
         honest = LiveHonestly-heard view name says performer call cause acts kernel.held held history asked kept.custody.distinct (rw (kept.known going) at (kept.honest));
         custody =
-            AreHeld-later name (is_done kernel) false history (Heard performer call cause acts ∷ history) held refl refl (λ _. rw (going, on) refl)
-            (AreHeld-asked name view says performer call (Ok acts) kernel.held held (is_done kernel) history asked kept.custody);
+            AreHeld-later name (is_done kernel) false script history (Heard performer call cause acts ∷ history) kernel.core.leaving (leaving_of (Heard performer call cause acts ∷ history)) held
+            (WasMade-same history (Heard performer call cause acts ∷ history) refl refl) refl
+            (λ more. AreAllHeld-later laws.lived (Heard performer call cause acts) history kernel.core.leaving (keys_of held) refl refl leave (were.whole (rw (going, on) refl))) were;
         good = λ h. kept.good going;
         comes = λ h. tt;
+        told = λ h. told-next history (Heard performer call cause acts) leave;
         known = λ h. refl;
       })
 
   -- a needed object was taken
-  pub kept-supplied : (kernel : KernelValue O) (held : List (Who × O)) (object : O) (need : Need) (performer : Who) (act : Act) → next_of kernel.core.script kernel.core.history ≡ next.Need need performer act → kernel.failed ≡ false
-      → name object ≡ need.type_name → IsPermutation ((Node (length (nodes_of kernel.core.history)), object) ∷ kernel.held) held → IsKernel view name says kernel
-      → IsKernel view name says (record kernel { core = core_after (Did performer (Made need.type_name) act) kernel.core; held = held })
-  kept-supplied kernel held object need performer act needs going fits same kept =
+  pub kept-supplied : (kernel : KernelValue O) (held : List (Who × O)) (object : O) (need : Need) (made : Outcome) (performer : Who) (act : Act) (who : Who) → next_of kernel.core.script kernel.core.history ≡ next.Need need made performer act
+      → made_who kernel.core.history (next.Need need made performer act) ≡ Some who → kernel.failed ≡ false → name object ≡ need.type_name → IsPermutation ((who, object) ∷ kernel.held) held → IsKernel view name says kernel
+      → IsKernel view name says (record kernel { core = core_after (Did performer made act) kernel.core; held = held })
+  kept-supplied kernel held object need made performer act who needs who_is going fits same kept =
+      let script = kernel.core.script in
       let history = kernel.core.history in
-      let node : ℕ = length (nodes_of history) in
-      let grown = laws.made kernel.core.script history need performer act needs in
-      let on : is_over history ≡ false = on-where-some laws.over kernel.core.script history (next.Need need performer act) needs tt in
+      let entry : Entry = Did performer made act in
+      let on : is_over history ≡ false = on-where-some laws.over script history (next.Need need made performer act) needs tt in
+      let comes : IsNext script history (Did performer made act) = rw needs (inl refl) in
+      let leave = laws.leavers script history (Did performer made act) kept.each comes in
+      let come = has-come laws script history kept.each need made performer act who needs who_is in
+      let keys : IsPermutation (who ∷ who_held kernel) (keys_of held) = IsPermutation-map (λ (seat : Who × O). seat.0) ((who, object) ∷ kernel.held) held same in
       record {
-        each = (rw needs (inl refl), kept.each);
+        each = (comes, kept.each);
         honest =
-            LiveHonestly-silent view name says (Did performer (Made need.type_name) act) history held kernel.unknown (λ n. refl)
-            (LiveHonestly-more view name says kernel.held held history (Node node) object kernel.unknown same (laws.unasked kernel.core.script history node kept.each (omega arith)) kept.honest);
+            LiveHonestly-silent view name says (Did performer made act) history held kernel.unknown (λ hearer. refl)
+            (LiveHonestly-more view name says kernel.held held history who object kernel.unknown same come.unasked kept.honest);
         custody =
-            AreHeld-more name history (Did performer (Made need.type_name) act ∷ history) kernel.held held (is_done (record kernel { core = core_after (Did performer (Made need.type_name) act) kernel.core; held = held })) node object same grown.components (rw fits refl)
-            (below kernel kept) (AreHeld-later name (is_done kernel) false history history kernel.held refl refl (λ _. rw (going, on) refl) kept.custody);
+            AreHeld-come name script history (Did performer made act ∷ history) kernel.core.leaving (leaving_of (Did performer made act ∷ history)) kernel.held held (is_done kernel) (is_done (record kernel { core = core_after (Did performer made act) kernel.core; held = held })) who object same
+            come.made come.others come.apart (come.types ∙ ap (λ type_name. (who, type_name) ∷ types_made script history) (sym fits))
+            (λ more.
+            AreAllHeld-come script (Did performer made act) history kernel.core.leaving (who_held kernel) (keys_of held) need.type_name who
+            (λ other there. Contains-permutation (who ∷ who_held kernel) (keys_of held) other keys (suc there.0, omega (arith, there.1), there.2))
+            (Contains-permutation (who ∷ who_held kernel) (keys_of held) who keys (0, omega arith, refl)) leave come (kept.custody.whole (rw (going, on) refl))) kept.custody;
         good = kept.good;
         comes = λ h. tt;
+        told = λ h. told-next history (Did performer made act) leave;
         known = kept.known;
       }
-
-  -- it sits at its path
-  pub placed-supplied : (kernel : KernelValue O) (need : Need) (performer : Who) (act : Act) (paths new : List (List (List ℕ) × Who)) → next_of kernel.core.script kernel.core.history ≡ next.Need need performer act
-      → All (λ (place : List (List ℕ) × Who). node_of place.1 < length (nodes_of kernel.core.history)) paths → IsPermutation ((need.path, Node (length (nodes_of kernel.core.history))) ∷ paths) new
-      → ArePlaced kernel.core.history paths → ArePlaced (Did performer (Made need.type_name) act ∷ kernel.core.history) new
-  placed-supplied kernel need performer act paths new needs below same placed =
-      let history = kernel.core.history in
-      let entry : Entry = Did performer (Made need.type_name) act in
-      All-permutation (Sits (entry ∷ history)) ((need.path, Node (length (nodes_of history))) ∷ paths) new same
-      (All-cons (Sits (entry ∷ history)) (need.path, Node (length (nodes_of history))) paths (laws.made kernel.core.script history need performer act needs).path_is
-      (ArePlaced-later laws.nodes entry history paths below placed))
-
-  -- a needed object was declined
-  pub kept-declined : (kernel : KernelValue O) (need : Need) (performer : Who) (act : Act) → next_of kernel.core.script kernel.core.history ≡ next.Need need performer act → kernel.failed ≡ false
-      → IsKernel view name says kernel → IsKernel view name says (record kernel { core = core_after (Did performer (Refused NoObject) act) kernel.core })
-  kept-declined kernel need performer act needs going kept =
-      let history = kernel.core.history in
-      let on : is_over history ≡ false = on-where-some laws.over kernel.core.script history (next.Need need performer act) needs tt in
-      record {
-        each = (rw needs (inr refl), kept.each);
-        honest = LiveHonestly-silent view name says (Did performer (Refused NoObject) act) history kernel.held kernel.unknown (λ node. refl) kept.honest;
-        custody =
-            AreHeld-later name (is_done kernel) (is_done (record kernel { core = core_after (Did performer (Refused NoObject) act) kernel.core })) history (Did performer (Refused NoObject) act ∷ history) kernel.held refl refl (λ _. rw (going, on) refl) kept.custody;
-        good = kept.good;
-        comes = λ h. tt;
-        known = kept.known;
-      }
-
--- where one is given back the others keep their places
-placed-given : (history : List Entry) (old new : List (List (List ℕ) × Who)) (place : List (List ℕ) × Who) → IsPermutation (place ∷ new) old → ArePlaced history old → ArePlaced history new
-placed-given history old new place same placed = All-tail (Sits history) place new (All-permutation (Sits history) old (place ∷ new) (IsPermutation-sym (place ∷ new) old same) placed)
-
--- and where one is asked all do
-pub placed-asked : (history later : List Entry) (old new : List (List (List ℕ) × Who)) → later ≡ history → IsPermutation old new → ArePlaced history old → ArePlaced later new
-placed-asked history later old new same_log same placed = rw same_log (All-permutation (Sits history) old new same placed)
 
 -- nobody is nobody twice
 IsDistinct-nil : IsDistinct same_who []
 unfolding IsDistinct
 IsDistinct-nil = tt
 
+-- no sequence lives before the first entry
+none-lives : (id home : ℕ) → IsLiving [] id home → ⊥
+none-lives id home living = let bad = living.home_is in cc
+
 module _ {O : Type 0} (view : O → View) (name : O → List ℕ) (says : O → Says) where
   -- a new kernel
-  pub kept-new : (script : ScriptValue) (core : CoreValue) (taken : List (Taken O)) → core ≡ record { script = script; history = []; standing = Nothing; health = Good } → taken ≡ []
-      → IsKernel view name says (record { core = core; held = held_in taken; failed = false; unknown = None }) × ArePlaced core.history (paths_in taken)
-  kept-new script core taken begun none =
-      rw (begun, none) (
+  pub kept-new : (script : ScriptValue) (core : CoreValue) (taken : List (Taken O)) (sequences : List (Who × O)) (count : ℕ) → core ≡ record { script = script; history = []; standing = Nothing; health = Good; leaving = [] } → taken ≡ [] → sequences ≡ [] → count ≡ 0
+      → IsKernel view name says (record { core = core; held = all_held taken sequences; failed = false; unknown = None }) × AreSeated core.history (paths_in taken) count sequences
+  kept-new script core taken sequences count begun none nobody zero =
+      rw (begun, none, nobody, zero) (
         record {
           each = tt;
           honest = All-nil (λ (seat : Who × O). None ≢ Some seat.0 → IsHonestNow (says seat.1) (view seat.1) (life_of seat.0 []));
           custody = record {
             distinct = IsDistinct-nil;
-            made = All-nil (λ (who : Who). Contains (components_of []) (node_of who));
-            named = All-nil (λ (seat : Who × O). Contains (types_made []) (node_of seat.0, name seat.1));
-            whole = λ on. All-nil (λ node. Contains (keys_of (held_in {O = O} [])) (Node node));
+            made = All-nil (WasMade []);
+            named = All-nil (λ (seat : Who × O). Contains (types_made script []) (seat.0, name seat.1));
+            whole = λ on. record {
+              components = All-nil (λ node. Contains [] (Node node));
+              living = λ id home living. absurd (none-lives id home living);
+              ended = All-nil (Contains []);
+            };
           };
           good = λ going. refl;
           comes = λ going. tt;
+          told = λ going. record { have_ended = All-nil (HasEnded []); rising = tt; over = λ over. refl };
           known = λ going. refl;
         },
-        All-nil (Sits []),
+        record { placed = All-nil (Sits []); rising = tt; started = refl },
       )
-
-  -- one was given back, if any was held
-  pub kept-gives : (core : CoreValue) (failed : Bool) (unknown : Option Who) (old new : List (Taken O)) (back : Option (Who × O))
-      → is_done (record { core = core; held = held_in old; failed = failed; unknown = unknown }) ≡ true → IfSome back (λ b. IsTakenOut b old new) → IfNone back (new ≡ old)
-      → IsKernel view name says (record { core = core; held = held_in old; failed = failed; unknown = unknown }) × ArePlaced core.history (paths_in old)
-      → IsKernel view name says (record { core = core; held = held_in new; failed = failed; unknown = unknown }) × ArePlaced core.history (paths_in new)
-  kept-gives core failed unknown old new None done out same kept = rw same kept
-  kept-gives core failed unknown old new (Some back) done out same kept = (
-    kept-given view name says (record { core = core; held = held_in old; failed = failed; unknown = unknown }) (held_in new) back done (held-out back old new out) kept.0,
-    placed-given core.history (paths_in old) (paths_in new) (out.path, back.0) (IsPermutation-map (λ (seat : Taken O). (seat.path, seat.who)) (record { path = out.path; who = back.0; object = back.1 } ∷ new) old out.taken) kept.1,
-  )
-    where
-      held-out : (back : Who × O) (old new : List (Taken O)) (out : IsTakenOut back old new) → IsPermutation (back ∷ held_in new) (held_in old)
-      held-out back old new out = IsPermutation-map (λ (seat : Taken O). (seat.who, seat.object)) (record { path = out.path; who = back.0; object = back.1 } ∷ new) old out.taken
-
--- who is given back was held, and is the first
-pub given-held : {O : Type 0} (old new : List (Taken O)) (back : Option (Who × O)) → IfSome back (λ b. IsTakenOut b old new) → IfSome back (λ b. IsPermutation (b ∷ held_in new) (held_in old))
-given-held old new None out = tt
-given-held {O} old new (Some back) out = IsPermutation-map (λ (seat : Taken O). (seat.who, seat.object)) (record { path = out.path; who = back.0; object = back.1 } ∷ new) old out.taken
-
-pub given-first : {O : Type 0} (history : List Entry) (old new : List (Taken O)) (back : Option (Who × O)) → ArePlaced history (paths_in old) → IfSome back (λ b. IsTakenOut b old new)
-    → IfSome back (λ b. IsFirstDown (nodes_of history) b.0 (keys_of (held_in new)))
-given-first history old new None placed out = tt
-given-first history old new (Some back) placed out = first-taken_out history back old new out placed

@@ -1,8 +1,14 @@
 pub mod Lists
+pub mod Numbers
 pub mod Places
+pub mod Sitters
+pub mod Rising
+pub mod Custody
 pub mod Lives
+pub mod Sitting
 pub mod Held
 pub mod Kept
+pub mod Seated
 pub mod Stepped
 pub mod Supplied
-pub mod Numbers
+pub mod Given

@@ -1,5 +1,5 @@
 -- What a function finds along a list, where it may find nothing.
-use Rattle.std.proofs.Common.{◌≡◌, ◌∙◌, ℕ, zero, suc, ◌<◌, Bool, true, false, nat_eq, List, [], ◌∷◌, length, map, Option, Some, None, IsSome, unwrap_or, get_or, refl, sym, ap, arith}
+use Rattle.std.proofs.Common.{◌≡◌, ◌∙◌, ℕ, zero, suc, ◌<◌, ◌≤◌, List, [], ◌∷◌, length, map, Option, Some, None, IsSome, unwrap_or, get_or, refl, sym, ap, arith}
 use Rattle.std.proofs.lemmas.List.Elements.{All-nil, All-cons, All-head, All-tail}
 use Rattle.std.proofs.lemmas.List.Sorted.{All-permutation, IsPermutation-map}
 use Rattle.std.proofs.lemmas.Option.{same_Some}
@@ -44,6 +44,15 @@ module _ {X Y : Type 0} (f : X → Option Y) where
       go : (found : Option Y) → f x ≡ found → IsSome (f x) → length (filter_map f xs) ≡ length xs → length (filter_map f (x ∷ xs)) ≡ length (x ∷ xs)
       go None is some rest = let bad = rw is at some in cc
       go (Some y) is some rest = rw is (omega (arith, rest))
+
+  -- no more is found than there are places
+  pub filter_map-few : (xs : List X) → length (filter_map f xs) ≤ length xs
+  filter_map-few [] = omega arith
+  filter_map-few (x ∷ xs) = go (f x) refl (filter_map-few xs)
+    where
+      go : (found : Option Y) → f x ≡ found → length (filter_map f xs) ≤ length xs → length (filter_map f (x ∷ xs)) ≤ length (x ∷ xs)
+      go None is few = rw is (omega (arith, few))
+      go (Some y) is few = rw is (omega (arith, few))
 
   -- what holds of each place holds of what is found there
   pub All-filter_map : (P : X → Type 0) (Q : Y → Type 0) (xs : List X) → ((x : X) (y : Y) → f x ≡ Some y → P x → Q y) → All P xs → All Q (filter_map f xs)

@@ -1,8 +1,8 @@
 -- What stays true of the seats.
-use Rattle.std.proofs.Common.{◌≡◌, ◌≢◌, ◌∙◌, ℕ, Bool, true, false, nat_eq, cond, List, [], ◌∷◌, length, map, remove, get_or, Option, Some, None, IsSome, refl, sym, ap, subst, arith}
+use Rattle.std.proofs.Common.{◌≡◌, ◌≢◌, ◌∙◌, ℕ, Bool, true, false, nat_eq, cond, List, ◌∷◌, length, map, remove, get_or, Option, Some, None, IsSome, refl, sym, ap, subst, arith}
 use Rattle.std.proofs.lemmas.Bool.Decides.{nat_tests}
 use Rattle.std.proofs.lemmas.List.Elements.{All-cons, All-contains, All-head, All-tail, All-map, All-weaker}
-use Rattle.std.proofs.lemmas.List.Sorted.{All-permutation, IsPermutation-map, IsPermutation-remove, IsPermutation-sym, IsPermutation-trans}
+use Rattle.std.proofs.lemmas.List.Sorted.{All-permutation, IsPermutation-map, IsPermutation-remove, IsPermutation-sym}
 use Rattle.std.proofs.lemmas.Map.Keys.{IsDistinct-cons, IsDistinct-head, IsDistinct-tail, IsDistinct-IsPermutation}
 use Rattle.std.proofs.lemmas.Option.{same_Some}
 use Rattle.std.specs.Prelude.{All, Contains}
@@ -20,7 +20,7 @@ use Rattle.uvm_object.specs.Acts.{node_of}
 use Rattle.uvm_object.specs.declared.acts.Who.{Who}
 use Rattle.uvm_object.specs.declared.acts.Who.TheVariants.{Node}
 use Rattle.bench_kernel.specs.declared.seats.Seat.{Seat}
-use Rattle.bench_kernel.specs.Seats.{Taken, held_in, paths_in}
+use Rattle.bench_kernel.specs.Seats.{Taken, held_in}
 use Rattle.bench_kernel.specs.Places.{AreSeats, IsSeat, Place, SitsAt, place_cmp, seat_at, taken_in}
 use Rattle.bench_kernel.proofs.Numbers.{apart-eq, eq-apart, eq-flips, eq-self}
 use Rattle.bench_kernel.proofs.Lists.{All-filter_map, All-from_recursion, All-places, All-unmap, Contains-filter_map, Contains-map, filter_map-IsPermutation, filter_map-same, length-filter_map, recursion-from_All}
@@ -63,20 +63,20 @@ module _ {O : Type 0} where
     abbrev first : Place
     first = (record { 0 = path }, key)
 
-    others-differ : All (λ (taken : Taken O). taken.who ≢ Node sitter) (taken_in slab places)
+    others-differ : All (λ (taken : Taken O). Node taken.node ≢ Node sitter) (taken_in slab places)
     others-differ =
-        All-unmap (λ (held : Who × O). held.0 ≢ Node sitter) (λ (taken : Taken O). (taken.who, taken.object)) (taken_in slab places)
+        All-unmap (λ (held : Who × O). held.0 ≢ Node sitter) (λ (taken : Taken O). (Node taken.node, taken.object)) (taken_in slab places)
         (All-unmap (λ other. other ≢ Node sitter) (λ (held : Who × O). held.0) (held_in (taken_in slab places)) fresh)
 
     -- each of the others is who was there
     other-same : All (λ place. (get new place.1 ≡ get slab place.1) × IsSeat new more place.1) places
-    other-same k d h = go (get_or places k d) (seats.seated k d h) (All-places (seat_at slab) (λ seat. seat.who ≢ Node sitter) places others-differ k d h)
+    other-same k d h = go (get_or places k d) (seats.seated k d h) (All-places (seat_at slab) (λ seat. Node seat.node ≢ Node sitter) places others-differ k d h)
       where
-        go : (place : Place) → IsSeat slab table place.1 → ((taken : Taken O) → seat_at slab place ≡ Some taken → taken.who ≢ Node sitter) → (get new place.1 ≡ get slab place.1) × IsSeat new more place.1
+        go : (place : Place) → IsSeat slab table place.1 → ((taken : Taken O) → seat_at slab place ≡ Some taken → Node taken.node ≢ Node sitter) → (get new place.1 ≡ get slab place.1) × IsSeat new more place.1
         go place seat unlike =
             let other : place.1 ≢ key = λ e. let bad = sym (ap (get slab) e ∙ free) ∙ seat.there in cc in
             let stays : get new place.1 ≡ get slab place.1 = seated.others place.1 other in
-            let apart : sitter ≢ seat.seat.node = λ e. unlike (record { path = place.0.0; who = Node seat.seat.node; object = seat.seat.object }) (rw seat.there refl) (ap Node (sym e)) in
+            let apart : sitter ≢ seat.seat.node = λ e. unlike (record { path = place.0.0; node = seat.seat.node; object = seat.seat.object }) (rw seat.there refl) (ap Node (sym e)) in
             (stays, record { seat = seat.seat; there = stays ∙ seat.there; found = found seat.seat.node ∙ (rw (eq-apart sitter seat.seat.node apart) seat.found) })
 
     all-seated : All (λ place. IsSeat new more place.1) (first ∷ places)
@@ -116,9 +116,9 @@ module _ {O : Type 0} where
       exact = exact-more;
     }
 
-    pub taken_in-insert : IsPermutation (record { path = path; who = Node sitter; object = object } ∷ taken_in slab places) (taken_in new next)
+    pub taken_in-insert : IsPermutation (record { path = path; node = sitter; object = object } ∷ taken_in slab places) (taken_in new next)
     taken_in-insert =
-        let taken : Taken O = record { path = path; who = Node sitter; object = object } in
+        let taken : Taken O = record { path = path; node = sitter; object = object } in
         let others : taken_in new places ≡ taken_in slab places = taken_in-same slab new places (λ k d h. (other-same k d h).0) in
         let front : taken_in new (first ∷ places) ≡ taken ∷ taken_in slab places = rw (seated.changed, others) refl in
         rw (← front) (filter_map-IsPermutation (seat_at new) taken (first ∷ places) next (all-found new more (first ∷ places) all-seated) same)
@@ -174,9 +174,9 @@ module _ {O : Type 0} where
       exact = exact-less;
     }
 
-    pub taken_in-pop : IsPermutation (record { path = place.0.0; who = Node seat.node; object = seat.object } ∷ taken_in new next) (taken_in slab places)
+    pub taken_in-pop : IsPermutation (record { path = place.0.0; node = seat.node; object = seat.object } ∷ taken_in new next) (taken_in slab places)
     taken_in-pop =
-        let taken : Taken O = record { path = place.0.0; who = Node seat.node; object = seat.object } in
+        let taken : Taken O = record { path = place.0.0; node = seat.node; object = seat.object } in
         let others : taken_in new next ≡ taken_in slab next = taken_in-same slab new next (λ k d h. (other-stays k d h).0) in
         let front : taken_in slab (place ∷ next) ≡ taken ∷ taken_in new next = rw (there, others) refl in
         rw (← front) (IsPermutation-sym (taken_in slab places) (taken_in slab (place ∷ next)) (filter_map-IsPermutation (seat_at slab) taken places (place ∷ next) (all-found slab table places seats.seated) same))
@@ -197,7 +197,7 @@ module _ {O : Type 0} where
           → is_lt (down_cmp taken.path place.0.0) ≡ false
       path-of other taken None is at low = let bad = rw is at at in cc
       path-of other taken (Some seat) is at low =
-          let same : other.0.0 ≡ taken.path = ap (λ (t : Taken O). t.path) (same_Some (record { path = other.0.0; who = Node seat.node; object = seat.object }) taken (rw is at at)) in
+          let same : other.0.0 ≡ taken.path = ap (λ (t : Taken O). t.path) (same_Some (record { path = other.0.0; node = seat.node; object = seat.object }) taken (rw is at at)) in
           subst (λ p. is_lt (down_cmp p place.0.0) ≡ false) same low
 
   -- the place of somebody who sits
@@ -213,13 +213,13 @@ module _ {O : Type 0} where
   pub place-of : (slab : Slab (Seat O)) (table : List (ℕ × ℕ)) (places : List Place) (who : Who) → AreSeats slab table places → Contains (keys_of (held_in (taken_in slab places))) who → HasPlace slab table places who
   place-of slab table places who seats sits =
       let held = Contains-map (λ (held : Who × O). held.0) (held_in (taken_in slab places)) who sits in
-      let taken = Contains-map (λ (taken : Taken O). (taken.who, taken.object)) (taken_in slab places) held.0 held.1 in
+      let taken = Contains-map (λ (taken : Taken O). (Node taken.node, taken.object)) (taken_in slab places) held.0 held.1 in
       let found = Contains-filter_map (seat_at slab) places taken.0 taken.1 in
       let place = found.0 in
       let there = found.1 in
       let sat = All-contains (λ (place : Place). IsSeat slab table place.1) places place seats.seated there in
-      let same : record { path = place.0.0; who = Node sat.seat.node; object = sat.seat.object } ≡ taken.0 = same_Some (record { path = place.0.0; who = Node sat.seat.node; object = sat.seat.object }) taken.0 (rw sat.there at (found.2)) in
-      let same_who : Node sat.seat.node ≡ who = ap (λ (t : Taken O). t.who) same ∙ ap (λ (h : Who × O). h.0) taken.2 ∙ held.2 in
+      let same : record { path = place.0.0; node = sat.seat.node; object = sat.seat.object } ≡ taken.0 = same_Some (record { path = place.0.0; node = sat.seat.node; object = sat.seat.object }) taken.0 (rw sat.there at (found.2)) in
+      let same_who : Node sat.seat.node ≡ who = ap (λ (t : Taken O). Node t.node) same ∙ ap (λ (h : Who × O). h.0) taken.2 ∙ held.2 in
       record {
         place = place;
         others = remove places there.0;
@@ -262,8 +262,8 @@ module _ {O : Type 0} where
 
     -- the others are who they were
     pub record IsWritten (path : List (List ℕ)) (others : List (Taken O)) : Type 0 where
-      pub was : IsPermutation (record { path = path; who = Node seat.node; object = seat.object } ∷ others) (taken_in slab places)
-      pub is : IsPermutation (record { path = path; who = Node seat.node; object = object } ∷ others) (taken_in written places)
+      pub was : IsPermutation (record { path = path; node = seat.node; object = seat.object } ∷ others) (taken_in slab places)
+      pub is : IsPermutation (record { path = path; node = seat.node; object = object } ∷ others) (taken_in written places)
 
     pub taken_in-write : (place : Place) (others : List Place) → place.1 ≡ key → IsPermutation places (place ∷ others) → IsWritten place.0.0 (taken_in slab others)
     taken_in-write place others same_key same =
@@ -275,15 +275,15 @@ module _ {O : Type 0} where
         let rest : taken_in written others ≡ taken_in slab others =
         taken_in-same slab written others
         (All-weaker (λ (other : Place). nat_eq place.1 other.1 ≡ false) (λ other. get written other.1 ≡ get slab other.1) (λ other e. write.others other.1 (λ s. apart-eq place.1 other.1 e (same_key ∙ sym s))) others unlike) in
-        let before : taken_in slab (place ∷ others) ≡ record { path = place.0.0; who = Node seat.node; object = seat.object } ∷ taken_in slab others = rw (same_key, there) refl in
-        let after : taken_in written (place ∷ others) ≡ record { path = place.0.0; who = Node seat.node; object = object } ∷ taken_in slab others = rw (same_key, write.changed, rest) refl in
+        let before : taken_in slab (place ∷ others) ≡ record { path = place.0.0; node = seat.node; object = seat.object } ∷ taken_in slab others = rw (same_key, there) refl in
+        let after : taken_in written (place ∷ others) ≡ record { path = place.0.0; node = seat.node; object = object } ∷ taken_in slab others = rw (same_key, write.changed, rest) refl in
         record {
           was =
               rw (← before)
               (IsPermutation-sym (taken_in slab places) (taken_in slab (place ∷ others))
-              (filter_map-IsPermutation (seat_at slab) (record { path = place.0.0; who = Node seat.node; object = seat.object }) places (place ∷ others) (all-found slab table places seats.seated) same));
+              (filter_map-IsPermutation (seat_at slab) (record { path = place.0.0; node = seat.node; object = seat.object }) places (place ∷ others) (all-found slab table places seats.seated) same));
           is =
               rw (← after)
               (IsPermutation-sym (taken_in written places) (taken_in written (place ∷ others))
-              (filter_map-IsPermutation (seat_at written) (record { path = place.0.0; who = Node seat.node; object = object }) places (place ∷ others) (all-found written table places AreSeats-write.seated) same));
+              (filter_map-IsPermutation (seat_at written) (record { path = place.0.0; node = seat.node; object = object }) places (place ∷ others) (all-found written table places AreSeats-write.seated) same));
         }

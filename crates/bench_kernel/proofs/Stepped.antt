@@ -1,9 +1,8 @@
 -- What a turn of the machine makes of a step.
-use Rattle.std.proofs.Common.{◌≡◌, ◌∙◌, ℕ, true, false, ◌==◌, List, [], ◌∷◌, ◌<◌, length, Option, Some, None, IfSome, Result, Ok, Err, inl, inr, refl, ap, subst, arith}
-use Rattle.std.proofs.lemmas.Bool.Decides.{nat_tests}
+use Rattle.std.proofs.Common.{◌≡◌, ◌∙◌, ℕ, true, false, List, [], ◌∷◌, ◌<◌, length, Option, Some, None, IfSome, Result, Ok, Err, inl, inr, refl, sym, ap, subst}
+use Rattle.std.specs.List.Sorted.{IsPermutation}
 use Rattle.std.specs.declared.alloc.AllocError.{AllocError}
 use Rattle.uvm_phase.specs.declared.agendas.Cause.{Cause}
-use Rattle.uvm_object.specs.Acts.{node_of}
 use Rattle.uvm_object.specs.Objects.{View, Says}
 use Rattle.uvm_object.specs.declared.acts.Who.{Who}
 use Rattle.uvm_object.specs.declared.acts.Call.{Call}
@@ -23,11 +22,61 @@ use Rattle.bench_core.specs.declared.cores.Health.{Health}
 use Rattle.bench_core.specs.declared.cores.Health.TheVariants.{Good}
 use Rattle.bench_core.specs.declared.faults.CoreFault.{CoreFault}
 use Rattle.bench_core.specs.declared.faults.CoreFault.TheVariants.{Memory, LogFull, Failed, NoTest}
-use Rattle.bench_core.specs.Cores.{CoreValue, IsTurn, IsNextTurn, IsRefusedTurn, Comes, core_after, answer_in, failed_from, need_of}
+use Rattle.bench_core.specs.Cores.{CoreValue, IsTurn, IsNextTurn, IsRefusedTurn, IsToldTurn, Comes, core_after, answer_in, failed_from, need_of}
 use Rattle.bench_kernel.specs.Kernels.{KernelValue}
 use Rattle.bench_kernel.specs.Asked.{IsAsked}
-use Rattle.bench_kernel.specs.Steps.{IsWaiting, IsMoved, IsRefusedStep, IsSameLog, WasGiven, unanswered_from}
+use Rattle.bench_kernel.specs.Steps.{IsBack, IsReady, IsWaiting, IsMoved, IsRefusedStep, IsSameLog, WasGiven, unanswered_from}
 use Rattle.bench_kernel.proofs.Lives.{same_who-self}
+
+-- the machine tells nobody that has ended
+abbrev pub TellsNone : turn.Turn → Type 0
+TellsNone (turn.TheVariants.Leave who) = ⊥
+TellsNone turn = Unit {0}
+
+-- then all were told, and what stands, or comes next, is done
+pub record IsTold (result : Result turn.Turn CoreFault) (old new : CoreValue) : Type 0 where
+  pub told : old.leaving ≡ []
+  pub turn : IsNextTurn old.standing result old new
+
+told-by : (leaving : List Who) (result : turn.Turn) (old new : CoreValue) → old.leaving ≡ leaving → TellsNone result → IsToldTurn leaving (Ok result) old new → IsTold (Ok result) old new
+told-by [] result old new is tells t = record { told = is; turn = t }
+told-by (who ∷ others) result old new is tells t = absurd (let e : result ≡ turn.TheVariants.Leave who = let same = t.0 in cc in subst TellsNone e tells)
+
+pub told-turn : (result : turn.Turn) (old new : CoreValue) → TellsNone result → IsToldTurn old.leaving (Ok result) old new → IsTold (Ok result) old new
+told-turn result old new tells t = told-by old.leaving result old new refl tells t
+
+refused-told-by : (leaving : List Who) (fault : CoreFault) (old new : CoreValue) → old.leaving ≡ leaving → IsToldTurn leaving (Err fault) old new → IsTold (Err fault) old new
+refused-told-by [] fault old new is t = record { told = is; turn = t }
+refused-told-by (who ∷ others) fault old new is t = absurd (let e = t.0 in cc)
+
+pub refused-told : (fault : CoreFault) (old new : CoreValue) → IsToldTurn old.leaving (Err fault) old new → IsTold (Err fault) old new
+refused-told fault old new t = refused-told-by old.leaving fault old new refl t
+
+-- or somebody is told, and nothing else changes
+pub record HasTold (who : Who) (old new : CoreValue) : Type 0 where
+  pub others : List Who
+  pub told : old.leaving ≡ who ∷ others
+  pub is : new ≡ record old { leaving = others }
+
+no-leave : (comes : next.Next) (who : Who) (old new : CoreValue) → IsTurn comes (turn.TheVariants.Leave who) old new → ⊥
+no-leave (next.Exactly entry) who old new t = let e = t.0 in cc
+no-leave (next.Answer performer call cause) who old new t = let e = t.0 in cc
+no-leave (next.Need need made performer act) who old new t = let e = t.0 in cc
+no-leave next.Nothing who old new t = let e = t.0 in cc
+
+no-leave-at : (standing : Standing) (who : Who) (old new : CoreValue) → IsNextTurn standing (Ok (turn.TheVariants.Leave who)) old new → ⊥
+no-leave-at Nothing who old new t = no-leave (next_of old.script old.history) who old new t.1
+no-leave-at (Needed need) who old new t = let e = t.0 in cc
+no-leave-at (Asked performer call cause) who old new t = let e = t.0 in cc
+
+leave-by : (leaving : List Who) (who : Who) (old new : CoreValue) → old.leaving ≡ leaving → IsToldTurn leaving (Ok (turn.TheVariants.Leave who)) old new → HasTold who old new
+leave-by [] who old new is t = absurd (no-leave-at old.standing who old new t)
+leave-by (first ∷ others) who old new is t =
+    let same : first ≡ who = let e = t.0 in cc in
+    record { others = others; told = is ∙ ap (λ w. w ∷ others) same; is = t.1 }
+
+pub leave-turn : (who : Who) (old new : CoreValue) → IsToldTurn old.leaving (Ok (turn.TheVariants.Leave who)) old new → HasTold who old new
+leave-turn who old new t = leave-by old.leaving who old new refl t
 
 -- the machine made an entry: what alone could come
 pub record HasMoved (old new : CoreValue) : Type 0 where
@@ -38,7 +87,7 @@ pub record HasMoved (old new : CoreValue) : Type 0 where
 moved-by : (comes : next.Next) (old new : CoreValue) → next_of old.script old.history ≡ comes → IsTurn comes turn.TheVariants.Moved old new → HasMoved old new
 moved-by (next.Exactly entry) old new exact t = record { entry = entry; exact = exact; is = t.1 }
 moved-by (next.Answer performer call cause) old new exact t = absurd (let e = t.0 in cc)
-moved-by (next.Need need performer act) old new exact t = absurd (let e = t.0 in cc)
+moved-by (next.Need need made performer act) old new exact t = absurd (let e = t.0 in cc)
 moved-by next.Nothing old new exact t = absurd (let e = t.0 in cc)
 
 moved-at : (standing : Standing) (old new : CoreValue) → IsNextTurn standing (Ok turn.TheVariants.Moved) old new → HasMoved old new
@@ -58,7 +107,7 @@ pub record HasNeeded (old new : CoreValue) : Type 0 where
 need-by : (comes : next.Next) (old new : CoreValue) → next_of old.script old.history ≡ comes → IsTurn comes turn.TheVariants.Need old new → HasNeeded old new
 need-by (next.Exactly entry) old new is t = absurd (let e = t.0 in cc)
 need-by (next.Answer performer call cause) old new is t = absurd (let e = t.0 in cc)
-need-by (next.Need need performer act) old new is t = record { need = need; is = t.1; comes = rw is refl }
+need-by (next.Need need made performer act) old new is t = record { need = need; is = t.1; comes = rw is refl }
 need-by next.Nothing old new is t = absurd (let e = t.0 in cc)
 
 need-at : (standing : Standing) (old new : CoreValue) → old.standing ≡ standing → Comes standing (next_of old.script old.history) → IsNextTurn standing (Ok turn.TheVariants.Need) old new → HasNeeded old new
@@ -73,7 +122,7 @@ need-turn old new comes t = need-at old.standing old new refl comes t
 over-by : (comes : next.Next) (old new : CoreValue) → IsTurn comes turn.TheVariants.Over old new → new ≡ old
 over-by (next.Exactly entry) old new t = absurd (let e = t.0 in cc)
 over-by (next.Answer performer call cause) old new t = absurd (let e = t.0 in cc)
-over-by (next.Need need performer act) old new t = absurd (let e = t.0 in cc)
+over-by (next.Need need made performer act) old new t = absurd (let e = t.0 in cc)
 over-by next.Nothing old new t = t.1
 
 over-at : (standing : Standing) (old new : CoreValue) → IsNextTurn standing (Ok turn.TheVariants.Over) old new → new ≡ old
@@ -103,7 +152,7 @@ ask-by (next.Answer other told cause) performer call old new comes none t =
       answers = comes ∙ ap (λ w. next.Answer w told cause) same_who ∙ ap (λ c. next.Answer performer c cause) same_call;
       nothing_needed = rw none refl;
     }
-ask-by (next.Need need other act) performer call old new comes none t = absurd (let e = t.0 in cc)
+ask-by (next.Need need made other act) performer call old new comes none t = absurd (let e = t.0 in cc)
 ask-by next.Nothing performer call old new comes none t = absurd (let e = t.0 in cc)
 
 ask-at : (standing : Standing) (performer : Who) (call : Call) (old new : CoreValue) → old.standing ≡ standing → Comes standing (next_of old.script old.history)
@@ -151,6 +200,17 @@ module _ {O : Type 0} (view : O → View) (name : O → List ℕ) (says : O → 
       let bad : (call, acts) ∷ [] ≡ [] = rw (same_who-self performer) at nothing in cc)
   given-exact silent script history entry held exact = refl
 
+  -- the object of one that has ended was given back
+  pub back-step : (kernel : KernelValue O) (who : Who) (object : O) (new : CoreValue) (held : List (Who × O)) → HasTold who kernel.core new → IsPermutation ((who, object) ∷ held) kernel.held
+      → IsBack view name says who object kernel (record kernel { core = new; held = held })
+  back-step kernel who object new held told same =
+      let leaves : new.leaving ≡ told.others = rw told.is refl in
+      record {
+        told = told.told ∙ ap (λ others. who ∷ others) (sym leaves);
+        held = same;
+        is = ap (λ (c : CoreValue). record kernel { core = c; held = held }) (told.is ∙ ap (λ l. record kernel.core { leaving = l }) (sym leaves));
+      }
+
   pub needed-step : (kernel : KernelValue O) (new : CoreValue) → length new.history < log_limit new.script → HasNeeded kernel.core new → IsWaiting view name says kernel (record kernel { core = new })
   needed-step kernel new room needed = record { room = rw needed.is at room; need = needed.need; next = needed.comes; is = rw needed.is refl }
 
@@ -177,36 +237,36 @@ module _ {O : Type 0} (view : O → View) (name : O → List ℕ) (says : O → 
   }
 
   -- the machine refuses
-  refused-by : (fault : CoreFault) (kernel : KernelValue O) (new : CoreValue) → kernel.failed ≡ false → kernel.core.health ≡ Good → kernel.core.standing ≡ Nothing → IsRefusedTurn fault kernel.core new
+  refused-by : (fault : CoreFault) (kernel : KernelValue O) (new : CoreValue) → IsReady view name says kernel → kernel.core.health ≡ Good → kernel.core.standing ≡ Nothing → IsRefusedTurn fault kernel.core new
       → IsRefusedStep view name says fault kernel (record kernel { core = new; failed = true })
-  refused-by Memory kernel new going good none t = (
-    record { going = going; some = t.2; nothing_needed = rw (going, none) refl },
+  refused-by Memory kernel new ready good none t = (
+    record { ready = ready; some = t.2; nothing_needed = rw (ready.going, none) refl },
     inl (record { room = t.1; is = ap (λ c. record kernel { core = c; failed = true }) t.3 }),
   )
-  refused-by LogFull kernel new going good none t = (
-    record { going = going; some = t.2; nothing_needed = rw (going, none) refl },
+  refused-by LogFull kernel new ready good none t = (
+    record { ready = ready; some = t.2; nothing_needed = rw (ready.going, none) refl },
     t.1,
     ap (λ c. record kernel { core = c; failed = true }) t.3,
   )
-  refused-by Failed kernel new going good none t = absurd (let bad : true ≡ false = rw good at t.0 in cc)
-  refused-by NoTest kernel new going good none t = t
+  refused-by Failed kernel new ready good none t = absurd (let bad : true ≡ false = rw good at t.0 in cc)
+  refused-by NoTest kernel new ready good none t = t
 
-  refused-at : (standing : Standing) (fault : CoreFault) (kernel : KernelValue O) (new : CoreValue) → kernel.core.standing ≡ standing → kernel.failed ≡ false → kernel.core.health ≡ Good → IsNextTurn standing (Err fault) kernel.core new
+  refused-at : (standing : Standing) (fault : CoreFault) (kernel : KernelValue O) (new : CoreValue) → kernel.core.standing ≡ standing → IsReady view name says kernel → kernel.core.health ≡ Good → IsNextTurn standing (Err fault) kernel.core new
       → IsRefusedStep view name says fault kernel (record kernel { core = new; failed = true })
-  refused-at Nothing fault kernel new is going good t = refused-by fault kernel new going good is t
-  refused-at (Needed need) fault kernel new is going good t = absurd (let e = t.0 in cc)
-  refused-at (Asked performer call cause) fault kernel new is going good t = absurd (let e = t.0 in cc)
+  refused-at Nothing fault kernel new is ready good t = refused-by fault kernel new ready good is t
+  refused-at (Needed need) fault kernel new is ready good t = absurd (let e = t.0 in cc)
+  refused-at (Asked performer call cause) fault kernel new is ready good t = absurd (let e = t.0 in cc)
 
-  pub refused-step : (fault : CoreFault) (kernel : KernelValue O) (new : CoreValue) → kernel.failed ≡ false → kernel.core.health ≡ Good → IsNextTurn kernel.core.standing (Err fault) kernel.core new
+  pub refused-step : (fault : CoreFault) (kernel : KernelValue O) (new : CoreValue) → IsReady view name says kernel → kernel.core.health ≡ Good → IsNextTurn kernel.core.standing (Err fault) kernel.core new
       → IsRefusedStep view name says fault kernel (record kernel { core = new; failed = true })
-  refused-step fault kernel new going good t = refused-at kernel.core.standing fault kernel new refl going good t
+  refused-step fault kernel new ready good t = refused-at kernel.core.standing fault kernel new refl ready good t
 
   -- an object was asked, and memory was refused
   pub unanswered-step : (kernel : KernelValue O) (core : CoreValue) (performer asking : Who) (call : Call) (cause : Option Cause) (answer : Result (List Act) AllocError) (held : List (Who × O)) → asking ≡ performer
-      → next_of kernel.core.script kernel.core.history ≡ next.Answer performer call cause → need_of kernel.core.standing ≡ None → kernel.failed ≡ false → IsSameLog kernel.core core → core ≡ unanswered_from performer call cause answer kernel.core
+      → next_of kernel.core.script kernel.core.history ≡ next.Answer performer call cause → need_of kernel.core.standing ≡ None → IsReady view name says kernel → IsSameLog kernel.core core → core ≡ unanswered_from performer call cause answer kernel.core
       → length kernel.core.history < log_limit kernel.core.script → IsAsked view name says performer call answer kernel.held held → IsRefusedStep view name says Memory kernel (record { core = core; held = held; failed = true; unknown = Some asking })
-  unanswered-step kernel core performer asking call cause answer held same_who answers none going same left room asked = (
-    record { going = going; some = rw answers tt; nothing_needed = rw (going, none) refl },
+  unanswered-step kernel core performer asking call cause answer held same_who answers none ready same left room asked = (
+    record { ready = ready; some = rw answers tt; nothing_needed = rw (ready.going, none) refl },
     inr (record { room = room; performer = performer; call = call; cause = cause; next = answers; answer = answer; asked = asked; same_log = same; left = left; is = rw same_who refl }),
   )
 

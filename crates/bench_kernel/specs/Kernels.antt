@@ -1,22 +1,26 @@
 -- What contracts see of a kernel.
-use Rattle.std.specs.Prelude.{◌≡◌, ◌≢◌, ℕ, Bool, true, false, ◌||◌, nat_eq, List, [], ◌∷◌, length, All, Contains, Option, Some, None, if◌then◌else◌}
+use Rattle.std.specs.Prelude.{◌≡◌, ◌≢◌, ℕ, Bool, true, false, ◌||◌, List, [], ◌∷◌, length, All, Contains, Option, Some, None, if◌then◌else◌}
 use Rattle.std.specs.List.{IsDistinct}
 use Rattle.std.specs.Map.{keys_of}
 use Rattle.std.specs.Option.{option_map_or}
 use Rattle.uvm_tree.specs.Nodes.{path_at}
-use Rattle.uvm_object.specs.Acts.{node_of}
 use Rattle.uvm_object.specs.declared.acts.Who.{Who}
-use Rattle.uvm_object.specs.declared.acts.Who.TheVariants.{Node}
+use Rattle.uvm_object.specs.declared.acts.Who.TheVariants.{Node, Sequence}
+use Rattle.uvm_object.specs.declared.acts.Act.{Act}
 use Rattle.uvm_object.specs.Objects.{View, Says, IsHonestNow, life_of, same_who}
 use Rattle.uvm_object.specs.declared.entries.Outcome.{Outcome}
-use Rattle.uvm_object.specs.declared.entries.Outcome.TheVariants.{Made}
+use Rattle.uvm_object.specs.declared.entries.Outcome.TheVariants.{Made, Started}
 use Rattle.uvm_object.specs.declared.entries.Entry.{Entry}
 use Rattle.uvm_object.specs.declared.entries.Entry.TheVariants.{Did}
+use Rattle.bench_script.specs.Scripts.{ScriptValue}
 use Rattle.bench_history.specs.History.{nodes_of, components_of, is_over}
-use Rattle.bench_history.specs.Next.{EachIsNext, next_of}
+use Rattle.bench_history.specs.Sequences.{all_begun, begun_of, sequences_of, start_by}
+use Rattle.bench_history.specs.Laws.{AreRising, IsLiving}
+use Rattle.bench_history.specs.Next.{EachIsNext, need_in, next_of}
 use Rattle.bench_core.specs.Cores.{Comes, CoreValue, need_of}
 use Rattle.bench_history.specs.declared.needs.Need.{Need}
 use Rattle.bench_core.specs.declared.cores.Health.TheVariants.{Good}
+use Rattle.bench_kernel.specs.SequenceSeats.{AreRisingWithin}
 
 -- the machine, who is held with which object, in no order, whether the kernel has failed, and whose object gave no answer, if one did not
 pub record KernelValue (O : Type 0) : Type 0 where
@@ -45,15 +49,21 @@ is_done kernel = kernel.failed || is_over kernel.core.history
 abbrev pub abandoned : {O : Type 0} → KernelValue O → KernelValue O
 abandoned kernel = if is_over kernel.core.history then kernel else record kernel { failed = true }
 
--- the components that were made, each with the name of its type
-abbrev pub types_after : ℕ → List (ℕ × List ℕ) → Outcome → List (ℕ × List ℕ)
-types_after node types (Made type_name) = (node, type_name) ∷ types
-types_after node types outcome = types
+-- the name of the type of the object that is needed next
+abbrev pub needed_type : ScriptValue → List Entry → List ℕ
+needed_type script history = option_map_or (λ need. need.type_name) (need_in (next_of script history)) []
 
-abbrev pub types_made : List Entry → List (ℕ × List ℕ)
-types_made [] = []
-types_made (Did performer outcome act ∷ before) = types_after (length (nodes_of before)) (types_made before) outcome
-types_made (entry ∷ before) = types_made before
+-- whose objects were made, each with the name of its type: for a component the log says it, and for a sequence it is that of the object that was
+-- needed then
+abbrev pub types_after : List ℕ → List Entry → List (Who × List ℕ) → Who → Outcome → Act → List (Who × List ℕ)
+types_after needed before types performer (Made type_name) act = (Node (length (nodes_of before)), type_name) ∷ types
+types_after needed before types performer (Started id) act = (Sequence id (start_by (nodes_of before) (sequences_of before) performer act).home, needed) ∷ types
+types_after needed before types performer outcome act = types
+
+abbrev pub types_made : ScriptValue → List Entry → List (Who × List ℕ)
+types_made script [] = []
+types_made script (Did performer outcome act ∷ before) = types_after (needed_type script before) before (types_made script before) performer outcome act
+types_made script (entry ∷ before) = types_made script before
 
 module _ {O : Type 0} (view : O → View) (says : O → Says) where
   -- each object that is held has lived the life that the log says, but for one that gave no answer
@@ -63,24 +73,49 @@ module _ {O : Type 0} (view : O → View) (says : O → Says) where
   abbrev pub AreHonest : KernelValue O → Type 0
   AreHonest kernel = LiveHonestly kernel.held kernel.unknown kernel.core.history
 
--- what stays true of who is held: nobody twice, each a component that was made, with an object of the type that was made; and while the run
--- goes on each component
-pub record AreHeld {O : Type 0} (name : O → List ℕ) (done : Bool) (history : List Entry) (held : List (Who × O)) : Type 0 where
-  pub distinct : IsDistinct same_who (keys_of held)
-  pub made : All (λ who. Contains (components_of history) (node_of who)) (keys_of held)
-  pub named : All (λ seat. Contains (types_made history) (node_of seat.0, name seat.1)) held
-  pub whole : done ≡ false → All (λ node. Contains (keys_of held) (Node node)) (components_of history)
+-- somebody was made: a component, or a sequence that was started
+abbrev pub WasMade : List Entry → Who → Type 0
+WasMade history (Node node) = Contains (components_of history) node
+WasMade history (Sequence id home) = Contains (all_begun (begun_of history)) (Sequence id home)
 
--- each sits at the path of its node
-abbrev pub ArePlaced : List Entry → List (List (List ℕ) × Who) → Type 0
-ArePlaced history paths = All (λ place. path_at (nodes_of history) (node_of place.1) ≡ place.0) paths
+-- all that are to be held are: each component, each sequence that lives, and each that has ended and was not told yet
+pub record AreAllHeld (history : List Entry) (leaving held : List Who) : Type 0 where
+  pub components : All (λ node. Contains held (Node node)) (components_of history)
+  pub living : (id home : ℕ) → IsLiving history id home → Contains held (Sequence id home)
+  pub ended : All (Contains held) leaving
+
+-- what stays true of who is held: nobody twice, each was made, with an object of the type that was made; and while the run goes on all that are to
+-- be held
+pub record AreHeld {O : Type 0} (name : O → List ℕ) (done : Bool) (script : ScriptValue) (history : List Entry) (leaving : List Who) (held : List (Who × O)) : Type 0 where
+  pub distinct : IsDistinct same_who (keys_of held)
+  pub made : All (WasMade history) (keys_of held)
+  pub named : All (λ seat. Contains (types_made script history) (seat.0, name seat.1)) held
+  pub whole : done ≡ false → AreAllHeld history leaving (keys_of held)
+
+-- somebody is a sequence that lives no longer
+abbrev pub HasEnded : List Entry → Who → Type 0
+HasEnded history (Node node) = ⊥
+HasEnded history (Sequence id home) = IsLiving history id home → ⊥
+
+-- those that are still to be told have ended, and go in rising number; once the run is over there are none
+pub record AreToldNext (history : List Entry) (leaving : List Who) : Type 0 where
+  pub have_ended : All (HasEnded history) leaving
+  pub rising : AreRising leaving
+  pub over : is_over history ≡ true → leaving ≡ []
+
+-- each component sits at the path of its node; the sequences sit by rising number, and as many were seated as were started
+pub record AreSeated {O : Type 0} (history : List Entry) (paths : List (List (List ℕ) × ℕ)) (count : ℕ) (sequences : List (Who × O)) : Type 0 where
+  pub placed : All (λ place. path_at (nodes_of history) place.1 ≡ place.0) paths
+  pub rising : AreRisingWithin 0 count (keys_of sequences)
+  pub started : count ≡ length (begun_of history)
 
 -- what stays true of a kernel: each entry was next; objects are honest; who is held; and a kernel that has not failed has a machine that has
--- not, which asks for what comes next, and knows the view of each object
+-- not, which asks for what comes next, tells who has ended, and knows the view of each object
 pub record IsKernel {O : Type 0} (view : O → View) (name : O → List ℕ) (says : O → Says) (kernel : KernelValue O) : Type 0 where
   pub each : EachIsNext kernel.core.script kernel.core.history
   pub honest : AreHonest view says kernel
-  pub custody : AreHeld name (is_done kernel) kernel.core.history kernel.held
+  pub custody : AreHeld name (is_done kernel) kernel.core.script kernel.core.history kernel.core.leaving kernel.held
   pub good : kernel.failed ≡ false → kernel.core.health ≡ Good
   pub comes : kernel.failed ≡ false → Comes kernel.core.standing (next_of kernel.core.script kernel.core.history)
+  pub told : kernel.failed ≡ false → AreToldNext kernel.core.history kernel.core.leaving
   pub known : kernel.failed ≡ false → kernel.unknown ≡ None

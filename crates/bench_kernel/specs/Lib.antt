@@ -1,6 +1,9 @@
 pub mod Laws
 pub mod Seats
 pub mod Places
+pub mod SequenceSeats
+pub mod Numbered
+pub mod Seating
 pub mod Asked
 pub mod Kernels
 pub mod Orders

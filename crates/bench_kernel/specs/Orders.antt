@@ -1,11 +1,19 @@
 -- The order in which objects are given back.
-use Rattle.std.specs.Prelude.{◌≡◌, false, List, All}
+use Rattle.std.specs.Prelude.{◌≡◌, ◌<◌, false, List, All}
 use Rattle.uvm_glob.specs.Orders.{down_cmp}
-use Rattle.uvm_tree.specs.declared.nodes.Node.{Node}
+use Rattle.uvm_tree.specs.declared.nodes.Node as declared
 use Rattle.uvm_tree.specs.Cursors.{is_before}
-use Rattle.uvm_object.specs.Acts.{node_of}
 use Rattle.uvm_object.specs.declared.acts.Who.{Who}
+use Rattle.uvm_object.specs.declared.acts.Who.TheVariants.{Node, Sequence}
 
--- none of the others stands before Down
-abbrev pub IsFirstDown : List Node → Who → List Who → Type 0
-IsFirstDown nodes who others = All (λ other. is_before down_cmp nodes (node_of other) (node_of who) ≡ false) others
+-- one may be given back before another: a sequence before one of a greater number, and before each component; and a component before one that does
+-- not stand before it Down
+abbrev pub GoesBefore : List declared.Node → Who → Who → Type 0
+GoesBefore nodes (Sequence id home) (Sequence other there) = id < other
+GoesBefore nodes (Sequence id home) (Node other) = Unit {0}
+GoesBefore nodes (Node node) (Node other) = is_before down_cmp nodes other node ≡ false
+GoesBefore nodes (Node node) (Sequence id home) = ⊥
+
+-- and before each of the others
+abbrev pub IsFirstBack : List declared.Node → Who → List Who → Type 0
+IsFirstBack nodes who others = All (GoesBefore nodes who) others

@@ -10,7 +10,6 @@ use Rattle.std.specs.declared.cmp.Reverse.{Reverse}
 use Rattle.std.specs.declared.collections.BinaryHeap.{BinaryHeap}
 use Rattle.slab.specs.Slab.{Slab, get, slab_len}
 use Rattle.uvm_glob.specs.Orders.{down_cmp}
-use Rattle.uvm_object.specs.declared.acts.Who.TheVariants.{Node}
 use Rattle.bench_kernel.specs.declared.seats.Seat.{Seat}
 use Rattle.bench_kernel.specs.Seats.{Taken}
 
@@ -25,7 +24,7 @@ place_cmp place other = ordering_then (down_cmp other.0.0 place.0.0) (nat_cmp pl
 module _ {O : Type 0} where
   -- who sits at a place
   abbrev pub seat_at : Slab (Seat O) → Place → Option (Taken O)
-  seat_at slab place = option_map (λ seat. record { path = place.0.0; who = Node seat.node; object = seat.object }) (get slab place.1)
+  seat_at slab place = option_map (λ seat. record { path = place.0.0; node = seat.node; object = seat.object }) (get slab place.1)
 
   abbrev pub taken_in : Slab (Seat O) → List Place → List (Taken O)
   taken_in slab places = filter_map (seat_at slab) places

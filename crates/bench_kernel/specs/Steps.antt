@@ -1,28 +1,28 @@
 -- What the calls of a kernel change.
-use Rattle.std.specs.Prelude.{◌≡◌, ◌≢◌, ◌<◌, ◌≤◌, ◌⊎◌, ℕ, true, false, List, ◌∷◌, length, Option, Some, None, Result, Ok, Err}
+use Rattle.std.specs.Prelude.{◌≡◌, ◌≢◌, ◌<◌, ◌≤◌, ◌⊎◌, ℕ, true, false, List, [], ◌∷◌, length, Option, Some, None, Result, Ok, Err}
 use Rattle.std.specs.List.Sorted.{IsPermutation}
 use Rattle.std.specs.declared.alloc.AllocError.{AllocError}
 use Rattle.uvm_object.specs.Objects.{View, Says}
 use Rattle.uvm_object.specs.declared.acts.Who.{Who}
-use Rattle.uvm_object.specs.declared.acts.Who.TheVariants as who
 use Rattle.uvm_object.specs.declared.acts.Call.{Call}
 use Rattle.uvm_object.specs.declared.acts.Act.{Act}
 use Rattle.uvm_object.specs.declared.entries.Entry.{Entry}
 use Rattle.uvm_object.specs.declared.entries.Entry.TheVariants.{Heard}
 use Rattle.uvm_phase.specs.declared.agendas.Cause.{Cause}
 use Rattle.bench_history.specs.Limits.{log_limit}
-use Rattle.bench_history.specs.History.{nodes_of, is_over}
+use Rattle.bench_history.specs.History.{is_over}
 use Rattle.bench_history.specs.Laws.{IsSomething}
 use Rattle.bench_history.specs.declared.needs.Need as declared
 use Rattle.bench_history.specs.Cases.{Answer}
 use Rattle.bench_history.specs.Next.{next_of, need_in, IsNext, made_in}
+use Rattle.bench_world.specs.Worlds.{made_who}
 use Rattle.bench_core.specs.Cores.{Needed, Asked}
 use Rattle.bench_core.specs.declared.cores.Health.TheVariants.{Full, Broken}
 use Rattle.bench_core.specs.declared.faults.CoreFault.{CoreFault}
 use Rattle.bench_core.specs.declared.faults.CoreFault.TheVariants.{Memory, LogFull, Failed, NoTest}
 use Rattle.bench_core.specs.Cores.{CoreValue, core_after, failed_from}
 use Rattle.bench_kernel.specs.declared.kernels.Step.{Step}
-use Rattle.bench_kernel.specs.declared.kernels.Step.TheVariants.{Need, Moved, Over}
+use Rattle.bench_kernel.specs.declared.kernels.Step.TheVariants.{Need, Moved, Back, Over}
 use Rattle.bench_kernel.specs.declared.kernels.Misfit.{Misfit}
 use Rattle.bench_kernel.specs.declared.kernels.Misfit.TheVariants as misfit
 use Rattle.bench_kernel.specs.Asked.{IsAsked}
@@ -78,9 +78,20 @@ module _ {O : Type 0} (view : O → View) (name : O → List ℕ) (says : O → 
     pub left : new.core ≡ unanswered_from performer call cause answer old.core
     pub is : new ≡ record { core = new.core; held = new.held; failed = true; unknown = Some performer }
 
+  -- a sequence that has ended was told, and its object is given back
+  pub record IsBack (who : Who) (object : O) (old new : KernelValue O) : Type 0 where
+    pub told : old.core.leaving ≡ who ∷ new.core.leaving
+    pub held : IsPermutation ((who, object) ∷ new.held) old.held
+    pub is : new ≡ record old { core = record old.core { leaving = new.core.leaving }; held = new.held }
+
+  -- the kernel has not failed, and each sequence that has ended was told
+  pub record IsReady (kernel : KernelValue O) : Type 0 where
+    pub going : kernel.failed ≡ false
+    pub told : kernel.core.leaving ≡ []
+
   -- something would come next, and no object is needed
   pub record GoesOn (kernel : KernelValue O) : Type 0 where
-    pub going : kernel.failed ≡ false
+    pub ready : IsReady kernel
     pub some : IsSomething (next_of kernel.core.script kernel.core.history)
     pub nothing_needed : open_need kernel ≡ None
 
@@ -92,18 +103,21 @@ module _ {O : Type 0} (view : O → View) (name : O → List ℕ) (says : O → 
   IsRefusedStep NoTest old new = ⊥
 
   -- what a step gives
-  abbrev pub IsStep : Result Step CoreFault → KernelValue O → KernelValue O → Type 0
-  IsStep (Ok Need) old new = (old.failed ≡ false) × IsWaiting old new
-  IsStep (Ok Moved) old new = (old.failed ≡ false) × IsMoved old new
-  IsStep (Ok Over) old new = (old.failed ≡ false) × (is_over old.core.history ≡ true) × (new ≡ old)
+  abbrev pub IsStep : Result (Step O) CoreFault → KernelValue O → KernelValue O → Type 0
+  IsStep (Ok Need) old new = IsReady old × IsWaiting old new
+  IsStep (Ok Moved) old new = IsReady old × IsMoved old new
+  IsStep (Ok (Back who object)) old new = (old.failed ≡ false) × IsBack who object old new
+  IsStep (Ok Over) old new = IsReady old × (is_over old.core.history ≡ true) × (new ≡ old)
   IsStep (Err fault) old new = IsRefusedStep fault old new
 
-  -- the needed object was taken, of the type that was wanted: it is held for its new node
+  -- the needed object was taken, of the type that was wanted: it is held for the new component or sequence
   pub record IsSupplied (object : O) (old new : KernelValue O) : Type 0 where
     pub entry : Entry
     pub next : made_in (next_of old.core.script old.core.history) ≡ Some entry
     pub fits : name object ≡ wanted_in old
-    pub held : IsPermutation ((who.Node (length (nodes_of old.core.history)), object) ∷ old.held) new.held
+    pub who : Who
+    pub made : made_who old.core.history (next_of old.core.script old.core.history) ≡ Some who
+    pub held : IsPermutation ((who, object) ∷ old.held) new.held
     pub is : new ≡ record old { core = core_after entry old.core; held = new.held }
 
 -- why an object is not taken: its type is another than the wanted one, or it is the wanted one and memory is refused

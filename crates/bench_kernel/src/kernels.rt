@@ -3,22 +3,22 @@
 ghost use Rattle.std.specs.Prelude.{◌≡◌, ◌∷◌, [], true, false, All, Contains, OnOk, OnErr, IfOk, IfErr, IfSome, IfNone, IsSome, None, is_some, length, option_copied};
 ghost use Rattle.std.specs.List.{IsDistinct};
 ghost use Rattle.std.specs.List.Sorted.{IsPermutation};
-ghost use Rattle.uvm_object.specs.Acts.{node_of};
-ghost use Rattle.uvm_object.specs.declared.acts.Who.TheVariants.{Node};
-ghost use Rattle.bench_history.specs.History.{components_of, nodes_of};
+ghost use Rattle.bench_history.specs.History.{nodes_of};
 ghost use Rattle.bench_history.specs.Next.{next_of, declined_in, IsLegal};
 ghost use Rattle.bench_history.specs.Reports.{report_commands};
 ghost use Rattle.uvm_report.specs.Changes.{Gives};
 ghost use Rattle.bench_core.specs.Cores.{IsUnmade, core_after, is_sound};
 ghost use Rattle.bench_core.specs.Cores.{Nothing};
 ghost use Rattle.bench_core.specs.declared.cores.Health.TheVariants.{Good};
-ghost use Rattle.bench_kernel.specs.Orders.{IsFirstDown};
-ghost use Rattle.bench_kernel.specs.Kernels.{AreHonest, abandoned, is_done, open_need, types_made, wanted_in, who_held};
+ghost use Rattle.bench_kernel.specs.Orders.{IsFirstBack};
+ghost use Rattle.bench_kernel.specs.Kernels.{AreAllHeld, AreHonest, WasMade, abandoned, is_done, open_need, types_made, wanted_in, who_held};
 ghost use Rattle.uvm_object.specs.Objects.{same_who};
 ghost use Rattle.bench_kernel.specs.Steps.{IsMisfit, IsStep, IsSupplied};
 
 use crate::laws;
+use crate::seating::{hear, reserve, seat};
 use crate::seats::Seats;
+use crate::sequence_seats::SequenceSeats;
 use bench_core::{Core, CoreFault, Need, Turn};
 use bench_script::Script;
 use rand_core::Rng;
@@ -28,12 +28,14 @@ use uvm_object::{Log, UvmObject, Who};
 use uvm_report::Reports;
 
 /// What a step came to.
-#[derive(Clone, Copy, Debug, PartialEq, Eq)]
-pub enum Step {
+#[derive(Drop)]
+pub enum Step<O> {
     /// An object is needed; `need` says which.
     Need,
     /// An entry was made.
     Moved,
+    /// A sequence has ended (IEEE 1800.2-2020, Clause 14), and its object is given back.
+    Back { who: Who, object: O },
     /// The run is over.
     Over,
 }
@@ -61,20 +63,22 @@ pub struct Kernel<O: UvmObject> {
     alloc: Global,
     core: Core,
     seats: Seats<O>,
+    sequences: SequenceSeats<O>,
     failed: bool,
     unknown: Option<Who>,
 }
 
 impl<O: UvmObject> Model for Kernel<O> {
-    ghost use Rattle.bench_kernel.specs.Seats.{held_in, paths_in};
-    ghost use Rattle.bench_kernel.specs.Kernels.{KernelValue, IsKernel, ArePlaced};
+    ghost use Rattle.bench_kernel.specs.Seats.{paths_in};
+    ghost use Rattle.bench_kernel.specs.Seating.{all_held};
+    ghost use Rattle.bench_kernel.specs.Kernels.{KernelValue, IsKernel, AreSeated};
 
     ghost Value = { KernelValue O };
 
-    ghost view = { λ k. record { core = k.core; held = held_in k.seats.taken; failed = k.failed; unknown = k.unknown } };
+    ghost view = { λ k. record { core = k.core; held = all_held k.seats.taken k.sequences.held; failed = k.failed; unknown = k.unknown } };
 
-    ghost invariant = { λ k. IsKernel O.view O.name O.says (record { core = k.core; held = held_in k.seats.taken; failed = k.failed; unknown = k.unknown })
-        × ArePlaced k.core.history (paths_in k.seats.taken) };
+    ghost invariant = { λ k. IsKernel O.view O.name O.says (record { core = k.core; held = all_held k.seats.taken k.sequences.held; failed = k.failed; unknown = k.unknown })
+        × AreSeated k.core.history (paths_in k.seats.taken) k.sequences.count k.sequences.held };
 }
 
 impl<O: UvmObject> Kernel<O> {
@@ -82,7 +86,7 @@ impl<O: UvmObject> Kernel<O> {
     /// refused.
     pub fn new(alloc: Global, script: Script) -> Result<Kernel<O>, CoreFault>
         ensures ok { IfOk result (λ kernel. IsSome script.test × (kernel ≡ record {
-          core = record { script = script; history = []; standing = Nothing; health = Good };
+          core = record { script = script; history = []; standing = Nothing; health = Good; leaving = [] };
           held = [];
           failed = false;
           unknown = None;
@@ -93,15 +97,17 @@ impl<O: UvmObject> Kernel<O> {
             alloc,
             core: Core::new(alloc, script)?,
             seats: Seats::new(alloc),
+            sequences: SequenceSeats::new(alloc),
             failed: false,
             unknown: None,
         })
     }
 
-    /// Makes one entry, for which it asks one object at most, or says that an object is needed (again and again until it is
-    /// supplied or declined), or that the run is over. `LogFull` where an entry would be next and the log is full, `Memory`
+    /// Gives back the object of a sequence that has ended, once each, in rising number and before any further entry; else makes one
+    /// entry, for which it asks one object at most, or says that an object is needed (again and again until it is supplied or
+    /// declined), or that the run is over. `LogFull` where an entry would be next and the log is full, `Memory`
     /// where memory is refused, also to the object that is asked, and `Failed` from then on.
-    pub fn step<R: Rng>(&mut self, words: &mut R) -> Result<Step, CoreFault>
+    pub fn step<R: Rng>(&mut self, words: &mut R) -> Result<Step<O>, CoreFault>
         ensures step { IsStep O.view O.name O.says result self.old self.new }
         ensures needed { IfOk result (λ step. step ≡ Step.Need → IsSome (open_need self.new)) }
         ensures words { words.new ≡ words.old }
@@ -111,11 +117,22 @@ impl<O: UvmObject> Kernel<O> {
             return Err(CoreFault::Failed);
         }
         match self.core.next(words) {
+            Ok(Turn::Leave { who }) => {
+                let object = self.sequences.remove(&who);
+                Ok(Step::Back { who, object })
+            }
             Ok(Turn::Need) => Ok(Step::Need),
             Ok(Turn::Ask { who, call }) => {
                 self.failed = true;
                 self.unknown = Some(who.copy());
-                let Ok(acts) = self.seats.hear(&who, self.alloc, &call) else {
+                let answer = hear(
+                    &mut self.seats,
+                    &mut self.sequences,
+                    &who,
+                    self.alloc,
+                    &call,
+                );
+                let Ok(acts) = answer else {
                     return Err(CoreFault::Memory);
                 };
                 self.core.heard(acts)?;
@@ -142,7 +159,7 @@ impl<O: UvmObject> Kernel<O> {
         self.core.need()
     }
 
-    /// Takes the object that is needed, which then stands at the new node. An object that is not taken comes back as it
+    /// Takes the object that is needed, which is then that of the new component or sequence. An object that is not taken comes back as it
     /// came, and is still needed: `WrongType` where its type is another than the one that is needed, else `Memory` where
     /// memory is refused.
     pub fn supply(&mut self, object: O) -> Result<(), Unfit<O>>
@@ -162,19 +179,19 @@ impl<O: UvmObject> Kernel<O> {
                 why: Misfit::WrongType,
             });
         }
-        let (Ok(path), Ok(())) = (need.path.copy(), self.seats.reserve()) else {
+        let room = reserve(&mut self.seats, &mut self.sequences);
+        let (Ok(path), Ok(())) = (need.path.copy(), room) else {
             return Err(Unfit {
                 object,
                 why: Misfit::Memory,
             });
         };
         let who = self.core.made();
-        let node = who.node();
-        self.seats.insert(node, path, object);
+        seat(&mut self.seats, &mut self.sequences, who, path, object);
         Ok(())
     }
 
-    /// Declines to supply the object that is needed: its creation is refused. Takes no memory.
+    /// Declines to supply the object that is needed: its creation or start is refused. Takes no memory.
     pub fn decline(&mut self)
         requires { IsSome (open_need self.old) }
         ensures entry { IfSome (declined_in (next_of self.old.core.script self.old.core.history)) (λ entry. self.new ≡ record self.old { core = core_after entry self.old.core }) }
@@ -184,16 +201,19 @@ impl<O: UvmObject> Kernel<O> {
         self.core.declined();
     }
 
-    /// Gives back one of the objects that are held, with the component that it was: of these the first Down. None where none
-    /// is held. For a run that is over, or a kernel that has failed. Takes no memory.
+    /// Gives back one of the objects that are held, with whose it was: of the sequences the one of the least number, and once none
+    /// is held of the components the first Down. None where none is held. For a run that is over, or a kernel that has failed. Takes no memory.
     pub fn give_back(&mut self) -> Option<(Who, O)>
         requires { is_done self.old ≡ true }
         ensures some { IfSome result (λ back. IsPermutation (back ∷ self.new.held) self.old.held) }
-        ensures first { IfSome result (λ back. IsFirstDown (nodes_of self.old.core.history) back.0 (who_held self.new)) }
+        ensures first { IfSome result (λ back. IsFirstBack (nodes_of self.old.core.history) back.0 (who_held self.new)) }
         ensures none { IfNone result (self.old.held ≡ []) }
         ensures rest { self.new ≡ record self.old { held = self.new.held } }
         ensures unchanged { IfNone result (self.new ≡ self.old) }
     {
+        if let Some(back) = self.sequences.pop_first() {
+            return Some(back);
+        }
         self.seats.pop_first()
     }
 
@@ -232,15 +252,16 @@ impl<O: UvmObject> Kernel<O> {
         &self.core
     }
 
-    /// How many objects are held. Nobody is held twice. Who is held is a component that was made, and the object is of the type
-    /// that was made; while the run goes on each component is held.
+    /// How many objects are held. Nobody is held twice. Who is held is a component or a sequence that was made, and the object is of
+    /// the type that was made; while the run goes on each component is held, each sequence that lives, and each that has ended and
+    /// was not given back yet.
     pub fn live(&self) -> usize
         ensures count { result ≡ length self.now.held }
         ensures distinct { IsDistinct same_who (who_held self.now) }
-        ensures made { All (λ who. Contains (components_of self.now.core.history) (node_of who)) (who_held self.now) }
-        ensures named { All (λ seat. Contains (types_made self.now.core.history) (node_of seat.0, O.name seat.1)) self.now.held }
-        ensures whole { is_done self.now ≡ false → All (λ node. Contains (who_held self.now) (Node node)) (components_of self.now.core.history) }
+        ensures made { All (WasMade self.now.core.history) (who_held self.now) }
+        ensures named { All (λ seat. Contains (types_made self.now.core.script self.now.core.history) (seat.0, O.name seat.1)) self.now.held }
+        ensures whole { is_done self.now ≡ false → AreAllHeld self.now.core.history self.now.core.leaving (who_held self.now) }
     {
-        self.seats.len()
+        self.seats.len() + self.sequences.len()
     }
 }

@@ -11,7 +11,11 @@ pub(crate) fn hold()
     laws::nothing_after_over();
     laws::machine_entries_are_silent();
     laws::nodes_stay();
+    laws::needs_are_wanted();
     laws::made_objects_are_new();
     laws::new_nodes_are_unasked();
+    laws::new_sequences_are_unasked();
     laws::components_are_nodes();
+    laws::living_lived();
+    laws::leavers_lived();
 }

@@ -3,7 +3,9 @@
 
 mod kernels;
 mod laws;
+mod seating;
 mod seats;
+mod sequence_seats;
 #[cfg(test)]
 mod tests;
 

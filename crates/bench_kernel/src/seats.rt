@@ -1,6 +1,6 @@
-//! The seats of the objects.
+//! The seats of the components' objects.
 
-ghost use Rattle.std.specs.Prelude.{◌≡◌, ◌≢◌, ◌<◌, ◌∷◌, [], All, Contains, length, OnOk, IfSome, IfNone};
+ghost use Rattle.std.specs.Prelude.{◌^◌, ◌≡◌, ◌≢◌, ◌<◌, ◌∷◌, [], All, Contains, length, OnOk, IfSome, IfNone};
 ghost use Rattle.std.specs.List.Sorted.{IsPermutation};
 ghost use Rattle.std.specs.Map.{keys_of};
 ghost use Rattle.uvm_object.specs.declared.acts.Who.TheVariants.{Node};
@@ -16,8 +16,8 @@ use uvm_glob::Path;
 use uvm_object::{Acts, Call, UvmObject, Who};
 use uvm_tree::NodeId;
 
-/// The seats of the objects that are held. Contracts see who sits at which path, with the object, in no order, and for how many
-/// more there is room.
+/// The seats of the components' objects that are held. Contracts see which node sits at which path, with the object, in no order,
+/// and for how many more there is room.
 #[derive(Drop)]
 pub(crate) struct Seats<O> {
     taken: Slab<Seat<O>>,
@@ -73,7 +73,7 @@ impl<O> Seats<O> {
     pub(crate) fn insert(&mut self, node: NodeId, path: Path, object: O)
         requires room { 0 < self.old.spare }
         requires apart { All (λ other. other ≢ Node node) (keys_of (held_in self.old.taken)) }
-        ensures { IsPermutation (record { path = path; who = Node node; object = object } ∷ self.old.taken) self.new.taken }
+        ensures { IsPermutation (record { path = path; node = node; object = object } ∷ self.old.taken) self.new.taken }
     {
         let key = self.taken.insert_reserved(Seat { node, object });
         let Ok(_) = self.components.insert(node, key) else {
@@ -98,9 +98,10 @@ impl<O> Seats<O> {
 
     /// How many are taken.
     pub(crate) fn len(&self) -> usize
-        ensures { result ≡ length self.now.taken }
+        ensures len { result ≡ length self.now.taken }
+        ensures small { result < 2 ^ 63 }
     {
-        self.down.len()
+        self.down.as_slice().len()
     }
 }
 

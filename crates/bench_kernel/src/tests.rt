@@ -8,12 +8,12 @@ ghost use Rattle.bench_kernel.specs.Kernels.{is_done};
 
 use crate::{Kernel, Misfit, Step, Unfit};
 use bench_core::{Core, CoreFault};
-use objects::{AnyObject, Builder, Builds, Idle, Mute, Spinner};
+use objects::{AnyObject, Builder, Builds, Idle, Mute, Spinner, Starter, Starts, Steps};
 use rand_pcg::Pcg32;
 use std::alloc::{AllocError, Global};
 use std::test::Fail;
 use uvm_glob::{Name, Path};
-use uvm_object::UvmObject;
+use uvm_object::{UvmObject, Who};
 use uvm_tree::NodeId;
 
 const IDLE_SCRIPT: &[u8] =
@@ -21,6 +21,9 @@ const IDLE_SCRIPT: &[u8] =
 
 const BUS_SCRIPT: &[u8] =
     b"version = 1\ntest = \"bus_test\"\ntype = [{ name = \"bus_test\", kind = \"component\" }, { name = \"bus_env\", kind = \"component\" }]\n";
+
+const SEQUENCE_SCRIPT: &[u8] =
+    b"version = 1\ntest = \"bus_test\"\ntype = [{ name = \"bus_test\", kind = \"component\" }, { name = \"seq\", kind = \"sequence\" }]\n";
 
 /// What a run shows.
 #[derive(Clone, Copy)]
@@ -31,6 +34,12 @@ enum Row {
     EnvDeclined,
     /// A run that is abandoned while a third child is needed gives back the others.
     Abandoned,
+    /// A sequence is started and finishes, and its object comes back at once.
+    Finishes,
+    /// Two sequences end with their phase, and their objects come back in rising number.
+    EndsWithPhase,
+    /// A run that is abandoned while a second sequence is needed gives back the first, and then the test.
+    AbandonedSequence,
     /// A test that gives no answer fails the kernel, and is given back.
     NoAnswer,
     /// An answer of 65 acts is noted, and is no want of memory.
@@ -43,6 +52,10 @@ impl Row {
     // The object that is made of a type.
     fn object(self, type_name: Name) -> AnyObject {
         match self {
+            Row::Finishes => AnyObject::starter(type_name, Starts::A, true),
+            Row::EndsWithPhase | Row::AbandonedSequence => {
+                AnyObject::starter(type_name, Starts::AAndB, false)
+            }
             Row::EnvDeclined => AnyObject::builder(type_name, Builds::Env),
             Row::Abandoned => AnyObject::builder(type_name, Builds::BAndAAndC),
             Row::LongAnswer => AnyObject::Builder(Builder {
@@ -58,6 +71,7 @@ impl Row {
     fn script(self) -> &'static [u8] {
         match self {
             Row::EnvDeclined | Row::Abandoned => BUS_SCRIPT,
+            Row::Finishes | Row::EndsWithPhase | Row::AbandonedSequence => SEQUENCE_SCRIPT,
             Row::Idle | Row::NoAnswer | Row::LongAnswer | Row::FullLog => IDLE_SCRIPT,
         }
     }
@@ -70,6 +84,15 @@ impl AnyObject {
             AnyObject::Builder(Builder { type_name, builds })
         } else {
             AnyObject::Idle(Idle { type_name })
+        }
+    }
+
+    // The test starts sequences, and all others are sequences.
+    fn starter(type_name: Name, starts: Starts, ends: bool) -> AnyObject {
+        if type_name.as_bytes() == b"bus_test".as_slice() {
+            AnyObject::Starter(Starter { type_name, starts })
+        } else {
+            AnyObject::Steps(Steps { type_name, ends })
         }
     }
 }
@@ -94,6 +117,27 @@ fn object_of_another_type_comes_back_and_the_child_is_declined(
 fn abandoned_run_gives_back_each_object_down(rt: HostRuntime) -> Result<(), Fail> {
     assert!(rt; runs_in_boxes(rt.alloc(), Row::Abandoned)?);
     assert!(rt; runs_in_an_enum(rt.alloc(), Row::Abandoned)?);
+    Ok(())
+}
+
+#[test]
+fn object_of_a_finished_sequence_comes_back_at_once(rt: HostRuntime) -> Result<(), Fail> {
+    assert!(rt; runs_in_boxes(rt.alloc(), Row::Finishes)?);
+    assert!(rt; runs_in_an_enum(rt.alloc(), Row::Finishes)?);
+    Ok(())
+}
+
+#[test]
+fn objects_of_sequences_come_back_with_their_phase(rt: HostRuntime) -> Result<(), Fail> {
+    assert!(rt; runs_in_boxes(rt.alloc(), Row::EndsWithPhase)?);
+    assert!(rt; runs_in_an_enum(rt.alloc(), Row::EndsWithPhase)?);
+    Ok(())
+}
+
+#[test]
+fn abandoned_run_gives_back_sequences_first(rt: HostRuntime) -> Result<(), Fail> {
+    assert!(rt; runs_in_boxes(rt.alloc(), Row::AbandonedSequence)?);
+    assert!(rt; runs_in_an_enum(rt.alloc(), Row::AbandonedSequence)?);
     Ok(())
 }
 
@@ -177,6 +221,9 @@ fn comes_out<O: UvmObject, F: Fn(Name) -> Result<O, AllocError> + Drop>(
         Row::Idle => ends_idle(alloc, kernel, make),
         Row::EnvDeclined => ends_declined(alloc, kernel, make),
         Row::Abandoned => ends_abandoned(alloc, kernel, make),
+        Row::Finishes => ends_finished(alloc, kernel, make),
+        Row::EndsWithPhase => ends_with_phase(alloc, kernel, make),
+        Row::AbandonedSequence => ends_abandoned_started(alloc, kernel, make),
         Row::NoAnswer => ends_unanswered(alloc, kernel, make),
         Row::LongAnswer => ends_noted(alloc, kernel, make),
         Row::FullLog => ends_full(alloc, kernel, make),
@@ -249,6 +296,51 @@ fn ends_abandoned<O: UvmObject, F: Fn(Name) -> Result<O, AllocError> + Drop>(
     )
 }
 
+fn ends_finished<O: UvmObject, F: Fn(Name) -> Result<O, AllocError> + Drop>(
+    alloc: Global,
+    kernel: &mut Kernel<O>,
+    make: &F,
+) -> Result<bool, Fail>
+    requires { F.IsAlwaysCallable make.now }
+{
+    Ok(
+        writes(alloc, kernel, make, b"uvm_test_top.sqr.a", RUN_BEGUN)?
+            && writes(alloc, kernel, make, b"never", FINISHED_RUN)?
+            && kernel.live() == 1
+            && gives_back(alloc, kernel, TEST_ALONE)?,
+    )
+}
+
+fn ends_with_phase<O: UvmObject, F: Fn(Name) -> Result<O, AllocError> + Drop>(
+    alloc: Global,
+    kernel: &mut Kernel<O>,
+    make: &F,
+) -> Result<bool, Fail>
+    requires { F.IsAlwaysCallable make.now }
+{
+    Ok(
+        writes(alloc, kernel, make, b"uvm_test_top.sqr.b", FIRST_STARTED)?
+            && writes(alloc, kernel, make, b"never", ENDED_RUN)?
+            && kernel.live() == 1
+            && gives_back(alloc, kernel, TEST_ALONE)?,
+    )
+}
+
+fn ends_abandoned_started<O: UvmObject, F: Fn(Name) -> Result<O, AllocError> + Drop>(
+    alloc: Global,
+    kernel: &mut Kernel<O>,
+    make: &F,
+) -> Result<bool, Fail>
+    requires { F.IsAlwaysCallable make.now }
+{
+    Ok(
+        writes(alloc, kernel, make, b"uvm_test_top.sqr.b", FIRST_STARTED)?
+            && fails_abandoned(kernel)
+            && kernel.live() == 2
+            && gives_back(alloc, kernel, SEQUENCE_AND_TEST)?,
+    )
+}
+
 fn ends_unanswered<O: UvmObject, F: Fn(Name) -> Result<O, AllocError> + Drop>(
     alloc: Global,
     kernel: &mut Kernel<O>,
@@ -315,7 +407,8 @@ fn writes<O: UvmObject, F: Fn(Name) -> Result<O, AllocError> + Drop>(
     Ok(text.as_slice() == lines)
 }
 
-// Makes an entry, and writes it, unless the object at a path is needed or the run is over: whether it does.
+// Makes an entry, and writes it, or writes whose object comes back, unless the object at a path is needed or the run is over:
+// whether it does.
 fn go<O: UvmObject, F: Fn(Name) -> Result<O, AllocError> + Drop>(
     kernel: &mut Kernel<O>,
     make: &F,
@@ -325,18 +418,37 @@ fn go<O: UvmObject, F: Fn(Name) -> Result<O, AllocError> + Drop>(
     requires { F.IsAlwaysCallable make.now }
 {
     let mut words = Pcg32::new(42, 54);
-    match kernel.step(&mut words)? {
-        Step::Over => return Ok(false),
-        Step::Moved => (),
-        Step::Need => {
+    match kernel.step(&mut words) {
+        Ok(Step::Over) => return Ok(false),
+        Ok(Step::Moved) => (),
+        Ok(
+            Step::Back {
+                who,
+                object: _object,
+            },
+        ) => {
+            write_number(who, text)?;
+            return Ok(true);
+        }
+        Ok(Step::Need) => {
             if is_needed(kernel, path) {
                 return Ok(false);
             }
             meet(kernel, make)?;
         }
+        Err(fault) => return Err(fault)?,
     }
     kernel.core().last_text(true, text)?;
     Ok(true)
+}
+
+// Writes the number of a sequence on a line.
+fn write_number(who: Who, text: &mut Vec<u8>) -> Result<(), Fail> {
+    if let Who::Sequence { id, .. } = who {
+        let line = format!(in *text.allocator(); "back {}\n", id.number())?;
+        text.extend_from_slice(line.as_bytes())?;
+    }
+    Ok(())
 }
 
 // Whether the object at a path is needed.
@@ -430,6 +542,7 @@ fn refusal<O: UvmObject, F: Fn(Name) -> Result<O, AllocError> + Drop>(
         match kernel.step(&mut words) {
             Ok(Step::Need) => meet(kernel, make)?,
             Ok(Step::Moved) => (),
+            Ok(Step::Back { .. }) => (),
             Ok(Step::Over) => return Ok(None),
             Err(fault) => return Ok(Some(fault)),
         }
@@ -559,4 +672,89 @@ const TEST_AND_A_AND_B: &[u8] = b"uvm_test_top
 uvm_test_top.a
 uvm_test_top.b
 none
+";
+
+const SEQUENCE_AND_TEST: &[u8] = b"uvm_test_top.sqr\nuvm_test_top\nnone\n";
+
+const RUN_BEGUN: &[u8] = b"did uvm_top create bus_test uvm_test_top: made bus_test
+begin build
+heard uvm_test_top build: 1
+did uvm_test_top add sqr sequencer FIFO: done
+end build
+begin connect
+heard uvm_test_top connect: 0
+end connect
+begin end_of_elaboration
+heard uvm_test_top end_of_elaboration: 0
+end end_of_elaboration
+begin start_of_simulation
+heard uvm_test_top start_of_simulation: 0
+end start_of_simulation
+begin run
+heard uvm_test_top run: 1
+";
+
+const FINISHED_RUN: &[u8] = b"did uvm_test_top start seq a (sqr) none: started 1
+heard uvm_test_top.sqr@@a#1 pre_start: 1
+did uvm_test_top.sqr@@a#1 end_step: done
+heard uvm_test_top.sqr@@a#1 body: 1
+did uvm_test_top.sqr@@a#1 end_step: done
+heard uvm_test_top.sqr@@a#1 post_start: 1
+did uvm_test_top.sqr@@a#1 end_step: finished
+back 1
+heard uvm_test_top finished a 1: 0
+end run
+begin extract
+heard uvm_test_top extract: 0
+end extract
+begin check
+heard uvm_test_top check: 0
+end check
+begin report
+heard uvm_test_top report: 0
+end report
+begin final
+heard uvm_test_top final: 0
+end final
+over finished
+";
+
+const FIRST_STARTED: &[u8] = b"did uvm_top create bus_test uvm_test_top: made bus_test
+begin build
+heard uvm_test_top build: 1
+did uvm_test_top add sqr sequencer FIFO: done
+end build
+begin connect
+heard uvm_test_top connect: 0
+end connect
+begin end_of_elaboration
+heard uvm_test_top end_of_elaboration: 0
+end end_of_elaboration
+begin start_of_simulation
+heard uvm_test_top start_of_simulation: 0
+end start_of_simulation
+begin run
+heard uvm_test_top run: 2
+did uvm_test_top start seq a (sqr) none: started 1
+";
+
+const ENDED_RUN: &[u8] = b"did uvm_test_top start seq b (sqr) none: started 2
+heard uvm_test_top.sqr@@a#1 pre_start: 0
+heard uvm_test_top.sqr@@b#2 pre_start: 0
+end run
+back 1
+back 2
+begin extract
+heard uvm_test_top extract: 0
+end extract
+begin check
+heard uvm_test_top check: 0
+end check
+begin report
+heard uvm_test_top report: 0
+end report
+begin final
+heard uvm_test_top final: 0
+end final
+over finished
 ";

@@ -1,14 +1,11 @@
 -- A run that is not over, and one that breaks off.
-use Rattle.std.proofs.Common.{◌≡◌, ℕ, Bool, true, false, List, [], ◌∷◌, ◌++◌, length, Option, Some, None, Result, Ok, Err, refl, ap, sym, ◌∙◌, subst, if◌then◌else◌, append-nil, arith, suc, lit≤}
+use Rattle.std.proofs.Common.{◌≡◌, ℕ, Bool, List, [], ◌∷◌, ◌++◌, length, Option, Some, None, Result, Ok, Err, ap, sym, ◌∙◌, subst, if◌then◌else◌, append-nil, arith, suc, lit≤}
 use Rattle.std.specs.Result.{IsErrAnd}
 use Rattle.std.proofs.lemmas.List.{append_assoc}
 use Rattle.std.specs.Io.KnownBytes.{Appends}
 use Rattle.std.proofs.KnownBytes.{Appends-kept}
-use Rattle.uvm_object.specs.declared.entries.Entry.{Entry}
 use Rattle.bench_script.specs.Scripts.{ScriptValue}
-use Rattle.bench_history.specs.History.{is_over}
-use Rattle.bench_history.specs.Next.{next_of, IsLegal}
-use Rattle.bench_history.specs.Laws.{NothingAfterOver, IsSomething}
+use Rattle.bench_history.specs.Next.{IsLegal}
 use Rattle.bench_core.specs.declared.cores.Health.{Health}
 use Rattle.bench_core.specs.declared.cores.Health.TheVariants.{Good}
 use Rattle.bench_core.specs.Cores.{CoreValue, is_sound, last_text}
@@ -16,14 +13,6 @@ use Rattle.bench_run.specs.declared.endings.Ending.{Ending}
 use Rattle.bench_run.specs.declared.faults.RunFault.{RunFault}
 use Rattle.bench_run.specs.declared.faults.RunFault.TheVariants as fault
 use Rattle.bench_run.specs.Running.{BrokeOffRun, Grows, IsUnwritten, LeavesRun, transcript}
-
--- where something comes the run is not over
-pub on-where-some : NothingAfterOver → (script : ScriptValue) (history : List Entry) → IsSomething (next_of script history) → is_over history ≡ false
-on-where-some nothing script history some = go (is_over history) refl
-  where
-    go : (b : Bool) → is_over history ≡ b → is_over history ≡ false
-    go false e = e
-    go true e = absurd (subst IsSomething (nothing script history e) some)
 
 -- what is written after what was written
 pub Appends-more : (old mid new : Option (List ℕ)) (xs ys : List ℕ) → Appends old mid xs → Appends mid new ys → Appends old new (xs ++ ys)

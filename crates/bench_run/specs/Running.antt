@@ -13,6 +13,7 @@ use Rattle.bench_history.specs.Limits.{log_limit}
 use Rattle.bench_history.specs.History.{is_over}
 use Rattle.bench_history.specs.Reports.{report_commands}
 use Rattle.bench_core.specs.Cores.{CoreValue, core_after, last_text}
+use Rattle.bench_kernel.specs.Kernels.{KernelValue}
 use Rattle.bench_run.specs.declared.endings.Ending.{Ending}
 use Rattle.bench_run.specs.declared.faults.RunFault.{RunFault}
 use Rattle.bench_run.specs.declared.faults.RunFault.TheVariants.{Memory, LogFull, Output}
@@ -68,6 +69,11 @@ LeavesRun script trace history old new (Err fault) = BrokeOffRun fault script tr
 -- the same where the log is gone
 abbrev pub IsRun : ScriptValue → Bool → Option (List ℕ) → Option (List ℕ) → Result Ending RunFault → Type 0
 IsRun script trace old new result = (history : List Entry) × LeavesRun script trace history old new result
+
+-- at most, sequences that have ended were told, and their objects given back: the log stays, and a kernel goes on that did
+pub record HasTold {O : Type 0} (old new : KernelValue O) : Type 0 where
+  pub core : new.core ≡ record old.core { leaving = new.core.leaving }
+  pub failed : new.failed ≡ old.failed
 
 -- one more entry
 pub record Grows (old new : CoreValue) : Type 0 where

@@ -14,7 +14,7 @@ ghost use Rattle.bench_history.specs.Reports.{report_commands};
 ghost use Rattle.uvm_report.specs.Commands.{quit_limit};
 ghost use Rattle.uvm_report.specs.Observed as reports;
 ghost use Rattle.uvm_report.specs.Observed.{limit_of};
-ghost use Rattle.bench_run.specs.Running.{Grows, IsEnding, IsHalted, IsRun, IsUnwritten, LeavesRun, log_counts, summary_of};
+ghost use Rattle.bench_run.specs.Running.{Grows, HasTold, IsEnding, IsHalted, IsRun, IsUnwritten, LeavesRun, log_counts, summary_of};
 
 use crate::endings::Ending;
 use crate::faults::RunFault;
@@ -32,8 +32,8 @@ use uvm_report::{Reports, Severity};
 /// Runs a script to its end, with the words of a generator, over the objects that `make` makes: it is called for each object
 /// that is needed, with the name of its type, and answers none for a type that it does not have. Such an object is declined,
 /// and so is one of another type than its name is asked for. As each entry of the log is made, its line is written where `trace`
-/// asks for it, and the line of its report where that is displayed. Each object is given back at the end, whatever that is,
-/// and dropped.
+/// asks for it, and the line of its report where that is displayed. Each object is given back and dropped: a sequence's once the
+/// sequence has ended, and all others at the end, whatever that is.
 ///
 /// Once the run is over the summary of its reports is written. Answers how it is over. The error is `LogFull` where the log has
 /// 1,000,000 entries and is not over, `Memory` where memory was refused, also to `make`, and `Output` where a write failed,
@@ -112,29 +112,32 @@ fn run_to_end<O: UvmObject, R: Rng, F: Fn(&Name) -> Result<Option<O>, AllocError
     Ok(ending_of(kernel))
 }
 
-// Makes the next entry, or answers that the run is over.
+// Makes the next entry, or answers that the run is over. Drops the objects of the sequences that have ended before.
 fn make_entry<O: UvmObject, R: Rng, F: Fn(&Name) -> Result<Option<O>, AllocError>>(
     kernel: &mut Kernel<O>,
     words: &mut R,
     make: &F,
 ) -> Result<bool, RunFault>
     requires { F.IsAlwaysCallable make.now }
-    ensures ok { IfOk result (λ made. MatchBool made (Grows kernel.old.core kernel.new.core) ((is_over kernel.old.core.history ≡ true) × (kernel.new ≡ kernel.old))) }
+    ensures ok { IfOk result (λ made. MatchBool made (Grows kernel.old.core kernel.new.core) ((is_over kernel.old.core.history ≡ true) × HasTold kernel.old kernel.new)) }
     ensures going { IfOk result (λ made. made ≡ true → kernel.new.failed ≡ false) }
     ensures err { IfErr result (λ fault. IsHalted fault kernel.old.failed kernel.old.core) }
     ensures same { OnErr result (IsSameLog kernel.old.core kernel.new.core) }
 {
     // Where something comes the run is not over.
     laws::nothing_after_over();
-    match kernel.step(words) {
-        Ok(Step::Over) => Ok(false),
-        Ok(Step::Moved) => Ok(true),
-        Ok(Step::Need) => {
-            fill(kernel, make)?;
-            Ok(true)
+    loop {
+        match kernel.step(words) {
+            Ok(Step::Back { .. }) => (),
+            Ok(Step::Over) => return Ok(false),
+            Ok(Step::Moved) => return Ok(true),
+            Ok(Step::Need) => {
+                fill(kernel, make)?;
+                return Ok(true);
+            }
+            Err(CoreFault::LogFull) => return Err(RunFault::LogFull),
+            Err(_) => return Err(RunFault::Memory),
         }
-        Err(CoreFault::LogFull) => Err(RunFault::LogFull),
-        Err(_) => Err(RunFault::Memory),
     }
 }
 

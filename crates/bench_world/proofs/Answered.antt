@@ -79,6 +79,21 @@ answer-noted {opening} {history} {kept = kept} {entry} a =
       few = a.few;
     }
 
+-- and so does the end of a sequence, with one more act done
+pub answer-finished :
+    {opening : Act} {history : List Entry} {left : List Act} {last : Who} {kept : LastAnswer} {entry : Entry} {act : Act}
+    → left ≡ act ∷ rest_of left → IsAnswer opening history left last kept → IsAnswer opening (entry ∷ history) [] last (record kept { noted = true; done = kept.done + 1 })
+answer-finished {opening} {history} {kept = kept} {entry} {act} first a =
+    let same = acts-later opening entry history kept.place a.within in
+    let open_ : kept.done < kept.count = answer-open act first a in
+    record {
+      speaker = a.speaker;
+      rest = refl;
+      within = answered-later entry history kept.place a.within;
+      count = rw same a.count;
+      few = omega (arith, open_);
+    }
+
 head-drop : (n : ℕ) (xs : List Act) → slice_get xs n ≡ head_of (drop n xs)
 head-drop zero [] = refl
 head-drop zero (x ∷ xs) = refl

@@ -1,5 +1,6 @@
 -- A world whose wiring is closed.
-use Rattle.std.proofs.Common.{◌≡◌, Bool, true, Option, Some, rules, unwrap_or}
+use Rattle.uvm_object.specs.declared.acts.Who.{Who}
+use Rattle.std.proofs.Common.{◌≡◌, List, Bool, true, Option, Some, rules, unwrap_or}
 use Rattle.uvm_tree.specs.Sorted.{path_order}
 use Rattle.uvm_object.specs.Logs.{LogValue}
 use Rattle.bench_script.specs.Scripts.{ScriptValue}
@@ -28,19 +29,23 @@ closed-ready : {script : ScriptValue} {log : LogValue} {services : Services} {wa
 closed-ready r = record {
   left = r.left;
   needed = r.needed;
+  home = r.home;
   room = r.room;
   log_spare = r.log_spare;
   tree_spare = r.tree_spare;
   objection_spare = r.objection_spare;
   components = r.components;
+  sequence_spare = r.sequence_spare;
+  beginnings = r.beginnings;
+  agenda_spare = r.agenda_spare;
   declined = r.declined;
   report_room = r.report_room;
 }
 
 -- it is as good as before
 pub world-closed :
-    {P : Type 0} {sound : Bool} {script : ScriptValue} {log : LogValue} {services : Services} {waiting : Option Waiting}
-    → P × IsWorld sound script log services waiting → ConnectFollowsBuild → is_at_check script log.entries ≡ true → P × IsWorld sound script log (with_order services) waiting
+    {P : Type 0} {sound : Bool} {script : ScriptValue} {log : LogValue} {services : Services} {waiting : Option Waiting} {leaving : List Who}
+    → P × IsWorld sound script log services waiting leaving → ConnectFollowsBuild → is_at_check script log.entries ≡ true → P × IsWorld sound script log (with_order services) waiting leaving
 world-closed {log = log} p follows at_check =
     let w = p.1 in
-    (p.0, record { limit = w.limit; legal = w.legal; services_match = λ sound. closed-match log follows w.legal.each at_check (w.services_match sound); waits = w.waits; ready = λ waiting is. closed-ready (w.ready waiting is) })
+    (p.0, record { limit = w.limit; legal = w.legal; services_match = λ sound. closed-match log follows w.legal.each at_check (w.services_match sound); leaves = w.leaves; waits = w.waits; ready = λ waiting is. closed-ready (w.ready waiting is) })

@@ -25,11 +25,11 @@ use Rattle.bench_history.specs.declared.owners.Owner.TheVariants.{Object, Drain}
 use Rattle.uvm_object.specs.Acts.{node_of}
 use Rattle.bench_history.specs.Owners.{Event, is_drain_of, who_of}
 use Rattle.bench_history.specs.History.{now_of, running}
-use Rattle.bench_history.specs.Dues.{event_in, caused_at, drain_from, with_drains, is_open, due_events}
+use Rattle.bench_history.specs.Dues.{event_in, caused_at, drain_from, with_drains, is_of_one, is_open, due_events}
 use Rattle.bench_history.specs.Laws.{next_number, IsDrainDue}
 use Rattle.bench_world.specs.Objectings.{IsEvent, AreEvents}
 use Rattle.bench_world.specs.Services.{IsAgenda}
-use Rattle.bench_world.proofs.Told.{filter-twice, first-holds, one-heard, one-ended, agenda-later, agenda-event}
+use Rattle.bench_world.proofs.Told.{filter-twice, first-holds, one-heard-of, one-ended-of, open-finished, agenda-later, agenda-event}
 
 -- one test after another, in either order
 and-order : (a b : Bool) → (a && b) ≡ (b && a)
@@ -43,10 +43,10 @@ filter-order p q xs = sym (filter-twice p q (λ x. q x && p x) (λ x. refl) xs) 
 
 -- some events are out
 agenda-without :
-    (caused : List Event) (heard : List Cause) (ended : List Phase) (count : ℕ) (dues : List Event) (p : Event → Bool) → IsAgenda caused heard ended count dues
-    → IsAgenda (filter p caused) heard ended count (in_order (filter p (filter (is_open heard ended) caused)))
-agenda-without caused heard ended count dues p a = record {
-  are = ap in_order (filter-order p (is_open heard ended) caused);
+    (caused : List Event) (heard : List Cause) (ended : List Phase) (finished : List Who) (count : ℕ) (dues : List Event) (p : Event → Bool) → IsAgenda caused heard ended finished count dues
+    → IsAgenda (filter p caused) heard ended finished count (in_order (filter p (filter (is_open heard ended finished) caused)))
+agenda-without caused heard ended finished count dues p a = record {
+  are = ap in_order (filter-order p (is_open heard ended finished) caused);
   distinct = AllPairs-filter (λ one other. same_cause one.cause other.cause ≡ false) p caused a.distinct;
   caused_within = All-filter p (λ event. event.cause.place < count) caused a.caused_within;
   heard_within = a.heard_within;
@@ -54,16 +54,16 @@ agenda-without caused heard ended count dues p a = record {
 
 -- and the end of a drain that began is due
 agenda-moved :
-    (stage : Stage) (began : Option drain.Due) (caused : List Event) (heard : List Cause) (ended : List Phase) (count : ℕ) (dues more : List Event) (p : Event → Bool)
-    → All (λ phase. phase_number phase < next_number stage) ended → IsAgenda caused heard ended count dues
-    → more ≡ in_order (flat_map (drain_from (running stage) (caused_at count)) (option_to_list began) ++ filter p (filter (is_open heard ended) caused))
-    → IsAgenda (flat_map (drain_from (running stage) (caused_at count)) (option_to_list began) ++ filter p caused) heard ended (suc count) more
-agenda-moved stage None caused heard ended count dues more p phases a is = rw is (agenda-later (agenda-without caused heard ended count dues p a))
-agenda-moved stage (Some begun) caused heard ended count dues more p phases a is =
+    (stage : Stage) (began : Option drain.Due) (caused : List Event) (heard : List Cause) (ended : List Phase) (finished : List Who) (count : ℕ) (dues more : List Event) (p : Event → Bool)
+    → All (λ phase. phase_number phase < next_number stage) ended → IsAgenda caused heard ended finished count dues
+    → more ≡ in_order (flat_map (drain_from (running stage) (caused_at count)) (option_to_list began) ++ filter p (filter (is_open heard ended finished) caused))
+    → IsAgenda (flat_map (drain_from (running stage) (caused_at count)) (option_to_list began) ++ filter p caused) heard ended finished (suc count) more
+agenda-moved stage None caused heard ended finished count dues more p phases a is = rw is (agenda-later (agenda-without caused heard ended finished count dues p a))
+agenda-moved stage (Some begun) caused heard ended finished count dues more p phases a is =
     let event : List Event = event_in (running stage) begun.at (caused_at count) (Drain begun.node) None in
     rw (append-nil event)
-    (agenda-event (Drain begun.node) None begun.at stage (filter p caused) heard ended count _ more phases (agenda-without caused heard ended count dues p a)
-    (rw (append-nil event, filter-order p (is_open heard ended) caused) at is))
+    (agenda-event (Drain begun.node) None begun.at stage (filter p caused) heard ended finished count _ more phases refl (agenda-without caused heard ended finished count dues p a)
+    (rw (append-nil event, filter-order p (is_open heard ended finished) caused) at is))
 
 -- one more, if it passes a test
 filter-more : {A : Type 0} (P : A → Type 0) (p : A → Bool) (x : A) (xs : List A) → P x → All P (filter p xs) → All P (filter p (x ∷ xs))
@@ -105,18 +105,24 @@ events-fewer nodes awaited fewer both caused same all =
     rw (filter-twice fewer awaited both same caused) (All-filter fewer (λ event. IsEvent nodes event.owner event.notice event.time) (filter awaited caused) all)
 
 pub events-heard :
-    (cause : Cause) (nodes : List Node) (caused : List Event) (heard : List Cause) (ended : List Phase) → AreEvents nodes (filter (is_open heard ended) caused)
-    → AreEvents nodes (filter (is_open (cause ∷ heard) ended) caused)
-events-heard cause nodes caused heard ended all =
-    events-fewer nodes (is_open heard ended) (λ event. not (same_cause event.cause cause)) (is_open (cause ∷ heard) ended) caused
-    (λ event. one-heard (same_cause event.cause cause) (list_any (same_cause event.cause) heard) (not (list_any (same_phase event.phase) ended))) all
+    (cause : Cause) (nodes : List Node) (caused : List Event) (heard : List Cause) (ended : List Phase) (finished : List Who) → AreEvents nodes (filter (is_open heard ended finished) caused)
+    → AreEvents nodes (filter (is_open (cause ∷ heard) ended finished) caused)
+events-heard cause nodes caused heard ended finished all =
+    events-fewer nodes (is_open heard ended finished) (λ event. not (same_cause event.cause cause)) (is_open (cause ∷ heard) ended finished) caused
+    (λ event. one-heard-of (same_cause event.cause cause) (list_any (same_cause event.cause) heard) (not (list_any (same_phase event.phase) ended)) (not (is_of_one finished event.owner))) all
 
 pub events-ended :
-    (phase : Phase) (nodes : List Node) (caused : List Event) (heard : List Cause) (ended : List Phase) → AreEvents nodes (filter (is_open heard ended) caused)
-    → AreEvents nodes (filter (is_open heard (phase ∷ ended)) caused)
-events-ended phase nodes caused heard ended all =
-    events-fewer nodes (is_open heard ended) (λ event. not (same_phase event.phase phase)) (is_open heard (phase ∷ ended)) caused
-    (λ event. one-ended (not (list_any (same_cause event.cause) heard)) (same_phase event.phase phase) (list_any (same_phase event.phase) ended)) all
+    (phase : Phase) (nodes : List Node) (caused : List Event) (heard : List Cause) (ended : List Phase) (finished : List Who) → AreEvents nodes (filter (is_open heard ended finished) caused)
+    → AreEvents nodes (filter (is_open heard (phase ∷ ended) finished) caused)
+events-ended phase nodes caused heard ended finished all =
+    events-fewer nodes (is_open heard ended finished) (λ event. not (same_phase event.phase phase)) (is_open heard (phase ∷ ended) finished) caused
+    (λ event. one-ended-of (not (list_any (same_cause event.cause) heard)) (same_phase event.phase phase) (list_any (same_phase event.phase) ended) (not (is_of_one finished event.owner))) all
+
+pub events-finished :
+    (who : Who) (nodes : List Node) (caused : List Event) (heard : List Cause) (ended : List Phase) (finished : List Who) → AreEvents nodes (filter (is_open heard ended finished) caused)
+    → AreEvents nodes (filter (is_open heard ended (who ∷ finished)) caused)
+events-finished who nodes caused heard ended finished all =
+    events-fewer nodes (is_open heard ended finished) (λ event. not (is_of_one (who ∷ []) event.owner)) (is_open heard ended (who ∷ finished)) caused (open-finished who heard ended finished) all
 
 -- at other nodes, but for the drains that have ended
 events-at :
@@ -212,24 +218,24 @@ held-settled time k at nodes changed others settles stay are same is keeps goes 
 }
 
 -- what the drains that began and ended make of what is due
-pub record HasMoved (nodes others : List Node) (stage : Stage) (caused : List Event) (heard : List Cause) (ended : List Phase) (count : ℕ) (more : List Event) : Type 0 where
-  pub agenda : IsAgenda (with_drains (running stage) (caused_at count) nodes others caused) heard ended (suc count) more
-  pub events : AreEvents others (filter (is_open heard ended) (with_drains (running stage) (caused_at count) nodes others caused))
+pub record HasMoved (nodes others : List Node) (stage : Stage) (caused : List Event) (heard : List Cause) (ended : List Phase) (finished : List Who) (count : ℕ) (more : List Event) : Type 0 where
+  pub agenda : IsAgenda (with_drains (running stage) (caused_at count) nodes others caused) heard ended finished (suc count) more
+  pub events : AreEvents others (filter (is_open heard ended finished) (with_drains (running stage) (caused_at count) nodes others caused))
 
 pub moved :
     (time : ℕ) (nodes changed others : List Node) (stage : Stage) (began : Option drain.Due) (ends : Option ℕ)
-    (caused : List Event) (heard : List Cause) (ended : List Phase) (count : ℕ) (dues more : List Event)
+    (caused : List Event) (heard : List Cause) (ended : List Phase) (finished : List Who) (count : ℕ) (dues more : List Event)
     → SettledGoByTotals → PlacesStay → AreNodes nodes → places others ≡ places nodes → others ≡ settled time (total nodes) changed → ((k : ℕ) → due_of k changed ≡ due_of k nodes)
     → drains_begun nodes others ≡ option_to_list began → drains_ended nodes others ≡ option_to_list ends → All (IsHeldUntilDue others) (option_to_list began)
-    → All (λ phase. phase_number phase < next_number stage) ended → IsAgenda caused heard ended count dues → AreEvents nodes (filter (is_open heard ended) caused)
-    → more ≡ in_order (flat_map (drain_from (running stage) (caused_at count)) (option_to_list began) ++ filter (λ event. not (is_drain_of (option_to_list ends) event.owner)) (filter (is_open heard ended) caused))
-    → HasMoved nodes others stage caused heard ended count more
-moved time nodes changed others stage began ends caused heard ended count dues more settles stay are same is keeps begun over held phases a events due =
+    → All (λ phase. phase_number phase < next_number stage) ended → IsAgenda caused heard ended finished count dues → AreEvents nodes (filter (is_open heard ended finished) caused)
+    → more ≡ in_order (flat_map (drain_from (running stage) (caused_at count)) (option_to_list began) ++ filter (λ event. not (is_drain_of (option_to_list ends) event.owner)) (filter (is_open heard ended finished) caused))
+    → HasMoved nodes others stage caused heard ended finished count more
+moved time nodes changed others stage began ends caused heard ended finished count dues more settles stay are same is keeps begun over held phases a events due =
     let kept : Event → Bool = λ event. not (is_drain_of (option_to_list ends) event.owner) in
     record {
-      agenda = rw (begun, over) (agenda-moved stage began caused heard ended count dues more kept phases a due);
-      events = rw (begun, over) (events-begun others (is_open heard ended) (running stage) (caused_at count) began (filter kept caused) held
-          (events-at nodes others (is_open heard ended) kept caused (λ event. one event.owner event.notice event.time) events));
+      agenda = rw (begun, over) (agenda-moved stage began caused heard ended finished count dues more kept phases a due);
+      events = rw (begun, over) (events-begun others (is_open heard ended finished) (running stage) (caused_at count) began (filter kept caused) held
+          (events-at nodes others (is_open heard ended finished) kept caused (λ event. one event.owner event.notice event.time) events));
     }
   where
     one : (owner : Owner) (notice : Option Call) (at : ℕ) → not (is_drain_of (option_to_list ends) owner) ≡ true → IsEvent nodes owner notice at → IsEvent others owner notice at

@@ -3,11 +3,13 @@ use Rattle.std.proofs.Common.{◌≡◌, ℕ, zero, suc, ◌<◌, true, List, []
 use Rattle.std.proofs.lemmas.List.{reverse-append, length-reverse}
 use Rattle.std.specs.Option.{ForSome}
 use Rattle.uvm_object.specs.declared.acts.Act.{Act}
+use Rattle.uvm_object.specs.declared.acts.Who.{Who}
 use Rattle.uvm_object.specs.declared.entries.Entry.{Entry}
 use Rattle.uvm_object.specs.Logs.{LogValue}
 use Rattle.bench_script.specs.Scripts.{ScriptValue}
 use Rattle.bench_world.specs.declared.services.Services.{Services}
 use Rattle.bench_history.specs.Limits.{log_limit}
+use Rattle.bench_history.specs.Sequences.{leaving_of}
 use Rattle.bench_history.specs.Next.{IsNext, IsLegal}
 use Rattle.bench_world.specs.Services.{acts_at, acts_in, ServicesMatch}
 use Rattle.bench_world.specs.Worlds.{IsWorld}
@@ -17,8 +19,10 @@ pub legal-more : {script : ScriptValue} {before : List Entry} (entry : Entry) �
 legal-more entry next room legal = record { each = (next, legal.each); few = omega arith }
 
 -- a world is sound again once its services match
-pub sound-again : {script : ScriptValue} {log : LogValue} {services : Services} (entries : List Entry) → log.entries ≡ entries → log.limit ≡ log_limit script → IsLegal script entries → ServicesMatch script entries services → IsWorld true script log services None
-sound-again {script} {log} {services} entries is limit legal match = record { limit = limit; legal = rw is legal; services_match = λ _. rw is match; waits = λ _ e. cc; ready = λ _ e. cc }
+pub sound-again :
+    {script : ScriptValue} {log : LogValue} {services : Services} {leaving : List Who} (entries : List Entry)
+    → log.entries ≡ entries → log.limit ≡ log_limit script → IsLegal script entries → leaving ≡ leaving_of entries → ServicesMatch script entries services → IsWorld true script log services None leaving
+sound-again {script} {log} {services} {leaving} entries is limit legal leaves match = record { limit = limit; legal = rw is legal; services_match = λ _. rw is match; leaves = λ _. rw is leaves; waits = λ _ e. cc; ready = λ _ e. cc }
 
 get-front : {A : Type 0} (xs ys : List A) (k : ℕ) → k < length xs → slice_get (xs ++ ys) k ≡ slice_get xs k
 get-front [] ys k lt = absurd (omega arith)

@@ -25,8 +25,7 @@ use Rattle.bench_script.specs.Scripts.{ScriptValue}
 use Rattle.bench_history.specs.declared.askers.Gate.{Gate}
 use Rattle.bench_history.specs.declared.stages.Stage.{Stage}
 use Rattle.bench_history.specs.declared.stages.Stage.TheVariants.{During}
-use Rattle.bench_history.specs.History.{nodes_of, running, stage_of}
-use Rattle.bench_history.specs.Dues.{ended_of}
+use Rattle.bench_history.specs.History.{nodes_of, running, stage_of, ended_of}
 use Rattle.bench_history.specs.Laws.{next_number}
 use Rattle.bench_history.specs.Wires.{end_of, node_below, wiring_of, with_both}
 use Rattle.bench_history.specs.Ports.{fifo_size, gate_below, size_of}

@@ -1,6 +1,5 @@
 -- An answer.
-use Rattle.std.proofs.Common.{◌≡◌, ℕ, false, List, ◌∷◌, length, map, Option, Some, refl, ap, sym, arith, ◌<◌}
-use Rattle.std.specs.Prelude.{Contains}
+use Rattle.std.proofs.Common.{◌≡◌, ℕ, false, List, ◌∷◌, length, map, Option, Some, None, option_map, All, subst, refl, ap, sym, arith, ◌<◌}
 use Rattle.std.proofs.lemmas.List.Elements.{All-contains}
 use Rattle.uvm_phase.specs.declared.agendas.Cause.{Cause}
 use Rattle.uvm_object.specs.declared.acts.Who.{Who}
@@ -8,7 +7,11 @@ use Rattle.uvm_object.specs.declared.acts.Call.{Call}
 use Rattle.uvm_object.specs.declared.acts.Act.{Act}
 use Rattle.uvm_object.specs.Acts.{node_of}
 use Rattle.uvm_object.specs.declared.acts.Who.TheVariants.{Node, Sequence}
-use Rattle.bench_history.specs.Laws.{IsComponent}
+use Rattle.bench_history.specs.Laws.{IsThere}
+use Rattle.bench_history.specs.History.{components_of, nodes_of}
+use Rattle.bench_history.specs.Sequences.{Beginning, begun_of}
+use Rattle.uvm_sequencer.specs.Sequences.{numbered}
+use Rattle.bench_world.proofs.Numbered.{numbered-holds}
 use Rattle.uvm_object.specs.declared.entries.Entry.{Entry}
 use Rattle.uvm_object.specs.declared.entries.Entry.TheVariants.{Heard}
 use Rattle.bench_world.specs.declared.services.Component.{Component}
@@ -16,17 +19,24 @@ use Rattle.bench_world.specs.Services.{with_call, acts_in, AreTurns, IsAnswer}
 use Rattle.bench_world.proofs.Entered.{get-last, answered-last}
 use Rattle.bench_world.proofs.Turns.{turns-heard}
 
--- who is asked stands at a node
-pub asked-within : {components called : List ℕ} {count : ℕ} {kept : List Component} (performer : Who) → IsComponent components performer → AreTurns components called count kept → node_of performer < count
-asked-within {components} {count = count} (Node node) there turns = All-contains (λ other. other < count) components node turns.within there
-asked-within (Sequence id home) there turns = absurd there
+-- who is there stands at a node
+pub there-within :
+    (history : List Entry) (performer : Who) {called : List ℕ} {kept : List Component} → IsThere history performer → All (λ beginning. beginning.start.home < length (nodes_of history)) (begun_of history)
+    → AreTurns (components_of history) called (length (nodes_of history)) kept → node_of performer < length (nodes_of history)
+there-within history (Node node) there homes turns = All-contains (λ other. other < length (nodes_of history)) (components_of history) node turns.within there
+there-within history (Sequence id home) there homes turns = found (numbered (begun_of history) id) refl there.home_is
+  where
+    found : (beginning : Option Beginning) → numbered (begun_of history) id ≡ beginning → option_map (λ beginning. beginning.start.home) beginning ≡ Some home → home < length (nodes_of history)
+    found None is e = cc
+    found (Some beginning) is e =
+        let same : beginning.start.home ≡ home = cc in
+        subst (λ (h : ℕ). h < length (nodes_of history)) same (numbered-holds (λ (one : Beginning). one.start.home < length (nodes_of history)) (begun_of history) id beginning homes is)
 
 -- and had its call
 pub heard-turns :
-    {components called : List ℕ} {count : ℕ} {kept : List Component} (performer : Who) (node : ℕ) → node ≡ node_of performer → IsComponent components performer
+    {components called : List ℕ} {count : ℕ} {kept : List Component} (performer : Who) (node : ℕ) → node ≡ node_of performer → node_of performer < count
     → AreTurns components called count kept → AreTurns components (node_of performer ∷ called) count (map (with_call node) kept)
-heard-turns {components} {count = count} performer node is there turns =
-    rw is (turns-heard (node_of performer) (asked-within performer there turns) turns)
+heard-turns performer node is within turns = rw is (turns-heard (node_of performer) within turns)
 
 -- the answer is the last one, and all of it is left
 pub heard-answer :

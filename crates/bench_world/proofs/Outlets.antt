@@ -25,8 +25,8 @@ use Rattle.uvm_object.specs.declared.entries.Entry.TheVariants.{Did}
 use Rattle.uvm_object.specs.declared.fatals.Fatal.{Fatal}
 use Rattle.bench_script.specs.Scripts.{ScriptValue}
 use Rattle.bench_history.specs.declared.stages.Stage.{Stage}
-use Rattle.bench_history.specs.Dues.{ended_of, written_calls, written_to}
-use Rattle.bench_history.specs.History.{nodes_of, running, stage_of}
+use Rattle.bench_history.specs.Dues.{calls_told, written_to}
+use Rattle.bench_history.specs.History.{nodes_of, running, stage_of, ended_of}
 use Rattle.bench_history.specs.Ports.{fifo_size, fifos_below, if_sound, imps_below, is_imp, is_imp_at, is_sound_port, outlets_below, port_below, size_of}
 use Rattle.bench_history.specs.Passing.{Station, answered_at, fifo_items, is_no_put, is_put, items_entered, items_left, passage_in, puts_asked, puts_waiting, station_at, station_of, takes_asked, takes_waiting, waiting_put}
 use Rattle.bench_history.specs.Refusals.{in_task, passing_refusal}
@@ -102,7 +102,7 @@ outlet-open {history = history} {services} {name} {port} m can accept wiring ope
 -- the calls to the owners of the imps among it
 pub calls-are :
     {script : ScriptValue} {history : List Entry} {services : Services} {name targets : List ℕ} (item : Item) → ServicesMatch script history services → IsOutlet history services name targets
-    → filter_map (written_to services.tree.nodes item) (filter (is_imp_at services.wiring) targets) ≡ written_calls history services.answer.speaker Done (Write name item)
+    → filter_map (written_to services.tree.nodes item) (filter (is_imp_at services.wiring) targets) ≡ calls_told history services.answer.speaker Done (Write name item)
 unfolding imps_below
 calls-are {history = history} {services} {name} {targets} item m o =
     ap (λ (nodes : List Node). filter_map (written_to nodes item) (filter (is_imp_at services.wiring) targets)) m.tree

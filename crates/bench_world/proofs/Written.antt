@@ -1,10 +1,10 @@
 -- Writes: what enters several FIFOs, and the calls that are numbered.
 use Rattle.std.proofs.Common.{◌≡◌, ℕ, zero, suc, ◌<◌, ◌≤◌, ◌==◌, nat_eq, Bool, true, false, ◌||◌, List, [], ◌∷◌, ◌++◌, length, filter, drop, take, Option, Some, None, option_map, ◌⊎◌, inl, inr, All, refl, ap, sym, ◌∙◌, subst, arith, append_assoc, if◌then◌else◌}
-use Rattle.std.specs.List.{AllByRecursion, AllPairs, Contains, IsDistinct, list_any}
+use Rattle.std.specs.List.{AllByRecursion, AllPairs, Contains, IsDistinct, filter_map, cons_option, list_any}
 use Rattle.std.specs.HashMap.{get}
 use Rattle.std.proofs.lemmas.Bool.Decides.{nat_tests}
 use Rattle.std.proofs.lemmas.List.{get_or_default}
-use Rattle.std.proofs.lemmas.List.Elements.{All-contains, All-cons, All-filter, All-head, All-tail, All-weaker}
+use Rattle.std.proofs.lemmas.List.Elements.{All-nil, All-contains, All-cons, All-filter, All-head, All-tail, All-weaker}
 use Rattle.std.proofs.lemmas.List.Folds.{list_any-append}
 use Rattle.std.proofs.lemmas.List.Kept.{AllPairs-cons}
 use Rattle.std.proofs.lemmas.Map.Made.{Contains-tail}
@@ -17,13 +17,17 @@ use Rattle.uvm_objection.specs.Nodes as objection
 use Rattle.uvm_tlm.specs.declared.items.Item.{Item}
 use Rattle.uvm_object.specs.declared.acts.Call.{Call}
 use Rattle.uvm_object.specs.declared.acts.Who.{Who}
+use Rattle.uvm_object.specs.declared.acts.Who.TheVariants as who
+use Rattle.uvm_object.specs.declared.acts.Call.TheVariants as call
+use Rattle.uvm_tree.specs.declared.nodes.Node as tree
+use Rattle.uvm_tree.specs.Nodes.{under_at}
 use Rattle.bench_history.specs.declared.owners.Owner.TheVariants.{Object}
 use Rattle.bench_history.specs.declared.stages.Stage.{Stage}
 use Rattle.bench_history.specs.declared.stages.Stage.TheVariants.{Before, During, After, Ended}
 use Rattle.bench_history.specs.History.{running}
 use Rattle.bench_history.specs.Laws.{next_number}
 use Rattle.bench_history.specs.Refusals.{in_task}
-use Rattle.bench_history.specs.Dues.{calls_numbered, event_in, is_open}
+use Rattle.bench_history.specs.Dues.{calls_numbered, event_in, is_of_one, is_open, written_to}
 use Rattle.bench_history.specs.Owners.{Event}
 use Rattle.bench_history.specs.Passing.{Station, puts_now}
 use Rattle.bench_world.specs.Objectings.{AreEvents}
@@ -139,30 +143,30 @@ numbered-apart phase time place number (told ∷ calls) caused pairs earlier =
 
 -- and all of them are open
 numbered-open :
-    (phase : Phase) (time place number : ℕ) (calls : List (Who × Call)) (caused : List Event) (heard : List Cause) (ended : List Phase) → All (λ cause. cause.place < place) heard → All (λ other. phase_number other < phase_number phase) ended
-    → filter (is_open heard ended) (calls_numbered (Some phase) time place number calls ++ caused) ≡ calls_numbered (Some phase) time place number calls ++ filter (is_open heard ended) caused
-numbered-open phase time place number [] caused heard ended within before = refl
-numbered-open phase time place number (told ∷ calls) caused heard ended within before =
+    (phase : Phase) (time place number : ℕ) (calls : List (Who × Call)) (caused : List Event) (heard : List Cause) (ended : List Phase) (finished : List Who) → All (λ cause. cause.place < place) heard → All (λ other. phase_number other < phase_number phase) ended → All (λ told. is_of_one finished (Object told.0) ≡ false) calls
+    → filter (is_open heard ended finished) (calls_numbered (Some phase) time place number calls ++ caused) ≡ calls_numbered (Some phase) time place number calls ++ filter (is_open heard ended finished) caused
+numbered-open phase time place number [] caused heard ended finished within before all = refl
+numbered-open phase time place number (told ∷ calls) caused heard ended finished within before all =
     let cause : Cause = record { place = place; number = number } in
     let event : Event = record { time = time; cause = cause; phase = phase; owner = Object told.0; notice = Some told.1 } in
     let others = calls_numbered (Some phase) time place (suc number) calls in
-    let open_ : filter (is_open heard ended) (event ∷ caused) ≡ event ∷ filter (is_open heard ended) caused = rw (fresh heard cause within, runs ended phase before) refl in
-    ap (filter (is_open heard ended)) (append_assoc others (event ∷ []) caused)
-    ∙ numbered-open phase time place (suc number) calls (event ∷ caused) heard ended within before
+    let open_ : filter (is_open heard ended finished) (event ∷ caused) ≡ event ∷ filter (is_open heard ended finished) caused = rw (fresh heard cause within, runs ended phase before, All-head (λ (told : Who × Call). is_of_one finished (Object told.0) ≡ false) told calls all) refl in
+    ap (filter (is_open heard ended finished)) (append_assoc others (event ∷ []) caused)
+    ∙ numbered-open phase time place (suc number) calls (event ∷ caused) heard ended finished within before (All-tail (λ (told : Who × Call). is_of_one finished (Object told.0) ≡ false) told calls all)
     ∙ ap (λ (events : List Event). others ++ events) open_
-    ∙ sym (append_assoc others (event ∷ []) (filter (is_open heard ended) caused))
+    ∙ sym (append_assoc others (event ∷ []) (filter (is_open heard ended finished) caused))
 
 -- several calls are due at once
 agenda-calls :
-    (phase : Phase) (time : ℕ) (calls : List (Who × Call)) (caused : List Event) (heard : List Cause) (ended : List Phase) (count : ℕ) (dues more : List Event)
-    → All (λ other. phase_number other < phase_number phase) ended → IsAgenda caused heard ended count dues
-    → more ≡ in_order (calls_numbered (Some phase) time count 0 calls ++ filter (is_open heard ended) caused)
-    → IsAgenda (calls_numbered (Some phase) time count 0 calls ++ caused) heard ended (suc count) more
+    (phase : Phase) (time : ℕ) (calls : List (Who × Call)) (caused : List Event) (heard : List Cause) (ended : List Phase) (finished : List Who) (count : ℕ) (dues more : List Event)
+    → All (λ other. phase_number other < phase_number phase) ended → All (λ told. is_of_one finished (Object told.0) ≡ false) calls → IsAgenda caused heard ended finished count dues
+    → more ≡ in_order (calls_numbered (Some phase) time count 0 calls ++ filter (is_open heard ended finished) caused)
+    → IsAgenda (calls_numbered (Some phase) time count 0 calls ++ caused) heard ended finished (suc count) more
 unfolding IsEarlier
-agenda-calls phase time calls caused heard ended count dues more before a is =
+agenda-calls phase time calls caused heard ended finished count dues more before all a is =
     let apart = numbered-apart phase time count 0 calls caused a.distinct (All-weaker (λ due. due.cause.place < count) (λ due. IsEarlier count 0 due.cause) (λ due lt. inl lt) caused a.caused_within) in
     record {
-      are = is ∙ ap in_order (sym (numbered-open phase time count 0 calls caused heard ended a.heard_within before));
+      are = is ∙ ap in_order (sym (numbered-open phase time count 0 calls caused heard ended finished a.heard_within before all));
       distinct = apart.pairs;
       caused_within = apart.within;
       heard_within = All-weaker (λ cause. cause.place < count) (λ cause. cause.place < suc count) (λ cause lt. omega (arith, lt)) heard a.heard_within;
@@ -170,14 +174,24 @@ agenda-calls phase time calls caused heard ended count dues more before a is =
 
 -- in a phase that takes time
 pub agenda-written :
-    (stage : Stage) (time : ℕ) (calls : List (Who × Call)) (caused : List Event) (heard : List Cause) (ended : List Phase) (count : ℕ) (dues more : List Event) → in_task (running stage) ≡ true
-    → All (λ other. phase_number other < next_number stage) ended → IsAgenda caused heard ended count dues
-    → more ≡ in_order (calls_numbered (running stage) time count 0 calls ++ filter (is_open heard ended) caused)
-    → IsAgenda (calls_numbered (running stage) time count 0 calls ++ caused) heard ended (suc count) more
-agenda-written Before time calls caused heard ended count dues more task before a is = cc
-agenda-written (During phase) time calls caused heard ended count dues more task before a is = agenda-calls phase time calls caused heard ended count dues more before a is
-agenda-written (After phase) time calls caused heard ended count dues more task before a is = cc
-agenda-written Ended time calls caused heard ended count dues more task before a is = cc
+    (stage : Stage) (time : ℕ) (calls : List (Who × Call)) (caused : List Event) (heard : List Cause) (ended : List Phase) (finished : List Who) (count : ℕ) (dues more : List Event) → in_task (running stage) ≡ true
+    → All (λ other. phase_number other < next_number stage) ended → All (λ told. is_of_one finished (Object told.0) ≡ false) calls → IsAgenda caused heard ended finished count dues
+    → more ≡ in_order (calls_numbered (running stage) time count 0 calls ++ filter (is_open heard ended finished) caused)
+    → IsAgenda (calls_numbered (running stage) time count 0 calls ++ caused) heard ended finished (suc count) more
+agenda-written Before time calls caused heard ended finished count dues more task before all a is = cc
+agenda-written (During phase) time calls caused heard ended finished count dues more task before all a is = agenda-calls phase time calls caused heard ended finished count dues more before all a is
+agenda-written (After phase) time calls caused heard ended finished count dues more task before all a is = cc
+agenda-written Ended time calls caused heard ended finished count dues more task before all a is = cc
+
+-- who owns an imp is a component
+pub written-open : (nodes : List tree.Node) (item : Item) (finished : List Who) (imps : List ℕ) → All (λ told. is_of_one finished (Object told.0) ≡ false) (filter_map (written_to nodes item) imps)
+written-open nodes item finished [] = All-nil _
+written-open nodes item finished (imp ∷ imps) = added (under_at nodes imp) (written-open nodes item finished imps)
+  where
+    added : (under : Option (ℕ × List ℕ)) → All (λ told. is_of_one finished (Object told.0) ≡ false) (filter_map (written_to nodes item) imps)
+        → All (λ told. is_of_one finished (Object told.0) ≡ false) (cons_option (option_map (λ under. (who.Node under.0, call.Written under.1 item)) under) (filter_map (written_to nodes item) imps))
+    added None all = all
+    added (Some under) all = All-cons (λ (told : Who × Call). is_of_one finished (Object told.0) ≡ false) _ (filter_map (written_to nodes item) imps) refl all
 
 pub events-calls :
     (nodes : List objection.Node) (awaited : Event → Bool) (phase : Option Phase) (time place number : ℕ) (calls : List (Who × Call)) (caused : List Event) → AreEvents nodes (filter awaited caused)

@@ -1,5 +1,5 @@
 -- What a world keeps beside its log, and that it is what the log says.
-use Rattle.std.specs.Prelude.{◌≡◌, ℕ, ◌<◌, ◌≤◌, ◌+◌, Bool, true, false, ◌==◌, ◌||◌, ◌^◌, List, [], ◌∷◌, length, drop, map, filter, reverse, slice_get, Option, Some, None, All, AllPairs, if◌then◌else◌}
+use Rattle.std.specs.Prelude.{◌≡◌, ℕ, ◌<◌, ◌≤◌, ◌+◌, Bool, true, false, ◌==◌, ◌||◌, ◌^◌, List, [], ◌∷◌, length, drop, map, filter, reverse, slice_get, Option, Some, None, All, AllPairs, ◌⊎◌, if◌then◌else◌}
 use Rattle.std.specs.Option.{ForSome}
 use Rattle.std.specs.List.{list_any}
 use Rattle.uvm_glob.specs.Paths.{path_text}
@@ -19,7 +19,8 @@ use Rattle.uvm_object.specs.Fatals.{fatal_report}
 use Rattle.uvm_object.specs.declared.acts.Who.{Who}
 use Rattle.uvm_object.specs.declared.acts.Act.{Act}
 use Rattle.uvm_object.specs.declared.fatals.Fatal.{Fatal}
-use Rattle.uvm_object.specs.declared.fatals.Fatal.TheVariants.{OverrideLoop}
+use Rattle.uvm_object.specs.declared.acts.Act.TheVariants.{Start}
+use Rattle.uvm_object.specs.declared.fatals.Fatal.TheVariants.{NoSequencer, OverrideLoop, TreeLimit}
 use Rattle.uvm_object.specs.declared.entries.Entry.{Entry}
 use Rattle.uvm_object.specs.declared.entries.Entry.TheVariants.{Heard, Did}
 use Rattle.uvm_object.specs.declared.entries.Outcome.{Outcome}
@@ -34,8 +35,8 @@ use Rattle.bench_world.specs.declared.services.Component.{Component}
 use Rattle.bench_world.specs.declared.services.Services.{Services}
 use Rattle.bench_history.specs.Configuration.{settings_of}
 use Rattle.bench_history.specs.Owners.{Event}
-use Rattle.bench_history.specs.Dues.{caused_of, heard_of, ended_of, is_open, due_events}
-use Rattle.bench_history.specs.History.{stage_of, now_of, running, nodes_of, components_of, called_of, had_call, opening, left_of, rest_of, speaker_of, overrides_of, ends_build}
+use Rattle.bench_history.specs.Dues.{caused_of, heard_of, is_open, due_events}
+use Rattle.bench_history.specs.History.{stage_of, now_of, running, nodes_of, components_of, called_of, had_call, opening, left_of, rest_of, speaker_of, overrides_of, ends_build, ended_of}
 use Rattle.bench_history.specs.Objections.{objections_of}
 use Rattle.bench_history.specs.Reports.{report_commands, newest_fate, refuses_test}
 use Rattle.bench_world.specs.Reportings.{CanReport, IsReporting, IsReported}
@@ -46,13 +47,15 @@ use Rattle.bench_history.specs.Wires.{ends_connect, wiring_of}
 use Rattle.bench_world.specs.Connectings.{IsClosedPast, IsClosing, IsConnecting}
 use Rattle.bench_world.specs.Passings.{AreStations, ArePassed, AreUnsettled}
 use Rattle.uvm_tree.specs.Sorted.{path_order}
-use Rattle.bench_history.specs.Sequences.{sequences_of}
+use Rattle.bench_history.specs.Sequences.{begun_of, finished_of, home_asked, sequence_path}
+use Rattle.bench_world.specs.Sequencings.{IsSequencing, enders_of, home_for}
 use Rattle.bench_history.specs.Ports.{fifo_size}
 use Rattle.bench_history.specs.Passing.{answered_at, is_no_put, is_put, items_entered, items_left, next_passed, passing_at, puts_asked, station_at, takes_asked}
 use Rattle.bench_history.specs.Refusals.{in_task}
-use Rattle.bench_history.specs.Cases.{Exactly, Need, by_act}
-use Rattle.bench_history.specs.Laws.{next_number}
-use Rattle.bench_history.specs.Refusals.{Creation}
+use Rattle.bench_history.specs.Cases.{Next, Exactly, Need, by_act, by_open}
+use Rattle.bench_history.specs.Next.{EachIsNext}
+use Rattle.bench_history.specs.Laws.{IsThere, next_number}
+use Rattle.bench_history.specs.Refusals.{Creation, Starting}
 
 -- the factory has the types, and gives what the overrides give
 pub record IsFactory (types : Types) (overrides : List Override) (kept : Kept) : Type 0 where
@@ -70,10 +73,45 @@ MayWantMemory None = Unit {0}
 MayWantMemory (Some OverrideLoop) = Unit {0}
 MayWantMemory (Some fatal) = ⊥
 
+-- for a start it is wanted for the path of its sequencer, too, and for its own
+abbrev pub MayWantMemoryEarly : Option Fatal → Type 0
+MayWantMemoryEarly None = Unit {0}
+MayWantMemoryEarly (Some NoSequencer) = Unit {0}
+MayWantMemoryEarly (Some TreeLimit) = Unit {0}
+MayWantMemoryEarly (Some OverrideLoop) = Unit {0}
+MayWantMemoryEarly (Some fatal) = ⊥
+
+abbrev pub MayWantMemoryFor : Act → Option Fatal → Type 0
+MayWantMemoryFor (Start type_name name on priority) refusal = MayWantMemoryEarly refusal
+MayWantMemoryFor act refusal = MayWantMemory refusal
+
+-- a start by somebody, as the services know it
+abbrev pub starting_in : Types → List Override → Services → Who → List ℕ → List ℕ → List (List ℕ) → Option ℕ → Starting
+starting_in types overrides services performer type_name name on priority = record {
+  running = running services.stage;
+  types = types;
+  overrides = overrides;
+  type_name = type_name;
+  home = home_asked services.tree.nodes performer on;
+  path = sequence_path services.tree.nodes services.sequences.started performer on name;
+  priority = priority;
+}
+
 -- why nothing is created
 abbrev pub IsUncreated : Option Fatal → Uncreated → Type 0
 IsUncreated refusal (Refused fatal) = refusal ≡ Some fatal
 IsUncreated refusal Memory = MayWantMemory refusal
+
+-- and why nothing is started
+abbrev pub IsUnstarted : Option Fatal → Uncreated → Type 0
+IsUnstarted refusal (Refused fatal) = refusal ≡ Some fatal
+IsUnstarted refusal Memory = MayWantMemoryEarly refusal
+
+-- why an act makes nothing
+abbrev pub IsUnmade : Act → Option Fatal → Option Uncreated → Type 0
+IsUnmade act refusal None = refusal ≡ None
+IsUnmade act refusal (Some (Refused fatal)) = refusal ≡ Some fatal
+IsUnmade act refusal (Some Memory) = MayWantMemoryFor act refusal
 
 -- each component, and whether it had its call
 abbrev pub marked : List ℕ → ℕ → Component
@@ -105,13 +143,13 @@ abbrev pub acts_at : Act → List Entry → Option ℕ → List Act
 acts_at opening history None = opening ∷ []
 acts_at opening history (Some place) = acts_in (slice_get (reverse history) place)
 
--- none are left after a note
+-- none are left after a note, nor once a sequence has finished
 abbrev pub unless_noted : Bool → List Act → List Act
 unless_noted true acts = []
 unless_noted false acts = acts
 
--- who gave the last answer, where it stands, how many acts it has and how many have their entry, and whether it ended with a note: the
--- others are left
+-- who gave the last answer, where it stands, how many acts it has and how many have their entry, and whether it ended with a note, or its speaker has
+-- finished: else the others are left
 pub record IsAnswer (opening : Act) (history : List Entry) (left : List Act) (last : Who) (kept : LastAnswer) : Type 0 where
   pub speaker : kept.speaker ≡ last
   pub rest : unless_noted kept.noted (drop kept.done (acts_at opening history kept.place)) ≡ left
@@ -125,8 +163,8 @@ pub record IsSettings (settings : List Setting) (kept : config.Kept) : Type 0 wh
   pub count : config.accepted kept ≡ length settings
 
 -- what is due, in its order: the events that were caused and are open. Each has a cause of its own, an earlier entry
-pub record IsAgenda (caused : List Event) (heard : List Cause) (ended : List Phase) (count : ℕ) (dues : List Event) : Type 0 where
-  pub are : dues ≡ in_order (filter (is_open heard ended) caused)
+pub record IsAgenda (caused : List Event) (heard : List Cause) (ended : List Phase) (finished : List Who) (count : ℕ) (dues : List Event) : Type 0 where
+  pub are : dues ≡ in_order (filter (is_open heard ended finished) caused)
   pub distinct : AllPairs (λ due other. same_cause due.cause other.cause ≡ false) caused
   pub caused_within : All (λ due. due.cause.place < count) caused
   pub heard_within : All (λ cause. cause.place < count) heard
@@ -144,7 +182,7 @@ pub record ServicesMatch (script : ScriptValue) (history : List Entry) (services
   pub stations : AreStations (station_at history) services.stations
   pub passed : ArePassed (length history) (fifo_size (wiring_of history)) (items_entered history) (items_left history) (puts_asked history) (answered_at is_put history) (takes_asked history) (answered_at is_no_put history)
   pub unsettled : AreUnsettled (passing_at history) (path_order (nodes_of history)) services.unsettled.items
-  pub sequences : services.sequences.started ≡ sequences_of history
+  pub sequencing : IsSequencing (begun_of history) (finished_of history) (ended_of history) (enders_of history) services.sequences services.beginnings.items
   pub objections : IsObjecting (objections_of history) (length (nodes_of history)) (length history) services.objection
   pub factory : IsFactory script.types (overrides_of script history) services.factory
   pub turns : AreTurns (components_of history) (called_of history) (length (nodes_of history)) services.components.items
@@ -153,7 +191,7 @@ pub record ServicesMatch (script : ScriptValue) (history : List Entry) (services
   pub built : services.built ≡ list_any ends_build history
   pub reporting : IsReporting (report_commands script history) (newest_fate script history) services.reporting
   pub settings : IsSettings (settings_of script history) services.settings
-  pub agenda : IsAgenda (caused_of history) (heard_of history) (ended_of history) (length history) services.agenda.dues
+  pub agenda : IsAgenda (caused_of history) (heard_of history) (ended_of history) (finished_of history) (length history) services.agenda.dues
   pub events : AreEvents (objections_of history) (due_events history)
   pub test_refused : services.test_refused ≡ list_any refuses_test history
 
@@ -171,14 +209,16 @@ pub record CanPerform (services : Services) : Type 0 where
   pub unused : end_at services.wiring.ends (length services.tree.nodes) ≡ None
   pub closed : in_task (running services.stage) ≡ true → is_closed services.wiring ≡ true
 
--- an act of the last answer is to be performed: what is kept is what the log says, nothing passes at a FIFO, the phases went in their order, and its
--- entry will stand at a place
+-- an act of the last answer is to be performed: each entry was next, what is kept is what the log says, nothing passes at a FIFO, the phases went in their order,
+-- its performer is there, and its entry will stand at a place
 pub record IsScene (script : ScriptValue) (history : List Entry) (act : Act) (place : ℕ) (services : Services) : Type 0 where
+  pub each : EachIsNext script history
   pub known : ServicesMatch script history services
   pub settled : next_passed history ≡ None
   pub left : left_of script history ≡ act ∷ rest_of (left_of script history)
   pub place_is : length history ≡ place
   pub in_order : All (λ phase. phase_number phase < next_number (stage_of history)) (ended_of history)
+  pub there : (act ≡ opening script) ⊎ IsThere history (speaker_of history)
 
 -- an act is refused: its fatal report is issued, and it may be the test's
 pub record IsRefusing (fatal : Fatal) (old new : Services) : Type 0 where
@@ -195,20 +235,33 @@ one_done services = record services { answer = record services.answer { done = s
 
 -- what is kept goes on with the entry of an act: it is then what the log says
 pub record TakesIn (act : Act) (outcome : Outcome) (place : ℕ) (old new : Services) : Type 0 where
-  pub same_answer : new.answer ≡ old.answer
+  pub same_answer : new.answer ≡ record old.answer { noted = new.answer.noted }
   pub with_entry : (script : ScriptValue) (history : List Entry) → IsScene script history act place old → ServicesMatch script (Did old.answer.speaker outcome act ∷ history) (one_done new)
 
+-- what may come of an act by its performer: of any, or of one that is open to the performer
+abbrev pub Comes : Type 0
+Comes = ScriptValue → List Entry → Who → Act → Next
+
 -- an act is performed or refused: this is what it comes to, and what is kept goes on with it
-pub record IsPerformed (act : Act) (outcome : Outcome) (place : ℕ) (old new : Services) : Type 0 where
-  pub comes : (script : ScriptValue) (history : List Entry) → IsScene script history act place old → by_act script history old.answer.speaker act ≡ Exactly (Did old.answer.speaker outcome act)
+pub record IsPerformed (by : Comes) (act : Act) (outcome : Outcome) (place : ℕ) (old new : Services) : Type 0 where
+  pub comes : (script : ScriptValue) (history : List Entry) → IsScene script history act place old → by script history old.answer.speaker act ≡ Exactly (Did old.answer.speaker outcome act)
   pub kept : TakesIn act outcome place old new
 
--- an act needs an object, and nothing has changed
-pub record IsInNeed (act : Act) (need : needs.Need) (place : ℕ) (old new : Services) : Type 0 where
-  pub comes : (script : ScriptValue) (history : List Entry) → IsScene script history act place old → by_act script history old.answer.speaker act ≡ Need need old.answer.speaker act
+-- an act needs an object, which an outcome makes; a sequence's is for this sequencer. Nothing has changed
+pub record IsInNeed (by : Comes) (act : Act) (need : needs.Need) (home : Option ℕ) (place : ℕ) (old new : Services) : Type 0 where
+  pub comes : (script : ScriptValue) (history : List Entry) → IsScene script history act place old → (made : Outcome) × (by script history old.answer.speaker act ≡ Need need made old.answer.speaker act)
+  pub home_is : home ≡ home_for old.tree.nodes old.answer.speaker act
   pub same : new ≡ old
 
 -- what an attempt to perform an act comes to
+abbrev pub IsTried : Comes → Act → Attempt → ℕ → Services → Services → Type 0
+IsTried by act (Became outcome) place old new = IsPerformed by act outcome place old new
+IsTried by act (Needed need home) place old new = IsInNeed by act need home place old new
+
+-- where the act is open to its performer
 abbrev pub IsAttempt : Act → Attempt → ℕ → Services → Services → Type 0
-IsAttempt act (Became outcome) place old new = IsPerformed act outcome place old new
-IsAttempt act (Needed need) place old new = IsInNeed act need place old new
+IsAttempt act attempt place old new = IsTried by_open act attempt place old new
+
+-- and where it need not be
+abbrev pub IsAttemptOfAny : Act → Attempt → ℕ → Services → Services → Type 0
+IsAttemptOfAny act attempt place old new = IsTried by_act act attempt place old new

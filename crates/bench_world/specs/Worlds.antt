@@ -7,13 +7,18 @@ use Rattle.uvm_object.specs.Acts.{node_of}
 use Rattle.uvm_object.specs.Fatals.{id_of, fatal_report}
 use Rattle.uvm_object.specs.declared.fatals.Fatal.TheVariants.{NoObject}
 use Rattle.uvm_object.specs.declared.acts.Act.{Act}
+use Rattle.uvm_object.specs.declared.acts.Who.{Who}
+use Rattle.uvm_object.specs.declared.acts.Who.TheVariants as who
+use Rattle.uvm_object.specs.declared.entries.Outcome.TheVariants.{Made, Started}
 use Rattle.uvm_object.specs.declared.entries.Entry.{Entry}
 use Rattle.uvm_object.specs.Logs.{LogValue}
 use Rattle.bench_script.specs.Scripts.{ScriptValue}
 use Rattle.bench_world.specs.declared.making.Waiting.{Waiting}
 use Rattle.bench_world.specs.declared.services.Services.{Services}
 use Rattle.bench_history.specs.Limits.{log_limit}
-use Rattle.bench_history.specs.History.{left_of, rest_of, speaker_of}
+use Rattle.bench_history.specs.History.{left_of, nodes_of, rest_of, speaker_of}
+use Rattle.bench_history.specs.Sequences.{leaving_of, sequences_of, start_by}
+use Rattle.bench_world.specs.Sequencings.{home_for}
 use Rattle.bench_history.specs.Passing.{next_passed}
 use Rattle.bench_history.specs.Cases.{Next, Exactly, Need, by_act}
 use Rattle.bench_history.specs.Next.{next_of, need_in, IsAct, IsLegal}
@@ -36,24 +41,29 @@ world_after entry world = record world { history = entry ∷ world.history; wait
 abbrev pub broken : WorldValue → WorldValue
 broken world = record world { sound = false; waiting = None }
 
--- a creation waits: it is the next act, and needs this object; there is room for its entry, for a node under its performer,
--- and for the report of an object that is declined
+-- a creation or a start waits: it is the next act, and needs this object; there is room for its entry, for a node under its performer, for a sequence
+-- and its first call, and for the report of an object that is declined
 pub record IsReady (waiting : Waiting) (script : ScriptValue) (log : LogValue) (services : Services) : Type 0 where
   pub left : left_of script log.entries ≡ waiting.deed ∷ rest_of (left_of script log.entries)
   pub needed : need_in (next_of script log.entries) ≡ Some waiting.need
+  pub home : waiting.home ≡ home_for services.tree.nodes services.answer.speaker waiting.deed
   pub room : length log.entries < log_limit script
   pub log_spare : 0 < log.spare
   pub tree_spare : IsSome (node_at services.tree.nodes (node_of services.answer.speaker)) → services.tree.spare ≡ Some (node_of services.answer.speaker)
   pub objection_spare : 0 < services.objection.spare
   pub components : vec_len services.components < vec_capacity services.components
+  pub sequence_spare : 0 < services.sequences.spare
+  pub beginnings : vec_len services.beginnings < vec_capacity services.beginnings
+  pub agenda_spare : 0 < services.agenda.spare
   pub declined : waiting.declined ≡ fatal_report NoObject
   pub report_room : IsTrue (has_room services.reporting.reports (id_of NoObject))
 
--- the log is legal, and while the world is sound its services are what the log says
-pub record IsWorld (sound : Bool) (script : ScriptValue) (log : LogValue) (services : Services) (waiting : Option Waiting) : Type 0 where
+-- the log is legal, and while the world is sound its services are what the log says, and those that leave are kept
+pub record IsWorld (sound : Bool) (script : ScriptValue) (log : LogValue) (services : Services) (waiting : Option Waiting) (leaving : List Who) : Type 0 where
   pub limit : log.limit ≡ log_limit script
   pub legal : IsLegal script log.entries
   pub services_match : sound ≡ true → ServicesMatch script log.entries services
+  pub leaves : sound ≡ true → leaving ≡ leaving_of log.entries
   pub waits : ForSome waiting (λ waiting. sound ≡ true)
   pub ready : ForSome waiting (λ waiting. IsReady waiting script log services)
 
@@ -80,5 +90,11 @@ pub record MayPerform (world : WorldValue) (act : Act) : Type 0 where
 -- what comes of the next act: its entry; or it waits for the object that it needs, and nothing else has changed
 abbrev pub IsActed : Next → WorldValue → WorldValue → Type 0
 IsActed (Exactly entry) old new = new ≡ world_after entry old
-IsActed (Need need performer act) old new = new ≡ record old { waiting = Some need }
+IsActed (Need need made performer act) old new = new ≡ record old { waiting = Some need }
 IsActed next old new = ⊥
+
+-- who an object is, once it is made: the node behind those that are there, or the sequence that is started
+abbrev pub made_who : List Entry → Next → Option Who
+made_who history (Need need (Made type_name) performer act) = Some (who.Node (length (nodes_of history)))
+made_who history (Need need (Started id) performer act) = Some (who.Sequence id (start_by (nodes_of history) (sequences_of history) performer act).home)
+made_who history next = None

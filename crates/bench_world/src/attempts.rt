@@ -1,14 +1,16 @@
 //! What an act comes to: each act is a function on the services, and all have one contract.
 
 ghost use Rattle.std.specs.Prelude.{ℕ, ◌≡◌, ◌∷◌, ◌<◌, ◌+◌, ◌||◌, ◌==◌, length, true, OnOk, OnErr, IfOk, IsOk, IsTrue};
-ghost use Rattle.uvm_object.specs.Acts.{is_sequencing, node_of};
+ghost use Rattle.uvm_object.specs.Acts.{node_of};
 ghost use Rattle.uvm_object.specs.declared.entries.Entry.TheVariants.{Did};
 ghost use Rattle.uvm_object.specs.declared.entries.Outcome.TheVariants.{Done, Refused};
 ghost use Rattle.uvm_object.specs.Fatals.{fatal_report};
 ghost use Rattle.uvm_report.specs.Observed.{has_room};
 ghost use Rattle.uvm_tree.specs.Nodes.{path_at};
 ghost use Rattle.bench_world.specs.Reportings.{CanReport, IsReported};
-ghost use Rattle.bench_world.specs.Services.{CanPerform, IsAttempt, IsRefusing, one_done, unreported};
+ghost use Rattle.bench_history.specs.Refusals.{is_component, is_open_to};
+ghost use Rattle.bench_world.specs.Sequencings.{is_barred};
+ghost use Rattle.bench_world.specs.Services.{CanPerform, IsAttempt, IsAttemptOfAny, IsRefusing, one_done, unreported};
 
 use crate::configuring::{get_field, set_field};
 use crate::connecting::connect;
@@ -19,12 +21,14 @@ use crate::passing::{peek, put, take, try_put, try_take};
 use crate::performing::{add, override_inst, override_type};
 use crate::report_acts::{issue, set_action, set_severity, set_verbosity};
 use crate::services::Services;
+use crate::starting::start;
+use crate::stepping::end_step;
 use crate::telling::wait;
 use crate::writing::write;
 use bench_history::Need;
 use std::alloc::{AllocError, Global};
 use uvm_glob::Path;
-use uvm_object::{Act, Deed, Entry, Fatal, Log, LoggedOutcome};
+use uvm_object::{Act, Deed, Entry, Fatal, Log, LoggedOutcome, Who};
 use uvm_report::Report;
 use uvm_tree::NodeId;
 
@@ -33,8 +37,8 @@ use uvm_tree::NodeId;
 pub(crate) enum Attempt {
     /// The act was performed, or refused.
     Became(LoggedOutcome),
-    /// It needs an object first, and nothing has changed.
-    Needed(Need),
+    /// It needs an object first, and nothing has changed. A sequence is to run on this sequencer.
+    Needed { need: Need, home: Option<NodeId> },
 }
 
 // An act of the speaker, whose entry will stand at a place, is performed, or refused, or needs an object.
@@ -45,6 +49,60 @@ pub(crate) fn perform(
     act: &Act,
 ) -> Result<Attempt, AllocError>
     requires { CanPerform services.old }
+    ensures { IfOk result (λ attempt. IsAttemptOfAny act.now attempt place services.old services.new) }
+{
+    let performer = services.answer.speaker;
+    if !is_open_to(act, &performer) {
+        return refused(services, alloc, Fatal::NotOpen);
+    }
+    perform_open(services, alloc, place, act)
+}
+
+// Whether an act is open to somebody: to a component, to a sequence, or to both.
+pub(crate) fn is_open_to(act: &Act, performer: &Who) -> bool
+    ensures { result ≡ is_open_to act.now performer.now }
+{
+    match act {
+        Act::Create { .. }
+        | Act::Add { .. }
+        | Act::Connect { .. }
+        | Act::Put { .. }
+        | Act::TryPut { .. }
+        | Act::Take { .. }
+        | Act::TryTake { .. }
+        | Act::Peek { .. }
+        | Act::Write { .. }
+        | Act::Ask { .. }
+        | Act::ItemDone { .. } => is_component(performer),
+        Act::Request { .. }
+        | Act::Lock
+        | Act::Grab
+        | Act::Unlock
+        | Act::Send { .. }
+        | Act::EndStep => !is_component(performer),
+        _ => true,
+    }
+}
+
+// Whether somebody is a component.
+fn is_component(who: &Who) -> bool
+    ensures { result ≡ is_component who.now }
+{
+    match who {
+        Who::Node(_) => true,
+        Who::Sequence { .. } => false,
+    }
+}
+
+// So is one that is open to the speaker.
+fn perform_open(
+    services: &mut Services,
+    alloc: Global,
+    place: usize,
+    act: &Act,
+) -> Result<Attempt, AllocError>
+    requires can { CanPerform services.old }
+    requires open { is_open_to act.now services.old.answer.speaker ≡ true }
     ensures { IfOk result (λ attempt. IsAttempt act.now attempt place services.old services.new) }
 {
     match act {
@@ -71,13 +129,18 @@ pub(crate) fn perform(
         Act::Write { port, item } => write(services, alloc, place, port, *item),
         Act::Ask { .. }
         | Act::ItemDone { .. }
-        | Act::Start { .. }
         | Act::Request { .. }
         | Act::Lock
         | Act::Grab
         | Act::Unlock
-        | Act::Send { .. }
-        | Act::EndStep => bar(services, alloc, act),
+        | Act::Send { .. } => bar(services, alloc, act),
+        Act::Start {
+            type_name,
+            name,
+            on,
+            priority,
+        } => start(services, alloc, type_name, name, on, *priority),
+        Act::EndStep => end_step(services, place),
         Act::Report { report } => issue(services, alloc, report),
         Act::Verbosity { which, level } => set_verbosity(services, alloc, *which, *level),
         Act::Actions { which, actions } => set_action(services, alloc, *which, *actions),
@@ -89,10 +152,10 @@ pub(crate) fn perform(
     }
 }
 
-// An act that has to do with sequences is open to nobody yet.
+// What a driver and a sequence ask of a sequencer is open to nobody yet.
 fn bar(services: &mut Services, alloc: Global, act: &Act) -> Result<Attempt, AllocError>
     requires can { CanPerform services.old }
-    requires sequencing { is_sequencing act.now ≡ true }
+    requires barred { is_barred act.now ≡ true }
     ensures { IfOk result (λ attempt. (place : ℕ) → IsAttempt act.now attempt place services.old services.new) }
 {
     refused(services, alloc, Fatal::NotOpen)

@@ -158,7 +158,7 @@ pub(crate) fn connect(
 
 // The node at a path below somebody, if there is one.
 #[tactic(auto, unfolding(bench_history::specs::Wires::node_below))]
-fn node_below(
+pub(crate) fn node_below(
     tree: &Tree,
     alloc: Global,
     performer: &Who,

@@ -1,12 +1,13 @@
 //! What creations come to.
 
-ghost use Rattle.std.specs.Prelude.{◌≡◌, ◌∷◌, ◌++◌, [], List, None, Some, IfOk, IfErr, IfSome, length, option_map};
+ghost use Rattle.std.specs.Prelude.{◌≡◌, ◌<◌, ◌∷◌, ◌++◌, [], List, None, Some, IfOk, IfErr, IfSome, length, option_map};
 ghost use Rattle.uvm_factory.specs.declared.overrides.Override.{Override};
-ghost use Rattle.uvm_factory.specs.Faults.{Types};
+ghost use Rattle.uvm_factory.specs.Faults.{Types, type_named};
 ghost use Rattle.uvm_factory.specs.Observed.{types_of};
 ghost use Rattle.uvm_factory.specs.Overrides.{made_type};
 ghost use Rattle.uvm_glob.specs.Paths.{path_text};
 ghost use Rattle.uvm_tree.specs.Nodes.{path_at};
+ghost use Rattle.uvm_object.specs.declared.entries.Outcome.TheVariants.{Made};
 ghost use Rattle.bench_history.specs.History.{type_name_or};
 ghost use Rattle.bench_history.specs.Upshots.{Needs, creation_upshot};
 ghost use Rattle.bench_history.specs.Refusals.{component_named, child_refusal, creation_refusal};
@@ -38,7 +39,7 @@ pub(crate) fn what_is_created(
     name: &Name,
 ) -> Result<Need, Uncreated>
     ensures ok { IfOk result (λ need. (types : Types) (overrides : List Override) → IsFactory types overrides services.now.factory →
-        creation_upshot (creation_in types overrides services.now performer.now type_name.now name.now) ≡ Needs need) }
+        creation_upshot (creation_in types overrides services.now performer.now type_name.now name.now) ≡ Needs need (Made need.type_name)) }
     ensures err { IfErr result (λ fault. (types : Types) (overrides : List Override) → IsFactory types overrides services.now.factory →
         IsUncreated (creation_refusal (creation_in types overrides services.now performer.now type_name.now name.now)) fault) }
 {
@@ -67,7 +68,9 @@ pub(crate) fn what_is_created(
 
 // The type of a name, if it is a component's.
 fn component_named(factory: &Factory, name: &Name) -> Option<TypeId>
-    ensures { result ≡ component_named (types_of factory.now) name.now }
+    ensures named { result ≡ component_named (types_of factory.now) name.now }
+    ensures known { IfSome result (λ type_id. type_named (types_of factory.now) name.now ≡ Some type_id) }
+    ensures within { IfSome result (λ type_id. type_id < length (types_of factory.now)) }
 {
     let type_id = factory.find(name)?;
     match factory.kind_of(type_id) {
@@ -100,8 +103,13 @@ fn child_path(tree: &Tree, parent: NodeId, name: &Name) -> Option<Path>
 }
 
 // The name of the type that is made at a path, if the overrides are no loop.
-fn made_name(factory: &Factory, type_id: TypeId, asked: &Name, path: &Path) -> Option<Name>
-    ensures { (types : Types) (overrides : List Override) → IsFactory types overrides factory.now → component_named types asked.now ≡ Some type_id →
+pub(crate) fn made_name(
+    factory: &Factory,
+    type_id: TypeId,
+    asked: &Name,
+    path: &Path,
+) -> Option<Name>
+    ensures { (types : Types) (overrides : List Override) → IsFactory types overrides factory.now → type_named types asked.now ≡ Some type_id → type_id < length types →
         option_map (λ made. type_name_or types made asked.now) (made_type overrides (length types) (path_text path.now) type_id) ≡ result }
 {
     let made = factory.resolve(type_id, path).ok()?;

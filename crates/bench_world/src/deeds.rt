@@ -4,19 +4,23 @@ ghost use Rattle.std.specs.Prelude.{◌≡◌, length, OnOk, OnErr, IfOk, Some, 
 ghost use Rattle.std.specs.Option.{option_copied};
 ghost use Rattle.uvm_object.specs.declared.acts.Act.{Act};
 ghost use Rattle.bench_history.specs.History.{left_of, head_of, speaker_of};
-ghost use Rattle.bench_history.specs.Upshots.{refusal_in, upshot_of};
-ghost use Rattle.bench_history.specs.Laws.{IsCreation};
+ghost use Rattle.uvm_object.specs.declared.acts.Act.TheVariants.{Create};
+ghost use Rattle.bench_history.specs.Sequences.{leaving_after};
+ghost use Rattle.bench_history.specs.Upshots.{open_upshot, refusal_in, upshot_of};
+ghost use Rattle.bench_world.specs.Sequencings.{IsMaking, IsStart};
 ghost use Rattle.bench_history.specs.Next.{next_of};
-ghost use Rattle.bench_world.specs.Services.{acts_at, MayWantMemory};
+ghost use Rattle.bench_world.specs.Services.{acts_at, IsUnmade, MayWantMemoryFor};
 ghost use Rattle.bench_world.specs.Worlds.{IsActed, MayAct, MayPerform, broken};
 
-use crate::attempts::{Attempt, enter, perform};
+use crate::attempts::{Attempt, enter, is_open_to, perform};
 use crate::creations::{Uncreated, what_is_created};
 use crate::making::{Waiting, make_room};
+use crate::starting::what_is_started;
 use crate::worlds::World;
 use bench_history::laws;
-use std::alloc::AllocError;
-use uvm_object::{Act, Deed, Entry, Fatal, Log, Who};
+use std::alloc::{AllocError, Global};
+use uvm_glob::Name;
+use uvm_object::{Act, Deed, Entry, Fatal, Log, LoggedOutcome, Outcome, Who};
 
 impl World {
     /// Who gave the last answer; the top before any.
@@ -67,22 +71,58 @@ impl World {
         }
     }
 
-    /// Why a creation by somebody would be refused now, if so; whether there is an object to be made is told when it is needed.
-    /// Memory is refused after every refusal but that of a loop of overrides.
+    /// Why a creation or a start by somebody would be refused now, if so; whether there is an object to be made is told when it is
+    /// needed. Memory is refused after every refusal but that of a loop of overrides; for a start also before those for its sequencer
+    /// and its path.
     pub fn refusal(&self, performer: &Who, act: &Act) -> Result<Option<Fatal>, AllocError>
         requires sound { self.now.sound ≡ true }
-        requires creates { IsCreation act.now }
+        requires makes { IsMaking act.now }
         ensures ok { IfOk result (λ refusal. refusal ≡ refusal_in (upshot_of self.now.script self.now.history performer.now act.now)) }
-        ensures err { OnErr result (MayWantMemory (refusal_in (upshot_of self.now.script self.now.history performer.now act.now))) }
+        ensures err { OnErr result (MayWantMemoryFor act.now (refusal_in (upshot_of self.now.script self.now.history performer.now act.now))) }
     {
-        let Act::Create { type_name, name } = act else {
+        if !is_open_to(act, performer) {
+            return Ok(Some(Fatal::NotOpen));
+        }
+        let unmade = match act {
+            Act::Create { type_name, name } => self.uncreated(performer, type_name, name),
+            Act::Start { .. } => self.unstarted(performer, act),
+            _ => unreachable!(),
+        };
+        match unmade {
+            None => Ok(None),
+            Some(Uncreated::Refused(fatal)) => Ok(Some(fatal)),
+            Some(Uncreated::Memory) => Err(AllocError),
+        }
+    }
+
+    // Why nothing is created, if so.
+    fn uncreated(&self, performer: &Who, type_name: &Name, name: &Name) -> Option<Uncreated>
+        requires { self.now.sound ≡ true }
+        ensures { IsUnmade (Create type_name.now name.now) (refusal_in (open_upshot self.now.script self.now.history performer.now (Create type_name.now name.now))) result }
+    {
+        what_is_created(&self.services, performer, type_name, name).err()
+    }
+
+    // Why nothing is started, if so.
+    fn unstarted(&self, performer: &Who, act: &Act) -> Option<Uncreated>
+        requires sound { self.now.sound ≡ true }
+        requires starts { IsStart act.now }
+        ensures { IsUnmade act.now (refusal_in (open_upshot self.now.script self.now.history performer.now act.now)) result }
+    {
+        let Act::Start {
+            type_name,
+            name,
+            on,
+            priority,
+        } = act
+        else {
             unreachable!()
         };
-        match what_is_created(&self.services, performer, type_name, name) {
-            Ok(_) => Ok(None),
-            Err(Uncreated::Refused(fatal)) => Ok(Some(fatal)),
-            Err(Uncreated::Memory) => Err(AllocError),
-        }
+        let services = &self.services;
+        what_is_started(
+            services, self.alloc, performer, type_name, name, on, *priority,
+        )
+        .err()
     }
 
     // The next act, to stand in its entry.
@@ -119,19 +159,22 @@ impl World {
         // A call that an act causes is due in a phase that has not ended, and one more report can be counted.
         laws::phases_go_in_order();
         laws::reports_are_few();
-        // In a phase that takes time the wiring is closed.
+        // In a phase that takes time the wiring is closed, and whoever performs an act is there.
         laws::tasks_follow_connect();
+        laws::performers_are_there();
         self.sound = false;
         self.waiting = None;
         let place = self.log.len();
+        let performer = self.services.answer.speaker;
         match perform(&mut self.services, self.alloc, place, deed.act())? {
             Attempt::Became(outcome) => {
+                self.leaving = leaving_after(self.alloc, performer, &outcome)?;
                 enter(&mut self.log, &mut self.services, outcome, deed)?;
                 self.sound = true;
                 Ok(())
             }
-            Attempt::Needed(need) => {
-                let waiting = Waiting::new(self.alloc, need, deed)?;
+            Attempt::Needed { need, home } => {
+                let waiting = Waiting::new(self.alloc, need, deed, home)?;
                 make_room(&mut self.log, &mut self.services, &waiting.declined.id)?;
                 self.waiting = Some(waiting);
                 self.sound = true;
@@ -148,6 +191,21 @@ impl World {
         self.waiting = None;
         AllocError
     }
+}
+
+// The sequence that an act has ended, if it has.
+fn leaving_after(
+    alloc: Global,
+    performer: Who,
+    outcome: &LoggedOutcome,
+) -> Result<Vec<Who>, AllocError>
+    ensures { IfOk result (λ leaving. leaving.items ≡ leaving_after performer outcome.now) }
+{
+    let mut leaving = Vec::new(alloc);
+    if let Outcome::Finished = outcome.get() {
+        leaving.push(performer)?;
+    }
+    Ok(leaving)
 }
 
 // The act at a place of an answer.

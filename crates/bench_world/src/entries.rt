@@ -16,6 +16,7 @@ use crate::attempts::report_at;
 use crate::connecting::close_after;
 use crate::objecting::move_drains;
 use crate::passing::tell_passed;
+use crate::sequencing::{finish_all, leaving_with};
 use crate::services::{Component, LastAnswer, clear_calls, mark_call};
 use crate::stations::{end_waits, pass};
 use crate::worlds::World;
@@ -37,6 +38,7 @@ impl World {
         laws::wiring_stays();
         self.sound = false;
         self.waiting = None;
+        self.leaving.clear();
         push(&mut self.log, Entry::Begin(phase))?;
         self.services.reporting.newest = None;
         self.services.stage = Stage::During(phase);
@@ -45,7 +47,7 @@ impl World {
         Ok(())
     }
 
-    /// A phase ends.
+    /// A phase ends, and with it all sequences that live (Clause 14).
     pub fn end(&mut self, phase: Phase) -> Result<(), AllocError>
         requires { MayEnter self.old (Exactly (End phase)) }
         ensures ok { OnOk result (self.new ≡ world_after (End phase) self.old) }
@@ -58,6 +60,9 @@ impl World {
         trees::path_order_is_in_order();
         self.sound = false;
         self.waiting = None;
+        let services = &self.services;
+        let beginnings = services.beginnings.as_slice();
+        self.leaving = leaving_with(self.alloc, &services.sequences, beginnings, phase)?;
         close_after(
             &mut self.services.wiring,
             &self.services.tree,
@@ -69,6 +74,7 @@ impl World {
         self.services.stage = Stage::After(phase);
         self.services.agenda.clear(phase);
         end_waits(&mut self.services.stations, phase);
+        finish_all(&mut self.services.sequences, self.leaving.as_slice());
         self.services.built = is_built_with(phase, self.services.built);
         self.services.past_connect = is_past_connect_with(phase, self.services.past_connect);
         self.sound = true;
@@ -87,6 +93,7 @@ impl World {
         laws::wiring_stays();
         self.sound = false;
         self.waiting = None;
+        self.leaving.clear();
         push(&mut self.log, Entry::Time(time))?;
         self.services.reporting.newest = None;
         self.services.time = time;
@@ -100,11 +107,13 @@ impl World {
         ensures ok { OnOk result (self.new ≡ world_after (Heard who call None acts) self.old) }
         ensures err { OnErr result (self.new ≡ broken self.old) }
     {
-        // Who is asked is a component.
-        laws::asked_are_components();
+        // Who is asked is there, and stands at a node: a sequence at its home.
+        laws::asked_are_there();
+        laws::homes_are_nodes();
         laws::wiring_stays();
         self.sound = false;
         self.waiting = None;
+        self.leaving.clear();
         let (place, count) = (self.log.len(), acts.len());
         let node = who.node();
         let entry = Entry::heard(self.alloc, who.copy(), call, None, acts)?;
@@ -136,13 +145,15 @@ impl World {
     {
         // The call is the first of the agenda, which is then taken from it.
         laws::due_calls_go_in_order();
-        // Its owner is a component.
-        laws::asked_are_components();
+        // Its owner is there, and stands at a node: a sequence at its home.
+        laws::asked_are_there();
+        laws::homes_are_nodes();
         agenda::order_keeps_all::<Owner, Option<Call>>();
         agenda::order_loses_first::<Owner, Option<Call>>();
         laws::wiring_stays();
         self.sound = false;
         self.waiting = None;
+        self.leaving.clear();
         let (place, count) = (self.log.len(), acts.len());
         let entry = Entry::heard(self.alloc, who.copy(), call, Some(cause), acts)?;
         push(&mut self.log, entry)?;
@@ -167,11 +178,13 @@ impl World {
     {
         // It is what is next to pass.
         laws::passages_go_in_order();
-        // The call is due in a phase that has not ended.
+        // The call is due in a phase that has not ended, to a component.
         laws::phases_go_in_order();
+        laws::waiters_are_components();
         laws::wiring_stays();
         self.sound = false;
         self.waiting = None;
+        self.leaving.clear();
         let place = self.log.len();
         let logged = LoggedPassage::new(self.alloc, passage)?;
         tell_passed(&mut self.services, place, &passage)?;
@@ -204,6 +217,7 @@ impl World {
         laws::wiring_stays();
         self.sound = false;
         self.waiting = None;
+        self.leaving.clear();
         let place = self.log.len();
         let began = self.services.objection.drained(node);
         move_drains(&mut self.services, place, began, Some(node))?;
@@ -223,6 +237,7 @@ impl World {
         laws::wiring_stays();
         self.sound = false;
         self.waiting = None;
+        self.leaving.clear();
         let report = fatal.report(self.alloc)?;
         report_at(&mut self.services, self.alloc, node, &report)?;
         push(&mut self.log, Entry::Note { fatal, node })?;
@@ -240,6 +255,7 @@ impl World {
         laws::wiring_stays();
         self.sound = false;
         self.waiting = None;
+        self.leaving.clear();
         push(&mut self.log, Entry::Over(reason))?;
         self.services.reporting.newest = None;
         self.services.stage = Stage::Ended;

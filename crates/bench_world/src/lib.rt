@@ -14,8 +14,11 @@ mod performing;
 mod report_acts;
 mod report_lines;
 mod reporting;
+mod sequencing;
 mod services;
+mod starting;
 mod stations;
+mod stepping;
 mod telling;
 #[cfg(test)]
 mod tests;

@@ -1,28 +1,27 @@
 //! Creations: an object is needed, and is made or declined.
 
-ghost use Rattle.std.specs.Prelude.{◌≡◌, ℕ, List, OnOk, IfOk, IfSome, IsSome, IsTrue, false, None, Some, length, ◌<◌, vec_len, vec_capacity};
+ghost use Rattle.std.specs.Prelude.{◌≡◌, ℕ, List, OnOk, IfOk, IfSome, IsSome, IsTrue, Some, length, ◌<◌, vec_len, vec_capacity};
 ghost use Rattle.std.specs.Option.{option_copied};
 ghost use Rattle.uvm_tree.specs.Nodes.{node_at};
 ghost use Rattle.uvm_object.specs.Acts.{node_of};
 ghost use Rattle.uvm_object.specs.declared.acts.Act.TheVariants.{Create};
-ghost use Rattle.uvm_object.specs.declared.acts.Who.TheVariants as who;
 ghost use Rattle.uvm_object.specs.declared.entries.Outcome.TheVariants.{Made};
-ghost use Rattle.bench_history.specs.History.{created_name, nodes_of};
+ghost use Rattle.bench_history.specs.History.{created_name};
 ghost use Rattle.bench_history.specs.Next.{next_of, made_in, declined_in};
-ghost use Rattle.bench_history.specs.Refusals.{child_refusal};
 ghost use Rattle.bench_history.specs.Laws.{IsCreation};
 ghost use Rattle.uvm_object.specs.Fatals.{fatal_report};
 ghost use Rattle.uvm_object.specs.declared.fatals.Fatal.TheVariants.{NoObject};
 ghost use Rattle.uvm_report.specs.Observed.{has_room};
-ghost use Rattle.bench_world.specs.Objectings.{AreNumbered};
 ghost use Rattle.bench_world.specs.Reportings.{CanReport, KeepsReporting};
+ghost use Rattle.bench_world.specs.Sequencings.{CanGrow, CanMake, outcome_made, who_made};
 ghost use Rattle.bench_world.specs.Services.{TakesIn, IsAttempt};
-ghost use Rattle.bench_world.specs.Worlds.{world_after};
+ghost use Rattle.bench_world.specs.Worlds.{made_who, world_after};
 
 use crate::attempts::{Attempt, enter, refused, refused_by};
 use crate::creations::{Uncreated, what_is_created};
 use crate::performing::add_child;
 use crate::services::{Component, Services};
+use crate::starting::begin;
 use crate::worlds::World;
 use bench_history::{Need, laws};
 use std::alloc::{AllocError, Global};
@@ -32,25 +31,32 @@ use uvm_objection::laws as objections;
 use uvm_report::Report;
 use uvm_tree::{NodeId, NodeKind};
 
-/// A creation that waits for its object: what it needs, the act, room for the name of the type that is made, and the report of
-/// an object that is declined.
+/// A creation or a start that waits for its object: what it needs, the act, the sequencer of a sequence, room for the name of the
+/// type that is made, and the report of an object that is declined.
 #[derive(Drop)]
 pub(crate) struct Waiting {
     pub(crate) need: Need,
     pub(crate) deed: Deed,
+    pub(crate) home: Option<NodeId>,
     name: Box<Name>,
     pub(crate) declined: Report,
 }
 
 impl Waiting {
-    pub(crate) fn new(alloc: Global, need: Need, deed: Deed) -> Result<Waiting, AllocError>
-        ensures { IfOk result (λ waiting. (waiting.need ≡ need) × (waiting.deed ≡ deed) × (waiting.declined ≡ fatal_report NoObject)) }
+    pub(crate) fn new(
+        alloc: Global,
+        need: Need,
+        deed: Deed,
+        home: Option<NodeId>,
+    ) -> Result<Waiting, AllocError>
+        ensures { IfOk result (λ waiting. (waiting.need ≡ need) × (waiting.deed ≡ deed) × (waiting.declined ≡ fatal_report NoObject) × (waiting.home ≡ home)) }
     {
         let name = Box::new(alloc, placeholder())?;
         let declined = Fatal::NoObject.report(alloc)?;
         Ok(Waiting {
             need,
             deed,
+            home,
             name,
             declined,
         })
@@ -80,28 +86,32 @@ impl World {
     /// The needed object is made: who it is now. Takes no memory.
     pub fn made(&mut self) -> Who
         requires { IsSome self.old.waiting }
-        ensures who { result ≡ who.Node (length (nodes_of self.old.history)) }
+        ensures who { made_who self.old.history (next_of self.old.script self.old.history) ≡ Some result }
         ensures entry { IfSome (made_in (next_of self.old.script self.old.history)) (λ entry. self.new ≡ world_after entry self.old) }
     {
-        laws::needs_are_creations();
+        laws::needs_are_wanted();
+        laws::performers_are_there();
         laws::phases_go_in_order();
         self.sound = false;
+        self.leaving.clear();
         let Some(waiting) = self.waiting.take() else {
             unreachable!()
         };
         let Waiting {
             need,
             deed,
+            home,
             name,
             declined: _,
         } = waiting;
-        let node = grow(&mut self.services, deed.act());
-        let made = LoggedOutcome::made(name, need.type_name);
-        let Ok(()) = enter(&mut self.log, &mut self.services, made, deed) else {
+        let place = self.log.len();
+        let services = &mut self.services;
+        let (who, outcome) = make(services, deed.act(), home, name, need.type_name, place);
+        let Ok(()) = enter(&mut self.log, services, outcome, deed) else {
             unreachable!()
         };
         self.sound = true;
-        Who::Node(node)
+        who
     }
 
     /// The needed object is declined. Takes no memory.
@@ -109,10 +119,12 @@ impl World {
         requires { IsSome self.old.waiting }
         ensures { IfSome (declined_in (next_of self.old.script self.old.history)) (λ entry. self.new ≡ world_after entry self.old) }
     {
-        laws::needs_are_creations();
+        laws::needs_are_wanted();
+        laws::performers_are_there();
         laws::phases_go_in_order();
         laws::reports_are_few();
         self.sound = false;
+        self.leaving.clear();
         let Some(waiting) = self.waiting.take() else {
             unreachable!()
         };
@@ -128,11 +140,18 @@ impl World {
     }
 }
 
-// Makes room for the entry of a creation, for its component under the speaker's node, and for a report of an id.
+// Makes room for the entry of a creation or a start: for a component under the speaker's node, for a sequence with its first call, and
+// for a report of an id.
 pub(crate) fn make_room(log: &mut Log, services: &mut Services, id: &Name) -> Result<(), AllocError>
     ensures log { (log.new.entries ≡ log.old.entries) × (log.new.limit ≡ log.old.limit) }
     ensures log_spare { OnOk result (0 < log.new.spare) }
-    ensures services { services.new ≡ record services.old { tree = services.new.tree; objection = services.new.objection; components = services.new.components; reporting = services.new.reporting } }
+    ensures services { services.new ≡ record services.old { tree = services.new.tree; objection = services.new.objection; components = services.new.components; sequences = services.new.sequences; beginnings = services.new.beginnings; agenda = services.new.agenda; reporting = services.new.reporting } }
+    ensures sequences { (services.new.sequences.started ≡ services.old.sequences.started) × (services.new.sequences.steps ≡ services.old.sequences.steps) }
+    ensures beginnings_items { services.new.beginnings.items ≡ services.old.beginnings.items }
+    ensures dues { services.new.agenda.dues ≡ services.old.agenda.dues }
+    ensures sequence_spare { OnOk result (0 < services.new.sequences.spare) }
+    ensures beginnings { OnOk result (vec_len services.new.beginnings < vec_capacity services.new.beginnings) }
+    ensures agenda_spare { OnOk result (0 < services.new.agenda.spare) }
     ensures reporting { KeepsReporting services.old.reporting services.new.reporting }
     ensures report_room { OnOk result (IsTrue (has_room services.new.reporting.reports id.now)) }
     ensures nodes { services.new.tree.nodes ≡ services.old.tree.nodes }
@@ -145,6 +164,9 @@ pub(crate) fn make_room(log: &mut Log, services: &mut Services, id: &Name) -> Re
     services.tree.reserve(services.answer.speaker.node())?;
     services.objection.reserve()?;
     services.components.reserve(1)?;
+    services.sequences.reserve()?;
+    services.beginnings.reserve(1)?;
+    services.agenda.reserve()?;
     services.reporting.reserve_id(id)?;
     log.reserve()
 }
@@ -161,22 +183,42 @@ pub(crate) fn create(
 {
     let performer = services.answer.speaker;
     match what_is_created(services, &performer, type_name, name) {
-        Ok(need) => Ok(Attempt::Needed(need)),
+        Ok(need) => Ok(Attempt::Needed { need, home: None }),
         Err(Uncreated::Refused(fatal)) => refused(services, alloc, fatal),
         Err(Uncreated::Memory) => Err(AllocError),
     }
 }
 
+// The object that an act makes is there, in the room for it, a component of a type or a sequence on this sequencer: who it is, and
+// the outcome, whose entry will stand at a place.
+fn make(
+    services: &mut Services,
+    act: &Act,
+    home: Option<NodeId>,
+    room: Box<Name>,
+    type_name: Name,
+    place: usize,
+) -> (Who, LoggedOutcome)
+    requires { CanMake act.now home services.old }
+    ensures who { result.0 ≡ who_made services.old home }
+    ensures outcome { result.1 ≡ outcome_made services.old type_name home }
+    ensures kept { TakesIn act.now (outcome_made services.old type_name home) place services.old services.new }
+{
+    match home {
+        None => {
+            let node = grow(services, act);
+            (Who::Node(node), LoggedOutcome::made(room, type_name))
+        }
+        Some(home) => {
+            let id = begin(services, act, &home, place);
+            (Who::Sequence { id, home }, LoggedOutcome::started(id))
+        }
+    }
+}
+
 // The component that an act creates is added, in the room for it.
 fn grow(services: &mut Services, act: &Act) -> NodeId
-    requires creates { IsCreation act.now }
-    requires free { child_refusal services.old.tree.nodes (node_of services.old.answer.speaker) (created_name act.now) ≡ None }
-    requires building { services.old.built ≡ false }
-    requires tree { services.old.tree.spare ≡ Some (node_of services.old.answer.speaker) }
-    requires speaks { node_of services.old.answer.speaker < length services.old.tree.nodes }
-    requires numbered { AreNumbered services.old.objection.nodes (length services.old.tree.nodes) }
-    requires objection { 0 < services.old.objection.spare }
-    requires components { vec_len services.old.components < vec_capacity services.old.components }
+    requires { CanGrow act.now services.old }
     ensures node { result ≡ length services.old.tree.nodes }
     ensures kept { (type_name : List ℕ) (place : ℕ) → TakesIn act.now (Made type_name) place services.old services.new }
 {

@@ -1,6 +1,7 @@
 //! What a world keeps beside its log.
 
-ghost use Rattle.std.specs.Prelude.{◌≡◌, [], None, map};
+ghost use Rattle.std.specs.Prelude.{◌≡◌, [], IfOk, None, map};
+ghost use Rattle.bench_script.specs.Factories.{IsFactoryOf};
 ghost use Rattle.bench_script.specs.Scripts.{ScriptValue};
 ghost use Rattle.bench_history.specs.Configuration.{settings_of};
 ghost use Rattle.bench_history.specs.History.{overrides_of};
@@ -8,15 +9,17 @@ ghost use Rattle.bench_history.specs.Reports.{script_commands};
 ghost use Rattle.bench_world.specs.Reportings.{IsReporting};
 ghost use Rattle.bench_world.specs.Services.{IsFactory, IsSettings, ServicesMatch, cleared, with_call};
 
-use crate::reporting::Reporting;
+use crate::configuring::given_settings;
+use crate::reporting::{Reporting, given_reporting};
 use crate::stations::Stations;
 use bench_history::{Owner, Stage};
-use std::alloc::Global;
+use bench_script::Script;
+use std::alloc::{AllocError, Global};
 use uvm_config::Settings;
 use uvm_factory::Factory;
 use uvm_object::{Call, Who};
 use uvm_objection::{Objection, laws as objections};
-use uvm_phase::Agenda;
+use uvm_phase::{Agenda, Phase};
 use uvm_sequencer::Sequences;
 use uvm_tlm::Wiring;
 use uvm_tree::{NodeId, Tree};
@@ -37,6 +40,14 @@ impl Component {
     }
 }
 
+/// A sequence that was started, by whom, and in which phase.
+#[derive(Clone, Copy, Debug)]
+pub(crate) struct Beginning {
+    pub(crate) who: Who,
+    pub(crate) starter: Who,
+    pub(crate) phase: Option<Phase>,
+}
+
 /// How far the last answer is done.
 #[derive(Debug, Drop)]
 pub(crate) struct LastAnswer {
@@ -48,7 +59,7 @@ pub(crate) struct LastAnswer {
     pub(crate) count: usize,
     // How many of them are done.
     pub(crate) done: usize,
-    // Whether a note has ended it.
+    // Whether none of the others are left: a note has ended it, or the speaker has finished.
     pub(crate) noted: bool,
 }
 
@@ -65,6 +76,8 @@ pub(crate) struct Services {
     // Some nodes in path order, all FIFOs among them at which something may pass.
     pub(crate) unsettled: Vec<NodeId>,
     pub(crate) sequences: Sequences,
+    // Of the sequences, by their numbers.
+    pub(crate) beginnings: Vec<Beginning>,
     pub(crate) factory: Factory,
     pub(crate) settings: Settings,
     pub(crate) reporting: Reporting,
@@ -79,6 +92,20 @@ pub(crate) struct Services {
 }
 
 impl Services {
+    // What is kept of a script before the first entry, with its factory.
+    pub(crate) fn given(
+        alloc: Global,
+        script: &Script,
+        factory: Factory,
+    ) -> Result<Services, AllocError>
+        requires { IsFactoryOf script.now factory }
+        ensures { IfOk result (ServicesMatch script.now []) }
+    {
+        let settings = given_settings(alloc, script.settings())?;
+        let reporting = given_reporting(alloc, script)?;
+        Ok(Services::new(alloc, factory, settings, reporting))
+    }
+
     // What is kept before the first entry.
     pub(crate) fn new(
         alloc: Global,
@@ -99,6 +126,7 @@ impl Services {
             stations: Stations::new(alloc),
             unsettled: Vec::new(alloc),
             sequences: Sequences::new(alloc),
+            beginnings: Vec::new(alloc),
             factory,
             settings,
             reporting,

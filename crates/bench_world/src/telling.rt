@@ -1,6 +1,6 @@
 //! What acts cause: calls, waits, and the ends of drains.
 
-ghost use Rattle.std.specs.Prelude.{◌≡◌, ◌≤◌, ◌++◌, List, OnOk, IfOk, IfNone, Some};
+ghost use Rattle.std.specs.Prelude.{◌≡◌, ◌<◌, ◌≤◌, ◌++◌, List, OnOk, IfOk, IfNone, IsOk, Some};
 ghost use Rattle.uvm_phase.specs.declared.agendas.Due.{Due};
 ghost use Rattle.uvm_phase.specs.Dues.{in_order};
 ghost use Rattle.uvm_object.specs.declared.acts.Act.TheVariants.{Wait};
@@ -82,6 +82,7 @@ pub(crate) fn tell_to(
     ensures dues { OnOk result ((caused : List Event) → services.old.agenda.dues ≡ in_order caused →
         services.new.agenda.dues ≡ in_order (due_from (Some call) who (running services.old.stage) time (caused_at place) ++ caused)) }
     ensures rest { services.new ≡ record services.old { agenda = services.new.agenda } }
+    ensures memory { 0 < services.old.agenda.spare → IsOk result }
 {
     let (stage, owner) = (services.stage, Owner::Object(who));
     let agenda = &mut services.agenda;
@@ -107,8 +108,9 @@ pub(crate) fn add_event<O: Drop, N: Drop>(
     owner: O,
     notice: N,
 ) -> Result<(), AllocError>
-    ensures { OnOk result ((caused : List (Due O N)) → agenda.old.dues ≡ in_order caused →
+    ensures dues { OnOk result ((caused : List (Due O N)) → agenda.old.dues ≡ in_order caused →
         agenda.new.dues ≡ in_order (event_in (running stage) time cause owner notice ++ caused)) }
+    ensures memory { 0 < agenda.old.spare → IsOk result }
 {
     let Stage::During(phase) = stage else {
         return Ok(());

@@ -1,7 +1,7 @@
 //! The first entries of a small run.
 
 ghost use Rattle.std.specs.Prelude.{◌≡◌, true, IfOk};
-ghost use Rattle.bench_history.specs.Laws.{IsCreation};
+ghost use Rattle.bench_world.specs.Sequencings.{IsMaking};
 
 use crate::World;
 use bench_history::Stage;
@@ -97,7 +97,7 @@ fn a_creation_of_an_unknown_type_would_be_refused(rt: HostRuntime) -> Result<(),
 // Why a creation by the top would be refused.
 fn refusal_of(world: &World, act: &Act) -> Result<Option<Fatal>, AllocError>
     requires sound { world.now.sound ≡ true }
-    requires creates { IsCreation act.now }
+    requires makes { IsMaking act.now }
 {
     let top = world.speaker();
     world.refusal(&top, act)
@@ -105,7 +105,7 @@ fn refusal_of(world: &World, act: &Act) -> Result<Option<Fatal>, AllocError>
 
 // The creation of a component of a type.
 fn create(type_name: &[u8], name: Name) -> Result<Act, PathFault>
-    ensures { IfOk result IsCreation }
+    ensures { IfOk result IsMaking }
 {
     let type_name = Name::new(type_name)?;
     Ok(Act::Create { type_name, name })

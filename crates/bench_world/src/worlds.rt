@@ -1,6 +1,6 @@
 //! The world.
 
-ghost use Rattle.std.specs.Prelude.{◌≡◌, [], IfOk, true, false, IsSome, None, Some, length, nat_le, nat_lt, if◌then◌else◌};
+ghost use Rattle.std.specs.Prelude.{◌≡◌, ℕ, [], IfOk, true, false, IsSome, None, Some, length, nat_le, nat_lt, if◌then◌else◌};
 ghost use Rattle.bench_script.specs.Factories.{IsFactoryOf};
 ghost use Rattle.bench_history.specs.Limits.{log_limit};
 ghost use Rattle.bench_history.specs.History.{opening, stage_of, running, now_of, nodes_of, overrides_of};
@@ -14,19 +14,18 @@ ghost use Rattle.uvm_phase.specs.Dues.{in_order};
 ghost use Rattle.bench_history.specs.Wires.{is_past_connect, wiring_of};
 ghost use Rattle.uvm_tlm.specs.Wirings.{is_closed};
 ghost use Rattle.bench_world.specs.Connectings.{IsConnecting};
-ghost use Rattle.bench_world.specs.Services.{IsFactory, IsSettings};
+ghost use Rattle.bench_world.specs.Services.{IsFactory, IsSettings, ServicesMatch};
 ghost use Rattle.uvm_glob.specs.Paths.{path_text};
 ghost use Rattle.uvm_config.specs.Answers.{config_answer};
 ghost use Rattle.bench_history.specs.Configuration.{settings_of};
 ghost use Rattle.bench_history.specs.Dues.{due_events, due_now};
 ghost use Rattle.bench_history.specs.Next.{IsLegal};
 ghost use Rattle.bench_history.specs.Passing.{next_passed, waiting_at};
-ghost use Rattle.bench_history.specs.Sequences.{sequences_of};
+ghost use Rattle.bench_history.specs.Sequences.{leaving_of, sequences_of, step_of};
+ghost use Rattle.uvm_sequencer.specs.Sequences.{step_at};
 ghost use Rattle.bench_world.specs.Worlds.{WorldValue};
 
-use crate::configuring::given_settings;
 use crate::making::Waiting;
-use crate::reporting::given_reporting;
 use crate::services::Services;
 use crate::stations::{first_passing, waiting_at};
 use bench_history::{Owner, Stage};
@@ -36,7 +35,7 @@ use std::marker::Model;
 use uvm_config::Settings;
 use uvm_factory::Factory;
 use uvm_glob::{Name, Path};
-use uvm_object::{Act, Call, Deed, Log, Passage};
+use uvm_object::{Act, Call, Deed, Log, Passage, Who};
 use uvm_objection::Objection;
 use uvm_phase::{Agenda, Due, Phase};
 use uvm_report::{Fate, Reports};
@@ -53,8 +52,10 @@ pub struct World {
     pub(crate) services: Services,
     // The creation of the test.
     pub(crate) creation: Deed,
-    // The creation that waits for its object.
+    // The creation or the start that waits for its object.
     pub(crate) waiting: Option<Waiting>,
+    // The sequences that the newest entry has ended.
+    pub(crate) leaving: Vec<Who>,
     pub(crate) sound: bool,
 }
 
@@ -68,7 +69,7 @@ impl Model for World {
 
     ghost view = { λ w. record { script = w.script; history = w.log.entries; sound = w.sound; waiting = option_map (λ waiting. waiting.need) w.waiting } };
 
-    ghost invariant = { λ w. (w.creation ≡ opening w.script) × IsWorld w.sound w.script w.log w.services w.waiting };
+    ghost invariant = { λ w. (w.creation ≡ opening w.script) × IsWorld w.sound w.script w.log w.services w.waiting w.leaving.items };
 }
 
 impl World {
@@ -84,18 +85,27 @@ impl World {
         ensures { IfOk result (λ world. world ≡ record { script = script; history = []; sound = true; waiting = None }) }
     {
         let factory = script.factory(alloc)?;
-        let settings = given_settings(alloc, script.settings())?;
-        let reporting = given_reporting(alloc, &script)?;
         let creation = Deed::new(alloc, opening(&script, &factory))?;
-        Ok(World {
+        let services = Services::given(alloc, &script, factory)?;
+        Ok(World::before(alloc, script, creation, services))
+    }
+
+    // Before the first entry.
+    fn before(alloc: Global, script: Script, creation: Deed, services: Services) -> World
+        requires creation { creation ≡ opening script }
+        requires services { ServicesMatch script [] services }
+        ensures { result ≡ record { script = script; history = []; sound = true; waiting = None } }
+    {
+        World {
             alloc,
             script,
             log: Log::new(alloc, World::MAX_ENTRIES),
-            services: Services::new(alloc, factory, settings, reporting),
+            services,
             creation,
             waiting: None,
+            leaving: Vec::new(alloc),
             sound: true,
-        })
+        }
     }
 
     /// Whether the services are what the log says. Once memory was refused to an entry they are not.
@@ -278,12 +288,22 @@ impl World {
         objection.total(NodeId::TOP) > 0 || objection.held(NodeId::TOP) > 0
     }
 
-    /// The sequences that were started (Clause 14).
+    /// The sequences that were started, and the step at which each is that lives (Clause 14).
     pub fn sequences(&self) -> &Sequences
         requires { self.now.sound ≡ true }
-        ensures { result.now.started ≡ sequences_of self.now.history }
+        ensures started { result.now.started ≡ sequences_of self.now.history }
+        ensures steps { (id : ℕ) → step_at result.now.steps id ≡ step_of self.now.history id }
     {
         &self.services.sequences
+    }
+
+    /// The sequences that the newest entry has ended, in rising number: one that has ended its last step, or all that lived in the
+    /// phase that has ended (Clause 14).
+    pub fn leaving(&self) -> &[Who]
+        requires { self.now.sound ≡ true }
+        ensures { result.now ≡ leaving_of self.now.history }
+    {
+        self.leaving.as_slice()
     }
 
     /// The tree.

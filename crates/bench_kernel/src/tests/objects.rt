@@ -1,9 +1,10 @@
 //! The objects that the tests run with.
 
 use std::alloc::{AllocError, Global};
-use uvm_glob::Name;
+use uvm_glob::{Name, Path};
 use uvm_object::{Act, Acts, Call, UvmObject, What};
 use uvm_phase::Phase;
+use uvm_sequencer::Mode;
 
 /// Answers each call with no acts.
 #[derive(Drop)]
@@ -118,6 +119,88 @@ impl UvmObject for Spinner {
     }
 }
 
+/// Adds a sequencer when it builds, and starts sequences on it when it runs.
+#[derive(Drop)]
+pub(crate) struct Starter {
+    pub(crate) type_name: Name,
+    pub(crate) starts: Starts,
+}
+
+/// How many sequences a starter starts.
+#[derive(Clone, Copy)]
+pub(crate) enum Starts {
+    /// One.
+    A,
+    /// Two.
+    AAndB,
+}
+
+impl UvmObject for Starter {
+    ghost use Rattle.std.specs.Prelude.{◌≡◌, []};
+
+    ghost view = { λ _. [] };
+
+    ghost name = { λ starter. starter.type_name };
+
+    ghost says = { λ _ before _ _ after. after ≡ before };
+
+    fn type_name(&self) -> &Name {
+        &self.type_name
+    }
+
+    fn hear(&mut self, alloc: Global, call: &Call) -> Result<Acts, AllocError> {
+        let mut acts = Acts::new(alloc);
+        match call {
+            Call::Phase(Phase::Build) => acts.push(Act::Add {
+                name: known(b"sqr")?,
+                what: What::Sequencer { mode: Mode::Fifo },
+            })?,
+            Call::Phase(Phase::Run) => self.starts.push_to(alloc, &mut acts)?,
+            _ => (),
+        }
+        Ok(acts)
+    }
+}
+
+impl Starts {
+    fn push_to(self, alloc: Global, acts: &mut Acts) -> Result<(), AllocError> {
+        acts.push(start(alloc, b"a")?)?;
+        match self {
+            Starts::A => Ok(()),
+            Starts::AAndB => acts.push(start(alloc, b"b")?),
+        }
+    }
+}
+
+/// A sequence, which ends each of its steps at once, or stays at its first.
+#[derive(Drop)]
+pub(crate) struct Steps {
+    pub(crate) type_name: Name,
+    pub(crate) ends: bool,
+}
+
+impl UvmObject for Steps {
+    ghost use Rattle.std.specs.Prelude.{◌≡◌, []};
+
+    ghost view = { λ _. [] };
+
+    ghost name = { λ steps. steps.type_name };
+
+    ghost says = { λ _ before _ _ after. after ≡ before };
+
+    fn type_name(&self) -> &Name {
+        &self.type_name
+    }
+
+    fn hear(&mut self, alloc: Global, _call: &Call) -> Result<Acts, AllocError> {
+        let mut acts = Acts::new(alloc);
+        if self.ends {
+            acts.push(Act::EndStep)?;
+        }
+        Ok(acts)
+    }
+}
+
 /// Gives no answer.
 #[derive(Drop)]
 pub(crate) struct Mute {
@@ -148,6 +231,8 @@ pub(crate) enum AnyObject {
     Idle(Idle),
     Builder(Builder),
     Spinner(Spinner),
+    Starter(Starter),
+    Steps(Steps),
     Mute(Mute),
 }
 
@@ -161,6 +246,8 @@ impl UvmObject for AnyObject {
       | any.Idle idle ↦ idle.type_name
       | any.Builder builder ↦ builder.type_name
       | any.Spinner spinner ↦ spinner.type_name
+      | any.Starter starter ↦ starter.type_name
+      | any.Steps steps ↦ steps.type_name
       | any.Mute mute ↦ mute.type_name
     ] };
 
@@ -171,6 +258,8 @@ impl UvmObject for AnyObject {
             AnyObject::Idle(idle) => idle.type_name(),
             AnyObject::Builder(builder) => builder.type_name(),
             AnyObject::Spinner(spinner) => spinner.type_name(),
+            AnyObject::Starter(starter) => starter.type_name(),
+            AnyObject::Steps(steps) => steps.type_name(),
             AnyObject::Mute(mute) => mute.type_name(),
         }
     }
@@ -180,6 +269,8 @@ impl UvmObject for AnyObject {
             AnyObject::Idle(idle) => idle.hear(alloc, call),
             AnyObject::Builder(builder) => builder.hear(alloc, call),
             AnyObject::Spinner(spinner) => spinner.hear(alloc, call),
+            AnyObject::Starter(starter) => starter.hear(alloc, call),
+            AnyObject::Steps(steps) => steps.hear(alloc, call),
             AnyObject::Mute(mute) => mute.hear(alloc, call),
         }
     }
@@ -196,6 +287,18 @@ fn add(name: &[u8]) -> Result<Act, AllocError> {
     Ok(Act::Add {
         name: known(name)?,
         what: What::Fifo { size: 1 },
+    })
+}
+
+fn start(alloc: Global, name: &[u8]) -> Result<Act, AllocError> {
+    let Ok(on) = Path::parse(alloc, b"sqr") else {
+        return Err(AllocError);
+    };
+    Ok(Act::Start {
+        type_name: known(b"seq")?,
+        name: known(name)?,
+        on,
+        priority: None,
     })
 }
 

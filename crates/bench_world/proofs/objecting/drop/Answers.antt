@@ -8,8 +8,9 @@ use Rattle.uvm_object.specs.Acts.{node_of}
 use Rattle.uvm_objection.specs.Laws.{IsHeldUntilDue}
 use Rattle.uvm_objection.specs.Nodes.{ObjectionValue, dropped, source_of}
 use Rattle.uvm_objection.specs.Totals.{total, settled}
-use Rattle.bench_history.specs.Dues.{caused_of, heard_of, ended_of, is_open}
-use Rattle.bench_history.specs.History.{now_of, stage_of, running}
+use Rattle.bench_history.specs.Sequences.{finished_of}
+use Rattle.bench_history.specs.Dues.{caused_of, heard_of, is_open}
+use Rattle.bench_history.specs.History.{now_of, stage_of, running, ended_of}
 use Rattle.bench_history.specs.Objections.{objections_of}
 use Rattle.bench_history.specs.Refusals.{in_task, drop_refusal}
 use Rattle.bench_world.specs.Services.{IsRefusing}
@@ -67,9 +68,9 @@ returns-in_ok-move_drains-in-Ok c =
             let grown = (c.nodes_grow.ensures.1 nodes m.objections.are_nodes).dropped (now_of history) speaker c.args.count in
             let low : 0 ≤ 65535 = omega arith in
             let objections = objecting-changed c.drop.new.self others stay same m.objections is 0 low grown in
-            let dues = rw (m.stage, ← s.place_is) at (due.dues (filter (is_open (heard_of history) (ended_of history)) (caused_of history)) m.agenda.are) in
+            let dues = rw (m.stage, ← s.place_is) at (due.dues (filter (is_open (heard_of history) (ended_of history) (finished_of history)) (caused_of history)) m.agenda.are) in
             let held : All (IsHeldUntilDue others) (option_to_list c.in-Ok.began) = rw (← begun) (c.begun_drains_are_held.ensures nodes others grown.nodes) in
-            let drains = moved (now_of history) nodes changed others (stage_of history) c.in-Ok.began None (caused_of history) (heard_of history) (ended_of history) (length history) _ _
+            let drains = moved (now_of history) nodes changed others (stage_of history) c.in-Ok.began None (caused_of history) (heard_of history) (ended_of history) (finished_of history) (length history) _ _
             c.settled_go_by_totals.ensures stay m.objections.are_nodes same refl (due-dropped speaker c.args.count nodes) begun over held s.in_order m.agenda m.events dues in
             let agenda = drains.agenda in
             let events = drains.events in

@@ -6,8 +6,9 @@ use Rattle.uvm_object.specs.Acts.{node_of}
 use Rattle.uvm_objection.specs.Laws.{IsHeldUntilDue}
 use Rattle.uvm_objection.specs.Nodes.{raised}
 use Rattle.uvm_objection.specs.Totals.{total, settled}
-use Rattle.bench_history.specs.Dues.{caused_of, heard_of, ended_of, is_open}
-use Rattle.bench_history.specs.History.{now_of, stage_of, running}
+use Rattle.bench_history.specs.Sequences.{finished_of}
+use Rattle.bench_history.specs.Dues.{caused_of, heard_of, is_open}
+use Rattle.bench_history.specs.History.{now_of, stage_of, running, ended_of}
 use Rattle.bench_history.specs.Objections.{objections_of}
 use Rattle.bench_history.specs.Refusals.{in_task, raise_refusal}
 use Rattle.bench_world.proofs.Later.{acted, refused-here}
@@ -46,9 +47,9 @@ returns c =
             let grown = (c.nodes_grow.ensures.1 nodes m.objections.are_nodes).raised (now_of history) speaker c.args.count in
             let low : c.args.count ≤ 65535 = omega arith in
             let objections = objecting-changed c.raise-ended.new.self others stay same m.objections is c.args.count low grown in
-            let dues = due.dues (filter (is_open (heard_of history) (ended_of history)) (caused_of history)) m.agenda.are in
+            let dues = due.dues (filter (is_open (heard_of history) (ended_of history) (finished_of history)) (caused_of history)) m.agenda.are in
             let held : All (IsHeldUntilDue others) [] = All-nil (IsHeldUntilDue others) in
-            let drains = moved (now_of history) nodes changed others (stage_of history) None c.raise-ended.result (caused_of history) (heard_of history) (ended_of history) (length history) _ _
+            let drains = moved (now_of history) nodes changed others (stage_of history) None c.raise-ended.result (caused_of history) (heard_of history) (ended_of history) (finished_of history) (length history) _ _
             c.settled_go_by_totals.ensures stay m.objections.are_nodes same refl (due-raised speaker c.args.count nodes) begun over held s.in_order m.agenda m.events dues in
             let agenda = drains.agenda in
             let events = drains.events in

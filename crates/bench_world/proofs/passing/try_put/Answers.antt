@@ -3,13 +3,15 @@ use Rattle.uvm_tlm.specs.declared.ends.PortKind.TheVariants as through
 use Rattle.uvm_object.specs.declared.acts.Act.TheVariants.{TryPut}
 use Rattle.uvm_object.specs.declared.acts.Call.TheVariants as call
 use Rattle.bench_history.specs.declared.owners.Owner.TheVariants.{Object}
-use Rattle.bench_history.specs.Dues.{caused_at, caused_of, ended_of, heard_of, is_open}
-use Rattle.bench_history.specs.History.{now_of, running, stage_of}
+use Rattle.bench_history.specs.Sequences.{finished_of}
+use Rattle.bench_history.specs.Dues.{caused_at, caused_of, heard_of, is_open}
+use Rattle.bench_history.specs.History.{now_of, running, stage_of, ended_of}
 use Rattle.bench_history.specs.Objections.{objections_of}
 use Rattle.bench_history.specs.Passing.{puts_now, station_below}
 use Rattle.bench_history.specs.Ports.{gate_below}
 use Rattle.bench_history.specs.Refusals.{passing_refusal}
 use Rattle.bench_world.proofs.Drained.{events-told}
+use Rattle.bench_world.proofs.Opened.{scene-open}
 use Rattle.bench_world.proofs.Later.{acted, refused-here}
 use Rattle.bench_world.proofs.Gates.{below-known, gate-open, open-does, open-refuses, try-put-kept}
 use Rattle.bench_world.proofs.Told.{agenda-event}
@@ -44,9 +46,9 @@ returns c =
             let stations = k.stations_are in
             let passed = k.passed in
             let unsettled = k.unsettled_are in
-            let dues = rw (m.stage, m.time, ← s.place_is) at (told.dues (filter (is_open (heard_of history) (ended_of history)) (caused_of history)) m.agenda.are) in
-            let events = events-told (objections_of history) (is_open (heard_of history) (ended_of history)) (running (stage_of history)) (now_of history) (caused_at (length history)) speaker (call.TryStored c.args.name.now stored) (caused_of history) m.events in
-            let agenda = agenda-event (Object speaker) (Some (call.TryStored c.args.name.now stored)) (now_of history) (stage_of history) (caused_of history) (heard_of history) (ended_of history) _ _ _ s.in_order m.agenda dues in
+            let dues = rw (m.stage, m.time, ← s.place_is) at (told.dues (filter (is_open (heard_of history) (ended_of history) (finished_of history)) (caused_of history)) m.agenda.are) in
+            let events = events-told (objections_of history) (is_open (heard_of history) (ended_of history) (finished_of history)) (running (stage_of history)) (now_of history) (caused_at (length history)) speaker (call.TryStored c.args.name.now stored) (caused_of history) m.events in
+            let agenda = agenda-event (Object speaker) (Some (call.TryStored c.args.name.now stored)) (now_of history) (stage_of history) (caused_of history) (heard_of history) (ended_of history) (finished_of history) _ _ _ s.in_order (scene-open s (λ opens. cc)) m.agenda dues in
             search (rules, acted);
       };
     })

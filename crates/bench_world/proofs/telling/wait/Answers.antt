@@ -1,9 +1,11 @@
 use Rattle.std.proofs.Common.{length, ◌≡◌, ◌+◌, Some, None, refl, sym, ◌∙◌, filter, rules}
 use Rattle.uvm_object.specs.declared.acts.Act.TheVariants.{Wait}
 use Rattle.uvm_object.specs.declared.acts.Call.TheVariants as call
-use Rattle.bench_history.specs.Dues.{caused_of, heard_of, ended_of, is_open}
-use Rattle.bench_history.specs.History.{now_of, stage_of, running}
+use Rattle.bench_history.specs.Sequences.{finished_of}
+use Rattle.bench_history.specs.Dues.{caused_of, heard_of, is_open}
+use Rattle.bench_history.specs.History.{now_of, stage_of, running, ended_of}
 use Rattle.bench_history.specs.Refusals.{wait_refusal}
+use Rattle.bench_world.proofs.Opened.{scene-open}
 use Rattle.bench_world.proofs.Later.{acted, refused-here}
 use Rattle.bench_world.proofs.Told.{agenda-event}
 use Rattle.bench_world.proofs.Drained.{events-told}
@@ -29,9 +31,9 @@ returns c =
         with_entry = λ script history s.
             let m = s.known in
             let left = s.left in
-            let dues = rw (m.stage, m.time, ← s.place_is) at (told.dues (filter (is_open (heard_of history) (ended_of history)) (caused_of history)) m.agenda.are) in
-            let events = events-told (objections_of history) (is_open (heard_of history) (ended_of history)) (running (stage_of history)) (now_of history + c.args.ticks) (caused_at (length history)) c.args.services.now.answer.speaker (call.Wake c.args.tag) (caused_of history) m.events in
-            let agenda = agenda-event (Object c.args.services.now.answer.speaker) (Some (call.Wake c.args.tag)) (now_of history + c.args.ticks) (stage_of history) (caused_of history) (heard_of history) (ended_of history) _ _ _ s.in_order m.agenda dues in
+            let dues = rw (m.stage, m.time, ← s.place_is) at (told.dues (filter (is_open (heard_of history) (ended_of history) (finished_of history)) (caused_of history)) m.agenda.are) in
+            let events = events-told (objections_of history) (is_open (heard_of history) (ended_of history) (finished_of history)) (running (stage_of history)) (now_of history + c.args.ticks) (caused_at (length history)) c.args.services.now.answer.speaker (call.Wake c.args.tag) (caused_of history) m.events in
+            let agenda = agenda-event (Object c.args.services.now.answer.speaker) (Some (call.Wake c.args.tag)) (now_of history + c.args.ticks) (stage_of history) (caused_of history) (heard_of history) (ended_of history) (finished_of history) _ _ _ s.in_order (scene-open s (λ opens. cc)) m.agenda dues in
             search (rules, acted);
       };
     })

@@ -2,14 +2,15 @@ use Rattle.std.proofs.Common.{◌≡◌, length, filter, Some, None, is_some, �
 use Rattle.uvm_tlm.specs.declared.ends.PortKind.TheVariants.{Analysis}
 use Rattle.uvm_object.specs.declared.acts.Act.TheVariants.{Write}
 use Rattle.uvm_object.specs.declared.entries.Outcome.TheVariants.{Done}
-use Rattle.bench_history.specs.Dues.{caused_of, ended_of, heard_of, is_open, written_calls}
-use Rattle.bench_history.specs.History.{now_of, running, stage_of}
+use Rattle.bench_history.specs.Sequences.{finished_of}
+use Rattle.bench_history.specs.Dues.{caused_of, heard_of, is_open, calls_told}
+use Rattle.bench_history.specs.History.{nodes_of, now_of, running, stage_of, ended_of}
 use Rattle.bench_history.specs.Objections.{objections_of}
-use Rattle.bench_history.specs.Ports.{port_below}
+use Rattle.bench_history.specs.Ports.{imps_below, port_below}
 use Rattle.bench_history.specs.Refusals.{passing_refusal}
 use Rattle.bench_world.proofs.Later.{acted, refused-here}
 use Rattle.bench_world.proofs.Outlets.{calls-are, outlet-does, outlet-open, outlet-refuses, written-kept}
-use Rattle.bench_world.proofs.Written.{agenda-written, events-calls}
+use Rattle.bench_world.proofs.Written.{agenda-written, events-calls, written-open}
 use Rattle.bench_world.proofs.writing.write.Goals as goal
 
 pub returns-in-Err : goal.returns-in-Err
@@ -49,11 +50,11 @@ returns c =
             let stations = k.stations_are in
             let passed = k.passed in
             let unsettled = k.unsettled_are in
-            let written = written_calls history speaker Done (Write name item) in
+            let written = calls_told history speaker Done (Write name item) in
             let calls : c.as_slice.result.now ≡ written = c.as_slice.ensures.value ∙ c.in_ok-calls.ensures ∙ rw reached.targets (calls-are item m o) in
-            let dues = rw (m.stage, m.time, ← s.place_is, calls) at (c.in_ok-tell_all.ensures (filter (is_open (heard_of history) (ended_of history)) (caused_of history)) m.agenda.are) in
-            let events = events-calls (objections_of history) (is_open (heard_of history) (ended_of history)) (running (stage_of history)) (now_of history) (length history) 0 written (caused_of history) m.events in
-            let agenda = agenda-written (stage_of history) (now_of history) written (caused_of history) (heard_of history) (ended_of history) (length history) _ _ o.task s.in_order m.agenda dues in
+            let dues = rw (m.stage, m.time, ← s.place_is, calls) at (c.in_ok-tell_all.ensures (filter (is_open (heard_of history) (ended_of history) (finished_of history)) (caused_of history)) m.agenda.are) in
+            let events = events-calls (objections_of history) (is_open (heard_of history) (ended_of history) (finished_of history)) (running (stage_of history)) (now_of history) (length history) 0 written (caused_of history) m.events in
+            let agenda = agenda-written (stage_of history) (now_of history) written (caused_of history) (heard_of history) (ended_of history) (finished_of history) (length history) _ _ o.task s.in_order (written-open (nodes_of history) item (finished_of history) (imps_below history speaker name)) m.agenda dues in
             search (rules, acted);
       };
     })

@@ -1,4 +1,8 @@
+use Rattle.std.proofs.Common.{arith}
 use Rattle.bench_kernel.proofs.kernels.Kernel.live.Goals as goal
+
+pub overflow_add-result : goal.overflow_add-result
+overflow_add-result g c = omega (arith, c.len.ensures.small, c.len-2.ensures.small)
 
 pub returns-clause-made : goal.returns-clause-made
 returns-clause-made g c = rw (← c.self.view_is) c.self.invariant.0.custody.made

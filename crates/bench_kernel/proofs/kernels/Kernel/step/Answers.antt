@@ -1,150 +1,240 @@
-use Rattle.std.proofs.Common.{◌≡◌, ◌<◌, Err, length, refl, ◌∙◌, rules}
-use Rattle.uvm_object.specs.Acts.{node_of}
-use Rattle.bench_history.specs.History.{nodes_of}
+use Rattle.std.proofs.Common.{◌≡◌, ◌∙◌, Err, refl, rules}
+use Rattle.bench_core.specs.declared.cores.Turn.TheVariants.{Ask, Moved, Need, Over}
+use Rattle.uvm_object.specs.declared.entries.Entry.TheVariants.{Heard}
 use Rattle.bench_core.specs.declared.faults.CoreFault.TheVariants.{Memory}
 use Rattle.bench_core.specs.declared.cores.Health.TheVariants.{Broken}
+use Rattle.bench_kernel.specs.Seating.{all_held}
 use Rattle.bench_kernel.specs.Seats.{held_in, paths_in}
 use Rattle.bench_kernel.specs.Kernels.{KernelValue}
-use Rattle.bench_kernel.proofs.Held.{All-places_held}
-use Rattle.bench_kernel.proofs.Kept.{asked-held, below, kept-failed, kept-heard, kept-moved, kept-needed, kept-unanswered, placed-asked, placed-later}
-use Rattle.bench_kernel.proofs.Stepped.{answered-step, ask-turn, asked-log, asked-room, heard-is, moved-step, moved-turn, need-turn, needed-step, refused-log, unanswered-step, unheard-log}
+use Rattle.bench_kernel.proofs.Kept.{asked-held, below, kept-failed, kept-heard, kept-moved, kept-needed, kept-told, kept-unanswered, leaver-ended, leaver-held}
+use Rattle.bench_kernel.proofs.Seated.{nodes-asked, seated-asked, seated-later, seated-told}
+use Rattle.bench_kernel.proofs.Sitting.{ended-sits, permuted-behind}
+use Rattle.bench_kernel.proofs.Stepped.{answered-step, ask-turn, asked-log, asked-room, back-step, heard-is, leave-turn, moved-step, moved-turn, need-turn, needed-step, over-turn, refused-log, refused-step, refused-told, told-turn, unanswered-step, unheard-log}
 use Rattle.bench_kernel.proofs.kernels.Kernel.step.Goals as goal
+
+pub remove-object-requires : goal.remove-object-requires
+remove-object-requires g c =
+    let m = g.O.UvmObject in
+    let k = c.self.inside in
+    let kernel : KernelValue g.row.O.Denot = record { core = k.core; held = all_held k.seats.taken k.sequences.held; failed = k.failed; unknown = k.unknown } in
+    let kept = c.self.invariant.0 in
+    let told = leave-turn c.in-Ok-Leave.who k.core c.next.new.self (rw c.in-Ok-Leave.field-0-is at (c.in-Ok-Leave.ensures.turn)) in
+    ended-sits k.core.history c.in-Ok-Leave.who k.seats.taken k.sequences.held (leaver-ended m.view m.name m.says kernel c.in-Ok-Leave.who told.others told.told c.if-self.false kept)
+    (leaver-held m.view m.name m.says kernel c.in-Ok-Leave.who told.others told.told c.if-self.false kept)
 
 pub invariant_of-self : goal.invariant_of-self
 invariant_of-self g c =
     let m = g.O.UvmObject in
-    let kernel : KernelValue g.row.O.Denot = record { core = c.self.inside.core; held = held_in c.self.inside.seats.taken; failed = c.self.inside.failed; unknown = c.self.inside.unknown } in
-    let taken = c.self.inside.seats.taken in
+    let k = c.self.inside in
+    let kernel : KernelValue g.row.O.Denot = record { core = k.core; held = all_held k.seats.taken k.sequences.held; failed = k.failed; unknown = k.unknown } in
     let kept = c.self.invariant.0 in
-    let needed = need-turn kernel.core c.next.new.self (kept.comes c.if-self.false) (rw c.in-Ok-Need.field-0-is at (c.in-Ok-Need.ensures.turn)) in
+    let told = leave-turn c.in-Ok-Leave.who k.core c.next.new.self (rw c.in-Ok-Leave.field-0-is at (c.in-Ok-Leave.ensures.turn)) in
+    let same = permuted-behind (held_in k.seats.taken) k.sequences.held c.remove-object.new.self.held (c.in-Ok-Leave.who, c.remove-object.result) c.remove-object.ensures.held in
+    rw told.is (
+      kept-told m.view m.name m.says kernel c.in-Ok-Leave.who told.others c.remove-object.result (all_held k.seats.taken c.remove-object.new.self.held) told.told c.if-self.false same kept,
+      seated-told k.core.history (paths_in k.seats.taken) k.sequences.count c.remove-object.new.self.count (c.in-Ok-Leave.who, c.remove-object.result) k.sequences.held c.remove-object.new.self.held c.remove-object.ensures.count
+          c.remove-object.ensures.without c.self.invariant.1,
+    )
+
+pub returns-in-Ok-Leave-clause-step : goal.returns-in-Ok-Leave-clause-step
+returns-in-Ok-Leave-clause-step g c =
+    let m = g.O.UvmObject in
+    let k = c.self.inside in
+    let kernel : KernelValue g.row.O.Denot = record { core = k.core; held = all_held k.seats.taken k.sequences.held; failed = k.failed; unknown = k.unknown } in
+    let kept = c.self.invariant.0 in
+    let told = leave-turn c.in-Ok-Leave.who k.core c.next.new.self (rw c.in-Ok-Leave.field-0-is at (c.in-Ok-Leave.ensures.turn)) in
+    let same = permuted-behind (held_in k.seats.taken) k.sequences.held c.remove-object.new.self.held (c.in-Ok-Leave.who, c.remove-object.result) c.remove-object.ensures.held in
+    rw (← c.self.view_is)
+    (c.if-self.false, back-step m.view m.name m.says kernel c.in-Ok-Leave.who c.remove-object.result c.next.new.self (all_held k.seats.taken c.remove-object.new.self.held) told same)
+
+pub invariant_of-self-in-Ok-Need : goal.invariant_of-self-in-Ok-Need
+invariant_of-self-in-Ok-Need g c =
+    let m = g.O.UvmObject in
+    let k = c.self.inside in
+    let kernel : KernelValue g.row.O.Denot = record { core = k.core; held = all_held k.seats.taken k.sequences.held; failed = k.failed; unknown = k.unknown } in
+    let kept = c.self.invariant.0 in
+    let told = told-turn Need k.core c.next.new.self tt (rw c.in-Ok-Need.field-0-is at (c.in-Ok-Need.ensures.turn)) in
+    let needed = need-turn k.core c.next.new.self (kept.comes c.if-self.false) told.turn in
     rw needed.is (kept-needed m.view m.name m.says kernel needed.need needed.comes kept, c.self.invariant.1)
 
-pub hear-requires : goal.hear-requires
-hear-requires g c =
+pub returns-in-Ok-Need-clause-step : goal.returns-in-Ok-Need-clause-step
+returns-in-Ok-Need-clause-step g c =
     let m = g.O.UvmObject in
-    let kernel : KernelValue g.row.O.Denot = record { core = c.self.inside.core; held = held_in c.self.inside.seats.taken; failed = c.self.inside.failed; unknown = c.self.inside.unknown } in
-    let taken = c.self.inside.seats.taken in
+    let k = c.self.inside in
+    let kernel : KernelValue g.row.O.Denot = record { core = k.core; held = all_held k.seats.taken k.sequences.held; failed = k.failed; unknown = k.unknown } in
     let kept = c.self.invariant.0 in
-    let asks = ask-turn c.in-Ok-Ask.who c.in-Ok-Ask.call kernel.core c.next.new.self (kept.comes c.if-self.false) (rw c.in-Ok-Ask.field-0-is at (c.in-Ok-Ask.ensures.turn)) in
+    let told = told-turn Need k.core c.next.new.self tt (rw c.in-Ok-Need.field-0-is at (c.in-Ok-Need.ensures.turn)) in
+    let needed = need-turn k.core c.next.new.self (kept.comes c.if-self.false) told.turn in
+    let room = (rw c.in-Ok-Need.field-0-is at (c.in-Ok-Need.ensures.room)) tt in
+    rw (← c.self.view_is) (record { going = c.if-self.false; told = told.told }, needed-step m.view m.name m.says kernel c.next.new.self room needed)
+
+pub returns-in-Ok-Need-clause-needed : goal.returns-in-Ok-Need-clause-needed
+returns-in-Ok-Need-clause-needed g c =
+    let m = g.O.UvmObject in
+    let k = c.self.inside in
+    let kernel : KernelValue g.row.O.Denot = record { core = k.core; held = all_held k.seats.taken k.sequences.held; failed = k.failed; unknown = k.unknown } in
+    let kept = c.self.invariant.0 in
+    let told = told-turn Need k.core c.next.new.self tt (rw c.in-Ok-Need.field-0-is at (c.in-Ok-Need.ensures.turn)) in
+    let needed = need-turn k.core c.next.new.self (kept.comes c.if-self.false) told.turn in
+    λ needs. rw (c.if-self.false, needed.is) refl
+
+pub hear-answer-requires-clause-sits : goal.hear-answer-requires-clause-sits
+hear-answer-requires-clause-sits g c =
+    let m = g.O.UvmObject in
+    let k = c.self.inside in
+    let kernel : KernelValue g.row.O.Denot = record { core = k.core; held = all_held k.seats.taken k.sequences.held; failed = k.failed; unknown = k.unknown } in
+    let kept = c.self.invariant.0 in
+    let told = told-turn (Ask c.in-Ok-Ask.who c.in-Ok-Ask.call) k.core c.next.new.self tt (rw c.in-Ok-Ask.field-0-is at (c.in-Ok-Ask.ensures.turn)) in
+    let asks = ask-turn c.in-Ok-Ask.who c.in-Ok-Ask.call k.core c.next.new.self (kept.comes c.if-self.false) told.turn in
     asked-held c.hold.ensures m.view m.name m.says kernel c.in-Ok-Ask.who c.in-Ok-Ask.call asks.cause asks.answers c.if-self.false (rw c.in-Ok-Ask.field-0-is at (c.in-Ok-Ask.ensures.asked)) kept
 
 pub invariant_of-self-in_default : goal.invariant_of-self-in_default
 invariant_of-self-in_default g c =
     let m = g.O.UvmObject in
-    let kernel : KernelValue g.row.O.Denot = record { core = c.self.inside.core; held = held_in c.self.inside.seats.taken; failed = c.self.inside.failed; unknown = c.self.inside.unknown } in
-    let taken = c.self.inside.seats.taken in
+    let k = c.self.inside in
+    let kernel : KernelValue g.row.O.Denot = record { core = k.core; held = all_held k.seats.taken k.sequences.held; failed = k.failed; unknown = k.unknown } in
     let kept = c.self.invariant.0 in
-    let asks = ask-turn c.in-Ok-Ask.who c.in-Ok-Ask.call kernel.core c.next.new.self (kept.comes c.if-self.false) (rw c.in-Ok-Ask.field-0-is at (c.in-Ok-Ask.ensures.turn)) in
-    let same_log = asked-log c.in-Ok-Ask.who c.in-Ok-Ask.call kernel.core c.next.new.self asks in (
-      kept-unanswered m.view m.name m.says kernel (held_in c.hear.new.self.taken) c.next.new.self c.in-Ok-Ask.who c.copy.result c.in-Ok-Ask.call c.hear.result c.copy.ensures c.if-self.false same_log c.hear.ensures.asked kept,
-      placed-asked kernel.core.history c.next.new.self.history (paths_in taken) (paths_in c.hear.new.self.taken) same_log.history c.hear.ensures.paths c.self.invariant.1,
+    let told = told-turn (Ask c.in-Ok-Ask.who c.in-Ok-Ask.call) k.core c.next.new.self tt (rw c.in-Ok-Ask.field-0-is at (c.in-Ok-Ask.ensures.turn)) in
+    let asks = ask-turn c.in-Ok-Ask.who c.in-Ok-Ask.call k.core c.next.new.self (kept.comes c.if-self.false) told.turn in
+    let same_log = asked-log c.in-Ok-Ask.who c.in-Ok-Ask.call k.core c.next.new.self asks in (
+      kept-unanswered m.view m.name m.says kernel (all_held c.hear-answer.new.seats.taken c.hear-answer.new.sequences.held) c.next.new.self c.in-Ok-Ask.who c.copy.result c.in-Ok-Ask.call c.hear-answer.result c.copy.ensures c.if-self.false same_log c.hear-answer.ensures.asked kept,
+      rw same_log.history (seated-asked k.core.history (paths_in k.seats.taken) (paths_in c.hear-answer.new.seats.taken) k.sequences.count c.hear-answer.new.sequences.count k.sequences.held c.hear-answer.new.sequences.held c.hear-answer.ensures.paths c.hear-answer.ensures.count c.hear-answer.ensures.keys c.self.invariant.1),
     )
 
 pub returns-in_default-clause-step : goal.returns-in_default-clause-step
 returns-in_default-clause-step g c =
     let m = g.O.UvmObject in
-    let kernel : KernelValue g.row.O.Denot = record { core = c.self.inside.core; held = held_in c.self.inside.seats.taken; failed = c.self.inside.failed; unknown = c.self.inside.unknown } in
-    let taken = c.self.inside.seats.taken in
+    let k = c.self.inside in
+    let kernel : KernelValue g.row.O.Denot = record { core = k.core; held = all_held k.seats.taken k.sequences.held; failed = k.failed; unknown = k.unknown } in
     let kept = c.self.invariant.0 in
-    let asks = ask-turn c.in-Ok-Ask.who c.in-Ok-Ask.call kernel.core c.next.new.self (kept.comes c.if-self.false) (rw c.in-Ok-Ask.field-0-is at (c.in-Ok-Ask.ensures.turn)) in
-    let room = asked-room c.in-Ok-Ask.who c.in-Ok-Ask.call kernel.core c.next.new.self asks ((rw c.in-Ok-Ask.field-0-is at (c.in-Ok-Ask.ensures.room)) tt) in
+    let told = told-turn (Ask c.in-Ok-Ask.who c.in-Ok-Ask.call) k.core c.next.new.self tt (rw c.in-Ok-Ask.field-0-is at (c.in-Ok-Ask.ensures.turn)) in
+    let asks = ask-turn c.in-Ok-Ask.who c.in-Ok-Ask.call k.core c.next.new.self (kept.comes c.if-self.false) told.turn in
+    let room = asked-room c.in-Ok-Ask.who c.in-Ok-Ask.call k.core c.next.new.self asks ((rw c.in-Ok-Ask.field-0-is at (c.in-Ok-Ask.ensures.room)) tt) in
     rw (← c.self.view_is)
-    (unanswered-step m.view m.name m.says kernel c.next.new.self c.in-Ok-Ask.who c.copy.result c.in-Ok-Ask.call asks.cause c.hear.result (held_in c.hear.new.self.taken) c.copy.ensures
-    asks.answers asks.nothing_needed c.if-self.false (asked-log c.in-Ok-Ask.who c.in-Ok-Ask.call kernel.core c.next.new.self asks) (rw c.in_default.is asks.is) room c.hear.ensures.asked)
+    (unanswered-step m.view m.name m.says kernel c.next.new.self c.in-Ok-Ask.who c.copy.result c.in-Ok-Ask.call asks.cause c.hear-answer.result (all_held c.hear-answer.new.seats.taken c.hear-answer.new.sequences.held) c.copy.ensures asks.answers asks.nothing_needed
+    (record { going = c.if-self.false; told = told.told }) (asked-log c.in-Ok-Ask.who c.in-Ok-Ask.call k.core c.next.new.self asks) (rw c.in_default.is asks.is) room c.hear-answer.ensures.asked)
 
 pub invariant_of-self-in_err-heard-in-Ok-Ask : goal.invariant_of-self-in_err-heard-in-Ok-Ask
 invariant_of-self-in_err-heard-in-Ok-Ask g c =
     let m = g.O.UvmObject in
-    let kernel : KernelValue g.row.O.Denot = record { core = c.self.inside.core; held = held_in c.self.inside.seats.taken; failed = c.self.inside.failed; unknown = c.self.inside.unknown } in
-    let taken = c.self.inside.seats.taken in
+    let k = c.self.inside in
+    let kernel : KernelValue g.row.O.Denot = record { core = k.core; held = all_held k.seats.taken k.sequences.held; failed = k.failed; unknown = k.unknown } in
     let kept = c.self.invariant.0 in
-    let asks = ask-turn c.in-Ok-Ask.who c.in-Ok-Ask.call kernel.core c.next.new.self (kept.comes c.if-self.false) (rw c.in-Ok-Ask.field-0-is at (c.in-Ok-Ask.ensures.turn)) in
-    let same_log = unheard-log c.in-Ok-Ask.who c.in-Ok-Ask.call kernel.core c.next.new.self c.heard.new.self Broken asks c.in_err-heard-in-Ok-Ask.ensures.err.1 in (
-      kept-unanswered m.view m.name m.says kernel (held_in c.hear.new.self.taken) c.heard.new.self c.in-Ok-Ask.who c.copy.result c.in-Ok-Ask.call c.hear.result c.copy.ensures c.if-self.false same_log c.hear.ensures.asked kept,
-      placed-asked kernel.core.history c.heard.new.self.history (paths_in taken) (paths_in c.hear.new.self.taken) same_log.history c.hear.ensures.paths c.self.invariant.1,
+    let told = told-turn (Ask c.in-Ok-Ask.who c.in-Ok-Ask.call) k.core c.next.new.self tt (rw c.in-Ok-Ask.field-0-is at (c.in-Ok-Ask.ensures.turn)) in
+    let asks = ask-turn c.in-Ok-Ask.who c.in-Ok-Ask.call k.core c.next.new.self (kept.comes c.if-self.false) told.turn in
+    let same_log = unheard-log c.in-Ok-Ask.who c.in-Ok-Ask.call k.core c.next.new.self c.heard.new.self Broken asks c.in_err-heard-in-Ok-Ask.ensures.err.1 in (
+      kept-unanswered m.view m.name m.says kernel (all_held c.hear-answer.new.seats.taken c.hear-answer.new.sequences.held) c.heard.new.self c.in-Ok-Ask.who c.copy.result c.in-Ok-Ask.call c.hear-answer.result c.copy.ensures c.if-self.false same_log c.hear-answer.ensures.asked kept,
+      rw same_log.history (seated-asked k.core.history (paths_in k.seats.taken) (paths_in c.hear-answer.new.seats.taken) k.sequences.count c.hear-answer.new.sequences.count k.sequences.held c.hear-answer.new.sequences.held c.hear-answer.ensures.paths c.hear-answer.ensures.count c.hear-answer.ensures.keys c.self.invariant.1),
     )
 
 pub returns-in_err-heard-in-Ok-Ask-clause-step : goal.returns-in_err-heard-in-Ok-Ask-clause-step
 returns-in_err-heard-in-Ok-Ask-clause-step g c =
     let m = g.O.UvmObject in
-    let kernel : KernelValue g.row.O.Denot = record { core = c.self.inside.core; held = held_in c.self.inside.seats.taken; failed = c.self.inside.failed; unknown = c.self.inside.unknown } in
+    let k = c.self.inside in
+    let kernel : KernelValue g.row.O.Denot = record { core = k.core; held = all_held k.seats.taken k.sequences.held; failed = k.failed; unknown = k.unknown } in
     let kept = c.self.invariant.0 in
+    let told = told-turn (Ask c.in-Ok-Ask.who c.in-Ok-Ask.call) k.core c.next.new.self tt (rw c.in-Ok-Ask.field-0-is at (c.in-Ok-Ask.ensures.turn)) in
+    let asks = ask-turn c.in-Ok-Ask.who c.in-Ok-Ask.call k.core c.next.new.self (kept.comes c.if-self.false) told.turn in
+    let same_log = unheard-log c.in-Ok-Ask.who c.in-Ok-Ask.call k.core c.next.new.self c.heard.new.self Broken asks c.in_err-heard-in-Ok-Ask.ensures.err.1 in
     let refused = c.in_err-heard-in-Ok-Ask.ensures.err in
-    let asks = ask-turn c.in-Ok-Ask.who c.in-Ok-Ask.call kernel.core c.next.new.self (kept.comes c.if-self.false) (rw c.in-Ok-Ask.field-0-is at (c.in-Ok-Ask.ensures.turn)) in
-    let same_log = unheard-log c.in-Ok-Ask.who c.in-Ok-Ask.call kernel.core c.next.new.self c.heard.new.self Broken asks refused.1 in
-    let room = asked-room c.in-Ok-Ask.who c.in-Ok-Ask.call kernel.core c.next.new.self asks ((rw c.in-Ok-Ask.field-0-is at (c.in-Ok-Ask.ensures.room)) tt) in
+    let room = asked-room c.in-Ok-Ask.who c.in-Ok-Ask.call k.core c.next.new.self asks ((rw c.in-Ok-Ask.field-0-is at (c.in-Ok-Ask.ensures.room)) tt) in
     let result : c.from_residual.result ≡ Err Memory = search rules in
     rw (← c.self.view_is, result)
-    (unanswered-step m.view m.name m.says kernel c.heard.new.self c.in-Ok-Ask.who c.copy.result c.in-Ok-Ask.call asks.cause c.hear.result (held_in c.hear.new.self.taken) c.copy.ensures
-    asks.answers asks.nothing_needed c.if-self.false same_log (rw c.in-Ok.is (refused.1 ∙ rw asks.is refl)) room c.hear.ensures.asked)
+    (unanswered-step m.view m.name m.says kernel c.heard.new.self c.in-Ok-Ask.who c.copy.result c.in-Ok-Ask.call asks.cause c.hear-answer.result (all_held c.hear-answer.new.seats.taken c.hear-answer.new.sequences.held) c.copy.ensures asks.answers asks.nothing_needed
+    (record { going = c.if-self.false; told = told.told }) same_log (rw c.in-Ok.is (refused.1 ∙ rw asks.is refl)) room c.hear-answer.ensures.asked)
 
 pub invariant_of-self-in-Ok-Ask : goal.invariant_of-self-in-Ok-Ask
 invariant_of-self-in-Ok-Ask g c =
     let m = g.O.UvmObject in
-    let kernel : KernelValue g.row.O.Denot = record { core = c.self.inside.core; held = held_in c.self.inside.seats.taken; failed = c.self.inside.failed; unknown = c.self.inside.unknown } in
-    let taken = c.self.inside.seats.taken in
+    let k = c.self.inside in
+    let kernel : KernelValue g.row.O.Denot = record { core = k.core; held = all_held k.seats.taken k.sequences.held; failed = k.failed; unknown = k.unknown } in
     let kept = c.self.invariant.0 in
-    let asks = ask-turn c.in-Ok-Ask.who c.in-Ok-Ask.call kernel.core c.next.new.self (kept.comes c.if-self.false) (rw c.in-Ok-Ask.field-0-is at (c.in-Ok-Ask.ensures.turn)) in
-    let is = heard-is c.in-Ok-Ask.who c.in-Ok-Ask.call c.in-Ok.acts kernel.core c.next.new.self c.heard.new.self asks c.in_ok-heard-in-Ok-Ask.ensures.ok in (
-      kept-heard c.hold.ensures m.view m.name m.says kernel c.heard.new.self (held_in c.hear.new.self.taken) c.in-Ok-Ask.who c.in-Ok-Ask.call asks.cause c.in-Ok.acts asks.answers c.if-self.false is c.in-Ok.ensures.asked kept,
-      rw is (placed-asked kernel.core.history kernel.core.history (paths_in taken) (paths_in c.hear.new.self.taken) refl c.hear.ensures.paths c.self.invariant.1),
+    let told = told-turn (Ask c.in-Ok-Ask.who c.in-Ok-Ask.call) k.core c.next.new.self tt (rw c.in-Ok-Ask.field-0-is at (c.in-Ok-Ask.ensures.turn)) in
+    let asks = ask-turn c.in-Ok-Ask.who c.in-Ok-Ask.call k.core c.next.new.self (kept.comes c.if-self.false) told.turn in
+    let is = heard-is c.in-Ok-Ask.who c.in-Ok-Ask.call c.in-Ok.acts k.core c.next.new.self c.heard.new.self asks c.in_ok-heard-in-Ok-Ask.ensures.ok in
+    let under = nodes-asked k.core.history (paths_in k.seats.taken) (paths_in c.hear-answer.new.seats.taken) c.hear-answer.ensures.paths (below c.hold.ensures m.view m.name m.says kernel k.seats.taken k.sequences.held refl kept) in (
+      kept-heard c.hold.ensures m.view m.name m.says kernel c.heard.new.self (all_held c.hear-answer.new.seats.taken c.hear-answer.new.sequences.held) c.in-Ok-Ask.who c.in-Ok-Ask.call asks.cause c.in-Ok.acts asks.answers c.if-self.false is c.in-Ok.ensures.asked kept,
+      rw is (seated-later c.hold.ensures k.core.history (Heard c.in-Ok-Ask.who c.in-Ok-Ask.call asks.cause c.in-Ok.acts) (paths_in c.hear-answer.new.seats.taken) c.hear-answer.new.sequences.count c.hear-answer.new.sequences.held refl under
+          (seated-asked k.core.history (paths_in k.seats.taken) (paths_in c.hear-answer.new.seats.taken) k.sequences.count c.hear-answer.new.sequences.count k.sequences.held c.hear-answer.new.sequences.held c.hear-answer.ensures.paths c.hear-answer.ensures.count c.hear-answer.ensures.keys c.self.invariant.1)),
     )
 
 pub returns-in_ok-heard-in-Ok-Ask-clause-step : goal.returns-in_ok-heard-in-Ok-Ask-clause-step
 returns-in_ok-heard-in-Ok-Ask-clause-step g c =
     let m = g.O.UvmObject in
-    let kernel : KernelValue g.row.O.Denot = record { core = c.self.inside.core; held = held_in c.self.inside.seats.taken; failed = c.self.inside.failed; unknown = c.self.inside.unknown } in
-    let taken = c.self.inside.seats.taken in
+    let k = c.self.inside in
+    let kernel : KernelValue g.row.O.Denot = record { core = k.core; held = all_held k.seats.taken k.sequences.held; failed = k.failed; unknown = k.unknown } in
     let kept = c.self.invariant.0 in
-    let asks = ask-turn c.in-Ok-Ask.who c.in-Ok-Ask.call kernel.core c.next.new.self (kept.comes c.if-self.false) (rw c.in-Ok-Ask.field-0-is at (c.in-Ok-Ask.ensures.turn)) in
-    let is = heard-is c.in-Ok-Ask.who c.in-Ok-Ask.call c.in-Ok.acts kernel.core c.next.new.self c.heard.new.self asks c.in_ok-heard-in-Ok-Ask.ensures.ok in
+    let told = told-turn (Ask c.in-Ok-Ask.who c.in-Ok-Ask.call) k.core c.next.new.self tt (rw c.in-Ok-Ask.field-0-is at (c.in-Ok-Ask.ensures.turn)) in
+    let asks = ask-turn c.in-Ok-Ask.who c.in-Ok-Ask.call k.core c.next.new.self (kept.comes c.if-self.false) told.turn in
+    let is = heard-is c.in-Ok-Ask.who c.in-Ok-Ask.call c.in-Ok.acts k.core c.next.new.self c.heard.new.self asks c.in_ok-heard-in-Ok-Ask.ensures.ok in
     rw (← c.self.view_is) (
-      c.if-self.false,
-      answered-step m.view m.name m.says kernel c.heard.new.self (held_in c.hear.new.self.taken) c.in-Ok-Ask.who c.in-Ok-Ask.call asks.cause c.in-Ok.acts asks.answers c.if-self.false (kept.known c.if-self.false) is c.in-Ok.ensures.asked,
+      record { going = c.if-self.false; told = told.told },
+      answered-step m.view m.name m.says kernel c.heard.new.self (all_held c.hear-answer.new.seats.taken c.hear-answer.new.sequences.held) c.in-Ok-Ask.who c.in-Ok-Ask.call asks.cause c.in-Ok.acts asks.answers c.if-self.false (kept.known c.if-self.false) is c.in-Ok.ensures.asked,
     )
 
 pub invariant_of-self-in-Ok-Moved : goal.invariant_of-self-in-Ok-Moved
 invariant_of-self-in-Ok-Moved g c =
     let m = g.O.UvmObject in
-    let kernel : KernelValue g.row.O.Denot = record { core = c.self.inside.core; held = held_in c.self.inside.seats.taken; failed = c.self.inside.failed; unknown = c.self.inside.unknown } in
-    let taken = c.self.inside.seats.taken in
+    let k = c.self.inside in
+    let kernel : KernelValue g.row.O.Denot = record { core = k.core; held = all_held k.seats.taken k.sequences.held; failed = k.failed; unknown = k.unknown } in
     let kept = c.self.invariant.0 in
-    let moved = moved-turn kernel.core c.next.new.self (rw c.in-Ok-Moved.field-0-is at (c.in-Ok-Moved.ensures.turn)) in
-    let under = All-places_held (λ who. node_of who < length (nodes_of kernel.core.history)) taken (below c.hold.ensures m.view m.name m.says kernel kept) in
+    let told = told-turn Moved k.core c.next.new.self tt (rw c.in-Ok-Moved.field-0-is at (c.in-Ok-Moved.ensures.turn)) in
+    let moved = moved-turn k.core c.next.new.self told.turn in
+    let under = below c.hold.ensures m.view m.name m.says kernel k.seats.taken k.sequences.held refl kept in
+    let machines = c.hold.ensures.silent k.core.script k.core.history moved.entry moved.exact in
     rw moved.is (
       kept-moved c.hold.ensures m.view m.name m.says kernel moved.entry moved.exact c.if-self.false kept,
-      placed-later c.hold.ensures m.view m.name m.says kernel moved.entry (paths_in taken) under c.self.invariant.1,
+      seated-later c.hold.ensures k.core.history moved.entry (paths_in k.seats.taken) k.sequences.count k.sequences.held machines.starts_none under c.self.invariant.1,
     )
 
 pub returns-in-Ok-Moved-clause-step : goal.returns-in-Ok-Moved-clause-step
 returns-in-Ok-Moved-clause-step g c =
     let m = g.O.UvmObject in
-    let kernel : KernelValue g.row.O.Denot = record { core = c.self.inside.core; held = held_in c.self.inside.seats.taken; failed = c.self.inside.failed; unknown = c.self.inside.unknown } in
-    let taken = c.self.inside.seats.taken in
+    let k = c.self.inside in
+    let kernel : KernelValue g.row.O.Denot = record { core = k.core; held = all_held k.seats.taken k.sequences.held; failed = k.failed; unknown = k.unknown } in
     let kept = c.self.invariant.0 in
-    let moved = moved-turn kernel.core c.next.new.self (rw c.in-Ok-Moved.field-0-is at (c.in-Ok-Moved.ensures.turn)) in
-    rw (← c.self.view_is) (c.if-self.false, moved-step m.view m.name m.says c.hold.ensures.silent kernel c.next.new.self moved)
+    let told = told-turn Moved k.core c.next.new.self tt (rw c.in-Ok-Moved.field-0-is at (c.in-Ok-Moved.ensures.turn)) in
+    let moved = moved-turn k.core c.next.new.self told.turn in
+    rw (← c.self.view_is) (record { going = c.if-self.false; told = told.told }, moved-step m.view m.name m.says c.hold.ensures.silent kernel c.next.new.self moved)
+
+pub invariant_of-self-in-Ok-Over : goal.invariant_of-self-in-Ok-Over
+invariant_of-self-in-Ok-Over g c =
+    let m = g.O.UvmObject in
+    let k = c.self.inside in
+    let kernel : KernelValue g.row.O.Denot = record { core = k.core; held = all_held k.seats.taken k.sequences.held; failed = k.failed; unknown = k.unknown } in
+    let kept = c.self.invariant.0 in
+    let told = told-turn Over k.core c.next.new.self tt (rw c.in-Ok-Over.field-0-is at (c.in-Ok-Over.ensures.turn)) in
+    let over = over-turn k.core c.next.new.self told.turn in
+    rw over c.self.invariant
+
+pub returns-in-Ok-Over-clause-step : goal.returns-in-Ok-Over-clause-step
+returns-in-Ok-Over-clause-step g c =
+    let m = g.O.UvmObject in
+    let k = c.self.inside in
+    let kernel : KernelValue g.row.O.Denot = record { core = k.core; held = all_held k.seats.taken k.sequences.held; failed = k.failed; unknown = k.unknown } in
+    let kept = c.self.invariant.0 in
+    let told = told-turn Over k.core c.next.new.self tt (rw c.in-Ok-Over.field-0-is at (c.in-Ok-Over.ensures.turn)) in
+    let over = over-turn k.core c.next.new.self told.turn in
+    let is_over = (rw c.in-Ok-Over.field-0-is at (c.in-Ok-Over.ensures.over)) refl in
+    rw (← c.self.view_is) (record { going = c.if-self.false; told = told.told }, rw over at is_over, rw over refl)
 
 pub invariant_of-self-in-Err : goal.invariant_of-self-in-Err
 invariant_of-self-in-Err g c =
     let m = g.O.UvmObject in
-    let kernel : KernelValue g.row.O.Denot = record { core = c.self.inside.core; held = held_in c.self.inside.seats.taken; failed = c.self.inside.failed; unknown = c.self.inside.unknown } in
-    let taken = c.self.inside.seats.taken in
+    let k = c.self.inside in
+    let kernel : KernelValue g.row.O.Denot = record { core = k.core; held = all_held k.seats.taken k.sequences.held; failed = k.failed; unknown = k.unknown } in
     let kept = c.self.invariant.0 in
-    let same_log = refused-log c.in-Err.fault kernel.core c.next.new.self c.in-Err.ensures.turn in (
+    let told = refused-told c.in-Err.fault k.core c.next.new.self c.in-Err.ensures.turn in
+    let same_log = refused-log c.in-Err.fault k.core c.next.new.self told.turn in (
       kept-failed m.view m.name m.says kernel c.next.new.self same_log kept,
       rw same_log.history c.self.invariant.1,
     )
 
-pub returns-in-Ok-Need-clause-step : goal.returns-in-Ok-Need-clause-step
-returns-in-Ok-Need-clause-step g c =
+pub returns-in-Err-clause-step : goal.returns-in-Err-clause-step
+returns-in-Err-clause-step g c =
     let m = g.O.UvmObject in
-    let kernel : KernelValue g.row.O.Denot = record { core = c.self.inside.core; held = held_in c.self.inside.seats.taken; failed = c.self.inside.failed; unknown = c.self.inside.unknown } in
-    let needed = need-turn kernel.core c.next.new.self (c.self.invariant.0.comes c.if-self.false) (rw c.in-Ok-Need.field-0-is at (c.in-Ok-Need.ensures.turn)) in
-    let room = (rw c.in-Ok-Need.field-0-is at (c.in-Ok-Need.ensures.room)) tt in
-    rw (← c.self.view_is) (c.if-self.false, needed-step m.view m.name m.says kernel c.next.new.self room needed)
-
-pub returns-in-Ok-Need-clause-needed : goal.returns-in-Ok-Need-clause-needed
-returns-in-Ok-Need-clause-needed g c =
-    let needed = need-turn c.self.inside.core c.next.new.self (c.self.invariant.0.comes c.if-self.false) (rw c.in-Ok-Need.field-0-is at (c.in-Ok-Need.ensures.turn)) in
-    λ needs. rw (c.if-self.false, needed.is) refl
+    let k = c.self.inside in
+    let kernel : KernelValue g.row.O.Denot = record { core = k.core; held = all_held k.seats.taken k.sequences.held; failed = k.failed; unknown = k.unknown } in
+    let kept = c.self.invariant.0 in
+    let told = refused-told c.in-Err.fault k.core c.next.new.self c.in-Err.ensures.turn in
+    rw (← c.self.view_is) (refused-step m.view m.name m.says c.in-Err.fault kernel c.next.new.self (record { going = c.if-self.false; told = told.told }) (kept.good c.if-self.false) told.turn)

@@ -1,4 +1,4 @@
-use Rattle.std.proofs.Common.{◌≡◌, ◌∙◌, ℕ, None, Some, nat_eq, heap_items, sym, ap, refl}
+use Rattle.std.proofs.Common.{◌≡◌, ◌∙◌, None, Some, nat_eq, heap_items, sym, ap, refl}
 use Rattle.std.proofs.lemmas.List.Sorted.{IsPermutation-map, IsPermutation-sym, IsPermutation-trans}
 use Rattle.std.proofs.lemmas.Option.{same_Some}
 use Rattle.std.specs.Map.{lookup}
@@ -47,8 +47,8 @@ returns-clause-asked g c =
       before = c.in-Some-get_mut.seat.now.object;
       after = c.hear.new.self;
       others = held_in (taken_in seats.taken place.others);
-      was = IsPermutation-map (λ (taken : Taken g.row.O.Denot). (taken.who, taken.object)) _ _ written.was;
-      is = IsPermutation-map (λ (taken : Taken g.row.O.Denot). (taken.who, taken.object)) _ _ written.is;
+      was = IsPermutation-map (λ (taken : Taken g.row.O.Denot). (Node taken.node, taken.object)) _ _ written.was;
+      is = IsPermutation-map (λ (taken : Taken g.row.O.Denot). (Node taken.node, taken.object)) _ _ written.is;
       same_name = c.hear.ensures.same_name;
       same_says = c.hear.ensures.same_says;
       said = c.hear.ensures.said;
@@ -63,5 +63,5 @@ returns-clause-paths g c =
     let there : get seats.taken c.in-Some.key ≡ Some c.in-Some-get_mut.seat.now = sym c.get_mut.follows ∙ (rw c.in-Some-get_mut.is refl) in
     let written = taken_in-write seats.taken seats.components.entries (heap_items seats.down) c.in-Some.key c.in-Some-get_mut.seat.now c.hear.new.self there c.self.invariant place.place place.others key place.is in
     rw (← c.self.view_is)
-    (IsPermutation-trans _ _ _ (IsPermutation-sym _ _ (IsPermutation-map (λ (taken : Taken g.row.O.Denot). (taken.path, taken.who)) _ _ written.was))
-    (IsPermutation-map (λ (taken : Taken g.row.O.Denot). (taken.path, taken.who)) _ _ written.is))
+    (IsPermutation-trans _ _ _ (IsPermutation-sym _ _ (IsPermutation-map (λ (taken : Taken g.row.O.Denot). (taken.path, taken.node)) _ _ written.was))
+    (IsPermutation-map (λ (taken : Taken g.row.O.Denot). (taken.path, taken.node)) _ _ written.is))

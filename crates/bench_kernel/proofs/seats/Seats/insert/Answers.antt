@@ -1,6 +1,5 @@
-use Rattle.std.proofs.Common.{◌≡◌, ◌∙◌, ℕ, Some, cond, nat_eq, heap_items, sym, ap, refl}
+use Rattle.std.proofs.Common.{◌≡◌, ℕ, Some, cond, nat_eq, heap_items}
 use Rattle.std.specs.Map.{lookup}
-use Rattle.uvm_object.specs.Acts.{node_of}
 use Rattle.bench_kernel.proofs.Places.{AreSeats-insert, taken_in-insert}
 use Rattle.bench_kernel.proofs.seats.Seats.insert.Goals as goal
 

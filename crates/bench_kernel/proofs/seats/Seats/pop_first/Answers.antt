@@ -1,6 +1,5 @@
-use Rattle.std.proofs.Common.{◌≡◌, ◌∙◌, ℕ, None, cond, nat_eq, heap_items, sym, ap, refl}
+use Rattle.std.proofs.Common.{◌≡◌, ℕ, None, cond, nat_eq, heap_items, refl}
 use Rattle.std.specs.Map.{lookup}
-use Rattle.uvm_object.specs.Acts.{node_of}
 use Rattle.bench_kernel.specs.Places.{Place}
 use Rattle.bench_kernel.proofs.Places.{AreSeats-pop, least-of, taken_in-pop}
 use Rattle.bench_kernel.proofs.seats.Seats.pop_first.Goals as goal
@@ -21,6 +20,8 @@ returns-clause-some g c =
     rw (← c.self.view_is)
     (record {
       path = place.0.0;
+      node = c.remove-node.result.node;
+      who = refl;
       taken = taken_in-pop seats.taken c.remove-node.new.self seats.components.entries c.remove.new.self.entries (heap_items seats.down) (heap_items c.pop.new.self) place c.remove-node.result
           c.in_ok-key.ensures.permutation c.remove-node.ensures.value c.remove-node.ensures.updates found c.self.invariant;
       least = least-of c.remove-node.new.self place (heap_items c.pop.new.self) (c.in_ok-key.ensures.below_top c.self.invariant.heap);

@@ -5,11 +5,14 @@ use Rattle.bench_history.specs.Passing.{passing_at}
 use Rattle.bench_world.specs.Passings.{AreUnsettled}
 use Rattle.bench_world.proofs.Objected.{objecting-first}
 use Rattle.bench_world.proofs.Passages.{passed-first, stations-first, unsettled-none}
+use Rattle.bench_world.specs.Sequencings.{IsSequencing}
+use Rattle.bench_world.proofs.Sequenced.{sequencing-first}
 use Rattle.bench_world.proofs.services.Services.new.Goals as goal
 
 pub returns : goal.returns
 returns c = λ script factory settings reporting.
     let unsettled : AreUnsettled (passing_at []) (path_order (nodes_of [])) [] = unsettled-none (path_order (nodes_of [])) (λ n. refl) in
+    let sequencing : IsSequencing [] [] [] [] c.new-6.result [] = sequencing-first c.new-6.ensures.started c.new-6.ensures.steps in
     record {
       stage = refl;
       time = refl;
@@ -22,7 +25,7 @@ returns c = λ script factory settings reporting.
       stations = stations-first c.new-4.ensures.empty;
       passed = passed-first;
       unsettled = search (rules, unsettled);
-      sequences = search rules;
+      sequencing = search (rules, sequencing);
       objections = objecting-first c.new-2.result c.nodes_grow.ensures.0 c.new-2.ensures;
       factory = factory;
       turns = search rules;

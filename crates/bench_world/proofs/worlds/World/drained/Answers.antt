@@ -4,8 +4,9 @@ use Rattle.uvm_object.specs.declared.entries.Entry.TheVariants.{Drained}
 use Rattle.uvm_objection.specs.Laws.{IsHeldUntilDue}
 use Rattle.uvm_objection.specs.Nodes.{released}
 use Rattle.uvm_objection.specs.Totals.{total, settled}
-use Rattle.bench_history.specs.Dues.{caused_of, heard_of, ended_of, is_open}
-use Rattle.bench_history.specs.History.{now_of, stage_of}
+use Rattle.bench_history.specs.Sequences.{finished_of}
+use Rattle.bench_history.specs.Dues.{caused_of, heard_of, is_open}
+use Rattle.bench_history.specs.History.{now_of, stage_of, ended_of}
 use Rattle.bench_history.specs.Objections.{objections_of}
 use Rattle.bench_world.proofs.Drained.{moved, due-released, due-is-held, known-held}
 use Rattle.bench_world.proofs.Later.{later, entered}
@@ -41,7 +42,7 @@ invariant_of-self-2 c =
     let r = rw (← c.self.view_is) at c.requires in
     let before = c.self.inside.log.entries in
     let due = c.in_ok-move_drains.ensures in
-    entered (Drained c.args.node c.args.cause) c.self.invariant r.sound r.room (rw r.next refl) c.in_ok-push.ensures.ok c.in_ok-push.ensures.limit c.wiring_stays.ensures (λ m stays.
+    entered (Drained c.args.node c.args.cause) c.self.invariant r.sound r.room (rw r.next refl) c.in_ok-push.ensures.ok c.in_ok-push.ensures.limit c.clear.ensures.items c.wiring_stays.ensures (λ m stays.
     let nodes = objections_of before in
     let held = due-is-held nodes before c.args.node c.args.cause c.order_keeps_all.ensures m.events (c.drains_go_in_order.ensures c.self.inside.script before c.args.node c.args.cause r.next) in
     let changed = released c.args.node nodes in
@@ -55,9 +56,9 @@ invariant_of-self-2 c =
     let low : 0 ≤ 65535 = omega arith in
     let objections = objecting-changed c.drained-began.new.self others stay same m.objections is 0 low grown in
     let phases = (c.phases_go_in_order.ensures c.self.inside.script before c.self.invariant.1.legal.each).before in
-    let dues = rw (m.stage, c.len-place.ensures) at (due.dues (filter (is_open (heard_of before) (ended_of before)) (caused_of before)) m.agenda.are) in
+    let dues = rw (m.stage, c.len-place.ensures) at (due.dues (filter (is_open (heard_of before) (ended_of before) (finished_of before)) (caused_of before)) m.agenda.are) in
     let begun_held : All (IsHeldUntilDue others) (option_to_list c.drained-began.result) = rw (← begun) (c.begun_drains_are_held.ensures nodes others grown.nodes) in
-    let drains = moved (now_of before) nodes changed others (stage_of before) c.drained-began.result (Some c.args.node) (caused_of before) (heard_of before) (ended_of before) (length before) _ _
+    let drains = moved (now_of before) nodes changed others (stage_of before) c.drained-began.result (Some c.args.node) (caused_of before) (heard_of before) (ended_of before) (finished_of before) (length before) _ _
     c.settled_go_by_totals.ensures stay m.objections.are_nodes same refl (due-released c.args.node nodes) begun over begun_held phases m.agenda m.events dues in
     let agenda = drains.agenda in
     let events = drains.events in

@@ -1,14 +1,17 @@
-use Rattle.std.proofs.Common.{◌||◌, ◌∷◌, refl, ◌∙◌, ap, rules}
+use Rattle.std.proofs.Common.{◌≡◌, ◌||◌, ◌∷◌, refl, ◌∙◌, ap, rules}
 use Rattle.std.specs.List.{list_any}
 use Rattle.uvm_tlm.specs.Wirings.{is_closed}
 use Rattle.uvm_object.specs.declared.entries.Entry.TheVariants.{End}
-use Rattle.bench_history.specs.Dues.{caused_of, heard_of, ended_of}
-use Rattle.bench_history.specs.History.{ends_build, nodes_of}
+use Rattle.bench_history.specs.Sequences.{begun_of, finished_of}
+use Rattle.bench_history.specs.Dues.{caused_of, heard_of}
+use Rattle.bench_history.specs.History.{ends_build, nodes_of, ended_of}
 use Rattle.bench_history.specs.Objections.{objections_of}
 use Rattle.bench_history.specs.Wires.{ends_connect, wiring_of}
 use Rattle.bench_world.specs.Connectings.{IsClosedPast, IsClosing, IsConnecting}
+use Rattle.bench_world.specs.Sequencings.{IsSequencing, enders_of, leaving_with}
 use Rattle.bench_world.proofs.Connected.{closing-after, connecting-after, ends-ordered, past-after}
 use Rattle.bench_world.proofs.Drained.{events-ended}
+use Rattle.bench_world.proofs.Ending.{leaving-known, sequencing-ended}
 use Rattle.bench_world.proofs.Later.{later, entered}
 use Rattle.bench_world.proofs.Passages.{stations-ended, unsettled-ended}
 use Rattle.bench_world.proofs.Told.{agenda-ended}
@@ -29,14 +32,16 @@ invariant_of-self-2 c =
     let nodes = c.self.inside.services.tree.nodes in
     let wiring = c.self.inside.services.wiring in
     let phase = c.args.phase in
-    entered (End phase) c.self.invariant r.sound r.room (rw r.next refl) c.in_ok-push.ensures.ok c.in_ok-push.ensures.limit c.wiring_stays.ensures (λ m stays.
+    let left : c.in_ok-self-inside.field-0.items ≡ leaving_with c.self.inside.services.sequences.steps phase c.self.inside.services.beginnings.items = rw c.as_slice-beginnings.ensures.value at c.in_ok-self-inside.ensures in
+    entered (End phase) c.self.invariant r.sound r.room (rw r.next refl) c.in_ok-push.ensures.ok c.in_ok-push.ensures.limit (left ∙ leaving-known before phase (c.self.invariant.1.services_match r.sound).sequencing) c.wiring_stays.ensures (λ m stays.
     let built = c.is_built_with-self-inside.ensures ∙ ap (λ built. ends_build (End phase) || built) m.built in
     let past_connect = c.is_past_connect_with-self-inside.ensures ∙ ap (λ past. ends_connect (End phase) || past) m.past_connect in
-    let agenda = agenda-ended (caused_of before) (heard_of before) (ended_of before) _ _ _ phase c.order_keeps_filters.ensures m.agenda c.clear.ensures.dues in
-    let events = events-ended phase (objections_of before) (caused_of before) (heard_of before) (ended_of before) m.events in
+    let agenda = agenda-ended (caused_of before) (heard_of before) (ended_of before) (finished_of before) _ _ _ phase c.order_keeps_filters.ensures m.agenda c.clear.ensures.dues in
+    let events = events-ended phase (objections_of before) (caused_of before) (heard_of before) (ended_of before) (finished_of before) m.events in
     let connecting : IsConnecting (nodes_of before) (wiring_of before) c.close_after.new.wiring = rw (c.in_ok-close_after.ensures, m.tree) (connecting-after phase m.connecting) in
     let closing : IsClosing c.self.inside.script (End phase ∷ before) (is_closed c.close_after.new.wiring) = rw c.in_ok-close_after.ensures (closing-after phase nodes wiring c.connect_follows_build.ensures (rw r.next refl, c.self.invariant.1.legal.each) stays m.closing) in
     let closed_past : IsClosedPast (list_any ends_connect (End phase ∷ before)) (is_closed c.close_after.new.wiring) = rw c.in_ok-close_after.ensures (past-after before phase nodes wiring m.closed_past) in
     let stations = stations-ended before phase {new = c.end_waits.new.stations} c.end_waits.ensures m.stations in
     let unsettled = unsettled-ended before phase m.unsettled in
+    let sequencing : IsSequencing (begun_of before) (finished_of before) (phase ∷ ended_of before) (enders_of before) c.finish_all.new.sequences c.self.inside.services.beginnings.items = sequencing-ended phase c.finish_all.new.sequences (rw (c.as_slice.ensures.value, left) at c.finish_all.ensures) m.sequencing in
     search (rules, later))

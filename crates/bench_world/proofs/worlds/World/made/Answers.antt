@@ -1,42 +1,78 @@
-use Rattle.std.proofs.Common.{length, inl, refl, ◌∙◌, sym}
+use Rattle.std.proofs.Common.{Some, inl, refl, ◌∙◌, ap, sym, subst}
 use Rattle.uvm_object.specs.declared.entries.Entry.TheVariants.{Did}
-use Rattle.uvm_object.specs.declared.entries.Outcome.TheVariants.{Made}
 use Rattle.bench_history.specs.History.{speaker_of}
-use Rattle.bench_history.specs.Next.{IsNext}
+use Rattle.bench_history.specs.Next.{IsAct, IsNext}
+use Rattle.bench_world.specs.Sequencings.{outcome_made}
 use Rattle.bench_world.proofs.Answered.{answer-open}
 use Rattle.bench_world.proofs.Later.{acted-on}
-use Rattle.bench_world.proofs.Acting.{wanted, wanted-need}
+use Rattle.bench_world.proofs.Makeable.{made-leaves, makeable}
+use Rattle.bench_world.proofs.Acting.{ok-not-err, wanted, wanted-need}
 use Rattle.bench_world.proofs.worlds.World.made.Goals as goal
+
+pub make-who-requires : goal.make-who-requires
+make-who-requires c =
+    let is = sym c.take.ensures.value ∙ c.in-Some.is in
+    let sound = c.self.invariant.1.waits c.in-Some.waiting is in
+    let m = c.self.invariant.1.services_match sound in
+    let ready = c.self.invariant.1.ready c.in-Some.waiting is in
+    let before = c.self.inside.log.entries in
+    let act = c.in-Some.waiting.deed in
+    let w = wanted c.needs_are_wanted.ensures c.self.inside.script before act (rw ready.needed refl) ready.left in
+    let same = wanted-need w ready.needed in
+    let performs = c.performers_are_there.ensures c.self.inside.script before act c.self.invariant.1.legal.each (subst IsAct (sym w.next) tt) ready.left in
+    rw c.act.ensures (makeable c.in-Some.waiting m ready w.need w.made same performs w.makes).can
+
+pub enter-requires-clause-room : goal.enter-requires-clause-room
+enter-requires-clause-room c =
+    let ready = c.self.invariant.1.ready c.in-Some.waiting (sym c.take.ensures.value ∙ c.in-Some.is) in
+    rw c.self.invariant.1.limit ready.room
 
 pub enter-requires-clause-open : goal.enter-requires-clause-open
 enter-requires-clause-open c =
     let is = sym c.take.ensures.value ∙ c.in-Some.is in
     let m = c.self.invariant.1.services_match (c.self.invariant.1.waits c.in-Some.waiting is) in
     let ready = c.self.invariant.1.ready c.in-Some.waiting is in
-    rw (c.grow-node.ensures.kept c.in-Some.waiting.need.type_name 0).same_answer (answer-open c.in-Some.waiting.deed ready.left m.answer)
+    rw c.make-who.ensures.kept.same_answer (answer-open c.in-Some.waiting.deed ready.left m.answer)
 
-pub grow-node-requires-clause-building : goal.grow-node-requires-clause-building
-grow-node-requires-clause-building c =
-    let is = sym c.take.ensures.value ∙ c.in-Some.is in
-    let m = c.self.invariant.1.services_match (c.self.invariant.1.waits c.in-Some.waiting is) in
-    let ready = c.self.invariant.1.ready c.in-Some.waiting is in
-    let w = wanted c.needs_are_creations.ensures c.self.inside.script c.self.inside.log.entries c.in-Some.waiting.deed (rw ready.needed refl) ready.left in
-    m.built ∙ w.building
+pub unreachable-requires-in_default-enter : goal.unreachable-requires-in_default-enter
+unreachable-requires-in_default-enter c =
+    let ready = c.self.invariant.1.ready c.in-Some.waiting (sym c.take.ensures.value ∙ c.in-Some.is) in
+    ok-not-err c.enter.result c.in_default-enter.field-0 (c.enter.ensures.memory ready.log_spare) c.in_default-enter.is
 
 pub invariant_of-self : goal.invariant_of-self
 invariant_of-self c =
     let is = sym c.take.ensures.value ∙ c.in-Some.is in
     let sound = c.self.invariant.1.waits c.in-Some.waiting is in
+    let m = c.self.invariant.1.services_match sound in
+    let ready = c.self.invariant.1.ready c.in-Some.waiting is in
+    let before = c.self.inside.log.entries in
+    let services = c.self.inside.services in
+    let act = c.in-Some.waiting.deed in
+    let w = wanted c.needs_are_wanted.ensures c.self.inside.script before act (rw ready.needed refl) ready.left in
+    let same = wanted-need w ready.needed in
+    let is_act = subst IsAct (sym w.next) tt in
+    let performs = c.performers_are_there.ensures c.self.inside.script before act c.self.invariant.1.legal.each is_act ready.left in
+    let k = makeable c.in-Some.waiting m ready w.need w.made same performs w.makes in
+    let outcome = outcome_made services c.in-Some.waiting.need.type_name c.in-Some.waiting.home in
+    let next : IsNext c.self.inside.script before (Did (speaker_of before) outcome act) = rw (w.next, ← k.made_is) (inl refl) in
+    let kept = rw (c.act.ensures, c.len-place.ensures) at c.make-who.ensures.kept in
+    let entries = rw c.make-who.ensures.outcome at c.in-Ok.ensures.ok in
+    let leaves = c.clear.ensures.items ∙ sym (made-leaves services c.in-Some.waiting.need.type_name c.in-Some.waiting.home services.answer.speaker) in
+    rw c.take.ensures.after (acted-on outcome act c.self.invariant sound ready.room w.settled ready.left next is_act c.phases_go_in_order.ensures c.performers_are_there.ensures kept entries c.in-Ok.ensures.limit leaves c.in-Ok.ensures.services)
+
+pub returns-clause-who : goal.returns-clause-who
+returns-clause-who c =
+    let is = sym c.take.ensures.value ∙ c.in-Some.is in
+    let sound = c.self.invariant.1.waits c.in-Some.waiting is in
+    let m = c.self.invariant.1.services_match sound in
     let ready = c.self.invariant.1.ready c.in-Some.waiting is in
     let before = c.self.inside.log.entries in
     let act = c.in-Some.waiting.deed in
-    let type_name = c.in-Some.waiting.need.type_name in
-    let w = wanted c.needs_are_creations.ensures c.self.inside.script before act (rw ready.needed refl) ready.left in
+    let w = wanted c.needs_are_wanted.ensures c.self.inside.script before act (rw ready.needed refl) ready.left in
     let same = wanted-need w ready.needed in
-    let next : IsNext c.self.inside.script before (Did (speaker_of before) (Made type_name) act) = rw (w.next, same) (inl refl) in
-    let kept = rw c.act.ensures at (c.grow-node.ensures.kept type_name (length before)) in
-    let entries = rw c.made-made.ensures at c.in-Ok.ensures.ok in
-    rw c.take.ensures.after (acted-on (Made type_name) act c.self.invariant sound ready.room w.settled ready.left next c.phases_go_in_order.ensures kept entries c.in-Ok.ensures.limit c.in-Ok.ensures.services)
+    let performs = c.performers_are_there.ensures c.self.inside.script before act c.self.invariant.1.legal.each (subst IsAct (sym w.next) tt) ready.left in
+    let k = makeable c.in-Some.waiting m ready w.need w.made same performs w.makes in
+    rw (← c.self.view_is, w.next) (k.who_is ∙ ap Some (sym c.make-who.ensures.who))
 
 pub returns-clause-entry : goal.returns-clause-entry
 returns-clause-entry c =
@@ -46,7 +82,9 @@ returns-clause-entry c =
     let ready = c.self.invariant.1.ready c.in-Some.waiting is in
     let before = c.self.inside.log.entries in
     let act = c.in-Some.waiting.deed in
-    let w = wanted c.needs_are_creations.ensures c.self.inside.script before act (rw ready.needed refl) ready.left in
+    let w = wanted c.needs_are_wanted.ensures c.self.inside.script before act (rw ready.needed refl) ready.left in
     let same = wanted-need w ready.needed in
-    let entries = rw (c.made-made.ensures, (c.grow-node.ensures.kept c.in-Some.waiting.need.type_name 0).same_answer, m.answer.speaker, ← same) at c.in-Ok.ensures.ok in
-    rw (← c.self.view_is, w.next, entries, c.take.ensures.after, sound) refl
+    let performs = c.performers_are_there.ensures c.self.inside.script before act c.self.invariant.1.legal.each (subst IsAct (sym w.next) tt) ready.left in
+    let k = makeable c.in-Some.waiting m ready w.need w.made same performs w.makes in
+    let entries = rw (c.make-who.ensures.outcome, c.make-who.ensures.kept.same_answer, m.answer.speaker) at c.in-Ok.ensures.ok in
+    rw (← c.self.view_is, w.next, k.made_is, entries, c.take.ensures.after, sound) refl

@@ -16,3 +16,6 @@ pub invariant_of-self-2 : goal.invariant_of-self-2
 invariant_of-self-2 c =
     let r = rw (← c.self.view_is) at c.requires in
     rw c.in_ok-close_wiring.ensures.ok (world-closed c.self.invariant c.connect_follows_build.ensures r.at_check)
+
+pub invariant_of-self : goal.invariant_of-self
+invariant_of-self c = rw c.in_err-close_wiring.ensures.err c.self.invariant

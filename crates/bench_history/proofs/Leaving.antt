@@ -1,0 +1,200 @@
+-- The sequences that end lived until then.
+use Rattle.std.proofs.Common.{◌≡◌, ℕ, ◌<◌, ◌≤◌, ◌==◌, Bool, true, false, not, ◌&&◌, ◌||◌, filter, if◌then◌else◌, List, [], ◌∷◌, ◌++◌, length, Option, Some, None, option_map, refl, ap, ◌∙◌, sym, subst, arith}
+use Rattle.std.specs.Option.{option_map_or}
+use Rattle.std.specs.List.{All, list_any}
+use Rattle.std.proofs.lemmas.Bool.Decides.{nat_tests}
+use Rattle.std.proofs.lemmas.List.Elements.{All-nil, All-cons, All-head, All-tail, All-push, All-weaker, All-filter, filter_passes}
+use Rattle.uvm_phase.specs.declared.phases.Phase.{Phase}
+use Rattle.uvm_phase.specs.Phases.{same_phase}
+use Rattle.uvm_phase.specs.Laws.{OrderKeepsAll}
+use Rattle.uvm_sequencer.specs.Sequences.{numbered}
+use Rattle.uvm_tree.specs.declared.nodes.Node.{Node}
+use Rattle.uvm_object.specs.Objects.{same_who}
+use Rattle.uvm_object.specs.declared.acts.Who.{Who}
+use Rattle.uvm_object.specs.declared.acts.Who.TheVariants as who
+use Rattle.uvm_object.specs.declared.acts.Call.{Call}
+use Rattle.uvm_object.specs.declared.acts.Act.{Act}
+use Rattle.uvm_object.specs.declared.entries.Outcome.{Outcome}
+use Rattle.uvm_object.specs.declared.entries.Outcome.TheVariants.{Started, Finished}
+use Rattle.uvm_object.specs.declared.entries.Entry.{Entry}
+use Rattle.uvm_object.specs.declared.entries.Entry.TheVariants.{End, Did}
+use Rattle.bench_history.specs.declared.owners.Owner.{Owner}
+use Rattle.bench_history.specs.History.{stage_of, running, nodes_of, ended_of, ended_in}
+use Rattle.bench_history.specs.Sequences.{Beginning, all_begun, begun_after, begun_of, finished_of, finished_in, is_live, is_living, is_over_phase, leaving_of, leaving_after, lives}
+use Rattle.bench_history.specs.Next.{IsNext}
+use Rattle.bench_history.specs.Laws.{IsLivingSequence, LivingLived, AreRising, LeaversLived, number_of}
+use Rattle.bench_history.proofs.Living.{numbered-more, numbered-newest}
+use Rattle.bench_history.proofs.Called.{both-hold, finisher_lives}
+
+-- the sequence of each number stays
+numbered-before : {X : Type 0} (y : X) (xs : List X) (n : ℕ) → n ≤ length xs → numbered (y ∷ xs) n ≡ numbered xs n
+numbered-before y xs n low =
+    let differs : (n == length (y ∷ xs)) ≡ false = grind (arith, nat_tests, low) in
+    rw differs refl
+
+begun-after-before : (nodes : List Node) (phase : Option Phase) (begun : List Beginning) (performer : Who) (outcome : Outcome) (act : Act) (id : ℕ) → id ≤ length begun → numbered (begun_after nodes phase begun performer outcome act) id ≡ numbered begun id
+begun-after-before nodes phase begun performer (Started new) act id low = numbered-before _ begun id low
+begun-after-before nodes phase begun performer outcome act id low = refl
+
+begun-before : (entry : Entry) (before : List Entry) (id : ℕ) → id ≤ length (begun_of before) → numbered (begun_of (entry ∷ before)) id ≡ numbered (begun_of before) id
+begun-before (Did performer outcome act) before id low = begun-after-before (nodes_of before) (running (stage_of before)) (begun_of before) performer outcome act id low
+begun-before entry before id low = refl
+
+-- what is not among more is not among fewer
+or-right : (b c : Bool) → b || c ≡ false → c ≡ false
+or-right true c e = cc
+or-right false c e = e
+
+none-fewer : {X : Type 0} (p : X → Bool) (xs ys : List X) → list_any p (xs ++ ys) ≡ false → list_any p ys ≡ false
+none-fewer p [] ys e = e
+none-fewer p (x ∷ xs) ys e = none-fewer p xs ys (or-right (p x) (list_any p (xs ++ ys)) e)
+
+not-fewer : (b c : Bool) → (b ≡ false → c ≡ false) → not b ≡ true → not c ≡ true
+not-fewer true c fewer e = cc
+not-fewer false c fewer e = rw (fewer refl) refl
+
+and-both : (a b c d : Bool) → (a ≡ true → c ≡ true) → (b ≡ true → d ≡ true) → a && b ≡ true → c && d ≡ true
+and-both true true c d first second e = rw (first refl, second refl) refl
+and-both true false c d first second e = cc
+and-both false b c d first second e = cc
+
+and-first : (a b : Bool) → a && b ≡ true → a ≡ true
+and-first true b e = refl
+and-first false b e = e
+
+-- who lives after an entry has lived, if he was started
+over-fewer : (entry : Entry) (before : List Entry) (phase : Option Phase) → not (is_over_phase (ended_of (entry ∷ before)) phase) ≡ true → not (is_over_phase (ended_of before) phase) ≡ true
+over-fewer entry before None e = cc
+over-fewer entry before (Some phase) e = not-fewer (list_any (same_phase phase) (ended_of (entry ∷ before))) (list_any (same_phase phase) (ended_of before)) (none-fewer (same_phase phase) (ended_in entry) (ended_of before)) e
+
+lives-fewer : (entry : Entry) (before : List Entry) (id : ℕ) (beginning : Beginning) → lives (entry ∷ before) id beginning ≡ true → lives before id beginning ≡ true
+lives-fewer entry before id beginning e =
+    and-both _ (not (is_over_phase (ended_of (entry ∷ before)) beginning.phase)) _ (not (is_over_phase (ended_of before) beginning.phase))
+    (not-fewer (list_any (same_who (who.Sequence id beginning.start.home)) (finished_of (entry ∷ before))) (list_any (same_who (who.Sequence id beginning.start.home)) (finished_of before))
+    (none-fewer (same_who (who.Sequence id beginning.start.home)) (finished_in entry) (finished_of before)))
+    (over-fewer entry before beginning.phase) e
+
+live-fewer : (entry : Entry) (before : List Entry) (id : ℕ) (found : Option Beginning) → option_map_or (lives (entry ∷ before) id) found false ≡ true → option_map_or (lives before id) found false ≡ true
+live-fewer entry before id None e = e
+live-fewer entry before id (Some beginning) e = lives-fewer entry before id beginning e
+
+pub living_lived : LivingLived
+unfolding is_live
+living_lived entry before id home low living =
+    let same = begun-before entry before id low in
+    record {
+      lives = live-fewer entry before id (numbered (begun_of before) id) (rw same at living.lives);
+      home_is = ap (option_map (λ (beginning : Beginning). beginning.start.home)) (sym same) ∙ living.home_is;
+    }
+
+-- all that were started go in rising number
+rising-push : (xs : List Who) (last : Who) → AreRising xs → All (λ x. number_of x < number_of last) xs → AreRising (xs ++ last ∷ [])
+rising-push [] last rising below = (All-nil _, tt)
+rising-push (x ∷ xs) last rising below =
+    (All-push (λ other. number_of x < number_of other) xs last rising.0 (All-head (λ x. number_of x < number_of last) x xs below), rising-push xs last rising.1 (All-tail (λ x. number_of x < number_of last) x xs below))
+
+rising-filter : (p : Who → Bool) (xs : List Who) → AreRising xs → AreRising (filter p xs)
+rising-filter p [] rising = tt
+rising-filter p (x ∷ xs) rising = tested (p x) (All-filter p (λ other. number_of x < number_of other) xs rising.0) (rising-filter p xs rising.1)
+  where
+    tested : (b : Bool) → All (λ other. number_of x < number_of other) (filter p xs) → AreRising (filter p xs) → AreRising (if b then x ∷ filter p xs else filter p xs)
+    tested true above rest = (above, rest)
+    tested false above rest = rest
+
+begun-numbers : (begun : List Beginning) → All (λ who. number_of who ≤ length begun) (all_begun begun)
+begun-numbers [] = All-nil _
+begun-numbers (beginning ∷ older) =
+    All-push (λ who. number_of who ≤ length (beginning ∷ older)) (all_begun older) _
+    (All-weaker (λ who. number_of who ≤ length older) (λ who. number_of who ≤ length (beginning ∷ older)) (λ who low. omega (arith, low)) (all_begun older) (begun-numbers older)) (omega arith)
+
+begun-rising : (begun : List Beginning) → AreRising (all_begun begun)
+begun-rising [] = tt
+begun-rising (beginning ∷ older) =
+    rising-push (all_begun older) _ (begun-rising older)
+    (All-weaker (λ who. number_of who ≤ length older) (λ who. number_of who < length (beginning ∷ older)) (λ who low. omega (arith, low)) (all_begun older) (begun-numbers older))
+
+-- each was started on its sequencer
+abbrev HasHome : List Beginning → Who → Type 0
+HasHome begun (who.Node node) = ⊥
+HasHome begun (who.Sequence id home) = option_map (λ beginning. beginning.start.home) (numbered begun id) ≡ Some home
+
+home-more : (beginning : Beginning) (older : List Beginning) (who : Who) → HasHome older who → HasHome (beginning ∷ older) who
+home-more beginning older (who.Node node) has = absurd has
+home-more beginning older (who.Sequence id home) has = by (numbered older id) refl has
+  where
+    by : (found : Option Beginning) → numbered older id ≡ found → option_map (λ beginning. beginning.start.home) found ≡ Some home → HasHome (beginning ∷ older) (who.Sequence id home)
+    by None is has = cc
+    by (Some first) is has = ap (option_map (λ (beginning : Beginning). beginning.start.home)) (numbered-more beginning older id first is) ∙ has
+
+begun-homes : (begun : List Beginning) → All (HasHome begun) (all_begun begun)
+begun-homes [] = All-nil _
+begun-homes (beginning ∷ older) =
+    All-push (HasHome (beginning ∷ older)) (all_begun older) _ (All-weaker (HasHome older) (HasHome (beginning ∷ older)) (home-more beginning older) (all_begun older) (begun-homes older))
+    (ap (option_map (λ (one : Beginning). one.start.home)) (numbered-newest beginning older (length (beginning ∷ older)) (omega arith)))
+
+-- those that end with a phase
+abbrev ends_then : List Entry → Phase → Who → Bool
+ends_then before phase who = is_living before who && not (is_living (End phase ∷ before) who)
+
+ends-living : (before : List Entry) (phase : Phase) (who : Who) → HasHome (begun_of before) who → ends_then before phase who ≡ true → IsLivingSequence before who
+ends-living before phase (who.Node node) has is = absurd has
+ends-living before phase (who.Sequence id home) has is = record { lives = and-first (is_live before id) _ is; home_is = has }
+
+ended-lived : (before : List Entry) (phase : Phase) → All (IsLivingSequence before) (leaving_of (End phase ∷ before))
+ended-lived before phase =
+    both-hold (HasHome (begun_of before)) (λ who. ends_then before phase who ≡ true) (IsLivingSequence before) (filter (ends_then before phase) (all_begun (begun_of before))) (ends-living before phase)
+    (All-filter (ends_then before phase) (HasHome (begun_of before)) (all_begun (begun_of before)) (begun-homes (begun_of before))) (filter_passes (ends_then before phase) (all_begun (begun_of before)))
+
+both-not : (a b : Bool) → a && not b ≡ true → b ≡ true → ⊥
+both-not true true e d = cc
+both-not true false e d = cc
+both-not false b e d = cc
+
+ends-gone : (before : List Entry) (phase : Phase) (who : Who) → ends_then before phase who ≡ true → IsLivingSequence (End phase ∷ before) who → ⊥
+ends-gone before phase (who.Node node) is living = living
+ends-gone before phase (who.Sequence id home) is living = both-not (is_live before id) (is_live (End phase ∷ before) id) is living.lives
+
+ended-gone : (before : List Entry) (phase : Phase) → All (λ who. IsLivingSequence (End phase ∷ before) who → ⊥) (leaving_of (End phase ∷ before))
+ended-gone before phase =
+    All-weaker (λ who. ends_then before phase who ≡ true) (λ who. IsLivingSequence (End phase ∷ before) who → ⊥) (ends-gone before phase) (filter (ends_then before phase) (all_begun (begun_of before))) (filter_passes (ends_then before phase) (all_begun (begun_of before)))
+
+-- and the one that finishes
+finished-live : (before : List Entry) (performer : Who) (act : Act) (id : ℕ) → is_live (Did performer Finished act ∷ before) id ≡ option_map_or (lives (Did performer Finished act ∷ before) id) (numbered (begun_of before) id) false
+unfolding is_live
+finished-live before performer act id = refl
+
+finished-gone : (before : List Entry) (performer : Who) (act : Act) → IsLivingSequence (Did performer Finished act ∷ before) performer → ⊥
+finished-gone before (who.Node node) act living = living
+finished-gone before (who.Sequence id home) act living = by (numbered (begun_of before) id) (sym (finished-live before (who.Sequence id home) act id) ∙ living.lives) living.home_is
+  where
+    itself : (n : ℕ) → (n == n) ≡ true
+    itself n = grind (arith, nat_tests)
+
+    by : (found : Option Beginning) → option_map_or (lives (Did (who.Sequence id home) Finished act ∷ before) id) found false ≡ true → option_map (λ beginning. beginning.start.home) found ≡ Some home → ⊥
+    by None alive at = cc
+    by (Some beginning) alive at =
+        let same : beginning.start.home ≡ home = cc in
+        let dead = rw (same, itself id, itself home) at alive in
+        cc
+
+left-gone : (before : List Entry) (performer : Who) (outcome : Outcome) (act : Act) → All (λ who. IsLivingSequence (Did performer outcome act ∷ before) who → ⊥) (leaving_after performer outcome)
+left-gone before performer Finished act = All-cons (λ who. IsLivingSequence (Did performer Finished act ∷ before) who → ⊥) performer [] (finished-gone before performer act) (All-nil _)
+left-gone before performer outcome act = All-nil _
+
+left-after : (before : List Entry) (performer : Who) (outcome : Outcome) → (outcome ≡ Finished → IsLivingSequence before performer) → All (IsLivingSequence before) (leaving_after performer outcome)
+left-after before performer Finished lives = All-cons (IsLivingSequence before) performer [] (lives refl) (All-nil _)
+left-after before performer outcome lives = All-nil _
+
+rising-after : (performer : Who) (outcome : Outcome) → AreRising (leaving_after performer outcome)
+rising-after performer Finished = (All-nil _, tt)
+rising-after performer outcome = tt
+
+module _ (keeps : OrderKeepsAll Owner (Option Call)) where
+  pub leavers_lived : LeaversLived
+  leavers_lived script before (Did performer outcome act) each next = record {
+    lived = left-after before performer outcome (λ finishes. finisher_lives keeps script before performer act each (subst (λ (o : Outcome). IsNext script before (Did performer o act)) finishes next));
+    gone = left-gone before performer outcome act;
+    rising = rising-after performer outcome;
+  }
+  leavers_lived script before (End phase) each next = record { lived = ended-lived before phase; gone = ended-gone before phase; rising = rising-filter _ (all_begun (begun_of before)) (begun-rising (begun_of before)) }
+  leavers_lived script before entry each next = record { lived = All-nil _; gone = All-nil _; rising = tt }

@@ -1,0 +1,226 @@
+-- Which sequences live: those whose phase runs, and that have not finished.
+use Rattle.std.proofs.Common.{◌≡◌, ℕ, suc, ◌≤◌, ◌==◌, Bool, true, false, ◌||◌, List, [], ◌∷◌, length, nat_lt, Option, Some, None, option_map, refl, ap, ◌∙◌, sym, subst, arith, if◌then◌else◌}
+use Rattle.std.specs.List.{All, list_any}
+use Rattle.std.proofs.lemmas.Bool.Decides.{nat_tests}
+use Rattle.std.proofs.lemmas.List.Elements.{All-head, All-tail}
+use Rattle.uvm_phase.specs.declared.phases.Phase.{Phase}
+use Rattle.uvm_phase.specs.declared.phases.Phase.TheVariants.{Build, Connect, EndOfElaboration, StartOfSimulation, Run, Extract, Check, Report, Final}
+use Rattle.uvm_phase.specs.Phases.{same_phase}
+use Rattle.uvm_sequencer.specs.Sequences.{numbered}
+use Rattle.uvm_tree.specs.declared.nodes.Node.{Node}
+use Rattle.uvm_object.specs.declared.acts.Who.{Who}
+use Rattle.uvm_object.specs.declared.acts.Who.TheVariants as who
+use Rattle.uvm_object.specs.Objects.{same_who}
+use Rattle.uvm_object.specs.Acts.{node_of}
+use Rattle.uvm_object.specs.declared.acts.Act.{Act}
+use Rattle.uvm_object.specs.declared.fatals.Fatal.TheVariants.{TooManyActs}
+use Rattle.uvm_object.specs.declared.entries.Outcome.{Outcome}
+use Rattle.uvm_object.specs.declared.entries.Outcome.TheVariants.{Started}
+use Rattle.uvm_object.specs.declared.entries.Reason.{Reason}
+use Rattle.uvm_object.specs.declared.entries.Passage.{Passage}
+use Rattle.uvm_object.specs.declared.entries.Entry.{Entry}
+use Rattle.uvm_object.specs.declared.entries.Entry.TheVariants.{Begin, End, Did, Note, Over}
+use Rattle.bench_script.specs.Scripts.{ScriptValue}
+use Rattle.bench_history.specs.declared.stages.Stage.{Stage}
+use Rattle.bench_history.specs.declared.stages.Stage.TheVariants.{Before, During, After, Ended}
+use Rattle.bench_history.specs.Limits.{most_acts}
+use Rattle.bench_history.specs.History.{stage_of, running, nodes_of, left_of, speaker_of, ended_of}
+use Rattle.bench_history.specs.Reports.{reason_of}
+use Rattle.bench_history.specs.Sequences.{Beginning, begun_after, begun_of, finished_of, is_live}
+use Rattle.bench_history.specs.Passing.{next_passed}
+use Rattle.bench_history.specs.Upshots.{Upshot, Needs, Does, Finds, Stores, Takes, Finishes, Refuses, upshot_of}
+use Rattle.bench_history.specs.Cases.{Next, Exactly, end_reached, giving_up, passing, long_answer, first_act, by_upshot, phase_to_begin}
+use Rattle.bench_history.specs.Next.{first_next, next_of, IsNext}
+use Rattle.bench_history.specs.Laws.{IsLiving}
+use Rattle.bench_history.proofs.Inversion.{IsOwn, Case, AtEnd, ByOwn, ByNeed, ByDeed, ByDue, ByTurn, ByEnd, ByBegin, case-of}
+use Rattle.bench_history.proofs.Phased.{begin-alone, end-alone, end-case}
+
+-- one that has a number has it still when there is one more
+pub numbered-within : {X : Type 0} (xs : List X) (n : ℕ) (x : X) → numbered xs n ≡ Some x → n ≤ length xs
+numbered-within [] n x e = cc
+numbered-within (y ∷ older) n x e = tested (n == length (y ∷ older)) refl e (numbered-within older n x)
+  where
+    tested : (same : Bool) → (n == length (y ∷ older)) ≡ same → (if same then Some y else numbered older n) ≡ Some x → (numbered older n ≡ Some x → n ≤ length older) → n ≤ length (y ∷ older)
+    tested true is found within = grind (arith, nat_tests)
+    tested false is found within = let low = within found in omega (arith, low)
+
+pub numbered-more : {X : Type 0} (y : X) (xs : List X) (n : ℕ) (x : X) → numbered xs n ≡ Some x → numbered (y ∷ xs) n ≡ Some x
+numbered-more y xs n x e =
+    let low = numbered-within xs n x e in
+    let differs : (n == length (y ∷ xs)) ≡ false = grind (arith, nat_tests, low) in
+    rw differs e
+
+-- and the newest has the number of all
+pub numbered-newest : {X : Type 0} (y : X) (xs : List X) (n : ℕ) → n ≡ suc (length xs) → numbered (y ∷ xs) n ≡ Some y
+numbered-newest y xs n is =
+    let same : (n == length (y ∷ xs)) ≡ true = grind (arith, nat_tests, is) in
+    rw same refl
+
+-- what holds of all holds of the one of a number
+pub numbered-holds : {X : Type 0} (P : X → Type 0) (xs : List X) (n : ℕ) (x : X) → All P xs → numbered xs n ≡ Some x → P x
+numbered-holds P [] n x all e = cc
+numbered-holds P (y ∷ older) n x all e = tested (n == length (y ∷ older)) e (numbered-holds P older n x (All-tail P y older all))
+  where
+    tested : (same : Bool) → (if same then Some y else numbered older n) ≡ Some x → (numbered older n ≡ Some x → P x) → P x
+    tested true found rest = let is : y ≡ x = cc in subst P is (All-head P y older all)
+    tested false found rest = rest found
+
+begun-after-more : (nodes : List Node) (phase : Option Phase) (begun : List Beginning) (performer : Who) (outcome : Outcome) (act : Act) (id : ℕ) (beginning : Beginning) → numbered begun id ≡ Some beginning → numbered (begun_after nodes phase begun performer outcome act) id ≡ Some beginning
+begun-after-more nodes phase begun performer (Started new) act id beginning e = numbered-more _ begun id beginning e
+begun-after-more nodes phase begun performer outcome act id beginning e = e
+
+-- a sequence that was started stays so
+pub begun-more : (entry : Entry) (before : List Entry) (id : ℕ) (beginning : Beginning) → numbered (begun_of before) id ≡ Some beginning → numbered (begun_of (entry ∷ before)) id ≡ Some beginning
+begun-more (Did performer outcome act) before id beginning e = begun-after-more (nodes_of before) (running (stage_of before)) (begun_of before) performer outcome act id beginning e
+begun-more entry before id beginning e = e
+
+begun-after-count : (nodes : List Node) (phase : Option Phase) (begun : List Beginning) (performer : Who) (outcome : Outcome) (act : Act) → length begun ≤ length (begun_after nodes phase begun performer outcome act)
+begun-after-count nodes phase begun performer (Started new) act = omega arith
+begun-after-count nodes phase begun performer outcome act = omega arith
+
+pub begun-count : (entry : Entry) (before : List Entry) → length (begun_of before) ≤ length (begun_of (entry ∷ before))
+begun-count (Did performer outcome act) before = begun-after-count (nodes_of before) (running (stage_of before)) (begun_of before) performer outcome act
+begun-count entry before = omega arith
+
+-- the acts are performed before a phase begins or ends
+abbrev IsMark : Entry → Type 0
+IsMark (Begin phase) = Unit {0}
+IsMark (End phase) = Unit {0}
+IsMark entry = ⊥
+
+abbrev IsMarkNext : Next → Type 0
+IsMarkNext (Exactly entry) = IsMark entry
+IsMarkNext next = ⊥
+
+no-mark : (performer : Who) (act : Act) (upshot : Upshot) → IsMarkNext (by_upshot performer act upshot) → ⊥
+no-mark performer act (Needs need made) is = is
+no-mark performer act Does is = is
+no-mark performer act (Finds value) is = is
+no-mark performer act (Stores stored) is = is
+no-mark performer act (Takes item) is = is
+no-mark performer act Finishes is = is
+no-mark performer act (Refuses fatal) is = is
+
+-- from the acts on
+none-among : (script : ScriptValue) (history : List Entry) (left : List Act) (others : List (Option Next)) → IsMarkNext (first_next (long_answer history left ∷ first_act script history left ∷ others)) → left ≡ []
+none-among script history [] others is = refl
+none-among script history (act ∷ acts) others is = tested (nat_lt most_acts (length (act ∷ acts))) is
+  where
+    tested : (many : Bool) → IsMarkNext (first_next ((if many then Some (Exactly (Note TooManyActs (node_of (speaker_of history)))) else None) ∷ first_act script history (act ∷ acts) ∷ others)) → act ∷ acts ≡ []
+    tested true is = absurd is
+    tested false is = absurd (no-mark (speaker_of history) act (upshot_of script history (speaker_of history) act) is)
+
+none-given :
+    (script : ScriptValue) (history : List Entry) (why : Option Reason) (passed : Option (ℕ × Passage)) (left : List Act) (others : List (Option Next))
+    → IsMarkNext (first_next (giving_up why ∷ passing passed ∷ long_answer history left ∷ first_act script history left ∷ others)) → left ≡ []
+none-given script history (Some why) passed left others is = absurd is
+none-given script history None (Some passed) left others is = absurd is
+none-given script history None None left others is = none-among script history left others is
+
+none-left :
+    (script : ScriptValue) (history : List Entry) (stage : Stage) (why : Option Reason) (passed : Option (ℕ × Passage)) (left : List Act) (others : List (Option Next))
+    → IsMarkNext (first_next (end_reached stage ∷ giving_up why ∷ passing passed ∷ long_answer history left ∷ first_act script history left ∷ others)) → left ≡ []
+none-left script history Ended why passed left others is = absurd is
+none-left script history Before why passed left others is = none-given script history why passed left others is
+none-left script history (During phase) why passed left others is = none-given script history why passed left others is
+none-left script history (After phase) why passed left others is = none-given script history why passed left others is
+
+mark-left : (script : ScriptValue) (history : List Entry) → IsMarkNext (next_of script history) → left_of script history ≡ []
+unfolding next_of
+mark-left script history is = none-left script history (stage_of history) (reason_of script history) (next_passed history) (left_of script history) _ is
+
+pub begin-left : (script : ScriptValue) (history : List Entry) (phase : Phase) → IsNext script history (Begin phase) → left_of script history ≡ []
+begin-left script history phase next = mark-left script history (subst IsMarkNext (sym (begin-alone phase (next_of script history) next)) tt)
+
+pub end-left : (script : ScriptValue) (history : List Entry) (phase : Phase) → IsNext script history (End phase) → left_of script history ≡ []
+end-left script history phase next = mark-left script history (subst IsMarkNext (sym (end-alone phase (next_of script history) next)) tt)
+
+-- a phase begins where none runs
+begins-case : (script : ScriptValue) (history : List Entry) (phase : Phase) (next : Next) → next ≡ Exactly (Begin phase) → Case script history next → phase_to_begin (stage_of history) ≡ Some phase
+begins-case script history phase next is (AtEnd over e) = cc
+begins-case script history phase next is (ByOwn entry own e) = let same : entry ≡ Begin phase = cc in absurd (subst (IsOwn script history) same own)
+begins-case script history phase next is (ByNeed act need made left upshot e) = cc
+begins-case script history phase next is (ByDeed act outcome left plain comes e) = cc
+begins-case script history phase next is (ByDue event call now is_call e) = cc
+begins-case script history phase next is (ByTurn running node turn e) = cc
+begins-case script history phase next is (ByEnd running runs e) = cc
+begins-case script history phase next is (ByBegin begins may e) = let same : begins ≡ phase = cc in subst (λ (p : Phase). phase_to_begin (stage_of history) ≡ Some p) same may
+
+none-runs : (stage : Stage) (phase other : Phase) → phase_to_begin stage ≡ Some other → running stage ≡ Some phase → ⊥
+none-runs Before phase other begins runs = cc
+none-runs (During running) phase other begins runs = cc
+none-runs (After last) phase other begins runs = cc
+none-runs Ended phase other begins runs = cc
+
+pub same-itself : (phase : Phase) → same_phase phase phase ≡ true
+same-itself Build = refl
+same-itself Connect = refl
+same-itself EndOfElaboration = refl
+same-itself StartOfSimulation = refl
+same-itself Run = refl
+same-itself Extract = refl
+same-itself Check = refl
+same-itself Report = refl
+same-itself Final = refl
+
+-- a phase runs, or has ended
+pub data Stands (history : List Entry) (phase : Phase) : Type 0 where
+  Runs : running (stage_of history) ≡ Some phase → Stands history phase
+  HasEnded : list_any (same_phase phase) (ended_of history) ≡ true → Stands history phase
+
+any-more : (b c : Bool) → c ≡ true → b || c ≡ true
+any-more true c e = refl
+any-more false c e = e
+
+stands-begun : (script : ScriptValue) (before : List Entry) (other phase : Phase) → IsNext script before (Begin other) → Stands before phase → Stands (Begin other ∷ before) phase
+stands-begun script before other phase next (Runs runs) = absurd (none-runs (stage_of before) phase other (begins-case script before other (next_of script before) (begin-alone other (next_of script before) next) (case-of script before)) runs)
+stands-begun script before other phase next (HasEnded ended) = HasEnded ended
+
+stands-ended : (script : ScriptValue) (before : List Entry) (other phase : Phase) → IsNext script before (End other) → Stands before phase → Stands (End other ∷ before) phase
+stands-ended script before other phase next (Runs runs) =
+    let during = end-case script before other (next_of script before) (end-alone other (next_of script before) next) (case-of script before) in
+    let at : Some other ≡ Some phase = ap running (sym during) ∙ runs in
+    let same : other ≡ phase = cc in
+    HasEnded (subst (λ (p : Phase). same_phase phase p || list_any (same_phase phase) (ended_of before) ≡ true) (sym same) (rw same-itself refl))
+stands-ended script before other phase next (HasEnded ended) = HasEnded (any-more (same_phase phase other) _ ended)
+
+stays : (entry : Entry) (before : List Entry) (phase : Phase) → running (stage_of (entry ∷ before)) ≡ running (stage_of before) → ended_of (entry ∷ before) ≡ ended_of before → Stands before phase → Stands (entry ∷ before) phase
+stays entry before phase same ended (Runs runs) = Runs (same ∙ runs)
+stays entry before phase same ended (HasEnded has) = HasEnded (ap (list_any (same_phase phase)) ended ∙ has)
+
+-- this stays, whatever comes next but the end of the run
+pub stands-more : (script : ScriptValue) (before : List Entry) (entry : Entry) (phase : Phase) → IsNext script before entry → (stage_of (entry ∷ before) ≡ Ended → ⊥) → Stands before phase → Stands (entry ∷ before) phase
+stands-more script before (Begin other) phase next on stands = stands-begun script before other phase next stands
+stands-more script before (End other) phase next on stands = stands-ended script before other phase next stands
+stands-more script before (Over reason) phase next on stands = absurd (on refl)
+stands-more script before entry phase next on stands = stays entry before phase refl refl stands
+
+-- a sequence was started on a sequencer, in a phase that runs or has ended
+pub record IsSequence (history : List Entry) (phase : Phase) (id home : ℕ) : Type 0 where
+  pub beginning : Beginning
+  pub begun : numbered (begun_of history) id ≡ Some beginning
+  pub home_is : beginning.start.home ≡ home
+  pub phase_is : beginning.phase ≡ Some phase
+  pub stands : Stands history phase
+
+pub sequence-more : (script : ScriptValue) (before : List Entry) (entry : Entry) (phase : Phase) (id home : ℕ) → IsNext script before entry → (stage_of (entry ∷ before) ≡ Ended → ⊥) → IsSequence before phase id home → IsSequence (entry ∷ before) phase id home
+sequence-more script before entry phase id home next on s = record {
+  beginning = s.beginning;
+  begun = begun-more entry before id s.beginning s.begun;
+  home_is = s.home_is;
+  phase_is = s.phase_is;
+  stands = stands-more script before entry phase next on s.stands;
+}
+
+-- it lives as long as it has not finished and its phase has not ended
+pub living-of : (history : List Entry) (phase : Phase) (id home : ℕ) → IsSequence history phase id home → list_any (same_who (who.Sequence id home)) (finished_of history) ≡ false → list_any (same_phase phase) (ended_of history) ≡ false → IsLiving history id home
+unfolding is_live
+living-of history phase id home s unfinished unended = record {
+  lives = rw (s.begun, s.home_is, s.phase_is, unfinished, unended) refl;
+  home_is = ap (option_map (λ (beginning : Beginning). beginning.start.home)) s.begun ∙ ap (λ (h : ℕ). Some h) s.home_is;
+}
+
+-- a phase that runs or has ended runs, if it has not ended
+pub runs-still : (history : List Entry) (phase : Phase) → Stands history phase → list_any (same_phase phase) (ended_of history) ≡ false → running (stage_of history) ≡ Some phase
+runs-still history phase (Runs runs) unended = runs
+runs-still history phase (HasEnded ended) unended = cc

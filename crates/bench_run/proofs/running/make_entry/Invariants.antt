@@ -1,0 +1,11 @@
+use Rattle.std.proofs.Common.{length}
+use Rattle.bench_run.specs.Running.{HasTold}
+use Rattle.bench_run.proofs.running.make_entry.Given as goal
+
+-- those who have ended were told, and nothing else changed
+abbrev pub invariant-loop-kernel : goal.invariant-loop-kernel
+invariant-loop-kernel g l = HasTold l.fn.kernel l.kernel
+
+-- one less is to be told
+abbrev pub decreases-loop-kernel : goal.decreases-loop-kernel
+decreases-loop-kernel g l = length l.kernel.core.leaving

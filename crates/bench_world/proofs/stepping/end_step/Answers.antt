@@ -1,0 +1,76 @@
+use Rattle.std.proofs.Common.{◌≡◌, ◌∷◌, suc, length, filter, Some, None, option_and_then, refl, sym, ◌∙◌, rules}
+use Rattle.uvm_sequencer.specs.Sequences.{step_after, step_at}
+use Rattle.uvm_object.specs.declared.acts.Act.TheVariants.{EndStep}
+use Rattle.uvm_object.specs.declared.entries.Entry.TheVariants.{Did}
+use Rattle.uvm_object.specs.declared.entries.Outcome.TheVariants.{Done, Finished}
+use Rattle.bench_history.specs.declared.owners.Owner.TheVariants.{Object}
+use Rattle.bench_history.specs.Dues.{caused_at, caused_of, due_events, heard_of, is_open, step_call}
+use Rattle.bench_history.specs.History.{now_of, running, stage_of, ended_of}
+use Rattle.bench_history.specs.Objections.{objections_of}
+use Rattle.bench_history.specs.Sequences.{finished_of, next_step, sequence_in}
+use Rattle.bench_world.specs.Objectings.{AreEvents}
+use Rattle.bench_world.specs.Services.{IsAgenda}
+use Rattle.bench_world.proofs.Answered.{answer-finished}
+use Rattle.bench_world.proofs.Finished.{has-finished, scene-begun}
+use Rattle.bench_world.proofs.Drained.{events-told}
+use Rattle.bench_world.proofs.Later.{acted}
+use Rattle.bench_world.proofs.Opened.{scene-open}
+use Rattle.bench_world.proofs.Sequenced.{sequencing-finished, sequencing-step}
+use Rattle.bench_world.proofs.Stepped.{next-known}
+use Rattle.bench_world.proofs.Told.{agenda-event}
+use Rattle.bench_world.proofs.stepping.end_step.Goals as goal
+
+pub returns-in_ok-tell-in-Some-step : goal.returns-in_ok-tell-in-Some-step
+returns-in_ok-tell-in-Some-step c =
+    let told = c.in_ok-tell-in-Some-step.ensures in
+    let services = c.args.services.now in
+    let speaker = services.answer.speaker in
+    let id = c.in-Some.id in
+    let step = c.in-Some-step.step in
+    let is : sequence_in speaker ≡ Some id = sym c.sequence_in.ensures ∙ c.in-Some.is in
+    let steps : option_and_then step_after (step_at services.sequences.steps id) ≡ Some step = sym c.step.ensures.value ∙ c.in-Some-step.is in
+    rw (c.done.ensures.attempt, c.done.ensures.services, told.rest, c.in-Some-step.ensures.after) (record {
+      comes = λ script history s.
+          let next : next_step history speaker ≡ Some step = sym (next-known s.known speaker id is) ∙ steps in
+          rw next refl;
+      kept = record {
+        same_answer = refl;
+        with_entry = λ script history s.
+            let m = s.known in
+            let left = s.left in
+            let next : next_step history speaker ≡ Some step = sym (next-known m speaker id is) ∙ steps in
+            let dues = rw (m.stage, m.time, ← s.place_is, c.step_call.ensures) at (told.dues (filter (is_open (heard_of history) (ended_of history) (finished_of history)) (caused_of history)) m.agenda.are) in
+            let events : AreEvents (objections_of history) (due_events (Did speaker Done EndStep ∷ history)) = rw next (events-told (objections_of history) (is_open (heard_of history) (ended_of history) (finished_of history)) (running (stage_of history)) (now_of history) (caused_at (length history)) speaker (step_call step) (caused_of history) m.events) in
+            let agenda : IsAgenda (caused_of (Did speaker Done EndStep ∷ history)) (heard_of history) (ended_of history) (finished_of history) (suc (length history)) c.tell.new.services.agenda.dues = rw next (agenda-event (Object speaker) (Some (step_call step)) (now_of history) (stage_of history) (caused_of history) (heard_of history) (ended_of history) (finished_of history) (length history) _ _ s.in_order (scene-open s (λ opens. cc)) m.agenda dues) in
+            let sequencing = sequencing-step m.sequencing c.steps_change_alone.ensures speaker id step is steps in
+            search (rules, acted);
+      };
+    })
+
+pub returns-in_ok-finish-in-None : goal.returns-in_ok-finish-in-None
+returns-in_ok-finish-in-None c =
+    let fin = c.in_ok-finish-in-None.ensures in
+    let services = c.args.services.now in
+    let speaker = services.answer.speaker in
+    let id = c.in-Some.id in
+    let is : sequence_in speaker ≡ Some id = sym c.sequence_in.ensures ∙ c.in-Some.is in
+    let steps : option_and_then step_after (step_at services.sequences.steps id) ≡ None = sym c.step.ensures.value ∙ c.in-None.is in
+    rw (c.finished.ensures, fin.rest, c.in-None.ensures.after) (record {
+      comes = λ script history s.
+          let next : next_step history speaker ≡ None = sym (next-known s.known speaker id is) ∙ steps in
+          rw next refl;
+      kept = record {
+        same_answer = refl;
+        with_entry = λ script history s.
+            let m = s.known in
+            let left = s.left in
+            let b = scene-begun id s (λ opens. cc) is in
+            let dues = rw (c.in-None.ensures.after, m.stage, m.time, ← s.place_is, b.performer_is) at (fin.dues (filter (is_open (heard_of history) (ended_of history) (finished_of history)) (caused_of history)) m.agenda.are) in
+            let h = rw (← b.performer_is) at (has-finished m c.steps_change_alone.ensures id b.beginning b.found b.lives c.finish.new.services.agenda.dues s.in_order dues) in
+            let agenda = h.agenda in
+            let events = h.events in
+            let sequencing = rw (← b.performer_is) at (sequencing-finished m.sequencing c.steps_change_alone.ensures id b.beginning b.found b.lives) in
+            let answer = answer-finished {entry = Did speaker Finished EndStep} left m.answer in
+            search (rules, acted);
+      };
+    })

@@ -5,7 +5,7 @@ use Rattle.bench_script.specs.Scripts.{ScriptValue}
 use Rattle.bench_history.specs.Limits.{log_limit}
 use Rattle.bench_history.specs.History.{is_over}
 use Rattle.bench_history.specs.Cases as next
-use Rattle.bench_history.specs.Next.{next_of, IsLegal}
+use Rattle.bench_history.specs.Next.{IsLegal, next_of}
 use Rattle.bench_history.specs.Laws.{AskedAreThere, IsSomething, SomethingBeforeOver}
 use Rattle.bench_core.specs.declared.cores.Turn as turn
 use Rattle.bench_core.specs.declared.faults.CoreFault.{CoreFault}
@@ -24,6 +24,7 @@ turn-there : AskedAreThere → (old new : CoreValue) (result : turn.Turn) (comes
 turn-there components old new result (next.Exactly entry) is legal t = subst (λ r. AsksThere r old.history) (sym t.0) tt
 turn-there components old new result (next.Answer hearer call cause) is legal t = subst (λ r. AsksThere r old.history) (sym t.0) (components old.script old.history hearer call cause legal.each is)
 turn-there components old new result (next.Need need made performer act) is legal t = subst (λ r. AsksThere r old.history) (sym t.0) tt
+turn-there components old new result (next.Grant sequencer drawn chosen) is legal t = subst (λ r. AsksThere r old.history) (sym t.0) tt
 turn-there components old new result next.Nothing is legal t = subst (λ r. AsksThere r old.history) (sym t.0) tt
 
 -- so that a call of the machine asks who is there, if anybody
@@ -41,6 +42,7 @@ turn-over : SomethingBeforeOver → (old new : CoreValue) (result : turn.Turn) (
 turn-over some old new result (next.Exactly entry) is legal t over = let moved = t.0 in cc
 turn-over some old new result (next.Answer hearer call cause) is legal t over = let asks = t.0 in cc
 turn-over some old new result (next.Need need made performer act) is legal t over = let needs = t.0 in cc
+turn-over some old new result (next.Grant sequencer drawn chosen) is legal t over = let moved = t.0 in cc
 turn-over some old new result next.Nothing is legal t over =
     rw t.1 (over-at old.script old.history (is_over old.history) (some old.script old.history legal.each) is refl)
 
@@ -54,6 +56,7 @@ turn-room : (old new : CoreValue) (result : turn.Turn) (comes : next.Next) → n
 turn-room old new result (next.Exactly entry) is room t asks = let moved = t.0 in absurd (subst IsRequest t.0 asks)
 turn-room old new result (next.Answer hearer call cause) is room t asks = rw t.1 (room (rw is tt))
 turn-room old new result (next.Need need made performer act) is room t asks = rw t.1 (room (rw is tt))
+turn-room old new result (next.Grant sequencer drawn chosen) is room t asks = let moved = t.0 in absurd (subst IsRequest t.0 asks)
 turn-room old new result next.Nothing is room t asks = absurd (subst IsRequest t.0 asks)
 
 pub next-room : (old new : CoreValue) (result : Result turn.Turn CoreFault) → IsNextTurn Nothing result old new → IfOk result (λ r. IsRequest r → length new.history < log_limit new.script)

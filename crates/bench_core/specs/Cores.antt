@@ -1,12 +1,12 @@
 -- What contracts see of the machine.
-use Rattle.std.specs.Prelude.{◌≡◌, ◌<◌, ◌≤◌, ℕ, Bool, true, false, List, ◌∷◌, ◌++◌, length, [], Option, Some, None, Result, Ok, Err, IsSome, Contains}
+use Rattle.rand_core.specs.Stream.{Stream, next_u64}
+use Rattle.std.specs.Prelude.{◌≡◌, ◌<◌, ◌≤◌, ℕ, Bool, true, false, List, ◌∷◌, ◌++◌, length, [], Option, Some, None, Result, Ok, Err, IsSome}
 use Rattle.uvm_phase.specs.declared.agendas.Cause.{Cause}
-use Rattle.uvm_object.specs.Acts.{node_of}
 use Rattle.uvm_object.specs.declared.acts.Who.{Who}
 use Rattle.uvm_object.specs.declared.acts.Call.{Call}
 use Rattle.uvm_object.specs.declared.acts.Act.{Act}
 use Rattle.uvm_object.specs.declared.entries.Entry.{Entry}
-use Rattle.uvm_object.specs.declared.entries.Entry.TheVariants.{Heard}
+use Rattle.uvm_object.specs.declared.entries.Entry.TheVariants.{Granted, Heard}
 use Rattle.uvm_object.specs.Lines.{entry_line}
 use Rattle.bench_script.specs.Scripts.{ScriptValue}
 use Rattle.bench_history.specs.Limits.{log_limit}
@@ -18,8 +18,8 @@ use Rattle.bench_history.specs.declared.needs.Need.{Need}
 use Rattle.bench_core.specs.declared.cores.Health.{Health}
 use Rattle.bench_core.specs.declared.cores.Health.TheVariants.{Good, Full, Broken}
 use Rattle.bench_history.specs.Cases as next
-use Rattle.bench_history.specs.Next.{next_of, need_in}
-use Rattle.bench_world.specs.Worlds.{WorldValue}
+use Rattle.bench_history.specs.Next.{Allows, IsNext, next_of, need_in}
+use Rattle.bench_world.specs.Worlds.{WorldValue, world_after}
 use Rattle.bench_core.specs.declared.cores.Question.{Question}
 use Rattle.bench_core.specs.declared.cores.Turn as turn
 use Rattle.bench_core.specs.declared.faults.CoreFault.{CoreFault}
@@ -84,10 +84,15 @@ pub record IsCore (world : WorldValue) (question : Option Question) (health : He
   pub all_told : is_good health ≡ false → leaving ≡ []
   pub told_first : AsksSomething (standing_of world.waiting question) → leaving ≡ []
 
+-- an entry that may come next was made
+abbrev pub HasEntered : WorldValue → WorldValue → Type 0
+HasEntered old new = (entry : Entry) × IsNext old.script old.history entry × (new ≡ world_after entry old)
+
 -- what a turn is, by what comes next
 abbrev pub IsTurn : next.Next → turn.Turn → CoreValue → CoreValue → Type 0
 IsTurn (next.Exactly entry) result old new = (result ≡ turn.TheVariants.Moved) × (new ≡ core_after entry old)
 IsTurn (next.Answer hearer call cause) result old new = (result ≡ turn.TheVariants.Ask hearer call) × (new ≡ record old { standing = Asked hearer call cause })
+IsTurn (next.Grant sequencer drawn chosen) result old new = (result ≡ turn.TheVariants.Moved) × (entry : Entry) × Allows (next.Grant sequencer drawn chosen) entry × (new ≡ core_after entry old)
 IsTurn (next.Need need made performer act) result old new = (result ≡ turn.TheVariants.Need) × (new ≡ record old { standing = Needed need })
 IsTurn next.Nothing result old new = (result ≡ turn.TheVariants.Over) × (new ≡ old)
 
@@ -126,6 +131,29 @@ abbrev pub turn_of : Standing → Option turn.Turn
 turn_of Nothing = None
 turn_of (Needed need) = Some turn.TheVariants.Need
 turn_of (Asked hearer call cause) = Some (turn.TheVariants.Ask hearer call)
+
+-- the word that is drawn by a turn: that of the grant that it enters, where one decides whose it is
+abbrev pub word_in : List Entry → Option ℕ
+word_in (Granted sequencer grant ∷ before) = grant.word
+word_in history = None
+
+abbrev pub drawn_by : List Entry → turn.Turn → Option ℕ
+drawn_by history turn.TheVariants.Moved = word_in history
+drawn_by history result = None
+
+-- no more is drawn of a generator than this word
+abbrev pub IsDrawn : {Words : Type 0} → (Words → Stream) → Option ℕ → Words → Words → Type 0
+IsDrawn stream None old new = new ≡ old
+IsDrawn stream (Some word) old new = (word, stream new) ≡ next_u64 (stream old)
+
+abbrev pub DrawsOne : {Words : Type 0} → (Words → Stream) → Words → Words → Type 0
+DrawsOne stream old new = (word : Option ℕ) × IsDrawn stream word old new
+
+-- where memory is refused one may be lost
+abbrev pub IsDrawing : {Made Words : Type 0} → (Words → Stream) → (Made → Option ℕ) → Result Made CoreFault → Words → Words → Type 0
+IsDrawing stream drawn (Ok made) old new = IsDrawn stream (drawn made) old new
+IsDrawing stream drawn (Err Memory) old new = DrawsOne stream old new
+IsDrawing stream drawn (Err fault) old new = new ≡ old
 
 -- something is asked: an object, or an answer
 abbrev pub IsRequest : turn.Turn → Type 0

@@ -15,6 +15,7 @@ use bench_world::World;
 use std::alloc::AllocError;
 use uvm_object::{Call, Fatal, Passage, Reason, Who};
 use uvm_phase::{Cause, Due, Phase, Schedule};
+use uvm_sequencer::SeqId;
 use uvm_tree::NodeId;
 
 /// An entry that the machine makes by itself.
@@ -26,6 +27,8 @@ pub(crate) enum Mark {
     End(Phase),
     /// Time passes.
     Time(u64),
+    /// The lock of a sequence is granted at a sequencer.
+    Locked(NodeId, SeqId),
     /// The drain of a node, which began for a cause, ends.
     Drained(NodeId, Cause),
     /// The kernel reports at a node.
@@ -41,6 +44,8 @@ pub(crate) enum Choice {
     Nothing,
     /// This entry.
     Enter(Mark),
+    /// An item is granted at a sequencer, and a word decides to which sequence, or none does.
+    Grant(NodeId, bool),
     /// What somebody waits for at a FIFO comes to pass.
     Pass(NodeId, Passage),
     /// An act of the last answer, which has its entry at once or needs an object.
@@ -62,6 +67,12 @@ pub(crate) fn choose(world: &mut World) -> Result<Choice, AllocError>
     }
     if let Some(reason) = world.reason() {
         return Ok(Choice::Enter(Mark::Over(reason)));
+    }
+    if let Some((sequencer, id)) = world.next_locked() {
+        return Ok(Choice::Enter(Mark::Locked(sequencer, id)));
+    }
+    if let Some((sequencer, drawn)) = world.next_served() {
+        return Ok(Choice::Grant(sequencer, drawn));
     }
     if let Some((fifo, passage)) = world.next_passed() {
         return Ok(Choice::Pass(fifo, passage));

@@ -11,15 +11,15 @@ ghost use Rattle.uvm_config.specs.Answers.{config_answer};
 ghost use Rattle.bench_history.specs.Configuration.{settings_of};
 ghost use Rattle.bench_history.specs.Objections.{objections_of};
 ghost use Rattle.uvm_objection.specs.Totals.{total};
-ghost use Rattle.bench_history.specs.Passing.{waiting_at};
+ghost use Rattle.bench_history.specs.Arbitration.{waiters_at};
 ghost use Rattle.bench_history.specs.Reports.{report_commands};
 ghost use Rattle.uvm_report.specs.Changes.{Gives};
-ghost use Rattle.bench_history.specs.Next.{next_of, made_in, declined_in, IsLegal};
+ghost use Rattle.bench_history.specs.Next.{HasWord, next_of, made_in, declined_in, IsLegal};
 ghost use Rattle.bench_history.specs.Cases as comes;
 ghost use Rattle.bench_history.specs.Laws.{IsSomething};
-ghost use Rattle.bench_core.specs.Cores.{IsNextTurn, IsToldTurn, IsTurn, IsUnmade, core_after, failed_from, is_sound, turn_of, need_of, answer_in, IsAsk, AsksThere, last_line, last_text};
+ghost use Rattle.bench_core.specs.Cores.{DrawsOne, HasEntered, IsDrawing, IsDrawn, IsNextTurn, IsToldTurn, IsTurn, drawn_by, word_in, IsUnmade, core_after, failed_from, is_sound, turn_of, need_of, answer_in, IsAsk, AsksThere, last_line, last_text};
 ghost use Rattle.bench_world.specs.Worlds.{MayEnter, broken, made_who, world_after};
-ghost use Rattle.bench_core.specs.Choices.{entry_of};
+ghost use Rattle.bench_core.specs.Choices.{IsChoice, entry_of};
 ghost use Rattle.bench_core.specs.Cores.{Nothing, IsRequest};
 
 use crate::choices::{Choice, Mark, choose};
@@ -127,18 +127,19 @@ impl Core {
     /// Tells a sequence that has ended (`Leave`), once each, in rising number and before any further entry; else makes the next
     /// entry, or says what it needs: an object (`Need`) or an answer (`Ask`), again and again until that is there; `Over` once
     /// the run is over. Whoever is asked is a component, or a sequence that lives. `LogFull` where an entry would be next and the
-    /// log is full, `Memory` where memory is refused, and `Failed` from then on. No word is drawn yet.
-    pub fn next<R: Rng>(&mut self, _words: &mut R) -> Result<Turn, CoreFault>
+    /// log is full, `Memory` where memory is refused, and `Failed` from then on. A word is drawn where one decides whom the next
+    /// item is granted (Clause 15), and for nothing else; where memory is refused then, it may be lost.
+    pub fn next<R: Rng>(&mut self, words: &mut R) -> Result<Turn, CoreFault>
         ensures turn { IsToldTurn self.old.leaving result self.old self.new }
         ensures asked { IfOk result (λ turn. AsksThere turn self.old.history) }
         ensures over { IfOk result (λ turn. turn ≡ Turn.Over → is_over self.new.history ≡ true) }
         ensures room { IfOk result (λ turn. IsRequest turn → length self.new.history < log_limit self.new.script) }
-        ensures words { _words.new ≡ _words.old }
+        ensures words { IsDrawing R.stream (drawn_by self.new.history) result words.old words.new }
     {
         if let Some(who) = self.tell_next() {
             return Ok(Turn::Leave { who });
         }
-        self.turn_on()
+        self.turn_on(words)
     }
 
     /// What was asked: an object, or an answer. None where neither was.
@@ -280,9 +281,10 @@ impl Core {
         self.world.total(node)
     }
 
-    /// How many puts, takes and peeks wait at a FIFO (Clause 12). 0 at every other node, and once memory was refused.
+    /// How many puts, takes and peeks wait at a FIFO (Clause 12), or item requests and locks at a sequencer (Clause 15). 0 at every
+    /// other node, and once memory was refused.
     pub fn waiting(&self, node: NodeId) -> usize
-        ensures { result ≡ (if is_sound self.now.health then waiting_at self.now.history node else 0) }
+        ensures { result ≡ (if is_sound self.now.health then waiters_at self.now.history node else 0) }
     {
         if !self.is_sound() {
             return 0;
@@ -354,12 +356,13 @@ impl Core {
     }
 
     // What was asked is told again, or what comes next is done.
-    fn turn_on(&mut self) -> Result<Turn, CoreFault>
+    fn turn_on<R: Rng>(&mut self, words: &mut R) -> Result<Turn, CoreFault>
         requires { self.old.leaving ≡ [] }
         ensures turn { IsNextTurn self.old.standing result self.old self.new }
         ensures asked { IfOk result (λ turn. AsksThere turn self.old.history) }
         ensures over { IfOk result (λ turn. turn ≡ Turn.Over → is_over self.new.history ≡ true) }
         ensures room { IfOk result (λ turn. IsRequest turn → length self.new.history < log_limit self.new.script) }
+        ensures words { IsDrawing R.stream (drawn_by self.new.history) result words.old words.new }
     {
         // The log is legal, so whoever is asked is there, and a run goes on to its end.
         let _log = self.log();
@@ -369,17 +372,18 @@ impl Core {
             return Ok(turn);
         }
         match self.health {
-            Health::Good => self.go_on(),
+            Health::Good => self.go_on(words),
             Health::Full | Health::Broken => Err(CoreFault::Failed),
         }
     }
 
     // Does what comes next, or gives up.
-    fn go_on(&mut self) -> Result<Turn, CoreFault>
+    fn go_on<R: Rng>(&mut self, words: &mut R) -> Result<Turn, CoreFault>
         requires standing { self.old.standing ≡ Nothing }
         requires health { self.old.health ≡ Health.Good }
         requires told { self.old.leaving ≡ [] }
-        ensures { IsNextTurn Nothing result self.old self.new }
+        ensures turn { IsNextTurn Nothing result self.old self.new }
+        ensures words { IsDrawing R.stream (drawn_by self.new.history) result words.old words.new }
     {
         if is_over(&self.world) {
             return Ok(Turn::Over);
@@ -388,26 +392,33 @@ impl Core {
             self.health = Health::Full;
             return Err(CoreFault::LogFull);
         }
-        match self.advance() {
+        match self.advance(words) {
             Ok(turn) => Ok(turn),
             Err(_) => Err(CoreFault::Memory),
         }
     }
 
     // Does what comes next.
-    fn advance(&mut self) -> Result<Turn, AllocError>
+    fn advance<R: Rng>(&mut self, words: &mut R) -> Result<Turn, AllocError>
         requires standing { self.old.standing ≡ Nothing }
         requires health { self.old.health ≡ Health.Good }
         requires told { self.old.leaving ≡ [] }
         requires room { length self.old.history < log_limit self.old.script }
         ensures ok { IfOk result (λ turn. IsTurn (next_of self.old.script self.old.history) turn self.old self.new) }
         ensures err { OnErr result (self.new ≡ failed_from Health.Broken self.old) }
+        ensures words { IfOk result (λ turn. IsDrawn R.stream (drawn_by self.new.history turn) words.old words.new) }
+        ensures lost { OnErr result (DrawsOne R.stream words.old words.new) }
     {
         self.health = Health::Broken;
         let turn = match choose(&mut self.world)? {
             Choice::Nothing => Turn::Over,
             Choice::Enter(mark) => {
                 enter(&mut self.world, mark)?;
+                self.told = 0;
+                Turn::Moved
+            }
+            Choice::Grant(sequencer, drawn) => {
+                grant(&mut self.world, sequencer, drawn, words)?;
                 self.told = 0;
                 Turn::Moved
             }
@@ -437,6 +448,37 @@ impl Core {
     }
 }
 
+// Grants an item at a sequencer, by a word where one decides.
+fn grant<R: Rng>(
+    world: &mut World,
+    sequencer: NodeId,
+    drawn: bool,
+    words: &mut R,
+) -> Result<(), AllocError>
+    requires sound { world.old.sound ≡ true }
+    requires room { length world.old.history < log_limit world.old.script }
+    requires next { IsChoice (next_of world.old.script world.old.history) (Choice.Grant sequencer drawn) }
+    ensures entered { OnOk result (HasEntered world.old world.new) }
+    ensures sound { OnOk result (world.new.sound ≡ true) }
+    ensures settled { OnOk result (world.new.waiting ≡ None) }
+    ensures words { OnOk result (IsDrawn R.stream (word_in world.new.history) words.old words.new) }
+    ensures err { OnErr result (world.new ≡ broken world.old) }
+    ensures lost { OnErr result (DrawsOne R.stream words.old words.new) }
+{
+    // It is the first sequencer whose driver can be served.
+    laws::grants_go_in_order();
+    let word = draw(words, drawn);
+    world.granted(sequencer, word)
+}
+
+// A word, where one decides.
+fn draw<R: Rng>(words: &mut R, drawn: bool) -> Option<u64>
+    ensures word { HasWord drawn result }
+    ensures words { IsDrawn R.stream result words.old words.new }
+{
+    if drawn { Some(words.next_u64()) } else { None }
+}
+
 // Whether the run is over.
 fn is_over(world: &World) -> bool
     requires { world.now.sound ≡ true }
@@ -458,6 +500,7 @@ fn enter(world: &mut World, mark: Mark) -> Result<(), AllocError>
         Mark::Begin(phase) => world.begin(phase),
         Mark::End(phase) => world.end(phase),
         Mark::Time(time) => world.time(time),
+        Mark::Locked(sequencer, id) => world.locked(sequencer, id),
         Mark::Drained(node, cause) => world.drained(node, cause),
         Mark::Note(fatal, node) => world.note(fatal, node),
         Mark::Over(reason) => world.over(reason),

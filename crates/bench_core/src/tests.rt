@@ -1,5 +1,6 @@
 //! Whole runs with answers as values.
 
+mod arbitration;
 mod connections;
 mod objections;
 mod passages;
@@ -11,7 +12,7 @@ use std::alloc::Global;
 use std::test::Fail;
 use uvm_factory::Kind;
 use uvm_glob::{Glob, Name, Path};
-use uvm_object::{Act, Acts, Call, What};
+use uvm_object::{Act, Acts, Call, What, Who};
 use uvm_phase::Phase;
 use uvm_report::{Actions, Report, Severity, Text, Which, verbosity};
 use uvm_tree::NodeId;
@@ -63,6 +64,8 @@ enum Bench {
     Passing(passages::Passing),
     /// Sequences start and end.
     Starting(sequences::Starting),
+    /// A sequencer is asked.
+    Arbitrating(arbitration::Scene),
 }
 
 /// What is done to the objections of the test, and waits.
@@ -358,7 +361,7 @@ fn step(alloc: Global, core: &mut Core, bench: Bench, test: &Path) -> Result<boo
         }
         Turn::Ask { who, call } => {
             let is_test = core.find(test) == Some(who.node());
-            answer(core, acts_of(alloc, bench, is_test, call)?)?;
+            answer(core, acts_of(alloc, bench, who, is_test, call)?)?;
             Ok(true)
         }
     }
@@ -387,13 +390,16 @@ fn test_path(alloc: Global) -> Result<Path, Fail> {
     Ok(Path::parse(alloc, b"uvm_test_top")?)
 }
 
-// What somebody answers: the test as the bench says, and all others nothing but where items pass.
-fn acts_of(alloc: Global, bench: Bench, is_test: bool, call: Call) -> Result<Acts, Fail> {
+// What somebody answers: the test as the bench says, and all others nothing but where items pass or a sequencer is asked.
+fn acts_of(alloc: Global, bench: Bench, who: Who, is_test: bool, call: Call) -> Result<Acts, Fail> {
     if let Bench::Passing(passing) = bench {
         return passages::acts_of(alloc, passing, is_test, call);
     }
     if let Bench::Starting(starting) = bench {
         return sequences::acts_of(alloc, starting, is_test, call);
+    }
+    if let Bench::Arbitrating(scene) = bench {
+        return arbitration::acts_of(alloc, scene, who, is_test, call);
     }
     let mut acts = Acts::new(alloc);
     match (bench, call) {

@@ -59,7 +59,7 @@ first-holds : {B : Type 0} (P : B → Type 0) (first : Option B) (others : List 
 first-holds P None others holds rest = rest
 first-holds P (Some y) others holds rest = holds
 
-given-holds : {A B : Type 0} (f : A → Option B) (P : B → Type 0) (xs : List A) → ((x : A) → IfSome (f x) P) → IfSome (first_given (map f xs)) P
+pub given-holds : {A B : Type 0} (f : A → Option B) (P : B → Type 0) (xs : List A) → ((x : A) → IfSome (f x) P) → IfSome (first_given (map f xs)) P
 given-holds f P [] each = tt
 given-holds f P (x ∷ xs) each = first-holds P (f x) (map f xs) (each x) (given-holds f P xs each)
 

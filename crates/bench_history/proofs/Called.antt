@@ -1,5 +1,18 @@
 -- Who is called: a component, which is a node of the tree, or a sequence that lives.
-use Rattle.std.proofs.Common.{◌≡◌, ℕ, ◌<◌, ◌≤◌, ◌==◌, ◌⊎◌, inl, inr, suc, Bool, true, false, not, ◌&&◌, filter, if◌then◌else◌, List, [], ◌∷◌, length, slice_get, Option, Some, None, option_and_then, IfSome, OnSome, refl, ap, ◌∙◌, sym, subst, arith}
+use Rattle.std.proofs.Common.{◌≡◌, ℕ, ◌<◌, ◌≤◌, ◌==◌, ◌⊎◌, inl, inr, suc, Bool, true, false, not, ◌&&◌, filter, if◌then◌else◌, List, [], ◌∷◌, length, slice_get, Option, Some, None, option_and_then, IfSome, OnSome, refl, ap, ◌∙◌, sym, subst, arith, option_map}
+use Rattle.uvm_tree.specs.Sorted.{path_order}
+use Rattle.std.specs.Option.{option_map_or}
+use Rattle.uvm_sequencer.specs.Sequences.{numbered}
+use Rattle.uvm_sequencer.specs.Sequencers.{SequencerValue, candidates_at, choice_at, lock_at}
+use Rattle.uvm_sequencer.specs.Drivers.{granted_by, hand_of}
+use Rattle.uvm_sequencer.specs.Queues.{lock_request}
+use Rattle.uvm_sequencer.specs.Choices.{choice}
+use Rattle.uvm_sequencer.specs.declared.requests.Request.{Request}
+use Rattle.uvm_sequencer.specs.declared.modes.Mode.{Mode}
+use Rattle.uvm_sequencer.specs.Laws.{LockExcludes}
+use Rattle.bench_history.specs.declared.askers.DriverPort.{DriverPort}
+use Rattle.bench_history.specs.Arbitration.{Wanted, all_wanted, driver_asker, driver_move, driver_state, sequence_on, wish_in, locking_at, mode_at, next_locked, request_queue, sequencer_below, sequencer_with, still_waits}
+use Rattle.bench_history.proofs.Served.{HoldsOf, IsBy, driver_sequence, move-kept, wish-all, asked-by, awaits, done-told, granted-kept, hand-sequence, lapse-told, queue-all, sent-told}
 use Rattle.std.specs.List.{All, Contains, flat_map, list_any}
 use Rattle.std.proofs.lemmas.Bool.Decides.{nat_tests}
 use Rattle.std.proofs.lemmas.List.Elements.{All-nil, All-cons, All-head, All-tail, All-push, All-append, All-weaker, All-filter, All-contains, All-contains_itself, Contains-append_left, filter_passes}
@@ -21,14 +34,15 @@ use Rattle.uvm_object.specs.declared.acts.Call.{Call}
 use Rattle.uvm_object.specs.declared.acts.Call.TheVariants as call
 use Rattle.uvm_object.specs.declared.fatals.Fatal.TheVariants.{NotOpen}
 use Rattle.uvm_object.specs.declared.acts.Act.{Act}
-use Rattle.uvm_object.specs.declared.acts.Act.TheVariants.{Put, Take, Peek, Write, EndStep}
+use Rattle.uvm_object.specs.declared.acts.Act.TheVariants.{Put, Take, Peek, Write, EndStep, Send, ItemDone, Ask}
 use Rattle.uvm_object.specs.declared.entries.Outcome.{Outcome}
-use Rattle.uvm_object.specs.declared.entries.Outcome.TheVariants.{Done, Made, Started, Value, Finished, Refused}
+use Rattle.uvm_object.specs.declared.entries.Outcome.TheVariants.{Done, Made, Started, Value, Finished, Refused, Waits}
 use Rattle.uvm_object.specs.declared.entries.Passage.{Passage}
+use Rattle.uvm_object.specs.declared.entries.Grant as entries
 use Rattle.uvm_object.specs.declared.entries.Entry.{Entry}
-use Rattle.uvm_object.specs.declared.entries.Entry.TheVariants.{Begin, End, Heard, Did, Passed, Drained, Note, Over}
+use Rattle.uvm_object.specs.declared.entries.Entry.TheVariants.{Begin, End, Heard, Did, Passed, Drained, Note, Over, Granted, Locked}
 use Rattle.bench_history.specs.declared.stages.Stage.TheVariants.{Ended}
-use Rattle.bench_history.specs.Sequences.{Beginning, begun_of, finished_of, next_step, sequence_in, sequences_of, start_by}
+use Rattle.bench_history.specs.Sequences.{is_over_phase, Beginning, begun_of, finished_of, next_step, sequence_in, sequences_of, start_by, is_live, lives}
 use Rattle.bench_history.specs.Refusals.{is_open_to}
 use Rattle.bench_script.specs.Scripts.{ScriptValue}
 use Rattle.bench_history.specs.declared.needs.Need as declared
@@ -45,17 +59,17 @@ use Rattle.bench_history.specs.Ports.{is_imp_at, imps_below, outlets_below}
 use Rattle.bench_history.specs.Passing.{puts_asked, takes_asked, put_in, take_in}
 use Rattle.uvm_tlm.specs.declared.ends.PortKind.TheVariants as through
 use Rattle.uvm_tlm.specs.declared.items.Item.{Item}
-use Rattle.bench_history.specs.Dues.{event_in, told_by, told_of, told_step, step_call, finished_by, calls_told, calls_numbered, due_after, due_from, calls_from, drain_from, with_drains, moves_drains, caused_at, caused_of, heard_of, is_open, due_events, first_due, due_at, due_now}
-use Rattle.bench_history.specs.Cases.{Next, Exactly, Answer, Need, Nothing}
+use Rattle.bench_history.specs.Dues.{event_in, told_by, told_of, told_step, step_call, finished_by, calls_told, calls_numbered, due_after, due_from, calls_from, drain_from, with_drains, moves_drains, caused_at, caused_of, heard_of, is_open, due_events, first_due, due_at, due_now, lapsed_by, done_by}
+use Rattle.bench_history.specs.Cases.{Next, Exactly, Answer, Need, Nothing, Grant, chosen_at}
 use Rattle.bench_history.specs.Next.{next_of, Allows, IsAct, IsNext, EachIsNext}
-use Rattle.bench_history.specs.Laws.{HasGrown, HasMade, IsComponent, IsLivingSequence, IsThere, AskedAreThere, WaitersAreComponents, PerformersAreThere, ComponentsAreNodes, NewNodesAreUnasked, NewSequencesAreUnasked}
-use Rattle.bench_history.proofs.Inversion.{Case, AtEnd, ByOwn, ByNeed, ByDeed, ByDue, ByTurn, ByEnd, ByBegin, case-of}
+use Rattle.bench_history.specs.Laws.{place_of, HasGrown, HasMade, IsComponent, IsLiving, IsLivingSequence, IsThere, AskedAreThere, WaitersAreComponents, PerformersAreThere, ComponentsAreNodes, NewNodesAreUnasked, NewSequencesAreUnasked}
+use Rattle.bench_history.proofs.Inversion.{Case, AtEnd, ByOwn, ByNeed, ByDeed, ByDue, ByTurn, ByEnd, ByBegin, ByGrant, case-of, IsOwn}
 use Rattle.bench_history.proofs.Ended.{nothing-comes, none-after}
 use Rattle.bench_history.proofs.Leasts.{least-holds}
 use Rattle.bench_history.proofs.Deeds.{IsDeed, deed-next, closed-refused, started-next, starts-act, finished-next}
-use Rattle.bench_history.proofs.Asking.{IsAskedBy, asked-more, passing-holds, IsOwned, IsAdded, get-before, imp-after, written-hold}
-use Rattle.bench_history.proofs.Performed.{passages_go_in_order}
-use Rattle.bench_history.proofs.Living.{numbered-within, numbered-newest, numbered-holds, begun-count, begin-left, end-left, Runs, IsSequence, sequence-more, living-of, runs-still}
+use Rattle.bench_history.proofs.Asking.{IsAskedBy, asked-more, passing-holds, IsOwned, IsAdded, get-before, imp-after, written-hold, given-holds}
+use Rattle.bench_history.proofs.Performed.{lock-case, passages_go_in_order}
+use Rattle.bench_history.proofs.Living.{numbered-within, numbered-newest, numbered-holds, begun-count, begin-left, end-left, Runs, IsSequence, sequence-more, living-of, runs-still, begin-runs}
 use Rattle.bench_history.proofs.Grown.{IsPlain, IsPlainNext, plain-next, exact-keeps-components, nodes_stay, nodes-more, components-grow, made_objects_are_new}
 
 -- the components are below the nodes of one more entry, too
@@ -86,6 +100,7 @@ below-next script before entry (Exactly expected) is allows below = below-same e
 below-next script before entry (Answer performer call cause) is allows below = below-same entry before (ap (λ (e : Entry). components_of (e ∷ before)) allows.1) below
 below-next script before entry (Need need made performer act) is (inl e) below = subst (λ (one : Entry). All (λ node. node < length (nodes_of (one ∷ before))) (components_of (one ∷ before))) (sym e) (below-need before need made performer act (made_objects_are_new script before need made performer act is) below)
 below-next script before entry (Need need made performer act) is (inr declined) below = below-same entry before (ap (λ (e : Entry). components_of (e ∷ before)) declined) below
+below-next script before entry (Grant sequencer drawn chosen) is allows below = below-same entry before (ap (λ (e : Entry). components_of (e ∷ before)) allows.3) below
 below-next script before entry Nothing is allows below = absurd allows
 
 -- each component is a node of the tree
@@ -166,7 +181,19 @@ data Speaking (script : ScriptValue) (history : List Entry) : Type 0 where
   Opens : All (λ act. act ≡ opening script) (left_of script history) → Speaking script history
   Speaks : IsSpeaker history (speaker_of history) → Speaking script history
 
--- whoever waits for a call is expected, and whoever spoke last may act; who waits at a FIFO is a component, and who owns an imp
+-- a sequence was started on a sequencer, in some phase
+record IsRequester (history : List Entry) (node id : ℕ) : Type 0 where
+  phase : Phase
+  sequence : IsSequence history phase id node
+
+-- and in the phase that runs
+record IsServed (history : List Entry) (node id : ℕ) : Type 0 where
+  phase : Phase
+  runs : running (stage_of history) ≡ Some phase
+  sequence : IsSequence history phase id node
+
+-- whoever waits for a call is expected, and whoever spoke last may act; who waits at a FIFO is a component, and who owns an imp; who waits for a sequencer
+-- is a sequence of it, the one that is granted or sent an item one of the phase that runs, and who drives it is a component
 record Known (script : ScriptValue) (history : List Entry) : Type 0 where
   owners : All (IsCallTo history) (caused_of history)
   starters : All (IsStartedBy history) (begun_of history)
@@ -174,6 +201,107 @@ record Known (script : ScriptValue) (history : List Entry) : Type 0 where
   putters : (fifo : ℕ) → All (IsAskedBy {Wish = Item} (IsOne (components_of history))) (puts_asked history fifo)
   takers : (fifo : ℕ) → All (IsAskedBy {Wish = Bool} (IsOne (components_of history))) (takes_asked history fifo)
   imps : (node : ℕ) → is_imp_at (wiring_of history) node ≡ true → IsOwned (nodes_of history) (components_of history) node
+  wanting : (node : ℕ) → All (IsBy (IsRequester history node)) (all_wanted history node)
+  served : (node id : ℕ) → driver_sequence (driver_state history node) ≡ Some id → IsServed history node id
+  askers : (node : ℕ) → IfSome (driver_asker history node) (λ asker. IsComponent (components_of history) asker.who)
+
+-- with one more entry they stay
+requester-more : (script : ScriptValue) (before : List Entry) (entry : Entry) (node id : ℕ) → IsNext script before entry → GoesOn (entry ∷ before) → IsRequester before node id → IsRequester (entry ∷ before) node id
+requester-more script before entry node id next on r = record { phase = r.phase; sequence = sequence-more script before entry r.phase id node next on r.sequence }
+
+wanting-more : (script : ScriptValue) (before : List Entry) (entry : Entry) (node : ℕ) (asked : List Wanted) → IsNext script before entry → GoesOn (entry ∷ before) → All (IsBy (IsRequester before node)) asked → All (IsBy (IsRequester (entry ∷ before) node)) asked
+wanting-more script before entry node asked next on all = All-weaker (IsBy (IsRequester before node)) (IsBy (IsRequester (entry ∷ before) node)) (λ w. requester-more script before entry node w.request.seq next on) asked all
+
+served-more : (script : ScriptValue) (before : List Entry) (entry : Entry) (node id : ℕ) → IsNext script before entry → GoesOn (entry ∷ before) → running (stage_of (entry ∷ before)) ≡ running (stage_of before) → IsServed before node id → IsServed (entry ∷ before) node id
+served-more script before entry node id next on stage s = record { phase = s.phase; runs = stage ∙ s.runs; sequence = sequence-more script before entry s.phase id node next on s.sequence }
+
+asker-more : (before : List Entry) (entry : Entry) (asker : Option DriverPort) → IfSome asker (λ asker. IsComponent (components_of before) asker.who) → IfSome asker (λ asker. IsComponent (components_of (entry ∷ before)) asker.who)
+asker-more before entry None has = tt
+asker-more before entry (Some asker) has = component-more entry before asker.who has
+
+-- who is served is expected
+served-expected : (history : List Entry) (node id : ℕ) (phase : Phase) → running (stage_of history) ≡ Some phase → IsServed history node id → IsSequence history phase id node
+served-expected history node id phase runs s =
+    let same : Some s.phase ≡ Some phase = sym s.runs ∙ runs in
+    let is : s.phase ≡ phase = cc in
+    subst (λ (p : Phase). IsSequence history p id node) is s.sequence
+
+-- who is served once one is granted
+granted-served :
+    (before : List Entry) (node at id other : ℕ) → IsServed before node id → (driver_sequence (driver_state before at) ≡ Some other → IsServed before at other)
+    → driver_sequence (if node == at then granted_by id (driver_state before at) else driver_state before at) ≡ Some other → IsServed before at other
+granted-served before node at id other s known e = tested (node == at) refl e
+  where
+    by : node ≡ at → (other ≡ id) ⊎ (driver_sequence (driver_state before at) ≡ Some other) → IsServed before at other
+    by same (inl is) = rw (← same, is) s
+    by same (inr was) = known was
+
+    tested : (b : Bool) → (node == at) ≡ b → driver_sequence (if b then granted_by id (driver_state before at) else driver_state before at) ≡ Some other → IsServed before at other
+    tested true is e = let same : node ≡ at = grind (arith, nat_tests) in by same (granted-kept id (driver_state before at) other e)
+    tested false is e = known e
+
+-- a lock that is granted leads, and an item goes to who is chosen
+lock-alone : (node id : ℕ) (next : Next) → Allows next (Locked node id) → next ≡ Exactly (Locked node id)
+lock-alone node id (Exactly entry) allows = rw allows refl
+lock-alone node id (Answer performer call cause) allows = let other = allows.1 in cc
+lock-alone node id (Need need made performer act) (inl e) = cc
+lock-alone node id (Need need made performer act) (inr declined) = cc
+lock-alone node id (Grant sequencer drawn chosen) allows = let e : Locked node id ≡ Granted sequencer allows.0 = allows.3 in cc
+lock-alone node id Nothing allows = absurd allows
+
+lock-next : (script : ScriptValue) (before : List Entry) (node id : ℕ) → IsNext script before (Locked node id) → next_locked before ≡ Some (node, id)
+lock-next script before node id next = lock-case script before node id (next_of script before) (lock-alone node id (next_of script before) next) (case-of script before)
+
+abbrev GrantsIn : List Entry → ℕ → entries.Grant → Next → Type 0
+GrantsIn history node grant (Exactly entry) = Granted node grant ≡ entry → ⊥
+GrantsIn history node grant (Grant sequencer drawn chosen) = chosen ≡ chosen_at history sequencer
+GrantsIn history node grant next = Unit {0}
+
+own-grant : (script : ScriptValue) (history : List Entry) (node : ℕ) (grant : entries.Grant) (entry : Entry) → IsOwn script history entry → Granted node grant ≡ entry → ⊥
+own-grant script history node grant (Granted other by) own e = own
+own-grant script history node grant entry own e = cc
+
+grant-case : (script : ScriptValue) (history : List Entry) (node : ℕ) (grant : entries.Grant) (next : Next) → Case script history next → GrantsIn history node grant next
+grant-case script history node grant next (AtEnd over e) = subst (GrantsIn history node grant) (sym e) tt
+grant-case script history node grant next (ByOwn entry own e) = subst (GrantsIn history node grant) (sym e) (own-grant script history node grant entry own)
+grant-case script history node grant next (ByNeed act need made left upshot e) = subst (GrantsIn history node grant) (sym e) tt
+grant-case script history node grant next (ByDeed act outcome left plain comes e) = subst (GrantsIn history node grant) (sym e) (λ is. cc)
+grant-case script history node grant next (ByDue event call now is_call e) = subst (GrantsIn history node grant) (sym e) tt
+grant-case script history node grant next (ByTurn phase at turn e) = subst (GrantsIn history node grant) (sym e) tt
+grant-case script history node grant next (ByEnd phase runs e) = subst (GrantsIn history node grant) (sym e) (λ is. cc)
+grant-case script history node grant next (ByBegin phase may e) = subst (GrantsIn history node grant) (sym e) (λ is. cc)
+grant-case script history node grant next (ByGrant sequencer drawn served e) = subst (GrantsIn history node grant) (sym e) refl
+
+grant-by : (history : List Entry) (node : ℕ) (grant : entries.Grant) (next : Next) → GrantsIn history node grant next → Allows next (Granted node grant) → chosen_at history node grant.word ≡ Some grant.id
+grant-by history node grant (Exactly entry) in_it allows = absurd (in_it allows)
+grant-by history node grant (Answer performer call cause) in_it allows = let e : Granted node grant ≡ Heard performer call cause allows.0 = allows.1 in cc
+grant-by history node grant (Need need made performer act) in_it (inl e) = cc
+grant-by history node grant (Need need made performer act) in_it (inr e) = cc
+grant-by history node grant (Grant sequencer drawn chosen) in_it allows =
+    let e : Granted node grant ≡ Granted sequencer allows.0 = allows.3 in
+    let at : node ≡ sequencer = cc in
+    let what : grant ≡ allows.0 = cc in
+    rw (at, what) (ap (λ (f : Option ℕ → Option ℕ). f (allows.0).word) (sym in_it) ∙ allows.2)
+grant-by history node grant Nothing in_it allows = absurd allows
+
+grant-next : (script : ScriptValue) (before : List Entry) (node : ℕ) (grant : entries.Grant) → IsNext script before (Granted node grant) → chosen_at before node grant.word ≡ Some grant.id
+grant-next script before node grant next = grant-by before node grant (next_of script before) (grant-case script before node grant (next_of script before) (case-of script before)) next
+
+-- the parts of a test
+pub first-part : (a b : Bool) → a && b ≡ true → a ≡ true
+first-part true b e = refl
+first-part false b e = cc
+
+second-part : (a b : Bool) → a && b ≡ true → b ≡ true
+second-part true b e = e
+second-part false b e = cc
+
+abbrev lives_of : List Entry → ℕ → Option Beginning → Bool
+lives_of history id found = option_map_or (lives history id) found false
+
+-- none is while no phase runs
+served-begun : (script : ScriptValue) (before : List Entry) (phase : Phase) (node id : ℕ) → IsNext script before (Begin phase) → IsServed before node id → ⊥
+served-begun script before phase node id next s = begin-runs script before phase s.phase next s.runs
 
 -- who is asked may act
 abbrev AsksOne : List Entry → Next → Type 0
@@ -264,6 +392,7 @@ module _ (keeps : OrderKeepsAll Owner (Option Call)) where
   asks-case script history next known (ByTurn phase node turn e) = subst (AsksOne history) (sym e) (subst (λ (found : Option ℕ). IfSome found (Contains (components_of history))) turn (turn-one history phase))
   asks-case script history next known (ByEnd phase runs e) = subst (AsksOne history) (sym e) tt
   asks-case script history next known (ByBegin phase may e) = subst (AsksOne history) (sym e) tt
+  asks-case script history next known (ByGrant sequencer drawn served e) = subst (AsksOne history) (sym e) tt
 
   -- so that an answer is of one who may act
   asks-one : (script : ScriptValue) (history : List Entry) (performer : Who) (call : Call) (cause : Option Cause) → Known script history → next_of script history ≡ Answer performer call cause → IsSpeaker history performer
@@ -275,6 +404,7 @@ module _ (keeps : OrderKeepsAll Owner (Option Call)) where
   heard-asked performer call cause acts (Answer other asked why) plain allows = let same : Heard performer call cause acts ≡ Heard other asked why allows.0 = allows.1 in cc
   heard-asked performer call cause acts (Need need made other act) plain (inl is) = cc
   heard-asked performer call cause acts (Need need made other act) plain (inr declined) = cc
+  heard-asked performer call cause acts (Grant sequencer drawn chosen) plain allows = let e : Heard performer call cause acts ≡ Granted sequencer allows.0 = allows.3 in cc
   heard-asked performer call cause acts Nothing plain allows = absurd allows
 
   -- and who was heard may act
@@ -316,6 +446,8 @@ moved-call history false phase cause earlier nodes caused owners = owners
 opening-tells : (script : ScriptValue) (outcome : Outcome) → told_by outcome (opening script) ≡ None
 opening-tells script (Value value) = refl
 opening-tells script Done = refl
+opening-tells script (Waits true) = refl
+opening-tells script (Waits false) = refl
 opening-tells script outcome = refl
 
 -- nor does it ask for anything at a FIFO
@@ -365,10 +497,44 @@ closed-takes Done (Take name) id home refused = let e : Done ≡ Refused NotOpen
 closed-takes Done (Peek name) id home refused = let e : Done ≡ Refused NotOpen = refused refl in cc
 closed-takes outcome act id home refused = refl
 
+closed-asks : (outcome : Outcome) (act : Act) (id home : ℕ) → (is_open_to act (Sequence id home) ≡ false → outcome ≡ Refused NotOpen) → awaits (driver_move outcome act) ≡ false
+closed-asks Done (Ask port way) id home refused = let e : Done ≡ Refused NotOpen = refused refl in cc
+closed-asks (Waits true) (Ask port way) id home refused = let e : Waits true ≡ Refused NotOpen = refused refl in cc
+closed-asks (Waits true) act id home refused = refl
+closed-asks (Waits false) act id home refused = refl
+closed-asks outcome act id home refused = refl
+
+opening-asks : (script : ScriptValue) (outcome : Outcome) → awaits (driver_move outcome (opening script)) ≡ false
+opening-asks script Done = refl
+opening-asks script (Waits true) = refl
+opening-asks script (Waits false) = refl
+opening-asks script outcome = refl
+
 component-or : (Idle : Type 0) (before : List Entry) (performer : Who) → ((id home : ℕ) → performer ≡ Sequence id home → Idle) → Idle ⊎ IsSpeaker before performer → Idle ⊎ IsComponent (components_of before) performer
 component-or Idle before performer closed (inl idle) = inl idle
 component-or Idle before (Node node) closed (inr has) = inr has
 component-or Idle before (Sequence id home) closed (inr has) = inl (closed id home refl)
+
+-- nor does the opening wish for anything, and what a sequence wishes is asked of its own sequencer
+opening-wishes : (script : ScriptValue) (outcome : Outcome) → wish_in outcome (opening script) ≡ None
+opening-wishes script Done = refl
+opening-wishes script outcome = refl
+
+wisher : (script : ScriptValue) (before : List Entry) (entry : Entry) (performer : Who) (node : ℕ) → IsNext script before entry → GoesOn (entry ∷ before) → IsSpeaker before performer → HoldsOf (IsRequester (entry ∷ before) node) (sequence_on node performer)
+wisher script before entry (Node other) node next on speaks = tt
+wisher script before entry (Sequence id home) node next on speaks = tested (home == node) refl
+  where
+    tested : (b : Bool) → (home == node) ≡ b → HoldsOf (IsRequester (entry ∷ before) node) (if b then Some id else None)
+    tested true e =
+        let same : home ≡ node = grind (arith, nat_tests) in
+        record { phase = speaks.phase; sequence = sequence-more script before entry speaks.phase id node next on (subst (IsSequence before speaks.phase id) same speaks.sequence) }
+    tested false e = tt
+
+wishes-by :
+    (script : ScriptValue) (before : List Entry) (performer : Who) (outcome : Outcome) (act : Act) (node : ℕ) → IsNext script before (Did performer outcome act) → GoesOn (Did performer outcome act ∷ before) → (wish_in outcome act ≡ None) ⊎ IsSpeaker before performer
+    → (wish_in outcome act ≡ None) ⊎ HoldsOf (IsRequester (Did performer outcome act ∷ before) node) (sequence_on node performer)
+wishes-by script before performer outcome act node next on (inl none) = inl none
+wishes-by script before performer outcome act node next on (inr speaks) = inr (wisher script before (Did performer outcome act) performer node next on speaks)
 
 -- what is told to who is expected is such a call
 abbrev IsTold : List Entry → Option Phase → Who × Call → Type 0
@@ -429,6 +595,25 @@ started-owners script before performer id act next =
       stands = Runs runs;
     }
 
+-- who hears what is caused in the phase that runs
+abbrev IsHearer : List Entry → Option Phase → Who → Type 0
+IsHearer history phase who = (p : Phase) → phase ≡ Some p → IsExpected history p who
+
+asker-hears : (before : List Entry) (entry : Entry) (phase : Option Phase) (asker : Option DriverPort) → IfSome asker (λ asker. IsComponent (components_of before) asker.who) → IfSome asker (λ asker. IsHearer (entry ∷ before) phase asker.who)
+asker-hears before entry phase None has = tt
+asker-hears before entry phase (Some asker) has = λ p runs. component-expected (entry ∷ before) p asker.who (component-more entry before asker.who has)
+
+-- whose item is done is the sequence that was served
+done-owners :
+    (script : ScriptValue) (before : List Entry) (performer : Who) (port : List ℕ) (response : Option Item) → Known script before → IsNext script before (Did performer Done (ItemDone port response)) → GoesOn (Did performer Done (ItemDone port response) ∷ before)
+    → (reached : Option ℕ) → All (IsTold (Did performer Done (ItemDone port response) ∷ before) (running (stage_of before))) (done_by before reached response)
+done-owners script before performer port response known next on None = All-nil _
+done-owners script before performer port response known next on (Some node) =
+    let entry = Did performer Done (ItemDone port response) in
+    let phase = running (stage_of before) in
+    done-told (IsTold (entry ∷ before) phase) (IsHearer (entry ∷ before) phase) (λ who call hears. hears) response node (hand_of (driver_state before node))
+    (λ id hand p runs. sequence-more script before entry p id node next on (served-expected before node id p runs (known.served node id (hand-sequence (driver_state before node) id hand))))
+
 -- whatever an act causes
 told-owners :
     (script : ScriptValue) (before : List Entry) (performer : Who) (outcome : Outcome) (act : Act) → Known script before → IsNext script before (Did performer outcome act) → GoesOn (Did performer outcome act ∷ before) → (act ≡ opening script) ⊎ IsSpeaker before performer
@@ -436,9 +621,18 @@ told-owners :
 told-owners script before performer Done (Write port item) known next on who = written-owners script before (Did performer Done (Write port item)) performer item port known.imps
 told-owners script before performer Done EndStep known next on (inl opens) = cc
 told-owners script before performer Done EndStep known next on (inr speaks) = step-owners script before (Did performer Done EndStep) performer (next_step before performer) next on speaks
+told-owners script before performer Done (Send item) known next on (inl opens) = cc
+told-owners script before performer Done (Send item) known next on (inr speaks) =
+    let entry = Did performer Done (Send item) in
+    let phase = running (stage_of before) in
+    sent-told (IsTold (entry ∷ before) phase) (IsHearer (entry ∷ before) phase) (λ who call hears. hears) performer (driver_asker before (node_of performer)) item _ (asker-hears before entry phase _ (known.askers (node_of performer)))
+    (λ p runs. expected-more script before entry p performer next on (speaker-expected before p performer runs speaks))
+told-owners script before performer Done (ItemDone port response) known next on who = done-owners script before performer port response known next on (sequencer_below before performer port)
 told-owners script before performer (Started id) act known next on who = started-owners script before performer id act next
 told-owners script before performer Finished act known next on (inl opens) = let ends = finished-next script before performer act next in let e : EndStep ≡ opening script = sym ends ∙ opens in cc
-told-owners script before performer Finished act known next on (inr speaks) = finished-owners script before (Did performer Finished act) performer next on known.starters speaks
+told-owners script before performer Finished act known next on (inr speaks) =
+    All-append (IsTold (Did performer Finished act ∷ before) (running (stage_of before))) (finished_by before (sequence_in performer)) (lapsed_by before (node_of performer) (sequence_in performer)) (finished-owners script before (Did performer Finished act) performer next on known.starters speaks)
+    (lapse-told (IsTold (Did performer Finished act ∷ before) (running (stage_of before))) (IsHearer (Did performer Finished act ∷ before) (running (stage_of before))) (λ who call hears. hears) _ (driver_asker before (node_of performer)) (asker-hears before (Did performer Finished act) (running (stage_of before)) _ (known.askers (node_of performer))))
 told-owners script before performer outcome act known next on who = All-nil (IsTold (Did performer outcome act ∷ before) (running (stage_of before)))
 
 -- an imp of one more entry's wiring is a component's
@@ -485,6 +679,7 @@ passed-alone fifo passage (Exactly entry) allows = rw allows refl
 passed-alone fifo passage (Answer performer call cause) allows = let other = allows.1 in cc
 passed-alone fifo passage (Need need made performer act) (inl e) = cc
 passed-alone fifo passage (Need need made performer act) (inr declined) = cc
+passed-alone fifo passage (Grant sequencer drawn chosen) allows = let e : Passed fifo passage ≡ Granted sequencer allows.0 = allows.3 in cc
 passed-alone fifo passage Nothing allows = absurd allows
 
 -- what holds of all acts holds of the rest of them
@@ -551,7 +746,7 @@ more-component : {Idle : Type 0} (before : List Entry) (entry : Entry) (performe
 more-component before entry performer (inl idle) = inl idle
 more-component before entry performer (inr has) = inr (component-more entry before performer has)
 
-module _ (keeps : OrderKeepsAll Owner (Option Call)) where
+module _ (keeps : OrderKeepsAll Owner (Option Call)) (excludes : LockExcludes) where
   speaking-more : (script : ScriptValue) (before : List Entry) (entry : Entry) → Known script before → IsNext script before entry → GoesOn (entry ∷ before) → Speaking script (entry ∷ before)
   speaking-more script before (Heard performer call cause acts) known next on = Speaks (speaker-stays script before (Heard performer call cause acts) performer next on refl refl refl (heard-one keeps script before performer call cause acts known next))
   speaking-more script before (Did performer outcome act) known next on = speaking-did script before performer outcome act next on known.speaker
@@ -586,6 +781,11 @@ module _ (keeps : OrderKeepsAll Owner (Option Call)) where
             (All-weaker (IsAskedBy (IsOne (components_of before))) (IsAskedBy (IsOne components)) (λ request. component-more entry before request.asker.who) (takes_asked before fifo) (known.takers fifo))
             (more-component before entry performer (component-or (take_in outcome act ≡ None) before performer (λ id home same. closed-takes outcome act id home (rw same at closed)) (unless-opening (λ act. take_in outcome act ≡ None) script act (opening-takes script outcome) who)));
         imps = imps-more script before performer outcome act known.imps who (λ id home same. closed);
+        wanting = λ node. wish-all (IsRequester (entry ∷ before) node) (sequences_of before) (length before) (wish_in outcome act) (sequence_on node performer) (all_wanted before node)
+            (wanting-more script before entry node (all_wanted before node) next on (known.wanting node)) (wishes-by script before performer outcome act node next on (unless-opening (λ act. wish_in outcome act ≡ None) script act (opening-wishes script outcome) who));
+        served = λ node id e. served-more script before entry node id next on refl (known.served node id (move-kept before node performer (driver_move outcome act) (driver_state before node) id e));
+        askers = λ node. asked-by (IsComponent components) before node performer (driver_move outcome act) (driver_asker before node) (asker-more before entry (driver_asker before node) (known.askers node))
+            (more-component before entry performer (component-or (awaits (driver_move outcome act) ≡ false) before performer (λ id home same. closed-asks outcome act id home (rw same at closed)) (unless-opening (λ act. awaits (driver_move outcome act) ≡ false) script act (opening-asks script outcome) who)));
       }
 
   -- what passes is a component's
@@ -603,6 +803,87 @@ module _ (keeps : OrderKeepsAll Owner (Option Call)) where
         putters = known.putters;
         takers = known.takers;
         imps = known.imps;
+        wanting = λ node. wanting-more script before entry node (all_wanted before node) next on (known.wanting node);
+        served = λ node id e. served-more script before entry node id next on refl (known.served node id e);
+        askers = λ node. asker-more before entry (driver_asker before node) (known.askers node);
+      }
+
+  -- a lock that is granted, and an item, are told to a sequence of the phase that runs
+  -- who waits for a sequencer, and lives, is of the phase that runs
+  requester-served : (history : List Entry) (node id : ℕ) → IsRequester history node id → is_live history id ≡ true → IsServed history node id
+  unfolding is_live
+  requester-served history node id r lives =
+      let found : lives_of history id (Some r.sequence.beginning) ≡ true = rw r.sequence.begun at lives in
+      let unended = not-true (list_any (same_phase r.phase) (ended_of history)) (rw r.sequence.phase_is at (second-part (not (list_any (same_who (Sequence id r.sequence.beginning.start.home)) (finished_of history))) (not (is_over_phase (ended_of history) r.sequence.beginning.phase)) found)) in
+      record { phase = r.phase; runs = runs-still history r.phase r.sequence.stands unended; sequence = r.sequence }
+
+  queue-served : (script : ScriptValue) (history : List Entry) (node : ℕ) → Known script history → All (λ request. IsServed history node request.seq) (request_queue history node)
+  queue-served script history node known =
+      queue-all history node (IsServed history node) (all_wanted history node)
+      (All-weaker (IsBy (IsRequester history node)) (λ w. still_waits history node w ≡ true → IsServed history node w.request.seq) (λ w r waits. requester-served history node w.request.seq r (first-part _ _ waits)) (all_wanted history node) (known.wanting node))
+
+  -- what holds of all that waits holds of who is granted a lock
+  pub locking-holds : (P : ℕ → ℕ → Type 0) (history : List Entry) → ((node : ℕ) → All (λ request. P node request.seq) (request_queue history node)) → IfSome (next_locked history) (λ led. P led.0 led.1)
+  unfolding next_locked
+  locking-holds P history all = given-holds (locking_at history) (λ (led : ℕ × ℕ). P led.0 led.1) (path_order (nodes_of history)) (λ node. by node (mode_at history node))
+    where
+      found : (node : ℕ) (s : SequencerValue) (led : Option ℕ) → lock_at (sequences_of history) s ≡ led → All (λ request. P node request.seq) s.queue → IfSome {T = ℕ × ℕ} (option_map (λ (id : ℕ). (node, id)) led) (λ led. P led.0 led.1)
+      found node s None is all = tt
+      found node s (Some id) is all = All-contains (λ request. P node request.seq) s.queue (lock_request id) all (excludes.locks (sequences_of history) s id is).waits
+
+      by : (node : ℕ) (mode : Option Mode) → IfSome {T = ℕ × ℕ} (option_map (λ (id : ℕ). (node, id)) (option_and_then (lock_at (sequences_of history)) (option_map (sequencer_with history node) mode))) (λ led. P led.0 led.1)
+      by node None = tt
+      by node (Some mode) = found node (sequencer_with history node mode) (lock_at (sequences_of history) (sequencer_with history node mode)) refl (all node)
+
+  -- and of who is granted an item
+  pub chosen-holds : (P : ℕ → Type 0) (history : List Entry) (node id : ℕ) (word : Option ℕ) → All (λ request. P request.seq) (request_queue history node) → chosen_at history node word ≡ Some id → P id
+  chosen-holds P history node id word all e = by (mode_at history node) e
+    where
+      picked : (s : SequencerValue) (one : Option Request) → choice s.mode (candidates_at (sequences_of history) s) word ≡ one → All (λ request. P request.seq) s.queue → option_map (λ request. request.seq) one ≡ Some id → P id
+      picked s None is all e = cc
+      picked s (Some request) is all e =
+          let same : request.seq ≡ id = cc in
+          subst P same (All-contains (λ request. P request.seq) s.queue request all (excludes.items (sequences_of history) s word request is).1.waits)
+
+      by : (mode : Option Mode) → option_and_then (λ s. choice_at (sequences_of history) s word) (option_map (sequencer_with history node) mode) ≡ Some id → P id
+      by None e = cc
+      by (Some mode) e = picked (sequencer_with history node mode) (choice (sequencer_with history node mode).mode (candidates_at (sequences_of history) (sequencer_with history node mode)) word) refl all e
+
+  known-locked : (script : ScriptValue) (before : List Entry) (node id : ℕ) → Known script before → IsNext script before (Locked node id) → GoesOn (Locked node id ∷ before) → Known script (Locked node id ∷ before)
+  known-locked script before node id known next on =
+      let entry = Locked node id in
+      let s : IsServed before node id = subst (λ (led : Option (ℕ × ℕ)). IfSome led (λ led. IsServed before led.0 led.1)) (lock-next script before node id next) (locking-holds (IsServed before) before (λ at. queue-served script before at known)) in
+      record {
+        owners = All-append (IsCallTo (entry ∷ before)) (due_from (Some call.Held) (Sequence id node) (running (stage_of before)) (now_of before) (caused_at (length before))) (caused_of before)
+            (due-owner (entry ∷ before) (Some call.Held) (Sequence id node) (running (stage_of before)) (now_of before) (caused_at (length before)) (inr (λ p runs. sequence-more script before entry p id node next on (served-expected before node id p runs s))))
+            (owners-more script before entry next on known);
+        starters = starters-more script before entry next on known;
+        speaker = speaking-on script before entry next on refl refl refl refl refl known.speaker;
+        putters = known.putters;
+        takers = known.takers;
+        imps = known.imps;
+        wanting = λ at. wanting-more script before entry at (all_wanted before at) next on (known.wanting at);
+        served = λ at other e. served-more script before entry at other next on refl (known.served at other e);
+        askers = λ at. asker-more before entry (driver_asker before at) (known.askers at);
+      }
+
+  known-granted : (script : ScriptValue) (before : List Entry) (node : ℕ) (grant : entries.Grant) → Known script before → IsNext script before (Granted node grant) → GoesOn (Granted node grant ∷ before) → Known script (Granted node grant ∷ before)
+  known-granted script before node grant known next on =
+      let entry = Granted node grant in
+      let id = grant.id in
+      let s = chosen-holds (IsServed before node) before node id grant.word (queue-served script before node known) (grant-next script before node grant next) in
+      record {
+        owners = All-append (IsCallTo (entry ∷ before)) (due_from (Some call.Grant) (Sequence id node) (running (stage_of before)) (now_of before) (caused_at (length before))) (caused_of before)
+            (due-owner (entry ∷ before) (Some call.Grant) (Sequence id node) (running (stage_of before)) (now_of before) (caused_at (length before)) (inr (λ p runs. sequence-more script before entry p id node next on (served-expected before node id p runs s))))
+            (owners-more script before entry next on known);
+        starters = starters-more script before entry next on known;
+        speaker = speaking-on script before entry next on refl refl refl refl refl known.speaker;
+        putters = known.putters;
+        takers = known.takers;
+        imps = known.imps;
+        wanting = λ at. wanting-more script before entry at (all_wanted before at) next on (known.wanting at);
+        served = λ at other e. served-more script before entry at other next on refl (granted-served before node at id other s (known.served at other) e);
+        askers = λ at. asker-more before entry (driver_asker before at) (known.askers at);
       }
 
   -- so does each entry that is next
@@ -616,8 +897,35 @@ module _ (keeps : OrderKeepsAll Owner (Option Call)) where
     putters = known.putters;
     takers = known.takers;
     imps = known.imps;
+    wanting = λ at. wanting-more script before (Drained node cause) at (all_wanted before at) next on (known.wanting at);
+    served = λ at id e. served-more script before (Drained node cause) at id next on refl (known.served at id e);
+    askers = λ at. asker-more before (Drained node cause) (driver_asker before at) (known.askers at);
   }
   known-more script before (Over reason) known next on = absurd (on refl)
+  known-more script before (Locked node id) known next on = known-locked script before node id known next on
+  known-more script before (Granted node grant) known next on = known-granted script before node grant known next on
+  known-more script before (Begin phase) known next on = record {
+    owners = owners-more script before (Begin phase) next on known;
+    starters = starters-more script before (Begin phase) next on known;
+    speaker = speaking-more script before (Begin phase) known next on;
+    putters = known.putters;
+    takers = known.takers;
+    imps = known.imps;
+    wanting = λ node. wanting-more script before (Begin phase) node (all_wanted before node) next on (known.wanting node);
+    served = λ node id e. absurd (served-begun script before phase node id next (known.served node id e));
+    askers = λ node. asker-more before (Begin phase) (driver_asker before node) (known.askers node);
+  }
+  known-more script before (End phase) known next on = record {
+    owners = owners-more script before (End phase) next on known;
+    starters = starters-more script before (End phase) next on known;
+    speaker = speaking-more script before (End phase) known next on;
+    putters = known.putters;
+    takers = known.takers;
+    imps = known.imps;
+    wanting = λ node. wanting-more script before (End phase) node (all_wanted before node) next on (known.wanting node);
+    served = λ node id e. absurd cc;
+    askers = λ node. asker-more before (End phase) (driver_asker before node) (known.askers node);
+  }
   known-more script before entry known next on = record {
     owners = owners-more script before entry next on known;
     starters = starters-more script before entry next on known;
@@ -625,6 +933,9 @@ module _ (keeps : OrderKeepsAll Owner (Option Call)) where
     putters = known.putters;
     takers = known.takers;
     imps = known.imps;
+    wanting = λ node. wanting-more script before entry node (all_wanted before node) next on (known.wanting node);
+    served = λ node id e. served-more script before entry node id next on refl (known.served node id e);
+    askers = λ node. asker-more before entry (driver_asker before node) (known.askers node);
   }
 
   -- so that it is known of every log that goes on, of which each entry was next
@@ -639,6 +950,9 @@ module _ (keeps : OrderKeepsAll Owner (Option Call)) where
     putters = λ fifo. All-nil _;
     takers = λ fifo. All-nil _;
     imps = λ node is. cc;
+    wanting = λ node. All-nil _;
+    served = λ node id e. absurd cc;
+    askers = λ node. tt;
   }
   known-of script (entry ∷ before) each on = known-more script before entry (known-of script before each.1 (went-on script before entry each.0)) each.0 on
 
@@ -653,6 +967,28 @@ module _ (keeps : OrderKeepsAll Owner (Option Call)) where
   -- so is who performs an act, but the script
   acts-before-end : (script : ScriptValue) (history : List Entry) → IsAct (next_of script history) → GoesOn history
   acts-before-end script history is ended = subst IsAct (nothing-comes script history ended) is
+
+  -- who drives a sequencer is a component
+  pub drivers-known : (script : ScriptValue) (history : List Entry) → EachIsNext script history → IsAct (next_of script history) → (node : ℕ) → IfSome (driver_asker history node) (λ driver. IsComponent (components_of history) driver.who)
+  drivers-known script history each is node = (known-of script history each (acts-before-end script history is)).askers node
+
+  -- who is granted, or whose item is in hand, was started there, in the phase that runs
+  served-is : (history : List Entry) (node id : ℕ) → IsServed history node id → place_of (numbered (begun_of history) id) ≡ Some (node, running (stage_of history))
+  served-is history node id s = rw (s.sequence.begun, s.sequence.home_is, s.sequence.phase_is, s.runs) refl
+
+  pub hands-known :
+      (script : ScriptValue) (history : List Entry) → EachIsNext script history → IsAct (next_of script history) → (node id : ℕ) → hand_of (driver_state history node) ≡ Some id
+      → place_of (numbered (begun_of history) id) ≡ Some (node, running (stage_of history))
+  hands-known script history each is node id hand = served-is history node id ((known-of script history each (acts-before-end script history is)).served node id (hand-sequence (driver_state history node) id hand))
+
+  -- who waits for a sequencer lives, and runs there
+  pub queue-living : (script : ScriptValue) (history : List Entry) (node : ℕ) → EachIsNext script history → (stage_of history ≡ Ended → ⊥) → All (λ request. IsLiving history request.seq node) (request_queue history node)
+  queue-living script history node each on =
+      queue-all history node (λ id. IsLiving history id node) (all_wanted history node)
+      (All-weaker (IsBy (IsRequester history node)) (λ w. still_waits history node w ≡ true → IsLiving history w.request.seq node) (λ w r waits. living w.request.seq r (first-part _ _ waits)) (all_wanted history node) ((known-of script history each on).wanting node))
+    where
+      living : (id : ℕ) → IsRequester history node id → is_live history id ≡ true → IsLiving history id node
+      living id r lives = record { lives = lives; home_is = ap (option_map (λ (beginning : Beginning). beginning.start.home)) r.sequence.begun ∙ ap (λ (h : ℕ). Some h) r.sequence.home_is }
 
   performer-there : (script : ScriptValue) (history : List Entry) (act : Act) → left_of script history ≡ act ∷ rest_of (left_of script history) → Speaking script history → (act ≡ opening script) ⊎ IsThere history (speaker_of history)
   performer-there script history act left (NoneLeft none) = let both : act ∷ rest_of (left_of script history) ≡ [] = sym left ∙ none in cc

@@ -1,25 +1,27 @@
 -- Acts that were performed: the speaker's next, open to him, and what they come to.
-use Rattle.std.proofs.Common.{◌≡◌, ℕ, inl, inr, suc, false, not, List, ◌∷◌, length, Option, Some, None, refl, ◌∙◌, sym, subst}
+use Rattle.std.proofs.Common.{◌≡◌, ℕ, inl, inr, suc, false, not, List, ◌∷◌, length, Option, Some, None, refl, ◌∙◌, sym, subst, Bool}
+use Rattle.uvm_sequencer.specs.declared.drivers.How.TheVariants.{Try}
+use Rattle.uvm_sequencer.specs.declared.drivers.How.{How}
 use Rattle.uvm_object.specs.declared.acts.Who.{Who}
 use Rattle.uvm_object.specs.declared.fatals.Fatal.{Fatal}
 use Rattle.uvm_object.specs.declared.fatals.Fatal.TheVariants.{NotOpen}
 use Rattle.uvm_object.specs.declared.acts.Act.{Act}
-use Rattle.uvm_object.specs.declared.acts.Act.TheVariants.{Start, EndStep}
+use Rattle.uvm_object.specs.declared.acts.Act.TheVariants.{Start, EndStep, Ask}
 use Rattle.uvm_object.specs.declared.entries.Outcome.{Outcome}
 use Rattle.uvm_object.specs.declared.entries.Outcome.TheVariants.{Started, Finished, Refused}
 use Rattle.uvm_object.specs.declared.entries.Entry.{Entry}
-use Rattle.uvm_object.specs.declared.entries.Entry.TheVariants.{Heard, Did}
+use Rattle.uvm_object.specs.declared.entries.Entry.TheVariants.{Heard, Did, Granted}
 use Rattle.bench_history.specs.Sequences.{begun_of}
 use Rattle.bench_history.specs.Refusals.{is_open_to}
 use Rattle.bench_script.specs.Scripts.{ScriptValue}
 use Rattle.bench_history.specs.declared.needs.Need as declared
 use Rattle.bench_history.specs.History.{left_of, rest_of, speaker_of, opening}
-use Rattle.bench_history.specs.Upshots.{Upshot, Needs, Does, Finds, Stores, Takes, Finishes, Refuses, unless_refused, open_upshot, upshot_of}
+use Rattle.bench_history.specs.Upshots.{Upshot, Needs, Does, Finds, Stores, Takes, Finishes, Refuses, unless_refused, open_upshot, upshot_of, Asks, asked_upshot}
 use Rattle.uvm_glob.specs.Faults.{fault_if}
-use Rattle.bench_history.specs.Cases.{Next, Exactly, Answer, Need, Nothing, by_upshot, by_act}
+use Rattle.bench_history.specs.Cases.{Next, Exactly, Answer, Need, Nothing, by_upshot, by_act, Grant}
 use Rattle.bench_history.specs.Next.{next_of, Allows, IsAct, IsNext}
 use Rattle.bench_history.specs.Laws.{HasMade, IsBegun, IsMadeBy}
-use Rattle.bench_history.proofs.Inversion.{IsOwn, Case, AtEnd, ByOwn, ByNeed, ByDeed, ByDue, ByTurn, ByEnd, ByBegin, case-of}
+use Rattle.bench_history.proofs.Inversion.{IsOwn, Case, AtEnd, ByOwn, ByNeed, ByDeed, ByDue, ByTurn, ByEnd, ByBegin, ByGrant, case-of}
 use Rattle.bench_history.proofs.Needed.{needed}
 use Rattle.bench_history.proofs.Performed.{acts_go_in_order}
 use Rattle.bench_history.proofs.Grown.{IsPlain, exact-plain, made_objects_are_new}
@@ -49,6 +51,7 @@ deed-case script history next (ByDue event call now is_call e) = subst (DeedIn s
 deed-case script history next (ByTurn phase node turn e) = subst (DeedIn script history) (sym e) tt
 deed-case script history next (ByEnd phase runs e) = subst (DeedIn script history) (sym e) tt
 deed-case script history next (ByBegin phase may e) = subst (DeedIn script history) (sym e) tt
+deed-case script history next (ByGrant sequencer drawn served e) = subst (DeedIn script history) (sym e) tt
 
 -- and so is one that needs an object
 deed-needed :
@@ -68,6 +71,7 @@ deed-next script history performer outcome act (Exactly expected) is allows =
 deed-next script history performer outcome act (Answer other call cause) is allows = let same : Did performer outcome act ≡ Heard other call cause allows.0 = allows.1 in cc
 deed-next script history performer outcome act (Need need made other deed) is (inl e) = deed-needed script history need made performer other outcome made act deed is e
 deed-next script history performer outcome act (Need need made other deed) is (inr declined) = deed-needed script history need made performer other outcome _ act deed is declined
+deed-next script history performer outcome act (Grant sequencer drawn chosen) is allows = let e : Did performer outcome act ≡ Granted sequencer allows.0 = allows.3 in cc
 deed-next script history performer outcome act Nothing is allows = absurd allows
 
 -- an act that is not open to its performer is refused
@@ -78,6 +82,7 @@ pub is-act : (performer : Who) (outcome : Outcome) (act : Act) (next : Next) →
 is-act performer outcome act (Exactly entry) allows = subst (λ (e : Entry). IsAct (Exactly e)) allows tt
 is-act performer outcome act (Answer hearer call cause) allows = let e : Did performer outcome act ≡ Heard hearer call cause allows.0 = allows.1 in cc
 is-act performer outcome act (Need need made other deed) allows = tt
+is-act performer outcome act (Grant sequencer drawn chosen) allows = let e : Did performer outcome act ≡ Granted sequencer allows.0 = allows.3 in cc
 is-act performer outcome act Nothing allows = absurd allows
 
 closed-upshot : (script : ScriptValue) (history : List Entry) (performer : Who) (act : Act) → is_open_to act performer ≡ false → upshot_of script history performer act ≡ Refuses NotOpen
@@ -103,6 +108,7 @@ started-next script before performer id act (Need need made other deed) is (inl 
     let has : HasMade before need (Started id) other deed = subst (λ (m : Outcome). HasMade before need m other deed) made_is (made_objects_are_new script before need made other deed is) in
     has.number
 started-next script before performer id act (Need need made other deed) is (inr e) = cc
+started-next script before performer id act (Grant sequencer drawn chosen) is allows = let e : Did performer (Started id) act ≡ Granted sequencer allows.0 = allows.3 in cc
 started-next script before performer id act Nothing is allows = absurd allows
 
 -- and its act is not the opening
@@ -117,6 +123,7 @@ starts-act script before performer id act (Need need made other deed) is (inl e)
     let m : IsBegun script before id deed = subst (λ (m : Outcome). IsMadeBy script before need m deed) made_is (needed script before need made other deed is).makes in
     let both : opening script ≡ Start m.asked m.name m.on m.priority = sym opens ∙ sym same ∙ m.starts in cc
 starts-act script before performer id act (Need need made other deed) is (inr e) opens = cc
+starts-act script before performer id act (Grant sequencer drawn chosen) is allows opens = let e : Did performer (Started id) act ≡ Granted sequencer allows.0 = allows.3 in cc
 starts-act script before performer id act Nothing is allows opens = absurd allows
 
 -- only the end of a step finishes a sequence
@@ -128,8 +135,13 @@ unfinished-unless : (refusal : Option Fatal) (upshot : Upshot) → IsUnfinished 
 unfinished-unless None upshot un = un
 unfinished-unless (Some fatal) upshot un = tt
 
+unfinished-asked : (how : How) (waits : Bool) → IsUnfinished (asked_upshot how waits)
+unfinished-asked Try waits = tt
+unfinished-asked how waits = tt
+
 finishing-open : (script : ScriptValue) (history : List Entry) (performer : Who) (act : Act) → open_upshot script history performer act ≡ Finishes → act ≡ EndStep
 finishing-open script history performer EndStep e = refl
+finishing-open script history performer (Ask port how) e = absurd (subst IsUnfinished e (unfinished-unless _ _ (unfinished-asked how _)))
 finishing-open script history performer act e = absurd (subst IsUnfinished e (search unfinished-unless))
 
 finishing-of : (refusal : Option Fatal) (upshot : Upshot) → unless_refused refusal upshot ≡ Finishes → upshot ≡ Finishes
@@ -142,6 +154,7 @@ by-finishes performer act Does e = cc
 by-finishes performer act (Finds value) e = cc
 by-finishes performer act (Stores stored) e = cc
 by-finishes performer act (Takes item) e = cc
+by-finishes performer act (Asks waits) e = cc
 by-finishes performer act Finishes e = refl
 by-finishes performer act (Refuses fatal) e = cc
 
@@ -174,12 +187,14 @@ finish-case script history next is (ByDue event call now is_call e) = subst Fini
 finish-case script history next is (ByTurn phase node turn e) = subst FinishesIn (sym e) tt
 finish-case script history next is (ByEnd phase runs e) = subst FinishesIn (sym e) tt
 finish-case script history next is (ByBegin phase may e) = subst FinishesIn (sym e) tt
+finish-case script history next is (ByGrant sequencer drawn served e) = subst FinishesIn (sym e) tt
 
 finished-act : (script : ScriptValue) (before : List Entry) (performer : Who) (act : Act) (next : Next) → FinishesIn next → Allows next (Did performer Finished act) → act ≡ EndStep
 finished-act script before performer act (Exactly entry) finishes allows = subst (λ (e : Entry). FinishesIn (Exactly e)) (sym allows) finishes
 finished-act script before performer act (Answer hearer call cause) finishes allows = let e : Did performer Finished act ≡ Heard hearer call cause allows.0 = allows.1 in cc
 finished-act script before performer act (Need need made other deed) finishes (inl e) = let made_is : made ≡ Finished = cc in absurd (subst (λ (m : Outcome). FinishesIn (Need need m other deed)) made_is finishes)
 finished-act script before performer act (Need need made other deed) finishes (inr e) = cc
+finished-act script before performer act (Grant sequencer drawn chosen) finishes allows = let e : Did performer Finished act ≡ Granted sequencer allows.0 = allows.3 in cc
 finished-act script before performer act Nothing finishes allows = absurd allows
 
 pub finished-next : (script : ScriptValue) (before : List Entry) (performer : Who) (act : Act) → IsNext script before (Did performer Finished act) → act ≡ EndStep

@@ -8,10 +8,11 @@ use Rattle.bench_history.specs.History.{stage_of, running, left_of, is_over}
 use Rattle.bench_history.specs.Reports.{reason_of}
 use Rattle.bench_history.specs.Dues.{due_now}
 use Rattle.bench_history.specs.Passing.{next_passed}
-use Rattle.bench_history.specs.Cases.{Next, Nothing, end_reached, giving_up, passing, long_answer, first_act, event_due, phase_call, port_check, phase_end, phase_begin, phase_to_begin, finish}
+use Rattle.bench_history.specs.Arbitration.{next_locked, next_served}
+use Rattle.bench_history.specs.Cases.{Next, Nothing, end_reached, giving_up, locking, serving, passing, long_answer, first_act, event_due, phase_call, port_check, phase_end, phase_begin, phase_to_begin, finish}
 use Rattle.bench_history.specs.Next.{first_next, next_of, Allows, IsNext, EachIsNext}
 use Rattle.bench_history.specs.Laws.{IsSomething, NothingAfterOver, SomethingBeforeOver}
-use Rattle.bench_history.proofs.Inversion.{Case, AtEnd, ByOwn, ByNeed, ByDeed, ByDue, ByTurn, ByEnd, ByBegin, case-of}
+use Rattle.bench_history.proofs.Inversion.{Case, AtEnd, ByOwn, ByNeed, ByDeed, ByDue, ByTurn, ByEnd, ByBegin, ByGrant, case-of}
 
 -- after the end nothing comes
 pub nothing-comes : (script : ScriptValue) (history : List Entry) → stage_of history ≡ Ended → next_of script history ≡ Nothing
@@ -20,6 +21,8 @@ nothing-comes script history e =
     ap (λ stage. first_next (
     end_reached stage
     ∷ giving_up (reason_of script history)
+    ∷ locking (next_locked history)
+    ∷ serving history (next_served history)
     ∷ passing (next_passed history)
     ∷ long_answer history (left_of script history)
     ∷ first_act script history (left_of script history)
@@ -40,6 +43,7 @@ some-case script history next on (ByDue event call now is_call e) = subst IsSome
 some-case script history next on (ByTurn phase node turn e) = subst IsSomething (sym e) tt
 some-case script history next on (ByEnd phase runs e) = subst IsSomething (sym e) tt
 some-case script history next on (ByBegin phase may e) = subst IsSomething (sym e) tt
+some-case script history next on (ByGrant sequencer drawn served e) = subst IsSomething (sym e) tt
 
 pub none-after : (script : ScriptValue) (before : List Entry) (entry : Entry) → IsNext script before entry → stage_of before ≡ Ended → ⊥
 none-after script before entry next ended = subst (λ (comes : Next). Allows comes entry) (nothing-comes script before ended) next

@@ -22,7 +22,7 @@ use Rattle.bench_history.specs.Sequences.{Beginning, starts_in, begun_after, beg
 use Rattle.bench_history.specs.Cases.{Next, Exactly}
 use Rattle.bench_history.specs.Next.{next_of}
 use Rattle.bench_history.specs.Laws.{IsMadeBy, HasMade, MachineEntriesAreSilent, NodesStay, MadeObjectsAreNew}
-use Rattle.bench_history.proofs.Inversion.{IsOwn, NotMade, Case, AtEnd, ByOwn, ByNeed, ByDeed, ByDue, ByTurn, ByEnd, ByBegin, case-of}
+use Rattle.bench_history.proofs.Inversion.{IsOwn, NotMade, Case, AtEnd, ByOwn, ByNeed, ByDeed, ByDue, ByTurn, ByEnd, ByBegin, ByGrant, case-of}
 use Rattle.bench_history.proofs.Needed.{needed}
 
 -- nobody answered, and no object was made
@@ -52,6 +52,7 @@ plain-case script history next (ByDue event call now is_call e) = subst IsPlainN
 plain-case script history next (ByTurn phase node turn e) = subst IsPlainNext (sym e) tt
 plain-case script history next (ByEnd phase runs e) = subst IsPlainNext (sym e) tt
 plain-case script history next (ByBegin phase may e) = subst IsPlainNext (sym e) tt
+plain-case script history next (ByGrant sequencer drawn served e) = subst IsPlainNext (sym e) tt
 
 -- so that what alone is next is plain
 pub plain-next : (script : ScriptValue) (history : List Entry) → IsPlainNext (next_of script history)

@@ -1,5 +1,6 @@
 -- The sequencers on which sequences were started are nodes of the tree.
 use Rattle.std.proofs.Common.{◌≡◌, ℕ, ◌<◌, Bool, true, false, List, [], ◌∷◌, length, slice_get, Option, Some, None, is_none, is_some, not, option_map, option_and_then, unwrap_or, suc, zero, refl, ◌∙◌, sym, subst, arith, ◌⊎◌, inl, inr, if◌then◌else◌}
+use Rattle.uvm_sequencer.specs.Laws.{LockExcludes}
 use Rattle.std.specs.Option.{option_map_or}
 use Rattle.std.specs.List.{All}
 use Rattle.std.proofs.lemmas.List.Elements.{All-nil, All-cons, All-weaker}
@@ -35,15 +36,17 @@ use Rattle.bench_history.proofs.Needed.{needed}
 use Rattle.bench_history.proofs.Grown.{IsPlain, exact-plain, nodes-more}
 use Rattle.bench_history.proofs.Living.{numbered-holds}
 use Rattle.bench_history.proofs.Called.{performers_are_there}
+use Rattle.bench_history.specs.Cases.{Grant}
+use Rattle.uvm_object.specs.declared.entries.Entry.TheVariants.{Granted}
 
 -- a sequence is started by the speaker's next act
-record IsStarting (script : ScriptValue) (history : List Entry) (performer : Who) (id : ℕ) (act : Act) : Type 0 where
-  performer_is : performer ≡ speaker_of history
-  left : left_of script history ≡ act ∷ rest_of (left_of script history)
-  begun : IsBegun script history id act
-  is : IsAct (next_of script history)
+pub record IsStarting (script : ScriptValue) (history : List Entry) (performer : Who) (id : ℕ) (act : Act) : Type 0 where
+  pub performer_is : performer ≡ speaker_of history
+  pub left : left_of script history ≡ act ∷ rest_of (left_of script history)
+  pub begun : IsBegun script history id act
+  pub is : IsAct (next_of script history)
 
-starting-next : (script : ScriptValue) (history : List Entry) (performer : Who) (id : ℕ) (act : Act) (next : Next) → next_of script history ≡ next → Allows next (Did performer (Started id) act) → IsStarting script history performer id act
+pub starting-next : (script : ScriptValue) (history : List Entry) (performer : Who) (id : ℕ) (act : Act) (next : Next) → next_of script history ≡ next → Allows next (Did performer (Started id) act) → IsStarting script history performer id act
 starting-next script history performer id act (Exactly entry) is allows =
     let plain : IsPlain entry = exact-plain script history entry is in
     absurd (subst IsPlain (sym allows) plain)
@@ -56,6 +59,7 @@ starting-next script history performer id act (Need need made other deed) is (in
     let begun : IsBegun script history id deed = subst (λ (m : Outcome). IsMadeBy script history need m deed) made_is n.makes in
     record { performer_is = who_is ∙ n.performer_is; left = rw (← same) n.left; begun = subst (IsBegun script history id) same begun; is = subst IsAct (sym is) tt }
 starting-next script history performer id act (Need need made other deed) is (inr e) = cc
+starting-next script history performer id act (Grant sequencer drawn chosen) is allows = let e : Did performer (Started id) act ≡ Granted sequencer allows.0 = allows.3 in cc
 starting-next script history performer id act Nothing is allows = absurd allows
 
 -- it has a sequencer, where nothing speaks against it
@@ -84,7 +88,7 @@ home-in starting e =
     (fourth-not (fault_if (not (in_task starting.running)) OutsideTask) (fault_if (is_none_at_all starting.priority) OutOfRange) (fault_if (is_none (sequence_named starting.types starting.type_name)) InvalidType)
     (fault_if (is_none starting.home) NoSequencer) (fault_if (is_some (path_fault starting.path)) TreeLimit) (fault_if (is_none (sequence_made starting)) OverrideLoop) e)
 
-home-of : (script : ScriptValue) (history : List Entry) (performer : Who) (asked name : List ℕ) (on : List (List ℕ)) (priority : Option ℕ) → starting_refusal (starting_now script history performer asked name on priority) ≡ None → (node : ℕ) × (home_asked (nodes_of history) performer on ≡ Some node)
+pub home-of : (script : ScriptValue) (history : List Entry) (performer : Who) (asked name : List ℕ) (on : List (List ℕ)) (priority : Option ℕ) → starting_refusal (starting_now script history performer asked name on priority) ≡ None → (node : ℕ) × (home_asked (nodes_of history) performer on ≡ Some node)
 home-of script history performer asked name on priority e = home-in (starting_now script history performer asked name on priority) e
 
 -- a sequencer is a node
@@ -139,12 +143,12 @@ started-home script before performer id act s homes (inr there) =
     let At : Who → Act → Type 0 = λ who act. Low (start_by (nodes_of before) (sequences_of before) who act).home in
     subst (λ (who : Who). At who act) (sym s.performer_is) (subst (At (speaker_of before)) (sym b.starts) by)
 
-module _ (keeps : OrderKeepsAll Owner (Option Call)) where
+module _ (keeps : OrderKeepsAll Owner (Option Call)) (excludes : LockExcludes) where
   new-home : (script : ScriptValue) (before : List Entry) (performer : Who) (id : ℕ) (act : Act) → EachIsNext script before → IsNext script before (Did performer (Started id) act) → All (λ beginning. beginning.start.home < length (nodes_of before)) (begun_of before)
       → (start_by (nodes_of before) (sequences_of before) performer act).home < length (nodes_of before)
   new-home script before performer id act each next homes =
       let s = starting-next script before performer id act (next_of script before) refl next in
-      started-home script before performer id act s homes (performers_are_there keeps script before act each s.is s.left)
+      started-home script before performer id act s homes (performers_are_there keeps excludes script before act each s.is s.left)
 
   homes-did : (script : ScriptValue) (before : List Entry) (performer : Who) (outcome : Outcome) (act : Act) → EachIsNext script before → IsNext script before (Did performer outcome act) → All (λ beginning. beginning.start.home < length (nodes_of before)) (begun_of before)
       → All (λ beginning. beginning.start.home < length (nodes_of (Did performer outcome act ∷ before))) (begun_of (Did performer outcome act ∷ before))

@@ -11,12 +11,12 @@ use Rattle.uvm_object.specs.declared.fatals.Fatal.{Fatal}
 use Rattle.uvm_object.specs.declared.fatals.Fatal.TheVariants.{TooManyActs, Timeout, Stall}
 use Rattle.uvm_object.specs.Acts.{node_of}
 use Rattle.uvm_object.specs.declared.entries.Outcome.{Outcome}
-use Rattle.uvm_object.specs.declared.entries.Outcome.TheVariants.{Done, Made, Started, Value, Stored, Taken, Finished, Refused}
+use Rattle.uvm_object.specs.declared.entries.Outcome.TheVariants.{Done, Made, Started, Value, Stored, Taken, Waits, Finished, Refused}
 use Rattle.uvm_object.specs.declared.entries.Reason.{Reason}
 use Rattle.uvm_object.specs.declared.entries.Reason.TheVariants as reason
 use Rattle.uvm_object.specs.declared.entries.Passage.{Passage}
 use Rattle.uvm_object.specs.declared.entries.Entry.{Entry}
-use Rattle.uvm_object.specs.declared.entries.Entry.TheVariants.{Begin, End, Time, Heard, Did, Passed, Drained, Note, Over}
+use Rattle.uvm_object.specs.declared.entries.Entry.TheVariants.{Begin, End, Time, Heard, Did, Locked, Granted, Passed, Drained, Note, Over}
 use Rattle.bench_script.specs.Scripts.{ScriptValue}
 use Rattle.bench_history.specs.declared.needs.Need as declared
 use Rattle.bench_history.specs.declared.stages.Stage.{Stage}
@@ -29,8 +29,9 @@ use Rattle.bench_history.specs.Objections.{objections_of, stands}
 use Rattle.bench_history.specs.Dues.{first_due, due_at, due_now}
 use Rattle.bench_history.specs.Wires.{next_unsound}
 use Rattle.bench_history.specs.Passing.{next_passed}
-use Rattle.bench_history.specs.Upshots.{Upshot, Needs, Does, Finds, Stores, Takes, Finishes, Refuses, upshot_of}
-use Rattle.bench_history.specs.Cases.{Next, Exactly, Answer, Need, Nothing, end_reached, giving_up, passing, first_act, by_upshot, by_act, by_call, event_due, phase_call, in_connect, port_check, phase_end, time_passes, phase_begin, phase_to_begin, finish}
+use Rattle.bench_history.specs.Upshots.{Upshot, Needs, Does, Finds, Stores, Takes, Asks, Finishes, Refuses, upshot_of}
+use Rattle.bench_history.specs.Arbitration.{next_locked, next_served}
+use Rattle.bench_history.specs.Cases.{Next, Exactly, Answer, Need, Grant, Nothing, end_reached, giving_up, chosen_at, locking, serving, passing, first_act, by_upshot, by_act, by_call, event_due, phase_call, in_connect, port_check, phase_end, time_passes, phase_begin, phase_to_begin, finish}
 use Rattle.bench_history.specs.Next.{first_next, next_of}
 use Rattle.bench_history.specs.Laws.{IsDue, IsDrainDue}
 
@@ -42,6 +43,8 @@ IsOwn script history (End phase) = ⊥
 IsOwn script history (Heard performer call cause acts) = ⊥
 IsOwn script history (Did performer outcome act) = ⊥
 IsOwn script history (Time time) = time ≤ script.time_limit
+IsOwn script history (Granted sequencer grant) = ⊥
+IsOwn script history (Locked sequencer id) = next_locked history ≡ Some (sequencer, id)
 IsOwn script history (Passed fifo passage) = next_passed history ≡ Some (fifo, passage)
 IsOwn script history (Drained node cause) = IsDrainDue history node cause
 IsOwn script history entry = Unit {0}
@@ -61,6 +64,8 @@ pub data Case (script : ScriptValue) (history : List Entry) (next : Next) : Type
   ByNeed : (act : Act) (need : declared.Need) (made : Outcome) → left_of script history ≡ act ∷ rest_of (left_of script history) → upshot_of script history (speaker_of history) act ≡ Needs need made → next ≡ Need need made (speaker_of history) act → Case script history next
   -- or comes to something at once, by which no object is made
   ByDeed : (act : Act) (outcome : Outcome) → left_of script history ≡ act ∷ rest_of (left_of script history) → NotMade outcome → by_act script history (speaker_of history) act ≡ Exactly (Did (speaker_of history) outcome act) → next ≡ Exactly (Did (speaker_of history) outcome act) → Case script history next
+  -- or a sequencer grants an item
+  ByGrant : (sequencer : ℕ) (drawn : Bool) → next_served history ≡ Some (sequencer, drawn) → next ≡ Grant sequencer drawn (chosen_at history sequencer) → Case script history next
   -- or a call is due
   ByDue : (event : Event) (call : Call) → due_now history ≡ Some event → event.notice ≡ Some call → next ≡ Answer (who_of event.owner) call (Some event.cause) → Case script history next
   -- or it is somebody's turn in the phase that runs
@@ -155,6 +160,7 @@ case-upshot script history next act Does left is e = ByDeed act Done left tt (ap
 case-upshot script history next act (Finds value) left is e = ByDeed act (Value value) left tt (ap (by_upshot (speaker_of history) act) is) e
 case-upshot script history next act (Stores stored) left is e = ByDeed act (Stored stored) left tt (ap (by_upshot (speaker_of history) act) is) e
 case-upshot script history next act (Takes item) left is e = ByDeed act (Taken item) left tt (ap (by_upshot (speaker_of history) act) is) e
+case-upshot script history next act (Asks waits) left is e = ByDeed act (Waits waits) left tt (ap (by_upshot (speaker_of history) act) is) e
 case-upshot script history next act Finishes left is e = ByDeed act Finished left tt (ap (by_upshot (speaker_of history) act) is) e
 case-upshot script history next act (Refuses fatal) left is e = ByDeed act (Refused fatal) left tt (ap (by_upshot (speaker_of history) act) is) e
 
@@ -184,15 +190,27 @@ case-passing :
 case-passing script history next (Some passed) is e = ByOwn (Passed passed.0 passed.1) is e
 case-passing script history next None is e = case-left script history next (left_of script history) refl e
 
+case-serving :
+    (script : ScriptValue) (history : List Entry) (next : Next) (served : Option (ℕ × Bool)) → next_served history ≡ served
+    → next ≡ first_next (serving history served ∷ passing (next_passed history) ∷ answer_cases script history (left_of script history)) → Case script history next
+case-serving script history next (Some served) is e = ByGrant served.0 served.1 is e
+case-serving script history next None is e = case-passing script history next (next_passed history) refl e
+
+case-locking :
+    (script : ScriptValue) (history : List Entry) (next : Next) (led : Option (ℕ × ℕ)) → next_locked history ≡ led
+    → next ≡ first_next (locking led ∷ serving history (next_served history) ∷ passing (next_passed history) ∷ answer_cases script history (left_of script history)) → Case script history next
+case-locking script history next (Some led) is e = ByOwn (Locked led.0 led.1) is e
+case-locking script history next None is e = case-serving script history next (next_served history) refl e
+
 case-reason :
     (script : ScriptValue) (history : List Entry) (next : Next) (why : Option Reason) → reason_of script history ≡ why
-    → next ≡ first_next (giving_up why ∷ passing (next_passed history) ∷ answer_cases script history (left_of script history)) → Case script history next
+    → next ≡ first_next (giving_up why ∷ locking (next_locked history) ∷ serving history (next_served history) ∷ passing (next_passed history) ∷ answer_cases script history (left_of script history)) → Case script history next
 case-reason script history next (Some why) is e = ByOwn (Over why) tt e
-case-reason script history next None is e = case-passing script history next (next_passed history) refl e
+case-reason script history next None is e = case-locking script history next (next_locked history) refl e
 
 case-stage :
     (script : ScriptValue) (history : List Entry) (next : Next) (stage : Stage) → stage_of history ≡ stage
-    → next ≡ first_next (end_reached stage ∷ giving_up (reason_of script history) ∷ passing (next_passed history) ∷ answer_cases script history (left_of script history)) → Case script history next
+    → next ≡ first_next (end_reached stage ∷ giving_up (reason_of script history) ∷ locking (next_locked history) ∷ serving history (next_served history) ∷ passing (next_passed history) ∷ answer_cases script history (left_of script history)) → Case script history next
 case-stage script history next Ended is e = AtEnd is e
 case-stage script history next Before is e = case-reason script history next (reason_of script history) refl e
 case-stage script history next (During phase) is e = case-reason script history next (reason_of script history) refl e

@@ -1,5 +1,6 @@
 -- The sequences that end lived until then.
 use Rattle.std.proofs.Common.{◌≡◌, ℕ, ◌<◌, ◌≤◌, ◌==◌, Bool, true, false, not, ◌&&◌, ◌||◌, filter, if◌then◌else◌, List, [], ◌∷◌, ◌++◌, length, Option, Some, None, option_map, refl, ap, ◌∙◌, sym, subst, arith}
+use Rattle.uvm_sequencer.specs.Laws.{LockExcludes}
 use Rattle.std.specs.Option.{option_map_or}
 use Rattle.std.specs.List.{All, list_any}
 use Rattle.std.proofs.lemmas.Bool.Decides.{nat_tests}
@@ -189,10 +190,10 @@ rising-after : (performer : Who) (outcome : Outcome) → AreRising (leaving_afte
 rising-after performer Finished = (All-nil _, tt)
 rising-after performer outcome = tt
 
-module _ (keeps : OrderKeepsAll Owner (Option Call)) where
+module _ (keeps : OrderKeepsAll Owner (Option Call)) (excludes : LockExcludes) where
   pub leavers_lived : LeaversLived
   leavers_lived script before (Did performer outcome act) each next = record {
-    lived = left-after before performer outcome (λ finishes. finisher_lives keeps script before performer act each (subst (λ (o : Outcome). IsNext script before (Did performer o act)) finishes next));
+    lived = left-after before performer outcome (λ finishes. finisher_lives keeps excludes script before performer act each (subst (λ (o : Outcome). IsNext script before (Did performer o act)) finishes next));
     gone = left-gone before performer outcome act;
     rising = rising-after performer outcome;
   }

@@ -8,10 +8,12 @@ mod Asking
 mod Ended
 mod Living
 mod Running
+pub mod Served
 mod Deeds
 mod Called
 mod Leaving
 mod Homes
+mod Driving
 mod Reported
 mod Timed
 mod Wired

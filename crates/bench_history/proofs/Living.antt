@@ -28,11 +28,12 @@ use Rattle.bench_history.specs.History.{stage_of, running, nodes_of, left_of, sp
 use Rattle.bench_history.specs.Reports.{reason_of}
 use Rattle.bench_history.specs.Sequences.{Beginning, begun_after, begun_of, finished_of, is_live}
 use Rattle.bench_history.specs.Passing.{next_passed}
-use Rattle.bench_history.specs.Upshots.{Upshot, Needs, Does, Finds, Stores, Takes, Finishes, Refuses, upshot_of}
-use Rattle.bench_history.specs.Cases.{Next, Exactly, end_reached, giving_up, passing, long_answer, first_act, by_upshot, phase_to_begin}
+use Rattle.bench_history.specs.Arbitration.{next_locked, next_served}
+use Rattle.bench_history.specs.Upshots.{Upshot, Needs, Does, Finds, Stores, Takes, Finishes, Refuses, upshot_of, Asks}
+use Rattle.bench_history.specs.Cases.{Next, Exactly, end_reached, giving_up, locking, serving, passing, long_answer, first_act, by_upshot, phase_to_begin}
 use Rattle.bench_history.specs.Next.{first_next, next_of, IsNext}
 use Rattle.bench_history.specs.Laws.{IsLiving}
-use Rattle.bench_history.proofs.Inversion.{IsOwn, Case, AtEnd, ByOwn, ByNeed, ByDeed, ByDue, ByTurn, ByEnd, ByBegin, case-of}
+use Rattle.bench_history.proofs.Inversion.{IsOwn, Case, AtEnd, ByOwn, ByNeed, ByDeed, ByDue, ByTurn, ByEnd, ByBegin, ByGrant, case-of}
 use Rattle.bench_history.proofs.Phased.{begin-alone, end-alone, end-case}
 
 -- one that has a number has it still when there is one more
@@ -98,6 +99,7 @@ no-mark performer act Does is = is
 no-mark performer act (Finds value) is = is
 no-mark performer act (Stores stored) is = is
 no-mark performer act (Takes item) is = is
+no-mark performer act (Asks waits) is = is
 no-mark performer act Finishes is = is
 no-mark performer act (Refuses fatal) is = is
 
@@ -110,24 +112,36 @@ none-among script history (act ∷ acts) others is = tested (nat_lt most_acts (l
     tested true is = absurd is
     tested false is = absurd (no-mark (speaker_of history) act (upshot_of script history (speaker_of history) act) is)
 
+none-passed :
+    (script : ScriptValue) (history : List Entry) (passed : Option (ℕ × Passage)) (left : List Act) (others : List (Option Next))
+    → IsMarkNext (first_next (passing passed ∷ long_answer history left ∷ first_act script history left ∷ others)) → left ≡ []
+none-passed script history (Some passed) left others is = absurd is
+none-passed script history None left others is = none-among script history left others is
+
+none-served :
+    (script : ScriptValue) (history : List Entry) (led : Option (ℕ × ℕ)) (served : Option (ℕ × Bool)) (left : List Act) (others : List (Option Next))
+    → IsMarkNext (first_next (locking led ∷ serving history served ∷ passing (next_passed history) ∷ long_answer history left ∷ first_act script history left ∷ others)) → left ≡ []
+none-served script history (Some led) served left others is = absurd is
+none-served script history None (Some served) left others is = absurd is
+none-served script history None None left others is = none-passed script history (next_passed history) left others is
+
 none-given :
-    (script : ScriptValue) (history : List Entry) (why : Option Reason) (passed : Option (ℕ × Passage)) (left : List Act) (others : List (Option Next))
-    → IsMarkNext (first_next (giving_up why ∷ passing passed ∷ long_answer history left ∷ first_act script history left ∷ others)) → left ≡ []
-none-given script history (Some why) passed left others is = absurd is
-none-given script history None (Some passed) left others is = absurd is
-none-given script history None None left others is = none-among script history left others is
+    (script : ScriptValue) (history : List Entry) (why : Option Reason) (left : List Act) (others : List (Option Next))
+    → IsMarkNext (first_next (giving_up why ∷ locking (next_locked history) ∷ serving history (next_served history) ∷ passing (next_passed history) ∷ long_answer history left ∷ first_act script history left ∷ others)) → left ≡ []
+none-given script history (Some why) left others is = absurd is
+none-given script history None left others is = none-served script history (next_locked history) (next_served history) left others is
 
 none-left :
-    (script : ScriptValue) (history : List Entry) (stage : Stage) (why : Option Reason) (passed : Option (ℕ × Passage)) (left : List Act) (others : List (Option Next))
-    → IsMarkNext (first_next (end_reached stage ∷ giving_up why ∷ passing passed ∷ long_answer history left ∷ first_act script history left ∷ others)) → left ≡ []
-none-left script history Ended why passed left others is = absurd is
-none-left script history Before why passed left others is = none-given script history why passed left others is
-none-left script history (During phase) why passed left others is = none-given script history why passed left others is
-none-left script history (After phase) why passed left others is = none-given script history why passed left others is
+    (script : ScriptValue) (history : List Entry) (stage : Stage) (why : Option Reason) (left : List Act) (others : List (Option Next))
+    → IsMarkNext (first_next (end_reached stage ∷ giving_up why ∷ locking (next_locked history) ∷ serving history (next_served history) ∷ passing (next_passed history) ∷ long_answer history left ∷ first_act script history left ∷ others)) → left ≡ []
+none-left script history Ended why left others is = absurd is
+none-left script history Before why left others is = none-given script history why left others is
+none-left script history (During phase) why left others is = none-given script history why left others is
+none-left script history (After phase) why left others is = none-given script history why left others is
 
 mark-left : (script : ScriptValue) (history : List Entry) → IsMarkNext (next_of script history) → left_of script history ≡ []
 unfolding next_of
-mark-left script history is = none-left script history (stage_of history) (reason_of script history) (next_passed history) (left_of script history) _ is
+mark-left script history is = none-left script history (stage_of history) (reason_of script history) (left_of script history) _ is
 
 pub begin-left : (script : ScriptValue) (history : List Entry) (phase : Phase) → IsNext script history (Begin phase) → left_of script history ≡ []
 begin-left script history phase next = mark-left script history (subst IsMarkNext (sym (begin-alone phase (next_of script history) next)) tt)
@@ -145,12 +159,17 @@ begins-case script history phase next is (ByDue event call now is_call e) = cc
 begins-case script history phase next is (ByTurn running node turn e) = cc
 begins-case script history phase next is (ByEnd running runs e) = cc
 begins-case script history phase next is (ByBegin begins may e) = let same : begins ≡ phase = cc in subst (λ (p : Phase). phase_to_begin (stage_of history) ≡ Some p) same may
+begins-case script history phase next is (ByGrant sequencer drawn served e) = cc
 
 none-runs : (stage : Stage) (phase other : Phase) → phase_to_begin stage ≡ Some other → running stage ≡ Some phase → ⊥
 none-runs Before phase other begins runs = cc
 none-runs (During running) phase other begins runs = cc
 none-runs (After last) phase other begins runs = cc
 none-runs Ended phase other begins runs = cc
+
+-- so that none runs where one begins
+pub begin-runs : (script : ScriptValue) (history : List Entry) (phase other : Phase) → IsNext script history (Begin phase) → running (stage_of history) ≡ Some other → ⊥
+begin-runs script history phase other next runs = none-runs (stage_of history) other phase (begins-case script history phase (next_of script history) (begin-alone phase (next_of script history) next) (case-of script history)) runs
 
 pub same-itself : (phase : Phase) → same_phase phase phase ≡ true
 same-itself Build = refl

@@ -1,5 +1,7 @@
 -- Where an object is what comes next.
 use Rattle.std.proofs.Common.{◌≡◌, ℕ, suc, Bool, true, false, not, List, [], ◌∷◌, Option, Some, None, IsSome, is_none, length, refl, ap, ◌∙◌, sym, subst}
+use Rattle.uvm_sequencer.specs.declared.drivers.How.TheVariants.{Try}
+use Rattle.uvm_sequencer.specs.declared.drivers.How.{How}
 use Rattle.uvm_glob.specs.Lists.{first_given}
 use Rattle.uvm_tree.specs.declared.nodes.Node.{Node}
 use Rattle.uvm_glob.specs.Faults.{fault_if}
@@ -9,7 +11,7 @@ use Rattle.uvm_tree.specs.Nodes.{node_at, add_fault}
 use Rattle.uvm_object.specs.Acts.{node_of}
 use Rattle.uvm_object.specs.declared.acts.Who.{Who}
 use Rattle.uvm_object.specs.declared.acts.Act.{Act}
-use Rattle.uvm_object.specs.declared.acts.Act.TheVariants.{Create, Start, EndStep}
+use Rattle.uvm_object.specs.declared.acts.Act.TheVariants.{Create, Start, EndStep, Ask}
 use Rattle.uvm_object.specs.declared.fatals.Fatal.{Fatal}
 use Rattle.uvm_object.specs.declared.fatals.Fatal.TheVariants.{CreatedAfterBuild, InvalidType, OverrideLoop, NotOpen}
 use Rattle.uvm_object.specs.declared.entries.Outcome.{Outcome}
@@ -20,13 +22,13 @@ use Rattle.bench_history.specs.declared.needs.Need as declared
 use Rattle.bench_history.specs.History.{nodes_of, left_of, rest_of, speaker_of}
 use Rattle.bench_history.specs.Refusals.{Creation, Starting, type_asked, type_made, child_refusal, fatal_of, creation_refusal, starting_refusal, is_open_to}
 use Rattle.bench_history.specs.Sequences.{next_step, sequences_of}
-use Rattle.bench_history.specs.Upshots.{Upshot, Needs, unless_refused, needed_object, needed_sequence, creation_now, creation_upshot, starting_now, starting_upshot, step_upshot, open_upshot, upshot_of}
+use Rattle.bench_history.specs.Upshots.{Upshot, Needs, unless_refused, needed_object, needed_sequence, creation_now, creation_upshot, starting_now, starting_upshot, step_upshot, open_upshot, upshot_of, asked_upshot}
 use Rattle.uvm_sequencer.specs.declared.starts.SeqStep.{SeqStep}
 use Rattle.bench_history.specs.Cases.{Next, Need}
 use Rattle.bench_history.specs.Next.{next_of, need_in, IsAct}
 use Rattle.bench_history.specs.Laws.{IsMadeBy, IsWanted, NeedsAreWanted}
 use Rattle.bench_history.proofs.Performed.{settled-of}
-use Rattle.bench_history.proofs.Inversion.{Case, AtEnd, ByOwn, ByNeed, ByDeed, ByDue, ByTurn, ByEnd, ByBegin, case-of}
+use Rattle.bench_history.proofs.Inversion.{Case, AtEnd, ByOwn, ByNeed, ByDeed, ByDue, ByTurn, ByEnd, ByBegin, ByGrant, case-of}
 
 -- a name can be free only under a node that is there
 some-node : (nodes : List Node) (parent : ℕ) (name : List ℕ) → child_refusal nodes parent name ≡ None → IsSome (node_at nodes parent)
@@ -119,6 +121,10 @@ at-once-step : (step : Option SeqStep) → IsAtOnce (step_upshot step)
 at-once-step None = tt
 at-once-step (Some step) = tt
 
+at-once-asked : (how : How) (waits : Bool) → IsAtOnce (asked_upshot how waits)
+at-once-asked Try waits = tt
+at-once-asked how waits = tt
+
 -- an act is not refused where an object is needed for it
 open-of : (refusal : Option Fatal) (upshot : Upshot) (need : declared.Need) (made : Outcome) → unless_refused refusal upshot ≡ Needs need made → upshot ≡ Needs need made
 open-of None upshot need made e = e
@@ -129,6 +135,7 @@ making-of : (script : ScriptValue) (history : List Entry) (act : Act) (need : de
 making-of script history (Create asked name) need made e = creating-of script history asked name need made e
 making-of script history (Start asked name on priority) need made e = starting-of script history asked name on priority need made e
 making-of script history EndStep need made e = absurd (subst IsAtOnce e (at-once-step (next_step history (speaker_of history))))
+making-of script history (Ask port how) need made e = absurd (subst IsAtOnce e (at-once-unless _ _ (at-once-asked how _)))
 making-of script history act need made e = absurd (subst IsAtOnce e (search at-once-unless))
 
 wanted-by : (script : ScriptValue) (history : List Entry) (act : Act) (need : declared.Need) (made : Outcome) → upshot_of script history (speaker_of history) act ≡ Needs need made → next_of script history ≡ Need need made (speaker_of history) act → IsWanted script history act
@@ -155,6 +162,7 @@ need-case script history next is need (ByDue event call now is_call e) = not-nee
 need-case script history next is need (ByTurn phase node turn e) = not-needed _ next e refl need
 need-case script history next is need (ByEnd phase runs e) = not-needed _ next e refl need
 need-case script history next is need (ByBegin phase may e) = not-needed _ next e refl need
+need-case script history next is need (ByGrant sequencer drawn served e) = not-needed _ next e refl need
 
 pub needs_are_wanted : NeedsAreWanted
 needs_are_wanted script history need = need-case script history (next_of script history) refl need (case-of script history)

@@ -1,5 +1,6 @@
 -- Where an act, or a call that is due, is what comes next.
-use Rattle.std.proofs.Common.{◌≡◌, ℕ, List, ◌∷◌, Option, Some, None, refl, ap, sym, ◌∙◌, subst}
+use Rattle.std.proofs.Common.{◌≡◌, ℕ, List, ◌∷◌, Option, Some, None, refl, ap, sym, ◌∙◌, subst, Bool}
+use Rattle.uvm_phase.specs.declared.phases.Phase.{Phase}
 use Rattle.uvm_phase.specs.declared.agendas.Cause.{Cause}
 use Rattle.uvm_object.specs.declared.acts.Who.{Who}
 use Rattle.uvm_object.specs.declared.acts.Call.{Call}
@@ -7,7 +8,7 @@ use Rattle.uvm_object.specs.declared.acts.Act.{Act}
 use Rattle.uvm_object.specs.declared.entries.Passage.{Passage}
 use Rattle.uvm_object.specs.declared.entries.Reason.{Reason}
 use Rattle.uvm_object.specs.declared.entries.Entry.{Entry}
-use Rattle.uvm_object.specs.declared.entries.Entry.TheVariants.{Did, Passed, Drained}
+use Rattle.uvm_object.specs.declared.entries.Entry.TheVariants.{End, Did, Locked, Passed, Drained}
 use Rattle.bench_script.specs.Scripts.{ScriptValue}
 use Rattle.bench_history.specs.Owners.{who_of}
 use Rattle.bench_history.specs.declared.stages.Stage.{Stage}
@@ -15,30 +16,46 @@ use Rattle.bench_history.specs.declared.stages.Stage.TheVariants.{Before, During
 use Rattle.bench_history.specs.History.{stage_of, speaker_of}
 use Rattle.bench_history.specs.Reports.{reason_of}
 use Rattle.bench_history.specs.Passing.{next_passed}
-use Rattle.bench_history.specs.Cases.{Next, Exactly, Answer, end_reached, giving_up, passing, by_upshot}
+use Rattle.bench_history.specs.Arbitration.{next_locked, next_served}
+use Rattle.bench_history.specs.Cases.{Next, Exactly, Answer, Grant, chosen_at, end_reached, giving_up, locking, serving, passing, by_upshot}
 use Rattle.bench_history.specs.Next.{first_next, next_of, IsAct}
-use Rattle.bench_history.specs.Laws.{IsDrainDue, IsDue, IsFirstAct, ActsGoInOrder, PassagesGoInOrder, DueCallsGoInOrder, DrainsGoInOrder}
-use Rattle.bench_history.proofs.Inversion.{IsOwn, Case, AtEnd, ByOwn, ByNeed, ByDeed, ByDue, ByTurn, ByEnd, ByBegin, case-of, due-first}
+use Rattle.bench_history.specs.Laws.{IsDrainDue, IsDue, IsFirstAct, IsServing, IsSettled, ActsGoInOrder, GrantsGoInOrder, LocksGoInOrder, PassagesGoInOrder, RunningPhasesEnd, DueCallsGoInOrder, DrainsGoInOrder}
+use Rattle.bench_history.proofs.Inversion.{IsOwn, Case, AtEnd, ByOwn, ByNeed, ByDeed, ByDue, ByTurn, ByEnd, ByBegin, ByGrant, case-of, due-first}
 
 -- what the machine writes by itself is no act's
 no-own : (script : ScriptValue) (history : List Entry) (entry : Entry) → IsOwn script history entry → IsAct (Exactly entry) → ⊥
 no-own script history (Did performer outcome act) own is = own
 no-own script history entry own is = is
 
--- where something passes no act is next
-settled-after : (stage : Stage) (reason : Option Reason) (passed : Option (ℕ × Passage)) (others : List (Option Next)) → IsAct (first_next (end_reached stage ∷ giving_up reason ∷ passing passed ∷ others)) → passed ≡ None
-settled-after stage reason None others is = refl
-settled-after Ended reason (Some passed) others is = absurd is
-settled-after Before (Some reason) (Some passed) others is = absurd is
-settled-after Before None (Some passed) others is = absurd is
-settled-after (During phase) (Some reason) (Some passed) others is = absurd is
-settled-after (During phase) None (Some passed) others is = absurd is
-settled-after (After phase) (Some reason) (Some passed) others is = absurd is
-settled-after (After phase) None (Some passed) others is = absurd is
+-- where something passes, or a lock or an item is granted, no act is next
+abbrev AreNone : Option (ℕ × ℕ) → Option (ℕ × Bool) → Option (ℕ × Passage) → Type 0
+AreNone led served passed = (led ≡ None) × (served ≡ None) × (passed ≡ None)
 
-pub settled-of : (script : ScriptValue) (history : List Entry) → IsAct (next_of script history) → next_passed history ≡ None
+settled-led : (history : List Entry) (led : Option (ℕ × ℕ)) (served : Option (ℕ × Bool)) (passed : Option (ℕ × Passage)) (others : List (Option Next)) → IsAct (first_next (locking led ∷ serving history served ∷ passing passed ∷ others)) → AreNone led served passed
+settled-led history (Some one) served passed others is = absurd is
+settled-led history None (Some one) passed others is = absurd is
+settled-led history None None (Some passed) others is = absurd is
+settled-led history None None None others is = (refl, refl, refl)
+
+settled-given :
+    (history : List Entry) (reason : Option Reason) (led : Option (ℕ × ℕ)) (served : Option (ℕ × Bool)) (passed : Option (ℕ × Passage)) (others : List (Option Next))
+    → IsAct (first_next (giving_up reason ∷ locking led ∷ serving history served ∷ passing passed ∷ others)) → AreNone led served passed
+settled-given history (Some reason) led served passed others is = absurd is
+settled-given history None led served passed others is = settled-led history led served passed others is
+
+settled-after :
+    (history : List Entry) (stage : Stage) (reason : Option Reason) (led : Option (ℕ × ℕ)) (served : Option (ℕ × Bool)) (passed : Option (ℕ × Passage)) (others : List (Option Next))
+    → IsAct (first_next (end_reached stage ∷ giving_up reason ∷ locking led ∷ serving history served ∷ passing passed ∷ others)) → AreNone led served passed
+settled-after history Ended reason led served passed others is = absurd is
+settled-after history Before reason led served passed others is = settled-given history reason led served passed others is
+settled-after history (During phase) reason led served passed others is = settled-given history reason led served passed others is
+settled-after history (After phase) reason led served passed others is = settled-given history reason led served passed others is
+
+pub settled-of : (script : ScriptValue) (history : List Entry) → IsAct (next_of script history) → IsSettled history
 unfolding next_of
-settled-of script history is = settled-after (stage_of history) (reason_of script history) (next_passed history) _ is
+settled-of script history is =
+    let none = settled-after history (stage_of history) (reason_of script history) (next_locked history) (next_served history) (next_passed history) _ is in
+    record { unlocked = none.0; unserved = none.1; unpassed = none.2 }
 
 act-case : (script : ScriptValue) (history : List Entry) (next : Next) → next_of script history ≡ next → IsAct next → Case script history next → (act : Act) × IsFirstAct script history act
 act-case script history next is did (AtEnd ended e) = absurd (subst IsAct e did)
@@ -49,6 +66,7 @@ act-case script history next is did (ByDue event call now is_call e) = absurd (s
 act-case script history next is did (ByTurn phase node turn e) = absurd (subst IsAct e did)
 act-case script history next is did (ByEnd phase runs e) = absurd (subst IsAct e did)
 act-case script history next is did (ByBegin phase may e) = absurd (subst IsAct e did)
+act-case script history next is did (ByGrant sequencer drawn served e) = absurd (subst IsAct e did)
 
 pub acts_go_in_order : ActsGoInOrder
 acts_go_in_order script history did = act-case script history (next_of script history) refl did (case-of script history)
@@ -68,6 +86,7 @@ due-case script history hearer call cause next asks (ByDue event heard now is e)
 due-case script history hearer call cause next asks (ByTurn phase node turn e) = cc
 due-case script history hearer call cause next asks (ByEnd phase runs e) = cc
 due-case script history hearer call cause next asks (ByBegin phase may e) = cc
+due-case script history hearer call cause next asks (ByGrant sequencer drawn served e) = cc
 
 pub due_calls_go_in_order : DueCallsGoInOrder
 due_calls_go_in_order script history hearer call cause asks = due-case script history hearer call cause _ asks (case-of script history)
@@ -81,6 +100,7 @@ drain-case script history node cause next ends (ByDue event call now is e) = cc
 drain-case script history node cause next ends (ByTurn phase other turn e) = cc
 drain-case script history node cause next ends (ByEnd phase runs e) = cc
 drain-case script history node cause next ends (ByBegin phase may e) = cc
+drain-case script history node cause next ends (ByGrant sequencer drawn served e) = cc
 
 pub drains_go_in_order : DrainsGoInOrder
 drains_go_in_order script history node cause ends = drain-case script history node cause _ ends (case-of script history)
@@ -94,6 +114,56 @@ passage-case script history fifo passage next passes (ByDue event call now is e)
 passage-case script history fifo passage next passes (ByTurn phase other turn e) = cc
 passage-case script history fifo passage next passes (ByEnd phase runs e) = cc
 passage-case script history fifo passage next passes (ByBegin phase may e) = cc
+passage-case script history fifo passage next passes (ByGrant sequencer drawn served e) = cc
 
 pub passages_go_in_order : PassagesGoInOrder
 passages_go_in_order script history fifo passage passes = passage-case script history fifo passage _ passes (case-of script history)
+
+-- so are locks and items that are granted
+pub lock-case : (script : ScriptValue) (history : List Entry) (node id : ℕ) (next : Next) → next ≡ Exactly (Locked node id) → Case script history next → next_locked history ≡ Some (node, id)
+lock-case script history node id next is (AtEnd over e) = cc
+lock-case script history node id next is (ByOwn entry own e) = let same : entry ≡ Locked node id = cc in subst (IsOwn script history) same own
+lock-case script history node id next is (ByNeed act need made left upshot e) = cc
+lock-case script history node id next is (ByDeed act outcome left plain comes e) = cc
+lock-case script history node id next is (ByDue event call now is_call e) = cc
+lock-case script history node id next is (ByTurn phase at turn e) = cc
+lock-case script history node id next is (ByEnd phase runs e) = cc
+lock-case script history node id next is (ByBegin phase may e) = cc
+lock-case script history node id next is (ByGrant sequencer drawn served e) = cc
+
+pub locks_go_in_order : LocksGoInOrder
+locks_go_in_order script history node id is = lock-case script history node id _ is (case-of script history)
+
+serving-case : (script : ScriptValue) (history : List Entry) (node : ℕ) (drawn : Bool) (chosen : Option ℕ → Option ℕ) (next : Next) → next ≡ Grant node drawn chosen → Case script history next → IsServing history node drawn chosen
+serving-case script history node drawn chosen next is (AtEnd over e) = cc
+serving-case script history node drawn chosen next is (ByOwn entry own e) = cc
+serving-case script history node drawn chosen next is (ByNeed act need made left upshot e) = cc
+serving-case script history node drawn chosen next is (ByDeed act outcome left plain comes e) = cc
+serving-case script history node drawn chosen next is (ByDue event call now is_call e) = cc
+serving-case script history node drawn chosen next is (ByTurn phase at turn e) = cc
+serving-case script history node drawn chosen next is (ByEnd phase runs e) = cc
+serving-case script history node drawn chosen next is (ByBegin phase may e) = cc
+serving-case script history node drawn chosen next is (ByGrant sequencer word served e) =
+    let same : Grant node drawn chosen ≡ Grant sequencer word (chosen_at history sequencer) = sym is ∙ e in
+    let at : node ≡ sequencer = cc in
+    let which : drawn ≡ word = cc in
+    let choose : chosen ≡ chosen_at history sequencer = cc in
+    record { served = rw (at, which) served; chosen_is = rw at choose }
+
+pub grants_go_in_order : GrantsGoInOrder
+grants_go_in_order script history node drawn chosen is = serving-case script history node drawn chosen _ is (case-of script history)
+
+-- the phase that ends is the one that runs
+end-case : (script : ScriptValue) (history : List Entry) (phase : Phase) (next : Next) → next ≡ Exactly (End phase) → Case script history next → stage_of history ≡ During phase
+end-case script history phase next is (AtEnd ended e) = cc
+end-case script history phase next is (ByOwn entry own e) = let same : entry ≡ End phase = cc in absurd (subst (IsOwn script history) same own)
+end-case script history phase next is (ByNeed act need made left upshot e) = cc
+end-case script history phase next is (ByDeed act outcome left plain comes e) = cc
+end-case script history phase next is (ByDue event call now is_call e) = cc
+end-case script history phase next is (ByTurn other node turn e) = cc
+end-case script history phase next is (ByEnd other runs e) = let same : other ≡ phase = cc in subst (λ (p : Phase). stage_of history ≡ During p) same runs
+end-case script history phase next is (ByBegin other may e) = cc
+end-case script history phase next is (ByGrant sequencer word served e) = cc
+
+pub running_phases_end : RunningPhasesEnd
+running_phases_end script history phase is = end-case script history phase _ is (case-of script history)

@@ -6,15 +6,15 @@ use Rattle.uvm_phase.specs.declared.phases.Phase.{Phase}
 use Rattle.uvm_phase.specs.declared.phases.Phase.TheVariants.{Build, Connect, EndOfElaboration, StartOfSimulation, Run, Extract, Check, Report, Final}
 use Rattle.uvm_phase.specs.Phases.{phases, phase_number, phase_after}
 use Rattle.uvm_object.specs.declared.entries.Entry.{Entry}
-use Rattle.uvm_object.specs.declared.entries.Entry.TheVariants.{Begin, End, Over}
+use Rattle.uvm_object.specs.declared.entries.Entry.TheVariants.{Begin, End, Over, Granted}
 use Rattle.bench_script.specs.Scripts.{ScriptValue}
 use Rattle.bench_history.specs.declared.stages.Stage.{Stage}
 use Rattle.bench_history.specs.declared.stages.Stage.TheVariants.{Before, During, After, Ended}
 use Rattle.bench_history.specs.History.{stage_of, ended_of}
-use Rattle.bench_history.specs.Cases.{Next, Exactly, Answer, Need, Nothing, phase_to_begin}
+use Rattle.bench_history.specs.Cases.{Next, Exactly, Answer, Need, Nothing, phase_to_begin, Grant}
 use Rattle.bench_history.specs.Next.{next_of, Allows, IsNext}
 use Rattle.bench_history.specs.Laws.{next_number, ArePhasesInOrder, PhasesGoInOrder}
-use Rattle.bench_history.proofs.Inversion.{IsOwn, Case, AtEnd, ByOwn, ByNeed, ByDeed, ByDue, ByTurn, ByEnd, ByBegin, case-of}
+use Rattle.bench_history.proofs.Inversion.{IsOwn, Case, AtEnd, ByOwn, ByNeed, ByDeed, ByDue, ByTurn, ByEnd, ByBegin, ByGrant, case-of}
 
 -- the phase after one has the next number
 number-after : (last phase : Phase) → phase_after last ≡ Some phase → phase_number phase ≡ phase_number last + 1
@@ -50,6 +50,7 @@ begin-case script history phase next is (ByDue event call now is_call e) = cc
 begin-case script history phase next is (ByTurn running node turn e) = cc
 begin-case script history phase next is (ByEnd running runs e) = cc
 begin-case script history phase next is (ByBegin begins may e) = let same : begins ≡ phase = cc in rw (← same) (begin-number (stage_of history) begins may, begin-on (stage_of history) begins may)
+begin-case script history phase next is (ByGrant sequencer drawn served e) = cc
 
 -- a phase that ends is the one that runs
 pub end-case : (script : ScriptValue) (history : List Entry) (phase : Phase) (next : Next) → next ≡ Exactly (End phase) → Case script history next → stage_of history ≡ During phase
@@ -61,6 +62,7 @@ end-case script history phase next is (ByDue event call now is_call e) = cc
 end-case script history phase next is (ByTurn running node turn e) = cc
 end-case script history phase next is (ByEnd running runs e) = let same : running ≡ phase = cc in rw (← same) runs
 end-case script history phase next is (ByBegin begins may e) = cc
+end-case script history phase next is (ByGrant sequencer drawn served e) = cc
 
 -- a mark of a phase comes alone
 pub begin-alone : (phase : Phase) (next : Next) → Allows next (Begin phase) → next ≡ Exactly (Begin phase)
@@ -68,6 +70,7 @@ begin-alone phase (Exactly entry) allows = rw allows refl
 begin-alone phase (Answer performer call cause) allows = let other = allows.1 in cc
 begin-alone phase (Need need made performer act) (inl e) = cc
 begin-alone phase (Need need made performer act) (inr declined) = cc
+begin-alone phase (Grant sequencer drawn chosen) allows = let e : Begin phase ≡ Granted sequencer allows.0 = allows.3 in cc
 begin-alone phase Nothing allows = absurd allows
 
 pub end-alone : (phase : Phase) (next : Next) → Allows next (End phase) → next ≡ Exactly (End phase)
@@ -75,6 +78,7 @@ end-alone phase (Exactly entry) allows = rw allows refl
 end-alone phase (Answer performer call cause) allows = let other = allows.1 in cc
 end-alone phase (Need need made performer act) (inl e) = cc
 end-alone phase (Need need made performer act) (inr declined) = cc
+end-alone phase (Grant sequencer drawn chosen) allows = let e : End phase ≡ Granted sequencer allows.0 = allows.3 in cc
 end-alone phase Nothing allows = absurd allows
 
 below : (phase : Phase) → phase_number phase < 9

@@ -1,5 +1,7 @@
 -- Once connect has nothing left, nothing is connected any more.
 use Rattle.std.proofs.Common.{◌≡◌, ℕ, Bool, true, false, ◌&&◌, ◌||◌, List, [], ◌∷◌, reverse, take, Option, Some, None, is_none, refl, ap, ◌∙◌, subst}
+use Rattle.bench_history.specs.Sequences.{is_live}
+use Rattle.bench_history.specs.Arbitration.{next_locked, next_served}
 use Rattle.std.specs.List.{list_any}
 use Rattle.uvm_phase.specs.declared.phases.Phase.{Phase}
 use Rattle.uvm_phase.specs.declared.phases.Phase.TheVariants.{Build, Connect, EndOfElaboration, StartOfSimulation, Run, Extract, Check, Report, Final}
@@ -28,22 +30,36 @@ use Rattle.bench_history.proofs.Phased.{phases_go_in_order}
 
 -- what it is to have nothing left
 record IsIdle (script : ScriptValue) (history : List Entry) : Type 0 where
+  none_led : next_locked history ≡ None
+  none_served : next_served history ≡ None
   none_passes : next_passed history ≡ None
   left : left_of script history ≡ []
   none_due : due_now history ≡ None
   no_call : next_call Connect history ≡ None
 
-idle-of : (script : ScriptValue) (history : List Entry) (passed : Option (ℕ × Passage)) (left : List Act) (due : Option Event) (call : Option ℕ) → next_passed history ≡ passed → left_of script history ≡ left → due_now history ≡ due → next_call Connect history ≡ call
-    → is_none passed && is_none (head_of left) && is_none due && is_none call ≡ true → IsIdle script history
-idle-of script history None [] None None passes left due call e = record { none_passes = passes; left = left; none_due = due; no_call = call }
-idle-of script history None [] None (Some node) passes left due call e = cc
-idle-of script history None [] (Some event) None passes left due call e = cc
-idle-of script history None [] (Some event) (Some node) passes left due call e = cc
-idle-of script history None (act ∷ acts) event turn passes left due call e = cc
-idle-of script history (Some passed) acts event turn passes left due call e = cc
+module _ (script : ScriptValue) (history : List Entry) where
+  idle-passed :
+      (passed : Option (ℕ × Passage)) (left : List Act) (due : Option Event) (call : Option ℕ) → next_locked history ≡ None → next_served history ≡ None
+      → next_passed history ≡ passed → left_of script history ≡ left → due_now history ≡ due → next_call Connect history ≡ call
+      → is_none passed && is_none (head_of left) && is_none due && is_none call ≡ true → IsIdle script history
+  idle-passed None [] None None led served passes left due call e = record { none_led = led; none_served = served; none_passes = passes; left = left; none_due = due; no_call = call }
+  idle-passed None [] None (Some node) led served passes left due call e = cc
+  idle-passed None [] (Some event) None led served passes left due call e = cc
+  idle-passed None [] (Some event) (Some node) led served passes left due call e = cc
+  idle-passed None (act ∷ acts) event turn led served passes left due call e = cc
+  idle-passed (Some passed) acts event turn led served passes left due call e = cc
+
+  idle-of :
+      (led : Option (ℕ × ℕ)) (served : Option (ℕ × Bool)) (passed : Option (ℕ × Passage)) (left : List Act) (due : Option Event) (call : Option ℕ) → next_locked history ≡ led → next_served history ≡ served
+      → next_passed history ≡ passed → left_of script history ≡ left → due_now history ≡ due → next_call Connect history ≡ call
+      → is_none led && is_none served && is_none passed && is_none (head_of left) && is_none due && is_none call ≡ true → IsIdle script history
+  idle-of None None passed left due call led served passes is now turn e = idle-passed passed left due call led served passes is now turn e
+  idle-of (Some one) None passed left due call led served passes is now turn e = cc
+  idle-of None (Some one) passed left due call led served passes is now turn e = cc
+  idle-of (Some one) (Some other) passed left due call led served passes is now turn e = cc
 
 idle-is : (script : ScriptValue) (history : List Entry) → IsIdle script history → has_nothing_left script history ≡ true
-idle-is script history idle = rw (idle.none_passes, idle.left, idle.none_due, idle.no_call) refl
+idle-is script history idle = rw (idle.none_led, idle.none_served, idle.none_passes, idle.left, idle.none_due, idle.no_call) refl
 
 -- where connect runs, and nothing is left, the run is given up, or a port is reported, or connect ends
 abbrev end_or : Option Reason → Option (ℕ × Fatal) → Entry
@@ -55,15 +71,15 @@ idle-next : (script : ScriptValue) (history : List Entry) → stage_of history �
     → next_of script history ≡ Exactly (end_or reason port)
 unfolding next_of
 idle-next script history runs idle (Some reason) given port is = rw (runs, given) refl
-idle-next script history runs idle None given (Some port) is = rw (runs, given, idle.none_passes, idle.left, idle.none_due, idle.no_call, is) refl
-idle-next script history runs idle None given None is = rw (runs, given, idle.none_passes, idle.left, idle.none_due, idle.no_call, is) refl
+idle-next script history runs idle None given (Some port) is = rw (runs, given, idle.none_led, idle.none_served, idle.none_passes, idle.left, idle.none_due, idle.no_call, is) refl
+idle-next script history runs idle None given None is = rw (runs, given, idle.none_led, idle.none_served, idle.none_passes, idle.left, idle.none_due, idle.no_call, is) refl
 
 -- and then it is still so
 idle-more : (script : ScriptValue) (history : List Entry) (reason : Option Reason) (port : Option (ℕ × Fatal)) → IsIdle script history → has_nothing_left script history ≡ true → is_past_connect (end_or reason port ∷ history) ≡ false
     → is_connect_last (stage_of history) ≡ true → is_connect_last (stage_of (end_or reason port ∷ history)) && has_nothing_left script (end_or reason port ∷ history) ≡ true
-unfolding due_now next_call next_passed
+unfolding due_now next_call next_passed next_locked next_served is_live
 idle-more script history (Some reason) port idle nothing past last = nothing
-idle-more script history None (Some port) idle nothing past last = rw (last, idle.none_passes, idle.none_due, idle.no_call) refl
+idle-more script history None (Some port) idle nothing past last = rw (last, idle.none_led, idle.none_served, idle.none_passes, idle.none_due, idle.no_call) refl
 idle-more script history None None idle nothing past last = cc
 
 -- what is built stays so
@@ -89,7 +105,7 @@ quiet-more : (script : ScriptValue) (history : List Entry) (entry : Entry) (stag
     → is_connect_last (stage_of (entry ∷ history)) && has_nothing_left script (entry ∷ history) ≡ true
 quiet-more script history entry Ended is last nothing next past = absurd (subst (λ (comes : Next). Allows comes entry) (nothing-comes script history is) next)
 quiet-more script history entry (During Connect) is last nothing next past =
-    let idle = idle-of script history (next_passed history) (left_of script history) (due_now history) (next_call Connect history) refl refl refl refl nothing in
+    let idle = idle-of script history (next_locked history) (next_served history) (next_passed history) (left_of script history) (due_now history) (next_call Connect history) refl refl refl refl refl refl nothing in
     let comes = idle-next script history is idle (reason_of script history) refl (next_unsound history) refl in
     let entry_is : entry ≡ end_or (reason_of script history) (next_unsound history) = subst (λ (comes : Next). Allows comes entry) comes next in
     let past' : is_past_connect (end_or (reason_of script history) (next_unsound history) ∷ history) ≡ false = rw (← entry_is) past in

@@ -1,6 +1,6 @@
 -- The machine's cases: for each what comes next, if the case is given. Each takes for granted that those that stand above it in `next_of` were
 -- not.
-use Rattle.std.specs.Prelude.{ℕ, Bool, true, false, ◌&&◌, List, [], ◌∷◌, length, nat_lt, Option, Some, None, option_map, if◌then◌else◌}
+use Rattle.std.specs.Prelude.{ℕ, Bool, true, false, ◌&&◌, List, [], ◌∷◌, length, nat_lt, Option, Some, None, option_map, option_and_then, if◌then◌else◌}
 use Rattle.uvm_phase.specs.declared.phases.Phase.{Phase}
 use Rattle.uvm_phase.specs.declared.phases.Phase.TheVariants.{Build, Connect}
 use Rattle.uvm_phase.specs.declared.agendas.Cause.{Cause}
@@ -13,12 +13,12 @@ use Rattle.uvm_object.specs.declared.acts.Call.TheVariants as call
 use Rattle.uvm_object.specs.declared.acts.Act.{Act}
 use Rattle.uvm_object.specs.declared.fatals.Fatal.TheVariants.{TooManyActs, Timeout, Stall}
 use Rattle.uvm_object.specs.declared.entries.Outcome.{Outcome}
-use Rattle.uvm_object.specs.declared.entries.Outcome.TheVariants.{Done, Value, Stored, Taken, Finished, Refused}
+use Rattle.uvm_object.specs.declared.entries.Outcome.TheVariants.{Done, Value, Stored, Taken, Waits, Finished, Refused}
 use Rattle.uvm_object.specs.declared.entries.Reason.{Reason}
 use Rattle.uvm_object.specs.declared.entries.Reason.TheVariants as reason
 use Rattle.uvm_object.specs.declared.entries.Passage.{Passage}
 use Rattle.uvm_object.specs.declared.entries.Entry.{Entry}
-use Rattle.uvm_object.specs.declared.entries.Entry.TheVariants.{Begin, End, Time, Did, Passed, Drained, Note, Over}
+use Rattle.uvm_object.specs.declared.entries.Entry.TheVariants.{Begin, End, Time, Did, Locked, Passed, Drained, Note, Over}
 use Rattle.bench_script.specs.Scripts.{ScriptValue}
 use Rattle.bench_history.specs.declared.needs.Need as declared
 use Rattle.bench_history.specs.declared.owners.Owner.{Owner}
@@ -30,13 +30,18 @@ use Rattle.bench_history.specs.History.{next_call, speaker_of}
 use Rattle.bench_history.specs.Objections.{objections_of, stands}
 use Rattle.bench_history.specs.Dues.{first_due}
 use Rattle.bench_history.specs.Wires.{next_unsound}
-use Rattle.bench_history.specs.Upshots.{Upshot, Needs, Does, Finds, Stores, Takes, Finishes, Refuses, open_upshot, upshot_of}
+use Rattle.bench_history.specs.Upshots.{Upshot, Needs, Does, Finds, Stores, Takes, Asks, Finishes, Refuses, open_upshot, upshot_of}
+use Rattle.bench_history.specs.Arbitration.{sequencer_at}
+use Rattle.bench_history.specs.Sequences.{sequences_of}
+use Rattle.uvm_sequencer.specs.Sequencers.{choice_at}
 
--- what comes next: this entry; the answer of a hearer to a call, caused or a phase's; an object for a performer's act, made or declined; or nothing
+-- what comes next: this entry; the answer of a hearer to a call, caused or a phase's; an object for a performer's act, made or declined; a grant of a
+-- sequencer, for which a word is drawn or not, and which sequence each word comes to; or nothing
 pub data Next : Type 0 where
   Exactly : (entry : Entry) → Next
   Answer : (hearer : Who) → (call : Call) → (cause : Option Cause) → Next
   Need : (need : declared.Need) → (made : Outcome) → (performer : Who) → (act : Act) → Next
+  Grant : (sequencer : ℕ) → (drawn : Bool) → (chosen : Option ℕ → Option ℕ) → Next
   Nothing : Next
 
 -- the run is over: nothing comes any more
@@ -47,6 +52,17 @@ end_reached stage = None
 -- the run is given up: the test was refused, or a report asked for exit, and nothing but its end comes
 abbrev pub giving_up : Option Reason → Option Next
 giving_up why = option_map (λ why. Exactly (Over why)) why
+
+-- a lock is granted
+abbrev pub locking : Option (ℕ × ℕ) → Option Next
+locking led = option_map (λ led. Exactly (Locked led.0 led.1)) led
+
+-- a driver that waits is served
+abbrev pub chosen_at : List Entry → ℕ → Option ℕ → Option ℕ
+chosen_at history node word = option_and_then (λ s. choice_at (sequences_of history) s word) (sequencer_at history node)
+
+abbrev pub serving : List Entry → Option (ℕ × Bool) → Option Next
+serving history served = option_map (λ served. Grant served.0 served.1 (chosen_at history served.0)) served
 
 -- what somebody waits for at a FIFO comes to pass
 abbrev pub passing : Option (ℕ × Passage) → Option Next
@@ -63,6 +79,7 @@ by_upshot performer act Does = Exactly (Did performer Done act)
 by_upshot performer act (Finds value) = Exactly (Did performer (Value value) act)
 by_upshot performer act (Stores stored) = Exactly (Did performer (Stored stored) act)
 by_upshot performer act (Takes item) = Exactly (Did performer (Taken item) act)
+by_upshot performer act (Asks waits) = Exactly (Did performer (Waits waits) act)
 by_upshot performer act Finishes = Exactly (Did performer Finished act)
 by_upshot performer act (Refuses fatal) = Exactly (Did performer (Refused fatal) act)
 

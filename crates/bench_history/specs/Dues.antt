@@ -1,5 +1,5 @@
 -- The events that a log has caused and that have not happened yet: calls, and the ends of drains.
-use Rattle.std.specs.Prelude.{ℕ, Bool, true, false, not, ◌+◌, suc, ◌&&◌, ◌==◌, List, [], ◌∷◌, ◌++◌, length, filter, slice_get, Option, Some, None, option_map, option_to_list, if◌then◌else◌}
+use Rattle.std.specs.Prelude.{ℕ, Bool, true, false, not, ◌+◌, suc, ◌&&◌, ◌==◌, List, [], ◌∷◌, ◌++◌, length, filter, slice_get, Option, Some, None, option_map, option_and_then, option_to_list, if◌then◌else◌}
 use Rattle.std.specs.List.{filter_map, flat_map, list_any}
 use Rattle.uvm_phase.specs.declared.phases.Phase.{Phase}
 use Rattle.uvm_phase.specs.declared.agendas.Cause.{Cause}
@@ -12,6 +12,10 @@ use Rattle.uvm_objection.specs.Totals.{drains_begun, drains_ended}
 use Rattle.uvm_sequencer.specs.declared.starts.SeqStep.{SeqStep}
 use Rattle.uvm_sequencer.specs.declared.starts.SeqStep.TheVariants.{PreStart, Body, PostStart}
 use Rattle.uvm_sequencer.specs.Sequences.{numbered}
+use Rattle.uvm_sequencer.specs.declared.drivers.How.{How}
+use Rattle.uvm_sequencer.specs.declared.drivers.How.TheVariants.{Get as ByGet}
+use Rattle.uvm_sequencer.specs.Drivers.{grant_of, hand_of, is_try}
+use Rattle.uvm_object.specs.Acts.{node_of}
 use Rattle.uvm_tree.specs.declared.nodes.Node as tree
 use Rattle.uvm_tree.specs.Nodes.{under_at}
 use Rattle.uvm_tlm.specs.declared.fifos.MoveKind.{MoveKind}
@@ -23,12 +27,13 @@ use Rattle.uvm_object.specs.Objects.{same_who}
 use Rattle.uvm_object.specs.declared.acts.Call.{Call}
 use Rattle.uvm_object.specs.declared.acts.Call.TheVariants as call
 use Rattle.uvm_object.specs.declared.acts.Act.{Act}
-use Rattle.uvm_object.specs.declared.acts.Act.TheVariants.{Get, TryPut, TryTake, Write, EndStep, RaiseObjection, DropObjection, Wait}
+use Rattle.uvm_object.specs.declared.acts.Act.TheVariants.{Get, TryPut, TryTake, Write, Ask, ItemDone, Send, EndStep, RaiseObjection, DropObjection, Wait}
 use Rattle.uvm_object.specs.declared.entries.Outcome.{Outcome}
-use Rattle.uvm_object.specs.declared.entries.Outcome.TheVariants.{Done, Started, Value, Stored, Taken, Finished}
+use Rattle.uvm_object.specs.declared.entries.Outcome.TheVariants.{Done, Started, Value, Stored, Taken, Waits, Finished}
 use Rattle.uvm_object.specs.declared.entries.Passage.{Passage}
 use Rattle.uvm_object.specs.declared.entries.Entry.{Entry}
-use Rattle.uvm_object.specs.declared.entries.Entry.TheVariants.{Heard, Did, Passed, Drained}
+use Rattle.uvm_object.specs.declared.entries.Entry.TheVariants.{Heard, Did, Locked, Granted, Passed, Drained}
+use Rattle.bench_history.specs.declared.askers.DriverPort.{DriverPort}
 use Rattle.bench_history.specs.declared.owners.Owner.{Owner}
 use Rattle.bench_history.specs.declared.owners.Owner.TheVariants.{Object, Drain}
 use Rattle.bench_history.specs.Owners.{Event, is_drain_of}
@@ -36,6 +41,7 @@ use Rattle.bench_history.specs.History.{stage_of, now_of, running, nodes_of, end
 use Rattle.bench_history.specs.Objections.{objections_of}
 use Rattle.bench_history.specs.Sequences.{Beginning, begun_of, finished_of, next_step, sequence_in, sequences_of, start_by}
 use Rattle.bench_history.specs.Ports.{imps_below}
+use Rattle.bench_history.specs.Arbitration.{driver_asker, driver_state, sequencer_below}
 
 -- an event is due while a phase runs
 abbrev pub event_in : {O N : Type 0} → Option Phase → ℕ → Cause → O → N → List (Due O N)
@@ -46,13 +52,14 @@ event_in (Some phase) time cause owner notice = record { time = time; cause = ca
 abbrev pub caused_at : ℕ → Cause
 caused_at place = record { place = place; number = 0 }
 
--- the call to its performer that an act causes: a Get tells the value that was found, a try what came of it, and a wait is called again. No other act
--- causes one
+-- the call to its performer that an act causes: a Get tells the value that was found, a try what came of it, a driver that tries is told that there is no
+-- item, and a wait is called again. No other act causes one
 abbrev pub told_by : Outcome → Act → Option Call
 told_by (Value value) (Get field) = Some (call.Config field value)
 told_by (Stored stored) (TryPut port item) = Some (call.TryStored port stored)
 told_by (Taken item) (TryTake port) = Some (call.TryTaken port item)
 told_by Done (Wait ticks tag) = Some (call.Wake tag)
+told_by (Waits false) (Ask port how) = Some (call.NextItem port None)
 told_by outcome act = None
 
 -- when it is due: at once, but after a wait
@@ -90,13 +97,41 @@ abbrev pub finished_by : List Entry → Option ℕ → List (Who × Call)
 finished_by before None = []
 finished_by before (Some id) = told_finished id (numbered (begun_of before) id)
 
+-- a driver is told of an item, or of none
+abbrev pub told_item : Option DriverPort → Option Item → List (Who × Call)
+told_item asker item = option_to_list (option_map (λ asker. (asker.who, call.NextItem asker.name item)) asker)
+
+-- what a granted sequence sends goes to the driver; one that asked by a `get` is done with it
+abbrev pub told_sent : Who → Option DriverPort → Item → Option How → List (Who × Call)
+told_sent performer asker item None = []
+told_sent performer asker item (Some ByGet) = told_item asker (Some item) ++ (performer, call.ItemDone None) ∷ []
+told_sent performer asker item (Some how) = told_item asker (Some item)
+
+abbrev pub sent_by : List Entry → Who → ℕ → Option ℕ → Item → List (Who × Call)
+sent_by before performer node id item = told_sent performer (driver_asker before node) item (option_and_then (λ id. grant_of id (driver_state before node)) id)
+
+-- whose item it was is told that the driver is done
+abbrev pub told_done : Option Item → ℕ → Option ℕ → List (Who × Call)
+told_done response node id = option_to_list (option_map (λ id. (who.Sequence id node, call.ItemDone response)) id)
+
+abbrev pub done_by : List Entry → Option ℕ → Option Item → List (Who × Call)
+done_by before None response = []
+done_by before (Some node) response = told_done response node (hand_of (driver_state before node))
+
+-- where the grant of a `try` lapses, its driver is told that there is no item
+abbrev pub lapsed_by : List Entry → ℕ → Option ℕ → List (Who × Call)
+lapsed_by before node id = if is_try (option_and_then (λ id. grant_of id (driver_state before node)) id) then told_item (driver_asker before node) None else []
+
 -- the calls that an act causes and that tell more than its outcome, or others than its performer: a Write one for each imp that it reaches, in path
--- order; a Start tells the new sequence; the end of a step tells what comes next, or that the sequence has finished
+-- order; a Start tells the new sequence; the end of a step tells what comes next, or that the sequence has finished; a Send tells the driver, an ItemDone
+-- whose item it was
 abbrev pub calls_told : List Entry → Who → Outcome → Act → List (Who × Call)
 calls_told before performer Done (Write port item) = filter_map (written_to (nodes_of before) item) (imps_below before performer port)
 calls_told before performer Done EndStep = told_step performer (next_step before performer)
+calls_told before performer Done (Send item) = sent_by before performer (node_of performer) (sequence_in performer) item
+calls_told before performer Done (ItemDone port response) = done_by before (sequencer_below before performer port) response
 calls_told before performer (Started id) act = (who.Sequence id (start_by (nodes_of before) (sequences_of before) performer act).home, call.PreStart) ∷ []
-calls_told before performer Finished act = finished_by before (sequence_in performer)
+calls_told before performer Finished act = finished_by before (sequence_in performer) ++ lapsed_by before (node_of performer) (sequence_in performer)
 calls_told before performer outcome act = []
 
 -- they are numbered in this order, and due at once; the newest first
@@ -138,6 +173,8 @@ caused_of (Did performer outcome act ∷ before) =
     ++ (calls_from outcome act performer (running (stage_of before)) (now_of before) (length before)
     ++ (if moves_drains outcome act then with_drains_of (Did performer outcome act) before (caused_of before) else caused_of before))
 caused_of (Passed fifo passage ∷ before) = due_from (Some (told_of passage.kind passage)) passage.who (running (stage_of before)) (now_of before) (caused_at (length before)) ++ caused_of before
+caused_of (Locked node id ∷ before) = due_from (Some call.Held) (who.Sequence id node) (running (stage_of before)) (now_of before) (caused_at (length before)) ++ caused_of before
+caused_of (Granted node grant ∷ before) = due_from (Some call.Grant) (who.Sequence grant.id node) (running (stage_of before)) (now_of before) (caused_at (length before)) ++ caused_of before
 caused_of (Drained node cause ∷ before) = with_drains_of (Drained node cause) before (caused_of before)
 caused_of (entry ∷ before) = caused_of before
 

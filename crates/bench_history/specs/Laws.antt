@@ -1,8 +1,10 @@
 -- What holds of all logs, or of all in which each entry was next, as in each legal one, and of what comes next in them.
-use Rattle.std.specs.Prelude.{◌≡◌, ◌<◌, ◌≤◌, ◌+◌, ◌⊎◌, ℕ, suc, Bool, true, false, ◌&&◌, is_none, List, [], ◌∷◌, ◌++◌, length, reverse, take, Option, Some, None, option_and_then, option_map, IsSome, All, Contains}
+use Rattle.std.specs.Prelude.{◌≡◌, ◌<◌, ◌≤◌, ◌+◌, ◌⊎◌, ℕ, suc, Bool, true, false, ◌&&◌, is_none, List, [], ◌∷◌, ◌++◌, length, reverse, take, Option, Some, None, option_and_then, option_map, IsSome, IfSome, All, Contains}
 use Rattle.uvm_phase.specs.declared.agendas.Cause.{Cause}
 use Rattle.uvm_phase.specs.declared.phases.Phase.TheVariants.{Connect}
+use Rattle.uvm_phase.specs.declared.phases.Phase.{Phase}
 use Rattle.uvm_phase.specs.Phases.{phases, phase_number}
+use Rattle.uvm_sequencer.specs.Drivers.{hand_of}
 use Rattle.uvm_sequencer.specs.Sequences.{numbered}
 use Rattle.uvm_tree.specs.declared.nodes.Node.{Node}
 use Rattle.uvm_tree.specs.Nodes.{node_at, path_at}
@@ -19,7 +21,7 @@ use Rattle.uvm_object.specs.declared.entries.Outcome.{Outcome}
 use Rattle.uvm_object.specs.declared.entries.Outcome.TheVariants.{Made, Started}
 use Rattle.uvm_object.specs.declared.entries.Passage.{Passage}
 use Rattle.uvm_object.specs.declared.entries.Entry.{Entry}
-use Rattle.uvm_object.specs.declared.entries.Entry.TheVariants.{Did, Passed, Drained}
+use Rattle.uvm_object.specs.declared.entries.Entry.TheVariants.{End, Did, Locked, Passed, Drained}
 use Rattle.bench_script.specs.Scripts.{ScriptValue}
 use Rattle.bench_history.specs.declared.needs.Need as declared
 use Rattle.bench_history.specs.declared.stages.Stage.{Stage}
@@ -28,12 +30,13 @@ use Rattle.bench_history.specs.Owners.{Event, who_of}
 use Rattle.bench_history.specs.History.{now_of, stage_of, running, nodes_of, components_of, created_name, left_of, head_of, rest_of, speaker_of, opening, is_built, is_over, next_call, ended_of}
 use Rattle.bench_history.specs.Dues.{first_due, due_now}
 use Rattle.bench_history.specs.Wires.{is_past_connect}
+use Rattle.bench_history.specs.Arbitration.{driver_asker, driver_state, mode_at, next_locked, next_served}
 use Rattle.bench_history.specs.Passing.{next_passed}
 use Rattle.bench_history.specs.Reports.{report_commands}
 use Rattle.bench_history.specs.Refusals.{child_refusal, in_task, starting_refusal}
-use Rattle.bench_history.specs.Sequences.{all_begun, begun_of, is_live, leaving_of, sequences_of, start_by}
+use Rattle.bench_history.specs.Sequences.{Beginning, all_begun, begun_of, is_live, leaving_of, sequences_of, start_by}
 use Rattle.bench_history.specs.Upshots.{starting_now}
-use Rattle.bench_history.specs.Cases.{Next, Exactly, Answer, Need, Nothing, by_act}
+use Rattle.bench_history.specs.Cases.{Next, Exactly, Answer, Need, Grant, Nothing, by_act, chosen_at}
 use Rattle.bench_history.specs.Next.{next_of, need_in, IsAct, IsNext, EachIsNext}
 
 -- the number of the next phase that may begin, or of the one that runs; at the end that of all phases
@@ -51,6 +54,10 @@ pub record ArePhasesInOrder (history : List Entry) : Type 0 where
 
 abbrev pub PhasesGoInOrder : Type 0
 PhasesGoInOrder = (script : ScriptValue) (history : List Entry) → EachIsNext script history → ArePhasesInOrder history
+
+-- the phase that ends is the one that runs
+abbrev pub RunningPhasesEnd : Type 0
+RunningPhasesEnd = (script : ScriptValue) (history : List Entry) (phase : Phase) → next_of script history ≡ Exactly (End phase) → stage_of history ≡ During phase
 
 -- somebody is one of the components, and no sequence
 abbrev pub IsComponent : List ℕ → Who → Type 0
@@ -113,9 +120,49 @@ PassagesGoInOrder = (script : ScriptValue) (history : List Entry) (fifo : ℕ) (
 abbrev pub WaitersAreComponents : Type 0
 WaitersAreComponents = (script : ScriptValue) (history : List Entry) (fifo : ℕ) (passage : Passage) → EachIsNext script history → next_of script history ≡ Exactly (Passed fifo passage) → IsComponent (components_of history) passage.who
 
--- where an act is next, nothing passes, and it is the first of those that are left
+-- a lock that is granted is the one that leads first, and goes to a sequence that lives, and runs on that sequencer
+abbrev pub LocksGoInOrder : Type 0
+LocksGoInOrder = (script : ScriptValue) (history : List Entry) (node id : ℕ) → next_of script history ≡ Exactly (Locked node id) → next_locked history ≡ Some (node, id)
+
+abbrev pub LockersAreThere : Type 0
+LockersAreThere = (script : ScriptValue) (history : List Entry) (node id : ℕ) → EachIsNext script history → next_of script history ≡ Exactly (Locked node id) → IsLiving history id node
+
+-- and so does an item
+pub record IsServing (history : List Entry) (node : ℕ) (drawn : Bool) (chosen : Option ℕ → Option ℕ) : Type 0 where
+  pub served : next_served history ≡ Some (node, drawn)
+  pub chosen_is : chosen ≡ chosen_at history node
+
+abbrev pub GrantsGoInOrder : Type 0
+GrantsGoInOrder = (script : ScriptValue) (history : List Entry) (node : ℕ) (drawn : Bool) (chosen : Option ℕ → Option ℕ) → next_of script history ≡ Grant node drawn chosen → IsServing history node drawn chosen
+
+abbrev pub ChosenAreThere : Type 0
+ChosenAreThere = (script : ScriptValue) (history : List Entry) (node id : ℕ) (drawn : Bool) (chosen : Option ℕ → Option ℕ) (word : Option ℕ) → EachIsNext script history → next_of script history ≡ Grant node drawn chosen → chosen word ≡ Some id → IsLiving history id node
+
+-- on which sequencer a sequence was started, and in which phase
+abbrev pub place_of : Option Beginning → Option (ℕ × Option Phase)
+place_of None = None
+place_of (Some beginning) = Some (beginning.start.home, beginning.phase)
+
+-- each sequencer on which a sequence was started is there, who drives one is a component, and the item in its hand is that of a sequence which was started
+-- there, in the phase that runs
+pub record IsDriving (history : List Entry) : Type 0 where
+  pub homes : All (λ beginning. IsSome (mode_at history beginning.start.home)) (begun_of history)
+  pub drivers : (node : ℕ) → IfSome (driver_asker history node) (λ driver. IsComponent (components_of history) driver.who)
+  pub hands : (node id : ℕ) → hand_of (driver_state history node) ≡ Some id → place_of (numbered (begun_of history) id) ≡ Some (node, running (stage_of history))
+
+-- so it is where an act is next
+abbrev pub DriversAreThere : Type 0
+DriversAreThere = (script : ScriptValue) (history : List Entry) → EachIsNext script history → IsAct (next_of script history) → IsDriving history
+
+-- nothing that waits can come to pass: no lock leads, no driver can be served, and nothing passes at a FIFO
+pub record IsSettled (history : List Entry) : Type 0 where
+  pub unlocked : next_locked history ≡ None
+  pub unserved : next_served history ≡ None
+  pub unpassed : next_passed history ≡ None
+
+-- where an act is next, that is so, and it is the first of those that are left
 pub record IsFirstAct (script : ScriptValue) (history : List Entry) (act : Act) : Type 0 where
-  pub settled : next_passed history ≡ None
+  pub settled : IsSettled history
   pub left : left_of script history ≡ act ∷ rest_of (left_of script history)
   pub next : next_of script history ≡ by_act script history (speaker_of history) act
 
@@ -156,7 +203,7 @@ pub record IsWanted (script : ScriptValue) (history : List Entry) (act : Act) : 
   pub need : declared.Need
   pub made : Outcome
   pub next : next_of script history ≡ Need need made (speaker_of history) act
-  pub settled : next_passed history ≡ None
+  pub settled : IsSettled history
   pub makes : IsMadeBy script history need made act
 
 abbrev pub NeedsAreWanted : Type 0
@@ -174,7 +221,7 @@ is_connect_last Ended = true
 is_connect_last stage = false
 
 abbrev pub has_nothing_left : ScriptValue → List Entry → Bool
-has_nothing_left script history = is_none (next_passed history) && is_none (head_of (left_of script history)) && is_none (due_now history) && is_none (next_call Connect history)
+has_nothing_left script history = is_none (next_locked history) && is_none (next_served history) && is_none (next_passed history) && is_none (head_of (left_of script history)) && is_none (due_now history) && is_none (next_call Connect history)
 
 abbrev pub is_at_check : ScriptValue → List Entry → Bool
 is_at_check script history = runs_connect (stage_of history) && has_nothing_left script history

@@ -12,6 +12,7 @@ pub mod Reports
 pub mod Wires
 pub mod Sequences
 pub mod Ports
+pub mod Arbitration
 pub mod Dues
 pub mod Passing
 pub mod Refusals

@@ -1,11 +1,12 @@
 -- What may come next in a log, and what a legal log is.
-use Rattle.std.specs.Prelude.{◌≡◌, ◌≤◌, List, [], ◌∷◌, length, Option, Some, None, unwrap_or, ◌⊎◌}
+use Rattle.std.specs.Prelude.{◌≡◌, ◌≤◌, ℕ, Bool, is_some, List, [], ◌∷◌, length, Option, Some, None, unwrap_or, ◌⊎◌}
 use Rattle.uvm_glob.specs.Lists.{first_given}
 use Rattle.uvm_object.specs.declared.acts.Act.{Act}
 use Rattle.uvm_object.specs.declared.fatals.Fatal.TheVariants.{NoObject}
 use Rattle.uvm_object.specs.declared.entries.Outcome.TheVariants.{Refused}
 use Rattle.uvm_object.specs.declared.entries.Entry.{Entry}
-use Rattle.uvm_object.specs.declared.entries.Entry.TheVariants.{Heard, Did}
+use Rattle.uvm_object.specs.declared.entries.Grant as entries
+use Rattle.uvm_object.specs.declared.entries.Entry.TheVariants.{Heard, Did, Granted}
 use Rattle.bench_script.specs.Scripts.{ScriptValue}
 use Rattle.bench_history.specs.declared.needs.Need as declared
 use Rattle.bench_history.specs.Limits.{log_limit}
@@ -13,7 +14,8 @@ use Rattle.bench_history.specs.History.{stage_of, running, left_of}
 use Rattle.bench_history.specs.Reports.{reason_of}
 use Rattle.bench_history.specs.Dues.{due_now}
 use Rattle.bench_history.specs.Passing.{next_passed}
-use Rattle.bench_history.specs.Cases.{Next, Exactly, Answer, Need, Nothing, end_reached, giving_up, passing, long_answer, first_act, event_due, phase_call, port_check, phase_end, phase_begin, phase_to_begin, finish}
+use Rattle.bench_history.specs.Cases.{Next, Exactly, Answer, Need, Grant, Nothing, end_reached, giving_up, locking, serving, passing, long_answer, first_act, event_due, phase_call, port_check, phase_end, phase_begin, phase_to_begin, finish}
+use Rattle.bench_history.specs.Arbitration.{next_locked, next_served}
 
 abbrev pub first_next : List (Option Next) → Next
 first_next cases = unwrap_or (first_given cases) Nothing
@@ -24,6 +26,8 @@ next_of script history =
     first_next (
     end_reached (stage_of history)
     ∷ giving_up (reason_of script history)
+    ∷ locking (next_locked history)
+    ∷ serving history (next_served history)
     ∷ passing (next_passed history)
     ∷ long_answer history (left_of script history)
     ∷ first_act script history (left_of script history)
@@ -35,11 +39,17 @@ next_of script history =
     ∷ finish
     ∷ [])
 
--- whether an entry is what comes next. Two things are free: the acts of an answer, and whether a needed object is made or declined
+-- the word of a grant that is drawn
+abbrev pub HasWord : Bool → Option ℕ → Type 0
+HasWord drawn word = is_some word ≡ drawn
+
+-- whether an entry is what comes next. Three things are free: the acts of an answer, whether a needed object is made or declined, and the word of a grant
+-- for which one is drawn
 abbrev pub Allows : Next → Entry → Type 0
 Allows (Exactly expected) entry = entry ≡ expected
 Allows (Answer hearer call cause) entry = (acts : List Act) × (entry ≡ Heard hearer call cause acts)
 Allows (Need need made performer act) entry = (entry ≡ Did performer made act) ⊎ (entry ≡ Did performer (Refused NoObject) act)
+Allows (Grant sequencer drawn chosen) entry = (grant : entries.Grant) × HasWord drawn grant.word × (chosen grant.word ≡ Some grant.id) × (entry ≡ Granted sequencer grant)
 Allows Nothing entry = ⊥
 
 abbrev pub IsNext : ScriptValue → List Entry → Entry → Type 0

@@ -1,7 +1,6 @@
 -- What goes through FIFOs (IEEE 1800.2-2020, Clause 12): what is in each, who waits at it, and what passes next.
 use Rattle.std.specs.Prelude.{ℕ, suc, Bool, true, false, not, ◌&&◌, ◌==◌, nat_eq, List, [], ◌∷◌, ◌++◌, length, map, filter, drop, slice_get, Option, Some, None, option_map, option_and_then, if◌then◌else◌}
 use Rattle.std.specs.List.{list_any}
-use Rattle.std.specs.Option.{option_map_or}
 use Rattle.uvm_glob.specs.Lists.{first_given}
 use Rattle.uvm_phase.specs.declared.phases.Phase.{Phase}
 use Rattle.uvm_phase.specs.Phases.{phase_number, same_phase}
@@ -15,7 +14,7 @@ use Rattle.uvm_tlm.specs.declared.fifos.MoveKind.TheVariants as move
 use Rattle.uvm_tlm.specs.declared.fifos.Owner.{Owner}
 use Rattle.uvm_tlm.specs.declared.fifos.WaitingPut.{WaitingPut}
 use Rattle.uvm_tlm.specs.declared.fifos.WaitingTake.{WaitingTake}
-use Rattle.uvm_tlm.specs.Fifos.{FifoValue, can_put, can_take, next_move, waiting_count}
+use Rattle.uvm_tlm.specs.Fifos.{FifoValue, can_put, can_take, next_move}
 use Rattle.uvm_object.specs.declared.acts.Who.{Who}
 use Rattle.uvm_object.specs.declared.acts.Act.{Act}
 use Rattle.uvm_object.specs.declared.acts.Act.TheVariants.{Put, TryPut, Take, TryTake, Peek, Write}
@@ -187,10 +186,6 @@ passing_at history node = option_map (λ passage. (node, passage)) (option_and_t
 -- and at the first FIFO in path order at which anything does
 unfoldable pub next_passed : List Entry → Option (ℕ × Passage)
 next_passed history = first_given (map (passing_at history) (path_order (nodes_of history)))
-
--- how many wait at a FIFO
-abbrev pub waiting_at : List Entry → ℕ → ℕ
-waiting_at history node = option_map_or (λ station. waiting_count station.fifo) (station_at history node) 0
 
 -- the FIFO that somebody reaches through a port of a name
 abbrev pub station_below : List Entry → Who → PortKind → List ℕ → Option Station

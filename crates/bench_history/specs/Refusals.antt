@@ -1,6 +1,7 @@
 -- Why acts are refused: for each sort of act the refusals in the order in which they are looked for. Before these an act is refused that is not open to
 -- its performer, and after them an object that nobody supplies (Next, `Allows`).
-use Rattle.std.specs.Prelude.{ℕ, Bool, true, false, not, ◌&&◌, ◌==◌, List, [], ◌∷◌, ◌++◌, length, slice_get, Option, Some, None, option_map, option_and_then, is_none, is_some, nat_le, nat_lt}
+use Rattle.std.specs.Prelude.{ℕ, Bool, true, false, not, ◌&&◌, ◌||◌, ◌==◌, List, [], ◌∷◌, ◌++◌, length, slice_get, Option, Some, None, option_map, option_and_then, is_none, is_some, nat_le, nat_lt}
+use Rattle.std.specs.List.{list_any}
 use Rattle.uvm_glob.specs.Faults.{fault_if}
 use Rattle.uvm_glob.specs.Lists.{first_given}
 use Rattle.uvm_glob.specs.Paths.{path_fault, path_text}
@@ -24,7 +25,10 @@ use Rattle.uvm_object.specs.declared.acts.Who.TheVariants as who
 use Rattle.uvm_object.specs.declared.acts.Act.{Act}
 use Rattle.uvm_object.specs.declared.acts.Act.TheVariants.{Create, Add, Connect, Put, TryPut, Take, TryTake, Peek, Write, Ask, ItemDone, Request, Lock, Grab, Unlock, Send, EndStep}
 use Rattle.uvm_object.specs.declared.fatals.Fatal.{Fatal}
-use Rattle.uvm_object.specs.declared.fatals.Fatal.TheVariants.{CreatedAfterBuild, InvalidType, ChildTaken, TreeLimit, OverrideLoop, TooManySettings, ConnectedTooLate, UnknownNode, KindsDiffer, NoPort, NoSequencer, OutsideTask, ObjectionBelowZero, OutOfRange}
+use Rattle.uvm_sequencer.specs.Drivers.{grant_of, hand_of, is_idle}
+use Rattle.uvm_sequencer.specs.Queues.{is_held, is_item_of, is_lock_of}
+use Rattle.uvm_sequencer.specs.Sequencers.{SequencerValue}
+use Rattle.uvm_object.specs.declared.fatals.Fatal.TheVariants.{CreatedAfterBuild, InvalidType, ChildTaken, TreeLimit, OverrideLoop, TooManySettings, ConnectedTooLate, UnknownNode, KindsDiffer, NoPort, NoSequencer, AskedTwice, NothingOut, NotGranted, NotHeld, OutsideTask, ObjectionBelowZero, OutOfRange}
 
 -- a creation that is asked for below a node: of which type by name, under which name, and what it depends on, the overrides with the newest first
 pub record Creation : Type 0 where
@@ -152,6 +156,35 @@ connection_refusal connected from to =
 -- what goes through ports goes in such a phase, through a port that is there
 unfoldable pub passing_refusal : Option Phase → Bool → Option Fatal
 passing_refusal running is_there = first_given (fault_if (not (in_task running)) OutsideTask ∷ fault_if (not is_there) NoPort ∷ [])
+
+-- a driver asks again only where it is idle, and is done where it has an item in hand
+abbrev pub ask_refusal : SequencerValue → Option Fatal
+ask_refusal s = fault_if (not (is_idle s.driver)) AskedTwice
+
+abbrev pub done_refusal : SequencerValue → Option Fatal
+done_refusal s = fault_if (is_none (hand_of s.driver)) NothingOut
+
+-- it does either in such a phase, and through a port that is there
+unfoldable pub driving_refusal : Option Phase → Bool → Option Fatal → Option Fatal
+driving_refusal running is_there refusal = first_given (fault_if (not (in_task running)) OutsideTask ∷ fault_if (not is_there) NoPort ∷ refusal ∷ [])
+
+-- a sequence requests to send an item where it neither waits to send one nor was granted one that it has not sent
+abbrev pub item_refusal : ℕ → SequencerValue → Option Fatal
+item_refusal id s = fault_if (list_any (is_item_of id) s.queue || is_some (grant_of id s.driver)) AskedTwice
+
+-- with a priority of at least 1
+unfoldable pub request_refusal : Option ℕ → Option Fatal → Option Fatal
+request_refusal given refusal = first_given (fault_if (is_none_at_all given) OutOfRange ∷ refusal ∷ [])
+
+-- it asks for a lock where it waits for none, and gives one back where it holds one; it sends where it was granted and has not sent
+abbrev pub lock_refusal : ℕ → SequencerValue → Option Fatal
+lock_refusal id s = fault_if (list_any (is_lock_of id) s.queue) AskedTwice
+
+abbrev pub unlock_refusal : ℕ → SequencerValue → Option Fatal
+unlock_refusal id s = fault_if (not (is_held id s.holders)) NotHeld
+
+abbrev pub send_refusal : ℕ → SequencerValue → Option Fatal
+send_refusal id s = fault_if (is_none (grant_of id s.driver)) NotGranted
 
 -- objections are raised in such a phase
 unfoldable pub raise_refusal : Option Phase → Option Fatal

@@ -9,6 +9,7 @@ use Rattle.uvm_report.specs.declared.messages.Fate.{Fate}
 use Rattle.uvm_report.specs.Fates.{displayed_as}
 use Rattle.uvm_report.specs.Commands.{Command, SetVerbosity, SetAction, SetSeverity, SetQuitLimit, Issue, fate_in, is_exit_asked}
 use Rattle.uvm_report.specs.Lines.{report_line}
+use Rattle.uvm_sequencer.specs.Sequences.{Start}
 use Rattle.uvm_tree.specs.declared.nodes.Node.{Node}
 use Rattle.uvm_tree.specs.Nodes.{path_at}
 use Rattle.uvm_object.specs.Acts.{node_of}
@@ -16,7 +17,7 @@ use Rattle.uvm_object.specs.declared.acts.Act.{Act}
 use Rattle.uvm_object.specs.declared.acts.Act.TheVariants as act
 use Rattle.uvm_object.specs.Fatals.{fatal_report}
 use Rattle.uvm_object.specs.declared.fatals.Fatal.TheVariants as fatal
-use Rattle.uvm_object.specs.Lines.{shown_path}
+use Rattle.uvm_object.specs.Lines.{shown_path, source_text}
 use Rattle.uvm_object.specs.declared.entries.Outcome.{Outcome}
 use Rattle.uvm_object.specs.declared.entries.Outcome.TheVariants.{Done, Refused}
 use Rattle.uvm_object.specs.declared.entries.Reason.{Reason}
@@ -28,6 +29,7 @@ use Rattle.bench_script.specs.declared.report_settings.ActionSetting.{ActionSett
 use Rattle.bench_script.specs.declared.report_settings.SeverityChange.{SeverityChange}
 use Rattle.bench_script.specs.Scripts.{ScriptValue}
 use Rattle.bench_history.specs.History.{now_of, nodes_of}
+use Rattle.bench_history.specs.Sequences.{sequences_of}
 
 -- what a script asks
 abbrev pub verbosity_command : VerbositySetting → Command
@@ -92,12 +94,19 @@ abbrev pub newest_fate : ScriptValue → List Entry → Option Fate
 newest_fate script [] = None
 newest_fate script (entry ∷ before) = option_and_then (fate_in (report_commands script before)) (command_in (nodes_of before) entry)
 
+-- how it is shown whose report it is: its performer's, a sequence's by its home and its names, and a note's that of its node
+abbrev pub source_in : List Node → List Start → Entry → List ℕ
+source_in nodes started (Did performer outcome act) = source_text nodes started performer
+source_in nodes started (Note fatal node) = shown_path (path_at nodes node)
+source_in nodes started entry = []
+
 -- the line of a report, where it is displayed under a severity
-abbrev pub line_under : ℕ → Option Command → Option Severity → List ℕ
-line_under time (Some (Issue path report)) (Some severity) = report_line severity time (shown_path path) report.id report.text
-line_under time command severity = []
+abbrev pub line_under : ℕ → List ℕ → Option Command → Option Severity → List ℕ
+line_under time source (Some (Issue path report)) (Some severity) = report_line severity time source report.id report.text
+line_under time source command severity = []
 
 -- the line of the newest entry's report, where it has one that is displayed
 abbrev pub report_text : ScriptValue → List Entry → List ℕ
 report_text script [] = []
-report_text script (entry ∷ before) = line_under (now_of (entry ∷ before)) (command_in (nodes_of before) entry) (option_and_then displayed_as (newest_fate script (entry ∷ before)))
+report_text script (entry ∷ before) =
+    line_under (now_of (entry ∷ before)) (source_in (nodes_of (entry ∷ before)) (sequences_of (entry ∷ before)) entry) (command_in (nodes_of before) entry) (option_and_then displayed_as (newest_fate script (entry ∷ before)))

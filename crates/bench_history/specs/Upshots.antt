@@ -1,9 +1,13 @@
 -- What an act comes to, after a log: the outcome of its entry, foreseen.
-use Rattle.std.specs.Prelude.{ℕ, ℤ, suc, Bool, not, List, length, Option, Some, None, is_some}
+use Rattle.std.specs.Prelude.{ℕ, ℤ, suc, Bool, false, not, nat_lt, List, length, Option, Some, None, is_some, option_and_then, unwrap_or}
 use Rattle.std.specs.Option.{option_map_or}
 use Rattle.uvm_glob.specs.Faults.{fault_if}
 use Rattle.uvm_glob.specs.Paths.{path_text}
 use Rattle.uvm_sequencer.specs.declared.starts.SeqStep.{SeqStep}
+use Rattle.uvm_sequencer.specs.declared.drivers.How.{How}
+use Rattle.uvm_sequencer.specs.declared.drivers.How.TheVariants.{Try}
+use Rattle.uvm_sequencer.specs.Sequences.{Start as Beginnings}
+use Rattle.uvm_sequencer.specs.Sequencers.{SequencerValue, candidates_at}
 use Rattle.uvm_config.specs.Answers.{config_answer}
 use Rattle.uvm_factory.specs.declared.types.Kind.TheVariants.{Component, Sequence}
 use Rattle.uvm_tlm.specs.declared.ends.PortKind.TheVariants as through
@@ -25,10 +29,11 @@ use Rattle.bench_history.specs.History.{stage_of, running, nodes_of, overrides_o
 use Rattle.bench_history.specs.Configuration.{settings_of}
 use Rattle.bench_history.specs.Objections.{objections_of}
 use Rattle.bench_history.specs.Wires.{end_below, wiring_of, is_past_connect}
-use Rattle.bench_history.specs.Sequences.{home_asked, next_step, sequence_path, sequences_of}
+use Rattle.bench_history.specs.Sequences.{home_asked, next_step, sequence_in, sequence_path, sequences_of}
+use Rattle.bench_history.specs.Arbitration.{sequencer_at, sequencer_below}
 use Rattle.bench_history.specs.Ports.{port_below, gate_below}
 use Rattle.bench_history.specs.Passing.{station_below, puts_now, takes_now}
-use Rattle.bench_history.specs.Refusals.{Creation, Starting, created_path, is_open_to, sequence_made, starting_refusal, type_made, creation_refusal, addition_refusal, setting_refusal, overriding_refusal, connection_refusal, passing_refusal, raise_refusal, drop_refusal, drain_refusal, wait_refusal}
+use Rattle.bench_history.specs.Refusals.{Creation, Starting, created_path, is_open_to, sequence_made, starting_refusal, type_made, creation_refusal, addition_refusal, setting_refusal, overriding_refusal, connection_refusal, passing_refusal, driving_refusal, ask_refusal, done_refusal, request_refusal, item_refusal, lock_refusal, unlock_refusal, send_refusal, raise_refusal, drop_refusal, drain_refusal, wait_refusal}
 
 -- what an act comes to: an object is needed first, and with it the act comes to an outcome; or at once it is performed, or finds a value, or puts or
 -- takes an item or does not, or ends the last step of a sequence, or is refused
@@ -38,6 +43,7 @@ pub data Upshot : Type 0 where
   Finds : (value : Option ℤ) → Upshot
   Stores : (stored : Bool) → Upshot
   Takes : (item : Option Item) → Upshot
+  Asks : (waits : Bool) → Upshot
   Finishes : Upshot
   Refuses : (fatal : Fatal) → Upshot
 
@@ -82,7 +88,25 @@ abbrev pub step_upshot : Option SeqStep → Upshot
 step_upshot None = Finishes
 step_upshot (Some step) = Does
 
--- what each act comes to, if it is open to its performer; the driver's, and what sequences ask of a sequencer, are open to nobody yet
+-- a driver waits, but for a `try` without a candidate, which is told
+abbrev pub asked_upshot : How → Bool → Upshot
+asked_upshot Try waits = Asks waits
+asked_upshot how waits = Does
+
+-- the sequencer that a driver reaches through a port, and that on which a sequence runs
+abbrev pub driven_at : List Entry → Who → List ℕ → Option SequencerValue
+driven_at history performer port = option_and_then (sequencer_at history) (sequencer_below history performer port)
+
+abbrev pub home_sequencer : List Entry → Who → Option SequencerValue
+home_sequencer history performer = sequencer_at history (node_of performer)
+
+abbrev pub has_candidate : List Beginnings → Option SequencerValue → Bool
+has_candidate started sequencer = option_map_or (λ s. nat_lt 0 (length (candidates_at started s))) sequencer false
+
+abbrev pub id_in : Who → ℕ
+id_in performer = unwrap_or (sequence_in performer) 0
+
+-- what each act comes to, if it is open to its performer
 abbrev pub open_upshot : ScriptValue → List Entry → Who → Act → Upshot
 open_upshot script history performer (Create type_name name) = creation_upshot (creation_now script history performer type_name name)
 open_upshot script history performer (Add name what) = unless_refused (addition_refusal (is_built history) (nodes_of history) (node_of performer) name) Does
@@ -100,14 +124,17 @@ open_upshot script history performer (TryTake name) =
     unless_refused (passing_refusal (running (stage_of history)) (is_some (gate_below history performer through.Get name))) (Takes (takes_now (station_below history performer through.Get name)))
 open_upshot script history performer (Peek name) = unless_refused (passing_refusal (running (stage_of history)) (is_some (gate_below history performer through.Get name))) Does
 open_upshot script history performer (Write name item) = unless_refused (passing_refusal (running (stage_of history)) (is_some (port_below history performer through.Analysis name))) Does
-open_upshot script history performer (Ask port how) = Refuses NotOpen
-open_upshot script history performer (ItemDone port response) = Refuses NotOpen
+open_upshot script history performer (Ask port how) =
+    unless_refused (driving_refusal (running (stage_of history)) (is_some (sequencer_below history performer port)) (option_and_then ask_refusal (driven_at history performer port)))
+    (asked_upshot how (has_candidate (sequences_of history) (driven_at history performer port)))
+open_upshot script history performer (ItemDone port response) =
+    unless_refused (driving_refusal (running (stage_of history)) (is_some (sequencer_below history performer port)) (option_and_then done_refusal (driven_at history performer port))) Does
 open_upshot script history performer (Start type_name name on priority) = starting_upshot (length (sequences_of history)) (starting_now script history performer type_name name on priority)
-open_upshot script history performer (Request priority) = Refuses NotOpen
-open_upshot script history performer Lock = Refuses NotOpen
-open_upshot script history performer Grab = Refuses NotOpen
-open_upshot script history performer Unlock = Refuses NotOpen
-open_upshot script history performer (Send item) = Refuses NotOpen
+open_upshot script history performer (Request priority) = unless_refused (request_refusal priority (option_and_then (item_refusal (id_in performer)) (home_sequencer history performer))) Does
+open_upshot script history performer Lock = unless_refused (option_and_then (lock_refusal (id_in performer)) (home_sequencer history performer)) Does
+open_upshot script history performer Grab = unless_refused (option_and_then (lock_refusal (id_in performer)) (home_sequencer history performer)) Does
+open_upshot script history performer Unlock = unless_refused (option_and_then (unlock_refusal (id_in performer)) (home_sequencer history performer)) Does
+open_upshot script history performer (Send item) = unless_refused (option_and_then (send_refusal (id_in performer)) (home_sequencer history performer)) Does
 open_upshot script history performer EndStep = step_upshot (next_step history performer)
 open_upshot script history performer (Report report) = Does
 open_upshot script history performer (Verbosity which level) = Does

@@ -1,4 +1,4 @@
-//! Who waits at FIFOs, and through which port.
+//! Who waits at FIFOs and drives sequencers, and through which port.
 
 use uvm_glob::Name;
 use uvm_object::Who;
@@ -25,4 +25,13 @@ pub struct Asker {
     pub port: Name,
     /// The phase in which it was asked, with whose end the wait ends.
     pub phase: Phase,
+}
+
+/// Who drives a sequencer: who asked last for an item there, and through which port of its own (IEEE 1800.2-2020, Clause 15).
+#[derive(Clone, Copy, Debug, PartialEq, Eq)]
+pub struct DriverPort {
+    /// Who asked.
+    pub who: Who,
+    /// The name of the port.
+    pub name: Name,
 }

@@ -1,12 +1,13 @@
 //! What holds of all logs, or of all in which each entry was next, as in each legal one, and of what comes next in them. The functions do
 //! nothing that shows; their contracts are the laws (`specs/Laws.antt`), for all scripts.
 
-ghost use Rattle.bench_history.specs.Laws.{PhasesGoInOrder, AskedAreThere, PerformersAreThere, ComponentsAreNodes, HomesAreNodes, DueCallsGoInOrder, DrainsGoInOrder, PassagesGoInOrder, WaitersAreComponents, ActsGoInOrder, NeedsAreWanted, NothingAfterOver, SomethingBeforeOver, MachineEntriesAreSilent, NodesStay, MadeObjectsAreNew, NewNodesAreUnasked, NewSequencesAreUnasked, LivingLived, LivingRun, LeaversLived, ReportsAreFew, TimeStaysWithin, WiringStays, ConnectFollowsBuild, TasksFollowConnect};
+ghost use Rattle.bench_history.specs.Laws.{PhasesGoInOrder, RunningPhasesEnd, AskedAreThere, PerformersAreThere, ComponentsAreNodes, HomesAreNodes, DueCallsGoInOrder, DrainsGoInOrder, PassagesGoInOrder, WaitersAreComponents, LocksGoInOrder, LockersAreThere, GrantsGoInOrder, ChosenAreThere, DriversAreThere, ActsGoInOrder, NeedsAreWanted, NothingAfterOver, SomethingBeforeOver, MachineEntriesAreSilent, NodesStay, MadeObjectsAreNew, NewNodesAreUnasked, NewSequencesAreUnasked, LivingLived, LivingRun, LeaversLived, ReportsAreFew, TimeStaysWithin, WiringStays, ConnectFollowsBuild, TasksFollowConnect};
 
 use crate::owners::Owner;
 use uvm_object::Call;
 use uvm_phase::laws as agenda;
 use uvm_report::laws as reports;
+use uvm_sequencer::laws as sequencers;
 
 /// The phases go in their order (IEEE 1800.2-2020, Clause 9): until the end of the run those that have ended are the first of the
 /// nine, each once, and so they stand before the one that runs, or may begin next.
@@ -15,11 +16,18 @@ pub fn phases_go_in_order()
     ensures { PhasesGoInOrder }
 {}
 
+/// The phase that ends is the one that runs.
+#[tactic(auto, using(crate::proofs::Performed::running_phases_end))]
+pub fn running_phases_end()
+    ensures { RunningPhasesEnd }
+{}
+
 /// Whoever is asked is there: a component, or a sequence that lives.
 pub fn asked_are_there()
     ensures { AskedAreThere }
 {
     agenda::order_keeps_all::<Owner, Option<Call>>();
+    sequencers::lock_excludes();
 }
 
 /// Whoever performs an act is there, but the script, which has the first act of all.
@@ -27,6 +35,7 @@ pub fn performers_are_there()
     ensures { PerformersAreThere }
 {
     agenda::order_keeps_all::<Owner, Option<Call>>();
+    sequencers::lock_excludes();
 }
 
 /// Each component is a node of the tree.
@@ -40,6 +49,7 @@ pub fn homes_are_nodes()
     ensures { HomesAreNodes }
 {
     agenda::order_keeps_all::<Owner, Option<Call>>();
+    sequencers::lock_excludes();
 }
 
 /// A call that has a cause is that of the event which is due first, now, and its owner's.
@@ -65,9 +75,47 @@ pub fn waiters_are_components()
     ensures { WaitersAreComponents }
 {
     agenda::order_keeps_all::<Owner, Option<Call>>();
+    sequencers::lock_excludes();
 }
 
-/// Where an act is next, nothing passes, and it is the first of the last answer's that are left.
+/// A lock that is granted is the one that leads first (Clause 15).
+#[tactic(auto, using(crate::proofs::Performed::locks_go_in_order))]
+pub fn locks_go_in_order()
+    ensures { LocksGoInOrder }
+{}
+
+/// And it goes to a sequence that lives, and runs on that sequencer.
+pub fn lockers_are_there()
+    ensures { LockersAreThere }
+{
+    agenda::order_keeps_all::<Owner, Option<Call>>();
+    sequencers::lock_excludes();
+}
+
+/// An item is granted at the first sequencer that can serve its driver.
+#[tactic(auto, using(crate::proofs::Performed::grants_go_in_order))]
+pub fn grants_go_in_order()
+    ensures { GrantsGoInOrder }
+{}
+
+/// And it goes to a sequence that lives, and runs on that sequencer.
+pub fn chosen_are_there()
+    ensures { ChosenAreThere }
+{
+    agenda::order_keeps_all::<Owner, Option<Call>>();
+    sequencers::lock_excludes();
+}
+
+/// Where an act is next, each sequencer on which a sequence was started is there, who drives one is a component, and an item in a driver's
+/// hand is that of a sequence which was started there, in the phase that runs.
+pub fn drivers_are_there()
+    ensures { DriversAreThere }
+{
+    agenda::order_keeps_all::<Owner, Option<Call>>();
+    sequencers::lock_excludes();
+}
+
+/// Where an act is next, nothing passes and nothing is granted, and it is the first of the last answer's that are left.
 #[tactic(auto, using(crate::proofs::Performed::acts_go_in_order))]
 pub fn acts_go_in_order()
     ensures { ActsGoInOrder }
@@ -113,6 +161,7 @@ pub fn new_nodes_are_unasked()
     ensures { NewNodesAreUnasked }
 {
     agenda::order_keeps_all::<Owner, Option<Call>>();
+    sequencers::lock_excludes();
 }
 
 /// Behind the sequences that were started nobody was asked.
@@ -120,6 +169,7 @@ pub fn new_sequences_are_unasked()
     ensures { NewSequencesAreUnasked }
 {
     agenda::order_keeps_all::<Owner, Option<Call>>();
+    sequencers::lock_excludes();
 }
 
 /// A sequence that was started before an entry, and lives after it, lived.
@@ -139,6 +189,7 @@ pub fn leavers_lived()
     ensures { LeaversLived }
 {
     agenda::order_keeps_all::<Owner, Option<Call>>();
+    sequencers::lock_excludes();
 }
 
 /// No more reports were issued than there are entries.

@@ -8,7 +8,7 @@ mod needs;
 mod owners;
 mod stages;
 
-pub use askers::{Asker, Gate};
+pub use askers::{Asker, DriverPort, Gate};
 pub use needs::Need;
 pub use owners::Owner;
 pub use stages::Stage;

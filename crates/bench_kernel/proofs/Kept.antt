@@ -26,7 +26,7 @@ use Rattle.bench_history.specs.Cases as next
 use Rattle.bench_history.specs.Next as coming
 use Rattle.bench_history.specs.Cases.{Next, Exactly, Answer}
 use Rattle.bench_history.specs.Next.{next_of, EachIsNext, IsNext}
-use Rattle.bench_history.specs.Laws.{NothingAfterOver, IsLiving, IsSomething, IsThere}
+use Rattle.bench_history.specs.Laws.{IsLiving, IsMachines, IsSomething, IsThere, NothingAfterOver}
 use Rattle.bench_world.specs.Worlds.{made_who}
 use Rattle.bench_core.specs.Cores.{CoreValue, Nothing, Needed, core_after}
 use Rattle.bench_core.specs.declared.cores.Health.TheVariants.{Good}
@@ -180,12 +180,11 @@ module _ (laws : LogLaws) {O : Type 0} (view : O → View) (name : O → List �
       }
 
   -- the machine made an entry
-  pub kept-moved : (kernel : KernelValue O) (entry : Entry) → next_of kernel.core.script kernel.core.history ≡ Exactly entry
+  pub kept-moved : (kernel : KernelValue O) (entry : Entry) → IsNext kernel.core.script kernel.core.history entry → IsSomething (next_of kernel.core.script kernel.core.history) → IsMachines kernel.core.history entry
       → kernel.failed ≡ false → IsKernel view name says kernel → IsKernel view name says (record kernel { core = core_after entry kernel.core })
-  kept-moved kernel entry exact going kept =
-      let on : is_over kernel.core.history ≡ false = on-where-some laws.over kernel.core.script kernel.core.history (Exactly entry) exact tt in
-      let machines = laws.silent kernel.core.script kernel.core.history entry exact in
-      kept-later kernel entry going on (rw exact refl) machines.silent machines.keeps machines.starts_none kept
+  kept-moved kernel entry next something machines going kept =
+      let on : is_over kernel.core.history ≡ false = on-where-some laws.over kernel.core.script kernel.core.history (next_of kernel.core.script kernel.core.history) refl something in
+      kept-later kernel entry going on next machines.silent machines.keeps machines.starts_none kept
 
   -- a needed object was declined
   pub kept-declined : (kernel : KernelValue O) (need : Need) (made : Outcome) (performer : Who) (act : Act) → next_of kernel.core.script kernel.core.history ≡ next.Need need made performer act → kernel.failed ≡ false

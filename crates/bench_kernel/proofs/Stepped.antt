@@ -7,15 +7,15 @@ use Rattle.uvm_object.specs.Objects.{View, Says}
 use Rattle.uvm_object.specs.declared.acts.Who.{Who}
 use Rattle.uvm_object.specs.declared.acts.Call.{Call}
 use Rattle.uvm_object.specs.declared.acts.Act.{Act}
+use Rattle.uvm_object.specs.declared.entries.Grant.{Grant}
 use Rattle.uvm_object.specs.declared.entries.Entry.{Entry}
-use Rattle.uvm_object.specs.declared.entries.Entry.TheVariants.{Heard}
-use Rattle.bench_script.specs.Scripts.{ScriptValue}
+use Rattle.uvm_object.specs.declared.entries.Entry.TheVariants.{Granted, Heard}
 use Rattle.bench_history.specs.Limits.{log_limit}
 use Rattle.bench_history.specs.Cases as next
 use Rattle.bench_history.specs.Next as coming
-use Rattle.bench_history.specs.Next.{next_of}
+use Rattle.bench_history.specs.Next.{IsNext, next_of}
 use Rattle.bench_history.specs.declared.needs.Need.{Need}
-use Rattle.bench_history.specs.Laws.{MachineEntriesAreSilent}
+use Rattle.bench_history.specs.Laws.{IsMachines, IsSomething, MachineEntriesAreSilent}
 use Rattle.bench_core.specs.Cores.{Standing, Nothing, Needed, Asked}
 use Rattle.bench_core.specs.declared.cores.Turn as turn
 use Rattle.bench_core.specs.declared.cores.Health.{Health}
@@ -62,6 +62,7 @@ no-leave : (comes : next.Next) (who : Who) (old new : CoreValue) → IsTurn come
 no-leave (next.Exactly entry) who old new t = let e = t.0 in cc
 no-leave (next.Answer performer call cause) who old new t = let e = t.0 in cc
 no-leave (next.Need need made performer act) who old new t = let e = t.0 in cc
+no-leave (next.Grant sequencer drawn chosen) who old new t = let e = t.0 in cc
 no-leave next.Nothing who old new t = let e = t.0 in cc
 
 no-leave-at : (standing : Standing) (who : Who) (old new : CoreValue) → IsNextTurn standing (Ok (turn.TheVariants.Leave who)) old new → ⊥
@@ -78,25 +79,37 @@ leave-by (first ∷ others) who old new is t =
 pub leave-turn : (who : Who) (old new : CoreValue) → IsToldTurn old.leaving (Ok (turn.TheVariants.Leave who)) old new → HasTold who old new
 leave-turn who old new t = leave-by old.leaving who old new refl t
 
--- the machine made an entry: what alone could come
+-- the machine made an entry of its own, or that of an act: what could come
 pub record HasMoved (old new : CoreValue) : Type 0 where
   pub entry : Entry
-  pub exact : next_of old.script old.history ≡ next.Exactly entry
+  pub next : IsNext old.script old.history entry
+  pub something : IsSomething (next_of old.script old.history)
+  pub unneeded : coming.need_in (next_of old.script old.history) ≡ None
+  pub machines : IsMachines old.history entry
   pub is : new ≡ core_after entry old
 
-moved-by : (comes : next.Next) (old new : CoreValue) → next_of old.script old.history ≡ comes → IsTurn comes turn.TheVariants.Moved old new → HasMoved old new
-moved-by (next.Exactly entry) old new exact t = record { entry = entry; exact = exact; is = t.1 }
-moved-by (next.Answer performer call cause) old new exact t = absurd (let e = t.0 in cc)
-moved-by (next.Need need made performer act) old new exact t = absurd (let e = t.0 in cc)
-moved-by next.Nothing old new exact t = absurd (let e = t.0 in cc)
+granted-machines : (history : List Entry) (sequencer : ℕ) (grant : Grant) → IsMachines history (Granted sequencer grant)
+granted-machines history sequencer grant = record { silent = λ hearer. refl; keeps = refl; starts_none = refl }
 
-moved-at : (standing : Standing) (old new : CoreValue) → IsNextTurn standing (Ok turn.TheVariants.Moved) old new → HasMoved old new
-moved-at Nothing old new t = moved-by (next_of old.script old.history) old new refl t.1
-moved-at (Needed need) old new t = absurd (let e = t.0 in cc)
-moved-at (Asked performer call cause) old new t = absurd (let e = t.0 in cc)
+moved-by : MachineEntriesAreSilent → (comes : next.Next) (old new : CoreValue) → next_of old.script old.history ≡ comes → IsTurn comes turn.TheVariants.Moved old new → HasMoved old new
+moved-by silent (next.Exactly entry) old new exact t =
+    record { entry = entry; next = rw exact refl; something = rw exact tt; unneeded = rw exact refl; machines = silent old.script old.history entry exact; is = t.1 }
+moved-by silent (next.Grant sequencer drawn chosen) old new comes t = granted t.1 t.2 t.3
+  where
+    granted : (entry : Entry) → coming.Allows (next.Grant sequencer drawn chosen) entry → new ≡ core_after entry old → HasMoved old new
+    granted entry allowed is =
+        record { entry = entry; next = rw comes allowed; something = rw comes tt; unneeded = rw comes refl; machines = subst (λ (e : Entry). IsMachines old.history e) (sym allowed.3) (granted-machines old.history sequencer allowed.0); is = is }
+moved-by silent (next.Answer performer call cause) old new exact t = absurd (let e = t.0 in cc)
+moved-by silent (next.Need need made performer act) old new exact t = absurd (let e = t.0 in cc)
+moved-by silent next.Nothing old new exact t = absurd (let e = t.0 in cc)
 
-pub moved-turn : (old new : CoreValue) → IsNextTurn old.standing (Ok turn.TheVariants.Moved) old new → HasMoved old new
-moved-turn old new t = moved-at old.standing old new t
+moved-at : MachineEntriesAreSilent → (standing : Standing) (old new : CoreValue) → IsNextTurn standing (Ok turn.TheVariants.Moved) old new → HasMoved old new
+moved-at silent Nothing old new t = moved-by silent (next_of old.script old.history) old new refl t.1
+moved-at silent (Needed need) old new t = absurd (let e = t.0 in cc)
+moved-at silent (Asked performer call cause) old new t = absurd (let e = t.0 in cc)
+
+pub moved-turn : MachineEntriesAreSilent → (old new : CoreValue) → IsNextTurn old.standing (Ok turn.TheVariants.Moved) old new → HasMoved old new
+moved-turn silent old new t = moved-at silent old.standing old new t
 
 -- the machine asks for the object that is needed next: nothing else changes
 pub record HasNeeded (old new : CoreValue) : Type 0 where
@@ -107,6 +120,7 @@ pub record HasNeeded (old new : CoreValue) : Type 0 where
 need-by : (comes : next.Next) (old new : CoreValue) → next_of old.script old.history ≡ comes → IsTurn comes turn.TheVariants.Need old new → HasNeeded old new
 need-by (next.Exactly entry) old new is t = absurd (let e = t.0 in cc)
 need-by (next.Answer performer call cause) old new is t = absurd (let e = t.0 in cc)
+need-by (next.Grant sequencer drawn chosen) old new is t = absurd (let e = t.0 in cc)
 need-by (next.Need need made performer act) old new is t = record { need = need; is = t.1; comes = rw is refl }
 need-by next.Nothing old new is t = absurd (let e = t.0 in cc)
 
@@ -122,6 +136,7 @@ need-turn old new comes t = need-at old.standing old new refl comes t
 over-by : (comes : next.Next) (old new : CoreValue) → IsTurn comes turn.TheVariants.Over old new → new ≡ old
 over-by (next.Exactly entry) old new t = absurd (let e = t.0 in cc)
 over-by (next.Answer performer call cause) old new t = absurd (let e = t.0 in cc)
+over-by (next.Grant sequencer drawn chosen) old new t = absurd (let e = t.0 in cc)
 over-by (next.Need need made performer act) old new t = absurd (let e = t.0 in cc)
 over-by next.Nothing old new t = t.1
 
@@ -152,6 +167,7 @@ ask-by (next.Answer other told cause) performer call old new comes none t =
       answers = comes ∙ ap (λ w. next.Answer w told cause) same_who ∙ ap (λ c. next.Answer performer c cause) same_call;
       nothing_needed = rw none refl;
     }
+ask-by (next.Grant sequencer drawn chosen) performer call old new comes none t = absurd (let e = t.0 in cc)
 ask-by (next.Need need made other act) performer call old new comes none t = absurd (let e = t.0 in cc)
 ask-by next.Nothing performer call old new comes none t = absurd (let e = t.0 in cc)
 
@@ -194,11 +210,11 @@ unheard-log performer call old asking new health asks failed =
 
 module _ {O : Type 0} (view : O → View) (name : O → List ℕ) (says : O → Says) where
   -- an entry of the machine is nobody's answer
-  given-exact : MachineEntriesAreSilent → (script : ScriptValue) (history : List Entry) (entry : Entry) (held : List (Who × O)) → next_of script history ≡ next.Exactly entry → WasGiven view name says entry held held
-  given-exact silent script history (Heard performer call cause acts) held exact =
-      absurd (let nothing = (silent script history (Heard performer call cause acts) exact).silent performer in
+  given-machines : (history : List Entry) (entry : Entry) (held : List (Who × O)) → IsMachines history entry → WasGiven view name says entry held held
+  given-machines history (Heard performer call cause acts) held machines =
+      absurd (let nothing = machines.silent performer in
       let bad : (call, acts) ∷ [] ≡ [] = rw (same_who-self performer) at nothing in cc)
-  given-exact silent script history entry held exact = refl
+  given-machines history entry held machines = refl
 
   -- the object of one that has ended was given back
   pub back-step : (kernel : KernelValue O) (who : Who) (object : O) (new : CoreValue) (held : List (Who × O)) → HasTold who kernel.core new → IsPermutation ((who, object) ∷ held) kernel.held
@@ -214,12 +230,12 @@ module _ {O : Type 0} (view : O → View) (name : O → List ℕ) (says : O → 
   pub needed-step : (kernel : KernelValue O) (new : CoreValue) → length new.history < log_limit new.script → HasNeeded kernel.core new → IsWaiting view name says kernel (record kernel { core = new })
   needed-step kernel new room needed = record { room = rw needed.is at room; need = needed.need; next = needed.comes; is = rw needed.is refl }
 
-  pub moved-step : MachineEntriesAreSilent → (kernel : KernelValue O) (new : CoreValue) (moved : HasMoved kernel.core new) → IsMoved view name says kernel (record kernel { core = new })
-  moved-step silent kernel new moved = record {
-    unneeded = rw moved.exact refl;
+  pub moved-step : (kernel : KernelValue O) (new : CoreValue) (moved : HasMoved kernel.core new) → IsMoved view name says kernel (record kernel { core = new })
+  moved-step kernel new moved = record {
+    unneeded = moved.unneeded;
     entry = moved.entry;
-    next = rw moved.exact refl;
-    given = given-exact silent kernel.core.script kernel.core.history moved.entry kernel.held moved.exact;
+    next = moved.next;
+    given = given-machines kernel.core.history moved.entry kernel.held moved.machines;
     is = rw moved.is refl;
   }
 

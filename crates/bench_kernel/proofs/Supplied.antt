@@ -60,6 +60,7 @@ needed-by (next.Exactly entry) script history need is wants = cc
 needed-by (next.Answer performer call cause) script history need is wants = cc
 needed-by (next.Need other made performer act) script history need is wants =
     record { made = made; performer = performer; act = act; next_is = is ∙ ap (λ n. next.Need n made performer act) (same_Some other need wants) }
+needed-by (next.Grant sequencer drawn chosen) script history need is wants = cc
 needed-by next.Nothing script history need is wants = cc
 
 -- a kernel that needs an object does so for an act
@@ -95,6 +96,7 @@ module _ (laws : LogLaws) {O : Type 0} (view : O → View) (name : O → List �
         kept-declined laws view name says kernel need made performer act is going kept.0,
         seated-later laws kernel.core.history (Did performer (Refused NoObject) act) paths count sequences refl under kept.1,
       )
+  declines-by (next.Grant sequencer drawn chosen) kernel new paths count sequences is going some e under kept = cc
   declines-by next.Nothing kernel new paths count sequences is going some e under kept = cc
 
   -- it was declined

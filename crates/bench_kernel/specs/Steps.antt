@@ -20,7 +20,7 @@ use Rattle.bench_core.specs.Cores.{Needed, Asked}
 use Rattle.bench_core.specs.declared.cores.Health.TheVariants.{Full, Broken}
 use Rattle.bench_core.specs.declared.faults.CoreFault.{CoreFault}
 use Rattle.bench_core.specs.declared.faults.CoreFault.TheVariants.{Memory, LogFull, Failed, NoTest}
-use Rattle.bench_core.specs.Cores.{CoreValue, core_after, failed_from}
+use Rattle.bench_core.specs.Cores.{CoreValue, core_after, failed_from, word_in}
 use Rattle.bench_kernel.specs.declared.kernels.Step.{Step}
 use Rattle.bench_kernel.specs.declared.kernels.Step.TheVariants.{Need, Moved, Back, Over}
 use Rattle.bench_kernel.specs.declared.kernels.Misfit.{Misfit}
@@ -33,6 +33,11 @@ use Rattle.bench_kernel.specs.Kernels.{KernelValue, open_need, wanted_in}
 abbrev pub unanswered_from : Who → Call → Option Cause → Result (List Act) AllocError → CoreValue → CoreValue
 unanswered_from performer call cause (Ok acts) core = failed_from Broken core
 unanswered_from performer call cause (Err fault) core = record core { standing = Asked performer call cause }
+
+-- the word that is drawn by a step: that of the grant that it enters, where one decides whose it is
+abbrev pub drawn_in : {O : Type 0} → List Entry → Step O → Option ℕ
+drawn_in history Moved = word_in history
+drawn_in history step = None
 
 -- the script and the entries are the same
 pub record IsSameLog (old new : CoreValue) : Type 0 where

@@ -7,13 +7,13 @@ ghost use Rattle.bench_history.specs.History.{nodes_of};
 ghost use Rattle.bench_history.specs.Next.{next_of, declined_in, IsLegal};
 ghost use Rattle.bench_history.specs.Reports.{report_commands};
 ghost use Rattle.uvm_report.specs.Changes.{Gives};
-ghost use Rattle.bench_core.specs.Cores.{IsUnmade, core_after, is_sound};
+ghost use Rattle.bench_core.specs.Cores.{IsDrawing, IsUnmade, core_after, is_sound};
 ghost use Rattle.bench_core.specs.Cores.{Nothing};
 ghost use Rattle.bench_core.specs.declared.cores.Health.TheVariants.{Good};
 ghost use Rattle.bench_kernel.specs.Orders.{IsFirstBack};
 ghost use Rattle.bench_kernel.specs.Kernels.{AreAllHeld, AreHonest, WasMade, abandoned, is_done, open_need, types_made, wanted_in, who_held};
 ghost use Rattle.uvm_object.specs.Objects.{same_who};
-ghost use Rattle.bench_kernel.specs.Steps.{IsMisfit, IsStep, IsSupplied};
+ghost use Rattle.bench_kernel.specs.Steps.{IsMisfit, IsStep, IsSupplied, drawn_in};
 
 use crate::laws;
 use crate::seating::{hear, reserve, seat};
@@ -106,11 +106,12 @@ impl<O: UvmObject> Kernel<O> {
     /// Gives back the object of a sequence that has ended, once each, in rising number and before any further entry; else makes one
     /// entry, for which it asks one object at most, or says that an object is needed (again and again until it is supplied or
     /// declined), or that the run is over. `LogFull` where an entry would be next and the log is full, `Memory`
-    /// where memory is refused, also to the object that is asked, and `Failed` from then on.
+    /// where memory is refused, also to the object that is asked, and `Failed` from then on. A word is drawn where one decides whom the
+    /// next item is granted (Clause 15), and for nothing else; where memory is refused then, it may be lost.
     pub fn step<R: Rng>(&mut self, words: &mut R) -> Result<Step<O>, CoreFault>
         ensures step { IsStep O.view O.name O.says result self.old self.new }
         ensures needed { IfOk result (λ step. step ≡ Step.Need → IsSome (open_need self.new)) }
-        ensures words { words.new ≡ words.old }
+        ensures words { IsDrawing R.stream (drawn_in self.new.core.history) result words.old words.new }
     {
         laws::hold();
         if self.failed {

@@ -1,18 +1,20 @@
 -- A run that is not over, and one that breaks off.
-use Rattle.std.proofs.Common.{◌≡◌, ℕ, Bool, List, [], ◌∷◌, ◌++◌, length, Option, Some, None, Result, Ok, Err, ap, sym, ◌∙◌, subst, if◌then◌else◌, append-nil, arith, suc, lit≤}
+use Rattle.std.proofs.Common.{◌≡◌, ◌<◌, ◌≤◌, ℕ, Bool, true, false, List, [], ◌∷◌, ◌++◌, length, Option, Some, None, Result, Ok, Err, ap, refl, sym, ◌∙◌, subst, if◌then◌else◌, append-nil, arith, suc, lit≤}
 use Rattle.std.specs.Result.{IsErrAnd}
 use Rattle.std.proofs.lemmas.List.{append_assoc}
 use Rattle.std.specs.Io.KnownBytes.{Appends}
 use Rattle.std.proofs.KnownBytes.{Appends-kept}
 use Rattle.bench_script.specs.Scripts.{ScriptValue}
+use Rattle.bench_history.specs.Limits.{log_limit}
 use Rattle.bench_history.specs.Next.{IsLegal}
 use Rattle.bench_core.specs.declared.cores.Health.{Health}
 use Rattle.bench_core.specs.declared.cores.Health.TheVariants.{Good}
 use Rattle.bench_core.specs.Cores.{CoreValue, is_sound, last_text}
+use Rattle.bench_kernel.specs.Steps.{IsSameLog}
 use Rattle.bench_run.specs.declared.endings.Ending.{Ending}
 use Rattle.bench_run.specs.declared.faults.RunFault.{RunFault}
 use Rattle.bench_run.specs.declared.faults.RunFault.TheVariants as fault
-use Rattle.bench_run.specs.Running.{BrokeOffRun, Grows, IsUnwritten, LeavesRun, transcript}
+use Rattle.bench_run.specs.Running.{BrokeOffRun, Grows, IsHalted, IsUnwritten, LeavesRun, transcript}
 
 -- what is written after what was written
 pub Appends-more : (old mid new : Option (List ℕ)) (xs ys : List ℕ) → Appends old mid xs → Appends mid new ys → Appends old new (xs ++ ys)
@@ -66,3 +68,33 @@ breaks-off (Err given) why trace old new script first half last told grown same 
     }
     go fault.LogFull bad = absurd bad
     go fault.Output done = tt
+
+-- no more entry
+pub halts :
+    (result : Result Ending RunFault) (why : RunFault) (trace failed : Bool) (old new : CoreValue) (script : ScriptValue) (first last : Option (List ℕ))
+    → IsErrAnd result (λ told. told ≡ why) → IsHalted why failed old → IsSameLog old new → (failed ≡ true → length old.history < log_limit script) → IsLegal old.script old.history → old.script ≡ script
+    → Appends first last (transcript trace script old.history)
+    → LeavesRun script trace new.history first last result
+halts (Ok ending) why trace failed old new script first last told halted same room legal is wrote = absurd told
+halts (Err given) why trace failed old new script first last told halted same room legal is wrote =
+    go given (subst (λ fault. IsHalted fault failed old) (sym told) halted)
+  where
+    has-room : (failed : Bool) → (failed ≡ false → length old.history < log_limit old.script) → (failed ≡ true → length old.history < log_limit script) → length old.history < log_limit script
+    has-room true going full = full refl
+    has-room false going full = subst (λ (s : ScriptValue). length old.history < log_limit s) is (going refl)
+
+    go : (given : RunFault) → IsHalted given failed old → BrokeOffRun given script trace new.history first last
+    go fault.Memory halted = record {
+      unwritten = [];
+      written = old.history;
+      log = same.history;
+      newest_alone = lit≤ tt;
+      room = λ on. has-room failed halted room;
+      wrote = record { legal = subst (λ (s : ScriptValue). IsLegal s old.history) is legal; wrote = rw append-nil wrote };
+    }
+    go fault.LogFull halted = rw same.history (
+      subst (λ (s : ScriptValue). log_limit s ≤ length old.history) is halted.0,
+      halted.1,
+      record { legal = subst (λ (s : ScriptValue). IsLegal s old.history) is legal; wrote = rw append-nil wrote },
+    )
+    go fault.Output halted = absurd halted

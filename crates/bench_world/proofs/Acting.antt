@@ -11,10 +11,9 @@ use Rattle.uvm_object.specs.declared.entries.Entry.{Entry}
 use Rattle.bench_script.specs.Scripts.{ScriptValue}
 use Rattle.bench_history.specs.declared.needs.Need as needs
 use Rattle.bench_history.specs.History.{left_of, head_of, rest_of, speaker_of}
-use Rattle.bench_history.specs.Passing.{next_passed}
 use Rattle.bench_history.specs.Cases.{by_act}
 use Rattle.bench_history.specs.Next.{next_of, need_in, IsAct}
-use Rattle.bench_history.specs.Laws.{ActsGoInOrder, NeedsAreWanted, IsWanted}
+use Rattle.bench_history.specs.Laws.{ActsGoInOrder, IsSettled, NeedsAreWanted, IsWanted}
 
 -- what is left begins with the act that is next
 pub acts-first : ActsGoInOrder → (script : ScriptValue) (history : List Entry) (act : Act) → IsAct (next_of script history) → head_of (left_of script history) ≡ Some act → next_of script history ≡ by_act script history (speaker_of history) act
@@ -24,7 +23,7 @@ acts-first order script history act is head =
     let same : p.0 ≡ act = cc in
     p.1.next ∙ ap (by_act script history (speaker_of history)) same
 
-pub acts-settled : ActsGoInOrder → (script : ScriptValue) (history : List Entry) → IsAct (next_of script history) → next_passed history ≡ None
+pub acts-settled : ActsGoInOrder → (script : ScriptValue) (history : List Entry) → IsAct (next_of script history) → IsSettled history
 acts-settled order script history is = (order script history is).1.settled
 
 pub acts-some : ActsGoInOrder → (script : ScriptValue) (history : List Entry) → IsAct (next_of script history) → head_of (left_of script history) ≡ None → ⊥

@@ -22,14 +22,14 @@ use Rattle.bench_history.specs.declared.stages.Stage.{Stage}
 use Rattle.bench_history.specs.declared.stages.Stage.TheVariants.{Before, During, After, Ended}
 use Rattle.bench_history.specs.Dues.{is_of_one}
 use Rattle.bench_history.specs.History.{opening, overrides_of, running, speaker_of, stage_of}
-use Rattle.bench_history.specs.Laws.{IsLiving, IsThere, LivingRun, next_number, number_of}
+use Rattle.bench_history.specs.Laws.{IsLiving, IsThere, LivingRun, next_number, number_of, place_of}
 use Rattle.bench_history.specs.Refusals.{Starting, in_task, starting_refusal}
 use Rattle.bench_history.specs.Sequences.{Beginning, begun_of, is_over_phase, sequence_in, start_by, start_priority, starts_in}
 use Rattle.bench_history.specs.Upshots.{Needs, needed_sequence, starting_now, starting_upshot}
 use Rattle.bench_world.specs.declared.services.Services.{Services}
 use Rattle.bench_world.specs.declared.services.Beginning as kept
 use Rattle.bench_history.specs.declared.owners.Owner.TheVariants.{Object}
-use Rattle.bench_world.specs.Sequencings.{IsSequencing, IsStart, IsStarter, home_for, name_started, place_of, priority_given}
+use Rattle.bench_world.specs.Sequencings.{IsSequencing, IsStart, IsStarter, home_for, name_started, priority_given}
 use Rattle.bench_world.specs.Services.{IsScene, ServicesMatch, starting_in}
 use Rattle.bench_world.proofs.Sequenced.{sequencing-begun}
 use Rattle.bench_world.proofs.Told.{runs}

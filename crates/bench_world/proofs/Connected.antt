@@ -146,7 +146,7 @@ nat_eq-flips : (m n : ℕ) → nat_eq m n ≡ nat_eq n m
 nat_eq-flips m n = grind (arith, nat_tests)
 
 -- each number of a range is in it
-range-contains : (a n m : ℕ) → a ≤ m → m < a + n → Contains (range_with_len a n) m
+pub range-contains : (a n m : ℕ) → a ≤ m → m < a + n → Contains (range_with_len a n) m
 range-contains a n m low high =
     let within : m - a < n = omega arith in
     let place : a + (m - a) ≡ m = omega arith in
@@ -156,7 +156,7 @@ range-contains a n m low high =
 all-contained : {A : Type 0} (xs : List A) → All (Contains xs) xs
 all-contained xs = λ k d within. (k, within, get_or_default xs k _ _ within)
 
-permutation-contains : {A : Type 0} (xs ys : List A) (x : A) → IsPermutation xs ys → Contains xs x → Contains ys x
+pub permutation-contains : {A : Type 0} (xs ys : List A) (x : A) → IsPermutation xs ys → Contains xs x → Contains ys x
 permutation-contains xs ys x same in-xs = All-contains (Contains ys) xs x (All-permutation (Contains ys) ys xs (IsPermutation-sym xs ys same) (all-contained ys)) in-xs
 
 -- the path order of all nodes is one of those that can be connected

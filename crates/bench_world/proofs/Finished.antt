@@ -1,6 +1,7 @@
 -- A sequence that finishes.
-use Rattle.std.proofs.Common.{◌≡◌, ℕ, suc, Bool, true, false, not, List, [], ◌∷◌, ◌++◌, ◌<◌, length, filter, All, Option, Some, None, option_map, ◌⊎◌, inl, inr, refl, ap, sym, ◌∙◌, subst}
+use Rattle.std.proofs.Common.{◌≡◌, ℕ, suc, true, false, not, List, [], ◌∷◌, ◌++◌, ◌<◌, length, filter, All, Option, Some, None, option_map, ◌⊎◌, inl, inr, refl, ap, sym, subst}
 use Rattle.std.specs.Option.{option_map_or}
+use Rattle.std.proofs.lemmas.List.Elements.{All-cons}
 use Rattle.uvm_phase.specs.Phases.{phase_number}
 use Rattle.uvm_phase.specs.Dues.{in_order}
 use Rattle.uvm_sequencer.specs.Laws.{StepsChangeAlone}
@@ -8,6 +9,7 @@ use Rattle.uvm_sequencer.specs.Sequences.{name_at, numbered}
 use Rattle.uvm_sequencer.specs.Sequences as service
 use Rattle.uvm_object.specs.declared.acts.Who.{Who}
 use Rattle.uvm_object.specs.declared.acts.Who.TheVariants as who
+use Rattle.uvm_object.specs.declared.acts.Call.{Call}
 use Rattle.uvm_object.specs.declared.acts.Call.TheVariants as call
 use Rattle.uvm_object.specs.declared.acts.Act.{Act}
 use Rattle.uvm_object.specs.declared.acts.Act.TheVariants.{EndStep}
@@ -16,7 +18,7 @@ use Rattle.uvm_object.specs.declared.entries.Entry.TheVariants.{Did}
 use Rattle.uvm_object.specs.declared.entries.Outcome.TheVariants.{Finished}
 use Rattle.bench_script.specs.Scripts.{ScriptValue}
 use Rattle.bench_history.specs.declared.owners.Owner.TheVariants.{Object}
-use Rattle.bench_history.specs.Dues.{caused_at, caused_of, due_events, event_in, heard_of, is_of_one, is_open}
+use Rattle.bench_history.specs.Dues.{calls_told, caused_of, due_events, heard_of, is_of_one, is_open, lapsed_by}
 use Rattle.bench_history.specs.History.{ended_of, now_of, opening, running, speaker_of, stage_of}
 use Rattle.bench_history.specs.Laws.{IsThere, next_number}
 use Rattle.bench_history.specs.Objections.{objections_of}
@@ -24,13 +26,15 @@ use Rattle.bench_history.specs.Owners.{Event}
 use Rattle.bench_history.specs.Sequences.{Beginning, begun_of, finished_of, is_live, sequence_in}
 use Rattle.bench_world.specs.declared.services.Services.{Services}
 use Rattle.bench_world.specs.Objectings.{AreEvents}
-use Rattle.bench_world.specs.Sequencings.{finished_events, is_told, lives_by, starter_told, told_if}
+use Rattle.bench_world.specs.Drivings.{finished_calls, living_numbered}
+use Rattle.bench_world.specs.Sequencings.{beginning_at, is_told, lives_by}
 use Rattle.bench_world.specs.Services.{IsAgenda, IsScene, ServicesMatch}
-use Rattle.bench_world.proofs.Drained.{events-finished, events-told}
+use Rattle.bench_world.proofs.Drained.{events-finished}
+use Rattle.bench_world.proofs.Written.{agenda-living, events-calls}
 use Rattle.bench_world.proofs.Numbered.{numbered-map}
 use Rattle.bench_world.proofs.Sequenced.{starter-open}
 use Rattle.bench_world.proofs.Starters.{kept-at}
-use Rattle.bench_world.proofs.Told.{agenda-closed, agenda-event, agenda-finished, filter-twice, open-finished}
+use Rattle.bench_world.proofs.Told.{agenda-finished, filter-twice, open-finished}
 
 -- a sequence that is there was started, and lives
 pub record IsBegunLiving (history : List Entry) (performer : Who) (id : ℕ) : Type 0 where
@@ -63,49 +67,34 @@ pub record HasFinished (history : List Entry) (performer : Who) (more : List Eve
   pub agenda : IsAgenda (caused_of (Did performer Finished EndStep ∷ history)) (heard_of history) (ended_of history) (performer ∷ finished_of history) (suc (length history)) more
   pub events : AreEvents (objections_of history) (due_events (Did performer Finished EndStep ∷ history))
 
-module _ {script : ScriptValue} {history : List Entry} {services : Services} (m : ServicesMatch script history services) (alone : StepsChangeAlone) (id : ℕ) (beginning : Beginning) (found : numbered (begun_of history) id ≡ Some beginning) (lives : lives_by (finished_of history) (ended_of history) id beginning ≡ true) where
+module _
+    {script : ScriptValue} {history : List Entry} {services : Services} (m : ServicesMatch script history services) (alone : StepsChangeAlone) (id : ℕ) (beginning : Beginning) (found : numbered (begun_of history) id ≡ Some beginning) (lives : lives_by (finished_of history) (ended_of history) id beginning ≡ true)
+    (lapse : List (Who × Call)) (lapses : lapse ≡ lapsed_by history beginning.start.home (Some id)) where
   name-known : name_at services.sequences.started id ≡ Some beginning.start.name
   name-known = rw (m.sequencing.started, numbered-map (λ (b : Beginning). b.start) (begun_of history) id, found) refl
 
-  starter-known : starter_told (service.finished id services.sequences).steps services.beginnings.items id ≡ told_if (is_told (service.finished id services.sequences).steps beginning.starter) beginning.starter
-  starter-known = rw (m.sequencing.are, kept-at (begun_of history) id beginning found) refl
+  calls-known : finished_calls (beginning_at services.beginnings.items id) (name_at services.sequences.started id) id ++ lapse ≡ calls_told history (who.Sequence id beginning.start.home) Finished EndStep
+  calls-known = rw (m.sequencing.are, kept-at (begun_of history) id beginning found, name-known, lapses, found) refl
 
   pub has-finished :
       (more : List Event) → All (λ phase. phase_number phase < next_number (stage_of history)) (ended_of history)
-      → more ≡ in_order (finished_events (starter_told (service.finished id services.sequences).steps services.beginnings.items id) (name_at services.sequences.started id) id (running (stage_of history)) (now_of history) (caused_at (length history))
+      → All (λ (c : Who × Call). is_told (service.finished id services.sequences).steps c.0 ≡ not (is_of_one (who.Sequence id beginning.start.home ∷ finished_of history) (Object c.0))) (lapsed_by history beginning.start.home (Some id))
+      → more ≡ in_order (living_numbered (is_told (service.finished id services.sequences).steps) (running (stage_of history)) (now_of history) (length history) 0
+      (finished_calls (beginning_at services.beginnings.items id) (name_at services.sequences.started id) id ++ lapse)
       ++ filter (λ event. not (is_of_one (who.Sequence id beginning.start.home ∷ []) event.owner)) (filter (is_open (heard_of history) (ended_of history) (finished_of history)) (caused_of history)))
       → HasFinished history (who.Sequence id beginning.start.home) more
-  has-finished more phases is = record { agenda = rw found (agenda (is_told (service.finished id services.sequences).steps beginning.starter) refl); events = rw found events }
+  has-finished more phases lapsed is = record {
+    agenda = agenda-living (is_told (service.finished id services.sequences).steps) (stage_of history) (now_of history) (calls_told history (who.Sequence id beginning.start.home) Finished EndStep) (caused_of history) (heard_of history) (ended_of history) (who.Sequence id beginning.start.home ∷ finished_of history) (length history) _ more phases told left (rw (calls-known, ← twice) at is);
+    events = events-calls (objections_of history) (is_open (heard_of history) (ended_of history) (who.Sequence id beginning.start.home ∷ finished_of history)) (running (stage_of history)) (now_of history) (length history) 0 (calls_told history (who.Sequence id beginning.start.home) Finished EndStep) (caused_of history)
+        (events-finished (who.Sequence id beginning.start.home) (objections_of history) (caused_of history) (heard_of history) (ended_of history) (finished_of history) m.events);
+  }
     where
-      performer : Who
-      performer = who.Sequence id beginning.start.home
+      told : All (λ (c : Who × Call). is_told (service.finished id services.sequences).steps c.0 ≡ not (is_of_one (who.Sequence id beginning.start.home ∷ finished_of history) (Object c.0))) (calls_told history (who.Sequence id beginning.start.home) Finished EndStep)
+      told = rw found (All-cons (λ (c : Who × Call). is_told (service.finished id services.sequences).steps c.0 ≡ not (is_of_one (who.Sequence id beginning.start.home ∷ finished_of history) (Object c.0))) (beginning.starter, call.Finished beginning.start.name id) _
+          (starter-open m.sequencing alone id beginning found lives beginning.starter refl) lapsed)
 
-      open_ : is_told (service.finished id services.sequences).steps beginning.starter ≡ not (is_of_one (performer ∷ finished_of history) (Object beginning.starter))
-      open_ = starter-open m.sequencing alone id beginning found lives beginning.starter refl
+      twice : filter (is_open (heard_of history) (ended_of history) (who.Sequence id beginning.start.home ∷ finished_of history)) (caused_of history) ≡ filter (λ event. not (is_of_one (who.Sequence id beginning.start.home ∷ []) event.owner)) (filter (is_open (heard_of history) (ended_of history) (finished_of history)) (caused_of history))
+      twice = filter-twice (λ event. not (is_of_one (who.Sequence id beginning.start.home ∷ []) event.owner)) (is_open (heard_of history) (ended_of history) (finished_of history)) (is_open (heard_of history) (ended_of history) (who.Sequence id beginning.start.home ∷ finished_of history)) (open-finished (who.Sequence id beginning.start.home) (heard_of history) (ended_of history) (finished_of history)) (caused_of history)
 
-      twice : filter (is_open (heard_of history) (ended_of history) (performer ∷ finished_of history)) (caused_of history) ≡ filter (λ event. not (is_of_one (performer ∷ []) event.owner)) (filter (is_open (heard_of history) (ended_of history) (finished_of history)) (caused_of history))
-      twice = filter-twice (λ event. not (is_of_one (performer ∷ []) event.owner)) (is_open (heard_of history) (ended_of history) (finished_of history)) (is_open (heard_of history) (ended_of history) (performer ∷ finished_of history)) (open-finished performer (heard_of history) (ended_of history) (finished_of history)) (caused_of history)
-
-      left : IsAgenda (caused_of history) (heard_of history) (ended_of history) (performer ∷ finished_of history) (length history) (in_order (filter (λ event. not (is_of_one (performer ∷ []) event.owner)) (filter (is_open (heard_of history) (ended_of history) (finished_of history)) (caused_of history))))
-      left = agenda-finished performer (caused_of history) (heard_of history) (ended_of history) (finished_of history) (length history) services.agenda.dues m.agenda
-
-      not-true : (b : Bool) → not b ≡ true → b ≡ false
-      not-true true e = cc
-      not-true false e = refl
-
-      not-false : (b : Bool) → not b ≡ false → b ≡ true
-      not-false true e = refl
-      not-false false e = cc
-
-      agenda : (told : Bool) → is_told (service.finished id services.sequences).steps beginning.starter ≡ told → IsAgenda (event_in (running (stage_of history)) (now_of history) (caused_at (length history)) (Object beginning.starter) (Some (call.Finished beginning.start.name id)) ++ caused_of history) (heard_of history) (ended_of history) (performer ∷ finished_of history) (suc (length history)) more
-      agenda true e =
-          let unfinished : is_of_one (performer ∷ finished_of history) (Object beginning.starter) ≡ false = not-true _ (sym open_ ∙ e) in
-          let dues = rw (starter-known, name-known, e, sym twice) at is in
-          agenda-event (Object beginning.starter) (Some (call.Finished beginning.start.name id)) (now_of history) (stage_of history) (caused_of history) (heard_of history) (ended_of history) (performer ∷ finished_of history) (length history) _ more phases unfinished left dues
-      agenda false e =
-          let done : is_of_one (performer ∷ finished_of history) (Object beginning.starter) ≡ true = not-false _ (sym open_ ∙ e) in
-          let dues = rw (starter-known, name-known, e) at is in
-          rw dues (agenda-closed (Object beginning.starter) (Some (call.Finished beginning.start.name id)) (now_of history) (stage_of history) (caused_of history) (heard_of history) (ended_of history) (performer ∷ finished_of history) (length history) _ done left)
-
-      events : AreEvents (objections_of history) (filter (is_open (heard_of history) (ended_of history) (performer ∷ finished_of history)) (event_in (running (stage_of history)) (now_of history) (caused_at (length history)) (Object beginning.starter) (Some (call.Finished beginning.start.name id)) ++ caused_of history))
-      events = events-told (objections_of history) (is_open (heard_of history) (ended_of history) (performer ∷ finished_of history)) (running (stage_of history)) (now_of history) (caused_at (length history)) beginning.starter (call.Finished beginning.start.name id) (caused_of history) (events-finished performer (objections_of history) (caused_of history) (heard_of history) (ended_of history) (finished_of history) m.events)
+      left : IsAgenda (caused_of history) (heard_of history) (ended_of history) (who.Sequence id beginning.start.home ∷ finished_of history) (length history) (in_order (filter (λ event. not (is_of_one (who.Sequence id beginning.start.home ∷ []) event.owner)) (filter (is_open (heard_of history) (ended_of history) (finished_of history)) (caused_of history))))
+      left = agenda-finished (who.Sequence id beginning.start.home) (caused_of history) (heard_of history) (ended_of history) (finished_of history) (length history) services.agenda.dues m.agenda

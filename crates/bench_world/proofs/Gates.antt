@@ -182,7 +182,7 @@ module _ {script : ScriptValue} {history : List Entry} {act : Act} {place : ℕ}
   kept-on entry change g nodes changes at is passed = record {
     stations_are = stations-changed gate.fifo change changes at s.known.stations;
     passed = passed;
-    unsettled_are = rw (is, nodes) (unsettled-one (path_order (nodes_of history)) gate.fifo g.distinct g.there (passing-same history (entry ∷ history) gate.fifo change changes (settled-all history s.known.unsettled s.settled)));
+    unsettled_are = rw (is, nodes) (unsettled-one (path_order (nodes_of history)) gate.fifo g.distinct g.there (passing-same history (entry ∷ history) gate.fifo change changes (settled-all history s.known.unsettled s.settled.unpassed)));
   }
 
   -- a put is asked for

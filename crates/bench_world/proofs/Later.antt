@@ -18,13 +18,12 @@ use Rattle.bench_world.specs.declared.services.Services.{Services}
 use Rattle.bench_history.specs.Limits.{log_limit}
 use Rattle.bench_history.specs.History.{left_of, rest_of, speaker_of}
 use Rattle.bench_history.specs.Reports.{report_commands, newest_fate}
-use Rattle.bench_history.specs.Passing.{next_passed}
 use Rattle.bench_history.specs.Sequences.{leaving_after, leaving_of}
 use Rattle.bench_history.specs.Refusals.{is_open_to}
-use Rattle.bench_history.specs.Upshots.{Upshot, Needs, Does, Finds, Stores, Takes, Finishes, Refuses, upshot_of}
+use Rattle.bench_history.specs.Upshots.{Upshot, Needs, Does, Finds, Stores, Takes, Asks, Finishes, Refuses, upshot_of}
 use Rattle.bench_history.specs.Cases.{Exactly, by_act, by_open, by_upshot}
 use Rattle.bench_history.specs.Next.{next_of, EachIsNext, IsAct, IsNext}
-use Rattle.bench_history.specs.Laws.{PerformersAreThere, PhasesGoInOrder, StaysWired, WiringStays}
+use Rattle.bench_history.specs.Laws.{DriversAreThere, IsSettled, PerformersAreThere, PhasesGoInOrder, StaysWired, WiringStays}
 use Rattle.bench_world.specs.Services.{Comes, ServicesMatch, TakesIn, IsPerformed, IsScene, IsTried, IsAttempt, IsAttemptOfAny, IsRefusing, one_done}
 use Rattle.bench_world.specs.Worlds.{IsWorld}
 use Rattle.bench_world.proofs.Answered.{answer-later, answer-next, answer-noted}
@@ -32,14 +31,15 @@ use Rattle.bench_world.proofs.Entered.{legal-more, sound-again}
 use Rattle.bench_world.proofs.Reported.{quiet}
 use Rattle.bench_world.proofs.Objected.{objecting-later}
 use Rattle.bench_world.proofs.Connected.{closing-later, closing-next}
+use Rattle.bench_world.proofs.Contested.{arbitrating-later}
 use Rattle.bench_world.proofs.Passages.{passed-later}
 use Rattle.bench_world.proofs.Told.{agenda-later}
 
 -- what every entry leaves, but for what it changes
-pub ruleset later = (answer-later, answer-noted, agenda-later, quiet, objecting-later, closing-later, passed-later)
+pub ruleset later = (answer-later, answer-noted, agenda-later, quiet, objecting-later, closing-later, passed-later, arbitrating-later)
 
 -- what an act leaves, but for what it changes
-pub ruleset acted = (answer-next, agenda-later, quiet, objecting-later, closing-next, passed-later)
+pub ruleset acted = (answer-next, agenda-later, quiet, objecting-later, closing-next, passed-later, arbitrating-later)
 
 -- a world goes on with an entry that is next
 goes-on :
@@ -62,10 +62,10 @@ entered {script = script} {log} entry p sound room next is limit leaves stay mat
 
 -- an act is to be performed
 pub scene-of :
-    {script : ScriptValue} {history : List Entry} {services : Services} (act : Act) → ServicesMatch script history services → EachIsNext script history → next_passed history ≡ None
-    → left_of script history ≡ act ∷ rest_of (left_of script history) → PhasesGoInOrder → PerformersAreThere → IsAct (next_of script history) → IsScene script history act (length history) services
-scene-of {script} {history} act m each settled left order performers is =
-    record { each = each; known = m; settled = settled; left = left; place_is = refl; in_order = (order script history each).before; there = performers script history act each is left }
+    {script : ScriptValue} {history : List Entry} {services : Services} (act : Act) → ServicesMatch script history services → EachIsNext script history → IsSettled history
+    → left_of script history ≡ act ∷ rest_of (left_of script history) → PhasesGoInOrder → PerformersAreThere → DriversAreThere → IsAct (next_of script history) → IsScene script history act (length history) services
+scene-of {script} {history} act m each settled left order performers drivers is =
+    record { each = each; known = m; settled = settled; left = left; place_is = refl; in_order = (order script history each).before; there = performers script history act each is left; driving = drivers script history each is }
 
 -- what an act comes to is the entry of an act, or a need
 act-is : (performer : Who) (act : Act) (upshot : Upshot) → IsAct (by_upshot performer act upshot)
@@ -74,6 +74,7 @@ act-is performer act Does = tt
 act-is performer act (Finds value) = tt
 act-is performer act (Stores stored) = tt
 act-is performer act (Takes item) = tt
+act-is performer act (Asks waits) = tt
 act-is performer act Finishes = tt
 act-is performer act (Refuses fatal) = tt
 
@@ -84,28 +85,28 @@ act-next script history act next = subst IsAct (sym next) (act-is (speaker_of hi
 pub acted-on :
     {P : Type 0} {sound : Bool} {script : ScriptValue} {log more : LogValue} {old new services : Services} {waiting : Option Waiting} {others leaving : List Who} (outcome : Outcome) (act : Act)
     → P × IsWorld sound script log old waiting others → sound ≡ true → length log.entries < log_limit script
-    → next_passed log.entries ≡ None → left_of script log.entries ≡ act ∷ rest_of (left_of script log.entries) → IsNext script log.entries (Did (speaker_of log.entries) outcome act)
-    → IsAct (next_of script log.entries) → PhasesGoInOrder → PerformersAreThere → TakesIn act outcome (length log.entries) old new
+    → IsSettled log.entries → left_of script log.entries ≡ act ∷ rest_of (left_of script log.entries) → IsNext script log.entries (Did (speaker_of log.entries) outcome act)
+    → IsAct (next_of script log.entries) → PhasesGoInOrder → PerformersAreThere → DriversAreThere → TakesIn act outcome (length log.entries) old new
     → more.entries ≡ Did new.answer.speaker outcome act ∷ log.entries → more.limit ≡ log.limit → leaving ≡ leaving_after old.answer.speaker outcome → services ≡ one_done new
     → P × IsWorld true script more services None leaving
-acted-on {script = script} {log} {old = old} {new} outcome act p sound room settled left next is_act order performers kept is limit leaves done =
+acted-on {script = script} {log} {old = old} {new} outcome act p sound room settled left next is_act order performers drivers kept is limit leaves done =
     let m = p.1.services_match sound in
-    let match = kept.with_entry script log.entries (scene-of act m p.1.legal.each settled left order performers is_act) in
+    let match = kept.with_entry script log.entries (scene-of act m p.1.legal.each settled left order performers drivers is_act) in
     goes-on (Did old.answer.speaker outcome act) p sound room (rw m.answer.speaker next) (is ∙ ap (λ (s : Who). Did s outcome act ∷ log.entries) (ap (λ a. a.speaker) kept.same_answer)) limit leaves (λ m. rw done match)
 
 -- what an act comes to by itself is next
 pub performed :
     {P : Type 0} {sound : Bool} {script : ScriptValue} {log more : LogValue} {old new services : Services} {waiting : Option Waiting} {others leaving : List Who} (outcome : Outcome) (act : Act)
     → P × IsWorld sound script log old waiting others → sound ≡ true → length log.entries < log_limit script
-    → next_passed log.entries ≡ None → left_of script log.entries ≡ act ∷ rest_of (left_of script log.entries) → next_of script log.entries ≡ by_act script log.entries (speaker_of log.entries) act
-    → PhasesGoInOrder → PerformersAreThere → IsPerformed by_act act outcome (length log.entries) old new
+    → IsSettled log.entries → left_of script log.entries ≡ act ∷ rest_of (left_of script log.entries) → next_of script log.entries ≡ by_act script log.entries (speaker_of log.entries) act
+    → PhasesGoInOrder → PerformersAreThere → DriversAreThere → IsPerformed by_act act outcome (length log.entries) old new
     → more.entries ≡ Did new.answer.speaker outcome act ∷ log.entries → more.limit ≡ log.limit → leaving ≡ leaving_after old.answer.speaker outcome → services ≡ one_done new
     → P × IsWorld true script more services None leaving
-performed {script = script} {log} {old = old} outcome act p sound room settled left next order performers did is limit leaves done =
+performed {script = script} {log} {old = old} outcome act p sound room settled left next order performers drivers did is limit leaves done =
     let m = p.1.services_match sound in
     let is_act = act-next script log.entries act next in
-    let comes = next ∙ (rw m.answer.speaker at (did.comes script log.entries (scene-of act m p.1.legal.each settled left order performers is_act))) in
-    acted-on outcome act p sound room settled left (rw comes refl) is_act order performers did.kept is limit leaves done
+    let comes = next ∙ (rw m.answer.speaker at (did.comes script log.entries (scene-of act m p.1.legal.each settled left order performers drivers is_act))) in
+    acted-on outcome act p sound room settled left (rw comes refl) is_act order performers drivers did.kept is limit leaves done
 
 -- any act may be refused
 pub refused-taken-in : {old new : Services} {place : ℕ} (act : Act) (fatal : Fatal) → IsRefusing fatal old new → TakesIn act (Refused fatal) place old new

@@ -1,6 +1,5 @@
 pub mod Acting
 pub mod Answered
-pub mod Barred
 pub mod Begun
 pub mod Closed
 pub mod Configured
@@ -33,3 +32,9 @@ mod Reported
 mod Objected
 pub mod Written
 pub mod Outlets
+mod Arbited
+pub mod Contested
+pub mod Arbiting
+pub mod Seated
+pub mod Driven
+pub mod Granted

@@ -162,7 +162,7 @@ module _ {script : ScriptValue} {history : List Entry} {act : Act} {place : ℕ}
       among false e = refl
       among true e =
           let zero' = o.sizes n size (any-contained n targets e) sized in
-          let none = settled-all history s.known.unsettled s.settled n in
+          let none = settled-all history s.known.unsettled s.settled.unpassed n in
           let blocked = not-passing n (passage_in (station_of history n size)) (subst (λ (size : Option ℕ). option_map {U = ℕ × Passage} (λ passage. (n, passage)) (option_and_then passage_in (option_map (station_of history n) size)) ≡ None) sized none) in
           rw (takes-all history n size zero' blocked) refl
 
@@ -181,7 +181,7 @@ module _ {script : ScriptValue} {history : List Entry} {act : Act} {place : ℕ}
         unsettled_are = record {
           among = λ n. list_any (nat_eq n) targets;
           kept_are = rw (is, o.are) (members-kept o.reached (path_order (nodes_of history)));
-          others = λ n none. ap (λ (station : Option Station). option_map {U = ℕ × Passage} (λ passage. (n, passage)) (option_and_then passage_in station)) (changes n ∙ rw none refl) ∙ settled-all history m.unsettled s.settled n;
+          others = λ n none. ap (λ (station : Option Station). option_map {U = ℕ × Passage} (λ passage. (n, passage)) (option_and_then passage_in station)) (changes n ∙ rw none refl) ∙ settled-all history m.unsettled s.settled.unpassed n;
           held = λ n there. ordered n (any-contained n targets there);
         };
       }

@@ -128,7 +128,7 @@ module _ {count : ℕ} {size : Option ℕ} {entered : List Item} {left : ℕ} {p
   node-taken true there = record { few = (let lt = there refl in omega (arith, lt)); are_puts = asked-later p.are_puts; are_takes = asked-later p.are_takes; no_item = p.no_item; no_put = p.no_put; no_take = p.no_take }
 
 -- where nothing is given first, nothing is given of any
-first-none : {A : Type 0} (f : ℕ → Option A) (xs : List ℕ) → first_given (map f xs) ≡ None → All (λ x. f x ≡ None) xs
+pub first-none : {A : Type 0} (f : ℕ → Option A) (xs : List ℕ) → first_given (map f xs) ≡ None → All (λ x. f x ≡ None) xs
 first-none f [] none = All-nil (λ x. f x ≡ None)
 first-none {A = A} f (x ∷ xs) none = headed (f x) refl none (first-none f xs)
   where

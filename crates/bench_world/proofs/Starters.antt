@@ -7,7 +7,8 @@ use Rattle.uvm_sequencer.specs.Sequences.{numbered}
 use Rattle.uvm_object.specs.declared.acts.Who.TheVariants as who
 use Rattle.bench_history.specs.Sequences.{Beginning}
 use Rattle.bench_world.specs.declared.services.Beginning as kept
-use Rattle.bench_world.specs.Sequencings.{AreStarters, beginning_at, kept_beginnings, place_of}
+use Rattle.bench_history.specs.Laws.{place_of}
+use Rattle.bench_world.specs.Sequencings.{AreStarters, beginning_at, kept_beginnings}
 use Rattle.bench_world.proofs.Numbered.{numbered-more, numbered-within}
 
 -- the starter of a sequence is a sequence that was started before, in the same phase

@@ -1,5 +1,5 @@
 -- A world whose next act waits for an object.
-use Rattle.std.proofs.Common.{◌≡◌, ◌<◌, ◌∷◌, length, List, Option, Some, None, true, Bool, IsSome, IsTrue, vec_len, vec_capacity, refl, ap, sym, subst, ◌∙◌, rules}
+use Rattle.std.proofs.Common.{◌≡◌, ◌<◌, ◌∷◌, length, List, Option, Some, true, Bool, IsSome, IsTrue, vec_len, vec_capacity, refl, ap, sym, subst, ◌∙◌, rules}
 use Rattle.uvm_tree.specs.Nodes.{node_at}
 use Rattle.uvm_report.specs.Observed.{has_room}
 use Rattle.uvm_object.specs.Acts.{node_of}
@@ -9,14 +9,13 @@ use Rattle.uvm_object.specs.Logs.{LogValue}
 use Rattle.bench_script.specs.Scripts.{ScriptValue}
 use Rattle.bench_history.specs.Limits.{log_limit}
 use Rattle.bench_history.specs.History.{nodes_of, components_of, called_of, ended_of, left_of, rest_of, speaker_of}
-use Rattle.bench_history.specs.Passing.{next_passed}
 use Rattle.uvm_object.specs.declared.acts.Act.{Act}
 use Rattle.uvm_object.specs.declared.entries.Entry.{Entry}
 use Rattle.uvm_object.specs.declared.entries.Outcome.{Outcome}
 use Rattle.bench_history.specs.declared.needs.Need as needs
 use Rattle.bench_history.specs.Cases.{Next, Need, by_act}
 use Rattle.bench_history.specs.Next.{next_of, need_in}
-use Rattle.bench_history.specs.Laws.{PerformersAreThere, PhasesGoInOrder}
+use Rattle.bench_history.specs.Laws.{DriversAreThere, IsSettled, PerformersAreThere, PhasesGoInOrder}
 use Rattle.bench_history.specs.Dues.{caused_of, heard_of}
 use Rattle.bench_history.specs.Sequences.{finished_of}
 use Rattle.uvm_object.specs.declared.acts.Who.{Who}
@@ -56,8 +55,8 @@ need-comes script history act {need} other same c = subst (λ (w : Who). need_in
 pub waits :
     {P : Type 0} {sound : Bool} {script : ScriptValue} {log more : LogValue} {old new services : Services} {waiting : Option Waiting} {leaving : List Who} (wait : Waiting)
     → P × IsWorld sound script log old waiting leaving → sound ≡ true → length log.entries < log_limit script
-    → next_passed log.entries ≡ None → left_of script log.entries ≡ wait.deed ∷ rest_of (left_of script log.entries) → next_of script log.entries ≡ by_act script log.entries (speaker_of log.entries) wait.deed
-    → PhasesGoInOrder → PerformersAreThere → IsInNeed by_act wait.deed wait.need wait.home (length log.entries) old new
+    → IsSettled log.entries → left_of script log.entries ≡ wait.deed ∷ rest_of (left_of script log.entries) → next_of script log.entries ≡ by_act script log.entries (speaker_of log.entries) wait.deed
+    → PhasesGoInOrder → PerformersAreThere → DriversAreThere → IsInNeed by_act wait.deed wait.need wait.home (length log.entries) old new
     → (more.entries ≡ log.entries) × (more.limit ≡ log.limit) → 0 < more.spare
     → services ≡ record new { tree = services.tree; objection = services.objection; components = services.components; sequences = services.sequences; beginnings = services.beginnings; agenda = services.agenda; reporting = services.reporting }
     → services.tree.nodes ≡ new.tree.nodes → services.components.items ≡ new.components.items
@@ -68,9 +67,9 @@ pub waits :
     → 0 < services.sequences.spare → vec_len services.beginnings < vec_capacity services.beginnings → 0 < services.agenda.spare
     → wait.declined ≡ fatal_report NoObject → IsTrue (has_room services.reporting.reports wait.declined.id)
     → P × IsWorld true script more services (Some wait) leaving
-waits {script = script} {log} {more} {old} {new} {services} wait p sound room settled left next order performers need same log_spare kept nodes items reports objections objection_spare tree_spare components sequences beginnings dues sequence_spare beginnings_spare agenda_spare declined room_for_report =
+waits {script = script} {log} {more} {old} {new} {services} wait p sound room settled left next order performers drivers need same log_spare kept nodes items reports objections objection_spare tree_spare components sequences beginnings dues sequence_spare beginnings_spare agenda_spare declined room_for_report =
     let m = p.1.services_match sound in
-    let scene = scene-of wait.deed m p.1.legal.each settled left order performers (act-next script log.entries wait.deed next) in
+    let scene = scene-of wait.deed m p.1.legal.each settled left order performers drivers (act-next script log.entries wait.deed next) in
     let comes = ap need_in next ∙ need-comes script log.entries wait.deed (speaker_of log.entries) m.answer.speaker (need.comes script log.entries scene) in
     let new_matches : ServicesMatch script log.entries new = subst (ServicesMatch script log.entries) (sym need.same) m in
     let matches : ServicesMatch script log.entries services = subst (ServicesMatch script log.entries) (sym kept) (same-match log services nodes items reports objections sequences beginnings dues new_matches) in

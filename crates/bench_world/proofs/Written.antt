@@ -1,5 +1,5 @@
 -- Writes: what enters several FIFOs, and the calls that are numbered.
-use Rattle.std.proofs.Common.{◌≡◌, ℕ, zero, suc, ◌<◌, ◌≤◌, ◌==◌, nat_eq, Bool, true, false, ◌||◌, List, [], ◌∷◌, ◌++◌, length, filter, drop, take, Option, Some, None, option_map, ◌⊎◌, inl, inr, All, refl, ap, sym, ◌∙◌, subst, arith, append_assoc, if◌then◌else◌}
+use Rattle.std.proofs.Common.{◌≡◌, ℕ, zero, suc, ◌<◌, ◌≤◌, ◌==◌, nat_eq, Bool, true, false, not, ◌||◌, List, [], ◌∷◌, ◌++◌, length, filter, drop, take, Option, Some, None, option_map, ◌⊎◌, inl, inr, All, refl, ap, sym, ◌∙◌, subst, arith, append_assoc, if◌then◌else◌}
 use Rattle.std.specs.List.{AllByRecursion, AllPairs, Contains, IsDistinct, filter_map, cons_option, list_any}
 use Rattle.std.specs.HashMap.{get}
 use Rattle.std.proofs.lemmas.Bool.Decides.{nat_tests}
@@ -30,11 +30,12 @@ use Rattle.bench_history.specs.Refusals.{in_task}
 use Rattle.bench_history.specs.Dues.{calls_numbered, event_in, is_of_one, is_open, written_to}
 use Rattle.bench_history.specs.Owners.{Event}
 use Rattle.bench_history.specs.Passing.{Station, puts_now}
+use Rattle.bench_world.specs.Drivings.{if_told, living_numbered}
 use Rattle.bench_world.specs.Objectings.{AreEvents}
 use Rattle.bench_world.specs.Services.{IsAgenda}
 use Rattle.bench_world.specs.Stations.{ChangesAt, Kept, StoresAll, stored_once, with_stored_if}
 use Rattle.bench_world.proofs.Drained.{events-told}
-use Rattle.bench_world.proofs.Told.{fresh, runs}
+use Rattle.bench_world.proofs.Told.{agenda-later, fresh, runs}
 
 -- one more of some
 pub take-one : {A : Type 0} (xs : List A) (i : ℕ) (x : A) (rest : List A) → drop i xs ≡ x ∷ rest → take (suc i) xs ≡ take i xs ++ x ∷ []
@@ -156,6 +157,14 @@ numbered-open phase time place number (told ∷ calls) caused heard ended finish
     ∙ ap (λ (events : List Event). others ++ events) open_
     ∙ sym (append_assoc others (event ∷ []) (filter (is_open heard ended finished) caused))
 
+-- of which some may be told to nobody
+pub living-one :
+    (told : Who → Bool) (phase : Option Phase) (time place number : ℕ) (calls rest : List (Who × Call)) (call : Who × Call) (others whole : List Event) → calls ≡ call ∷ rest → living_numbered told phase time place number calls ++ others ≡ whole
+    → living_numbered told phase time place (suc number) rest ++ (if_told (told call.0) (event_in phase time (record { place = place; number = number }) (Object call.0) (Some call.1)) ++ others) ≡ whole
+living-one told phase time place number calls rest call others whole is e =
+    sym (append_assoc (living_numbered told phase time place (suc number) rest) (if_told (told call.0) (event_in phase time (record { place = place; number = number }) (Object call.0) (Some call.1))) others)
+    ∙ ap (λ (calls : List (Who × Call)). living_numbered told phase time place number calls ++ others) (sym is) ∙ e
+
 -- several calls are due at once
 agenda-calls :
     (phase : Phase) (time : ℕ) (calls : List (Who × Call)) (caused : List Event) (heard : List Cause) (ended : List Phase) (finished : List Who) (count : ℕ) (dues more : List Event)
@@ -266,3 +275,64 @@ filter-contains q xs n there = All-contains (Contains xs) (filter q xs) n (All-f
 
 pub members-kept : (q : ℕ → Bool) (xs : List ℕ) → filter q xs ≡ filter (λ n. list_any (nat_eq n) (filter q xs)) xs
 members-kept q xs = members q (λ n. list_any (nat_eq n) (filter q xs)) xs (λ k d lt. sym (filter-lacks _ q xs (q _) refl (k, lt, get_or_default xs k _ _ lt)))
+
+-- calls of which some are told to sequences that have finished
+module _ (told : Who → Bool) where
+  living-open :
+      (phase : Phase) (time place number : ℕ) (calls : List (Who × Call)) (caused : List Event) (heard : List Cause) (ended : List Phase) (finished : List Who) → All (λ cause. cause.place < place) heard → All (λ other. phase_number other < phase_number phase) ended → All (λ (c : Who × Call). told c.0 ≡ not (is_of_one finished (Object c.0))) calls
+      → filter (is_open heard ended finished) (calls_numbered (Some phase) time place number calls ++ caused) ≡ living_numbered told (Some phase) time place number calls ++ filter (is_open heard ended finished) caused
+  living-open phase time place number [] caused heard ended finished within before all = refl
+  living-open phase time place number (call ∷ calls) caused heard ended finished within before all =
+      let cause : Cause = record { place = place; number = number } in
+      let event : Event = record { time = time; cause = cause; phase = phase; owner = Object call.0; notice = Some call.1 } in
+      let others = calls_numbered (Some phase) time place (suc number) calls in
+      let living = living_numbered told (Some phase) time place (suc number) calls in
+      let first = All-head (λ (c : Who × Call). told c.0 ≡ not (is_of_one finished (Object c.0))) call calls all in
+      let open_ : filter (is_open heard ended finished) (event ∷ caused) ≡ if_told (told call.0) (event ∷ []) ++ filter (is_open heard ended finished) caused =
+      rw (fresh heard cause within, runs ended phase before, ← first) (one event (filter (is_open heard ended finished) caused) (told call.0)) in
+      ap (filter (is_open heard ended finished)) (append_assoc others (event ∷ []) caused)
+      ∙ living-open phase time place (suc number) calls (event ∷ caused) heard ended finished within before (All-tail (λ (c : Who × Call). told c.0 ≡ not (is_of_one finished (Object c.0))) call calls all)
+      ∙ ap (λ (events : List Event). living ++ events) open_
+      ∙ sym (append_assoc living (if_told (told call.0) (event ∷ [])) (filter (is_open heard ended finished) caused))
+    where
+      one : (event : Event) (rest : List Event) (b : Bool) → (if b then event ∷ rest else rest) ≡ if_told b (event ∷ []) ++ rest
+      one event rest true = refl
+      one event rest false = refl
+
+  none-numbered : (time place number : ℕ) (calls : List (Who × Call)) → calls_numbered None time place number calls ≡ []
+  none-numbered time place number [] = refl
+  none-numbered time place number (call ∷ calls) = rw (none-numbered time place (suc number) calls) refl
+
+  none-living : (time place number : ℕ) (calls : List (Who × Call)) → living_numbered told None time place number calls ≡ []
+  none-living time place number [] = refl
+  none-living time place number (call ∷ calls) = rw (none-living time place (suc number) calls) (none (told call.0))
+    where
+      none : (b : Bool) → if_told b [] ≡ []
+      none true = refl
+      none false = refl
+
+  quiet-calls :
+      (time : ℕ) (calls : List (Who × Call)) (caused : List Event) (heard : List Cause) (ended : List Phase) (finished : List Who) (count : ℕ) (dues more : List Event)
+      → IsAgenda caused heard ended finished count dues → more ≡ in_order (living_numbered told None time count 0 calls ++ filter (is_open heard ended finished) caused)
+      → IsAgenda (calls_numbered None time count 0 calls ++ caused) heard ended finished (suc count) more
+  quiet-calls time calls caused heard ended finished count dues more a is =
+      let same : more ≡ dues = is ∙ rw (none-living time count 0 calls) (sym a.are) in
+      rw (none-numbered time count 0 calls, same) (agenda-later a)
+
+  pub agenda-living :
+      (stage : Stage) (time : ℕ) (calls : List (Who × Call)) (caused : List Event) (heard : List Cause) (ended : List Phase) (finished : List Who) (count : ℕ) (dues more : List Event)
+      → All (λ other. phase_number other < next_number stage) ended → All (λ (c : Who × Call). told c.0 ≡ not (is_of_one finished (Object c.0))) calls → IsAgenda caused heard ended finished count dues
+      → more ≡ in_order (living_numbered told (running stage) time count 0 calls ++ filter (is_open heard ended finished) caused)
+      → IsAgenda (calls_numbered (running stage) time count 0 calls ++ caused) heard ended finished (suc count) more
+  unfolding IsEarlier
+  agenda-living (During phase) time calls caused heard ended finished count dues more before all a is =
+      let apart = numbered-apart phase time count 0 calls caused a.distinct (All-weaker (λ due. due.cause.place < count) (λ due. IsEarlier count 0 due.cause) (λ due lt. inl lt) caused a.caused_within) in
+      record {
+        are = is ∙ ap in_order (sym (living-open phase time count 0 calls caused heard ended finished a.heard_within before all));
+        distinct = apart.pairs;
+        caused_within = apart.within;
+        heard_within = All-weaker (λ cause. cause.place < count) (λ cause. cause.place < suc count) (λ cause lt. omega (arith, lt)) heard a.heard_within;
+      }
+  agenda-living Before time calls caused heard ended finished count dues more before all a is = quiet-calls time calls caused heard ended finished count dues more a is
+  agenda-living (After phase) time calls caused heard ended finished count dues more before all a is = quiet-calls time calls caused heard ended finished count dues more a is
+  agenda-living Ended time calls caused heard ended finished count dues more before all a is = quiet-calls time calls caused heard ended finished count dues more a is

@@ -1,5 +1,5 @@
 -- What a world keeps of the sequences that were started, and that it is what the log says.
-use Rattle.std.specs.Prelude.{◌≡◌, ◌≤◌, ◌<◌, ℕ, zero, suc, Bool, true, false, not, ◌&&◌, List, [], ◌∷◌, ◌++◌, length, map, filter, slice_get, All, Option, Some, None, is_some, IsSome, vec_len, vec_capacity, option_and_then, if◌then◌else◌}
+use Rattle.std.specs.Prelude.{◌≡◌, ◌≤◌, ◌<◌, ℕ, zero, suc, Bool, true, false, not, ◌&&◌, List, [], ◌∷◌, ◌++◌, length, map, filter, slice_get, All, Option, Some, None, is_some, IsSome, vec_len, vec_capacity, if◌then◌else◌}
 use Rattle.std.specs.List.{flat_map, list_any}
 use Rattle.std.specs.Option.{ForSome, option_map_or}
 use Rattle.uvm_glob.specs.declared.faults.PathFault.{PathFault}
@@ -12,21 +12,17 @@ use Rattle.uvm_tree.specs.declared.nodes.Node.{Node}
 use Rattle.uvm_object.specs.declared.acts.Who.{Who}
 use Rattle.uvm_object.specs.declared.acts.Who.TheVariants as who
 use Rattle.uvm_object.specs.declared.acts.Act.{Act}
-use Rattle.uvm_object.specs.declared.acts.Act.TheVariants.{Create, Ask, ItemDone, Start, Request, Lock, Grab, Unlock, Send, EndStep}
+use Rattle.uvm_object.specs.declared.acts.Act.TheVariants.{Create, Start, EndStep}
 use Rattle.uvm_object.specs.declared.entries.Outcome.{Outcome}
 use Rattle.uvm_object.specs.declared.entries.Outcome.TheVariants.{Done, Made, Started}
 use Rattle.uvm_object.specs.Acts.{node_of}
 use Rattle.uvm_object.specs.declared.entries.Entry.{Entry}
 use Rattle.uvm_object.specs.declared.entries.Entry.TheVariants.{Did}
 use Rattle.uvm_object.specs.Objects.{same_who}
-use Rattle.uvm_phase.specs.declared.agendas.Cause.{Cause}
-use Rattle.uvm_object.specs.declared.acts.Call.TheVariants as call
-use Rattle.bench_history.specs.Dues.{due_from}
-use Rattle.bench_history.specs.Owners.{Event}
 use Rattle.bench_history.specs.Sequences.{Beginning, all_steps, home_asked, is_over_phase, is_sequence, sequence_in, starts_in}
 use Rattle.bench_history.specs.History.{created_name, running}
 use Rattle.bench_history.specs.Refusals.{child_refusal, in_task, is_none_at_all}
-use Rattle.bench_history.specs.Laws.{IsCreation, number_of}
+use Rattle.bench_history.specs.Laws.{IsCreation, number_of, place_of}
 use Rattle.bench_world.specs.declared.services.Services.{Services}
 use Rattle.bench_world.specs.Objectings.{AreNumbered}
 use Rattle.bench_world.specs.declared.services.Beginning as kept
@@ -56,11 +52,6 @@ step_by begun finished ended enders id = if live_by begun finished ended id then
 abbrev pub kept_beginnings : List Beginning → List kept.Beginning
 kept_beginnings [] = []
 kept_beginnings (beginning ∷ older) = kept_beginnings older ++ record { who = who.Sequence (length (beginning ∷ older)) beginning.start.home; starter = beginning.starter; phase = beginning.phase } ∷ []
-
--- on which sequencer a sequence was started, and in which phase
-abbrev pub place_of : Option Beginning → Option (ℕ × Option Phase)
-place_of None = None
-place_of (Some beginning) = Some (beginning.start.home, beginning.phase)
 
 -- who starts a sequence in a phase is a component, or a sequence that was started before, in the same phase
 abbrev pub IsStarter : List Beginning → Option Phase → Who → Type 0
@@ -109,17 +100,6 @@ pub record AreEnded (leaving : List Who) (old new : SequencesValue) : Type 0 whe
   pub many : length new.steps ≡ length old.steps
   pub steps : (id : ℕ) → step_at new.steps id ≡ (if list_any (is_sequence id) leaving then None else step_at old.steps id)
 
--- what a driver and a sequence ask of a sequencer is open to nobody yet
-abbrev pub is_barred : Act → Bool
-is_barred (Ask port how) = true
-is_barred (ItemDone port response) = true
-is_barred (Request priority) = true
-is_barred Lock = true
-is_barred Grab = true
-is_barred Unlock = true
-is_barred (Send item) = true
-is_barred act = false
-
 -- an act makes an object
 abbrev pub IsMaking : Act → Type 0
 IsMaking (Create type_name name) = Unit {0}
@@ -153,19 +133,6 @@ beginning_at beginnings (suc place) = slice_get beginnings place
 abbrev pub is_told : List (Option SeqStep) → Who → Bool
 is_told steps (who.Node node) = true
 is_told steps (who.Sequence id home) = is_some (step_at steps id)
-
--- who started a sequence, if he is told
-abbrev pub told_if : Bool → Who → Option Who
-told_if told starter = if told then Some starter else None
-
-abbrev pub starter_told : List (Option SeqStep) → List kept.Beginning → ℕ → Option Who
-starter_told steps beginnings id = option_and_then (λ beginning. told_if (is_told steps beginning.starter) beginning.starter) (beginning_at beginnings id)
-
--- he is told that it has finished
-abbrev pub finished_events : Option Who → Option (List ℕ) → ℕ → Option Phase → ℕ → Cause → List Event
-finished_events (Some starter) (Some name) id phase time cause = due_from (Some (call.Finished name id)) starter phase time cause
-finished_events (Some starter) None id phase time cause = []
-finished_events None name id phase time cause = []
 
 -- a path is not made for its fault, or for want of memory
 abbrev pub MayFail : Option PathFault → PathFault → Type 0

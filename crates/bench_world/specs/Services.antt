@@ -49,12 +49,13 @@ use Rattle.bench_world.specs.Passings.{AreStations, ArePassed, AreUnsettled}
 use Rattle.uvm_tree.specs.Sorted.{path_order}
 use Rattle.bench_history.specs.Sequences.{begun_of, finished_of, home_asked, sequence_path}
 use Rattle.bench_world.specs.Sequencings.{IsSequencing, enders_of, home_for}
+use Rattle.bench_world.specs.Arbitratings.{IsArbitrating, ledger_at}
 use Rattle.bench_history.specs.Ports.{fifo_size}
-use Rattle.bench_history.specs.Passing.{answered_at, is_no_put, is_put, items_entered, items_left, next_passed, passing_at, puts_asked, station_at, takes_asked}
+use Rattle.bench_history.specs.Passing.{answered_at, is_no_put, is_put, items_entered, items_left, passing_at, puts_asked, station_at, takes_asked}
 use Rattle.bench_history.specs.Refusals.{in_task}
 use Rattle.bench_history.specs.Cases.{Next, Exactly, Need, by_act, by_open}
 use Rattle.bench_history.specs.Next.{EachIsNext}
-use Rattle.bench_history.specs.Laws.{IsThere, next_number}
+use Rattle.bench_history.specs.Laws.{IsDriving, IsSettled, IsThere, next_number}
 use Rattle.bench_history.specs.Refusals.{Creation, Starting}
 
 -- the factory has the types, and gives what the overrides give
@@ -182,6 +183,7 @@ pub record ServicesMatch (script : ScriptValue) (history : List Entry) (services
   pub stations : AreStations (station_at history) services.stations
   pub passed : ArePassed (length history) (fifo_size (wiring_of history)) (items_entered history) (items_left history) (puts_asked history) (answered_at is_put history) (takes_asked history) (answered_at is_no_put history)
   pub unsettled : AreUnsettled (passing_at history) (path_order (nodes_of history)) services.unsettled.items
+  pub arbitrating : IsArbitrating (length history) (nodes_of history) (begun_of history) (finished_of history) (ended_of history) (ledger_at history) services.arbiters services.contested
   pub sequencing : IsSequencing (begun_of history) (finished_of history) (ended_of history) (enders_of history) services.sequences services.beginnings.items
   pub objections : IsObjecting (objections_of history) (length (nodes_of history)) (length history) services.objection
   pub factory : IsFactory script.types (overrides_of script history) services.factory
@@ -209,16 +211,17 @@ pub record CanPerform (services : Services) : Type 0 where
   pub unused : end_at services.wiring.ends (length services.tree.nodes) ≡ None
   pub closed : in_task (running services.stage) ≡ true → is_closed services.wiring ≡ true
 
--- an act of the last answer is to be performed: each entry was next, what is kept is what the log says, nothing passes at a FIFO, the phases went in their order,
--- its performer is there, and its entry will stand at a place
+-- an act of the last answer is to be performed: each entry was next, what is kept is what the log says, nothing passes and nothing is granted, the phases went in their order,
+-- its performer is there, it is known who drives the sequencers, and its entry will stand at a place
 pub record IsScene (script : ScriptValue) (history : List Entry) (act : Act) (place : ℕ) (services : Services) : Type 0 where
   pub each : EachIsNext script history
   pub known : ServicesMatch script history services
-  pub settled : next_passed history ≡ None
+  pub settled : IsSettled history
   pub left : left_of script history ≡ act ∷ rest_of (left_of script history)
   pub place_is : length history ≡ place
   pub in_order : All (λ phase. phase_number phase < next_number (stage_of history)) (ended_of history)
   pub there : (act ≡ opening script) ⊎ IsThere history (speaker_of history)
+  pub driving : IsDriving history
 
 -- an act is refused: its fatal report is issued, and it may be the test's
 pub record IsRefusing (fatal : Fatal) (old new : Services) : Type 0 where

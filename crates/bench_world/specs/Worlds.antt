@@ -1,5 +1,5 @@
 -- What contracts see of a world.
-use Rattle.std.specs.Prelude.{◌≡◌, ◌<◌, Bool, true, false, List, ◌∷◌, length, Option, Some, None, IsSome, IsTrue, vec_len, vec_capacity}
+use Rattle.std.specs.Prelude.{◌≡◌, ◌<◌, ℕ, Bool, true, false, List, ◌∷◌, length, Option, Some, None, IsSome, IsTrue, is_some, vec_len, vec_capacity}
 use Rattle.std.specs.Option.{ForSome}
 use Rattle.uvm_tree.specs.Nodes.{node_at}
 use Rattle.uvm_report.specs.Observed.{has_room}
@@ -11,6 +11,7 @@ use Rattle.uvm_object.specs.declared.acts.Who.{Who}
 use Rattle.uvm_object.specs.declared.acts.Who.TheVariants as who
 use Rattle.uvm_object.specs.declared.entries.Outcome.TheVariants.{Made, Started}
 use Rattle.uvm_object.specs.declared.entries.Entry.{Entry}
+use Rattle.uvm_object.specs.declared.entries.Entry.TheVariants.{Granted}
 use Rattle.uvm_object.specs.Logs.{LogValue}
 use Rattle.bench_script.specs.Scripts.{ScriptValue}
 use Rattle.bench_world.specs.declared.making.Waiting.{Waiting}
@@ -19,9 +20,9 @@ use Rattle.bench_history.specs.Limits.{log_limit}
 use Rattle.bench_history.specs.History.{left_of, nodes_of, rest_of, speaker_of}
 use Rattle.bench_history.specs.Sequences.{leaving_of, sequences_of, start_by}
 use Rattle.bench_world.specs.Sequencings.{home_for}
-use Rattle.bench_history.specs.Passing.{next_passed}
-use Rattle.bench_history.specs.Cases.{Next, Exactly, Need, by_act}
+use Rattle.bench_history.specs.Cases.{Next, Exactly, Need, Grant, by_act, chosen_at}
 use Rattle.bench_history.specs.Next.{next_of, need_in, IsAct, IsLegal}
+use Rattle.bench_history.specs.Laws.{IsSettled}
 use Rattle.bench_history.specs.declared.needs.Need as needs
 use Rattle.bench_world.specs.Services.{ServicesMatch}
 
@@ -73,6 +74,10 @@ pub record MayEnter (world : WorldValue) (comes : Next) : Type 0 where
   pub room : length world.history < log_limit world.script
   pub next : next_of world.script world.history ≡ comes
 
+-- an item may be granted at this sequencer, by this word
+abbrev pub MayGrant : WorldValue → ℕ → Option ℕ → Type 0
+MayGrant world sequencer word = MayEnter world (Grant sequencer (is_some word) (chosen_at world.history sequencer))
+
 -- an act of the last answer comes next
 pub record MayAct (world : WorldValue) : Type 0 where
   pub sound : world.sound ≡ true
@@ -83,9 +88,13 @@ pub record MayAct (world : WorldValue) : Type 0 where
 pub record MayPerform (world : WorldValue) (act : Act) : Type 0 where
   pub sound : world.sound ≡ true
   pub room : length world.history < log_limit world.script
-  pub settled : next_passed world.history ≡ None
+  pub settled : IsSettled world.history
   pub left : left_of world.script world.history ≡ act ∷ rest_of (left_of world.script world.history)
   pub next : next_of world.script world.history ≡ by_act world.script world.history (speaker_of world.history) act
+
+-- an item is granted to the sequence that is chosen, by this word
+abbrev pub IsGranted : ℕ → Option ℕ → WorldValue → WorldValue → Type 0
+IsGranted sequencer word old new = (id : ℕ) × (chosen_at old.history sequencer word ≡ Some id) × (new ≡ world_after (Granted sequencer (record { id = id; word = word })) old)
 
 -- what comes of the next act: its entry; or it waits for the object that it needs, and nothing else has changed
 abbrev pub IsActed : Next → WorldValue → WorldValue → Type 0

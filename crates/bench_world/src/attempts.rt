@@ -1,6 +1,6 @@
 //! What an act comes to: each act is a function on the services, and all have one contract.
 
-ghost use Rattle.std.specs.Prelude.{ℕ, ◌≡◌, ◌∷◌, ◌<◌, ◌+◌, ◌||◌, ◌==◌, length, true, OnOk, OnErr, IfOk, IsOk, IsTrue};
+ghost use Rattle.std.specs.Prelude.{◌≡◌, ◌∷◌, ◌<◌, ◌+◌, ◌||◌, ◌==◌, length, true, OnOk, OnErr, IfOk, IsOk, IsTrue};
 ghost use Rattle.uvm_object.specs.Acts.{node_of};
 ghost use Rattle.uvm_object.specs.declared.entries.Entry.TheVariants.{Did};
 ghost use Rattle.uvm_object.specs.declared.entries.Outcome.TheVariants.{Done, Refused};
@@ -9,11 +9,12 @@ ghost use Rattle.uvm_report.specs.Observed.{has_room};
 ghost use Rattle.uvm_tree.specs.Nodes.{path_at};
 ghost use Rattle.bench_world.specs.Reportings.{CanReport, IsReported};
 ghost use Rattle.bench_history.specs.Refusals.{is_component, is_open_to};
-ghost use Rattle.bench_world.specs.Sequencings.{is_barred};
 ghost use Rattle.bench_world.specs.Services.{CanPerform, IsAttempt, IsAttemptOfAny, IsRefusing, one_done, unreported};
 
+use crate::arbitrating::{grab, lock, request, send, unlock};
 use crate::configuring::{get_field, set_field};
 use crate::connecting::connect;
+use crate::driving::{ask, item_done};
 use crate::entries::push;
 use crate::making::create;
 use crate::objecting::{drop, raise, set_drain};
@@ -127,20 +128,20 @@ fn perform_open(
         Act::TryTake { port } => try_take(services, alloc, place, port),
         Act::Peek { port } => peek(services, alloc, place, port),
         Act::Write { port, item } => write(services, alloc, place, port, *item),
-        Act::Ask { .. }
-        | Act::ItemDone { .. }
-        | Act::Request { .. }
-        | Act::Lock
-        | Act::Grab
-        | Act::Unlock
-        | Act::Send { .. } => bar(services, alloc, act),
+        Act::Ask { port, how } => ask(services, alloc, place, port, *how),
+        Act::ItemDone { port, response } => item_done(services, alloc, place, port, *response),
         Act::Start {
             type_name,
             name,
             on,
             priority,
         } => start(services, alloc, type_name, name, on, *priority),
-        Act::EndStep => end_step(services, place),
+        Act::Request { priority } => request(services, alloc, *priority),
+        Act::Lock => lock(services, alloc),
+        Act::Grab => grab(services, alloc),
+        Act::Unlock => unlock(services, alloc),
+        Act::Send { item } => send(services, alloc, place, *item),
+        Act::EndStep => end_step(services, alloc, place),
         Act::Report { report } => issue(services, alloc, report),
         Act::Verbosity { which, level } => set_verbosity(services, alloc, *which, *level),
         Act::Actions { which, actions } => set_action(services, alloc, *which, *actions),
@@ -150,15 +151,6 @@ fn perform_open(
         Act::SetDrain { ticks } => set_drain(services, alloc, *ticks),
         Act::Wait { ticks, tag } => wait(services, alloc, place, *ticks, *tag),
     }
-}
-
-// What a driver and a sequence ask of a sequencer is open to nobody yet.
-fn bar(services: &mut Services, alloc: Global, act: &Act) -> Result<Attempt, AllocError>
-    requires can { CanPerform services.old }
-    requires barred { is_barred act.now ≡ true }
-    ensures { IfOk result (λ attempt. (place : ℕ) → IsAttempt act.now attempt place services.old services.new) }
-{
-    refused(services, alloc, Fatal::NotOpen)
 }
 
 // An act is performed, and nothing is reported.

@@ -162,6 +162,7 @@ impl World {
         // In a phase that takes time the wiring is closed, and whoever performs an act is there.
         laws::tasks_follow_connect();
         laws::performers_are_there();
+        laws::drivers_are_there();
         self.sound = false;
         self.waiting = None;
         let place = self.log.len();

@@ -1,7 +1,7 @@
 //! The entries of a log that are no act's: one call for each kind.
 
 ghost use Rattle.std.specs.Prelude.{◌≡◌, ◌||◌, ◌∷◌, ◌<◌, length, true, OnOk, OnErr, IsOk, Some, None};
-ghost use Rattle.uvm_object.specs.declared.entries.Entry.TheVariants.{Begin, End, Time, Heard, Passed, Drained, Note, Over};
+ghost use Rattle.uvm_object.specs.declared.entries.Entry.TheVariants.{Begin, End, Time, Heard, Locked, Passed, Drained, Note, Over};
 ghost use Rattle.bench_history.specs.History.{next_call, phase_order, ends_build};
 ghost use Rattle.bench_history.specs.Reports.{noted_end, reason_of};
 ghost use Rattle.bench_history.specs.Wires.{ends_connect};
@@ -10,8 +10,9 @@ ghost use Rattle.uvm_tree.specs.Cursors.{is_before, least, sooner};
 ghost use Rattle.bench_world.specs.Services.{waiting_in};
 ghost use Rattle.bench_history.specs.Cases.{Exactly, Answer};
 ghost use Rattle.bench_history.specs.Next.{next_of};
-ghost use Rattle.bench_world.specs.Worlds.{MayEnter, world_after, broken};
+ghost use Rattle.bench_world.specs.Worlds.{IsGranted, MayEnter, MayGrant, world_after, broken};
 
+use crate::arbiters::{choose_at, end_phase, settle_at};
 use crate::attempts::report_at;
 use crate::connecting::close_after;
 use crate::objecting::move_drains;
@@ -19,13 +20,17 @@ use crate::passing::tell_passed;
 use crate::sequencing::{finish_all, leaving_with};
 use crate::services::{Component, LastAnswer, clear_calls, mark_call};
 use crate::stations::{end_waits, pass};
+use crate::telling::tell_to;
 use crate::worlds::World;
 use bench_history::{Owner, Stage, laws};
 use std::alloc::AllocError;
 use uvm_glob::Direction;
-use uvm_object::{Acts, Call, Entry, Fatal, Log, LoggedPassage, Passage, Reason, Who};
+use uvm_object::{
+    Acts, Call, Entry, Fatal, Grant, Log, LoggedGrant, LoggedPassage, Passage, Reason, Who,
+};
 use uvm_objection::laws as objections;
 use uvm_phase::{Cause, Phase, laws as agenda};
+use uvm_sequencer::SeqId;
 use uvm_tree::{NodeId, Tree, laws as trees};
 
 impl World {
@@ -58,6 +63,9 @@ impl World {
         // What is closed with connect was built, and each of its nodes stands in the order once.
         laws::connect_follows_build();
         trees::path_order_is_in_order();
+        // All sequences that live were started in it, as it runs.
+        laws::living_run();
+        laws::running_phases_end();
         self.sound = false;
         self.waiting = None;
         let services = &self.services;
@@ -75,6 +83,8 @@ impl World {
         self.services.agenda.clear(phase);
         end_waits(&mut self.services.stations, phase);
         finish_all(&mut self.services.sequences, self.leaving.as_slice());
+        end_phase(&mut self.services.arbiters, &self.services.sequences);
+        self.services.contested = None;
         self.services.built = is_built_with(phase, self.services.built);
         self.services.past_connect = is_past_connect_with(phase, self.services.past_connect);
         self.sound = true;
@@ -166,6 +176,63 @@ impl World {
             done: 0,
             noted: false,
         };
+        self.sound = true;
+        Ok(())
+    }
+
+    /// The lock of a sequence that leads at a sequencer is granted, and the sequence is to hear of it (Clause 15).
+    pub fn locked(&mut self, sequencer: NodeId, id: SeqId) -> Result<(), AllocError>
+        requires { MayEnter self.old (Exactly (Locked sequencer id)) }
+        ensures ok { OnOk result (self.new ≡ world_after (Locked sequencer id) self.old) }
+        ensures err { OnErr result (self.new ≡ broken self.old) }
+    {
+        // It is the lock that leads first, and its sequence lives.
+        laws::locks_go_in_order();
+        laws::lockers_are_there();
+        laws::phases_go_in_order();
+        laws::wiring_stays();
+        self.sound = false;
+        self.waiting = None;
+        self.leaving.clear();
+        let (place, time) = (self.log.len(), self.services.time);
+        let who = Who::Sequence {
+            id,
+            home: sequencer,
+        };
+        tell_to(&mut self.services, who, Call::Held, time, place)?;
+        push(&mut self.log, Entry::Locked { sequencer, id })?;
+        let services = &mut self.services;
+        settle_at(&mut services.arbiters, &services.sequences, sequencer, id);
+        self.services.reporting.newest = None;
+        self.sound = true;
+        Ok(())
+    }
+
+    /// An item is granted at a sequencer, by the word where one decides, and the sequence that may send it is to hear of it (Clause 15).
+    pub fn granted(&mut self, sequencer: NodeId, word: Option<u64>) -> Result<(), AllocError>
+        requires { MayGrant self.old sequencer word }
+        ensures ok { OnOk result (IsGranted sequencer word self.old self.new) }
+        ensures err { OnErr result (self.new ≡ broken self.old) }
+    {
+        // It is the first whose driver can be served, and the one that is chosen lives.
+        laws::grants_go_in_order();
+        laws::chosen_are_there();
+        laws::phases_go_in_order();
+        laws::wiring_stays();
+        self.sound = false;
+        self.waiting = None;
+        self.leaving.clear();
+        let (place, time) = (self.log.len(), self.services.time);
+        let services = &mut self.services;
+        let id = choose_at(&mut services.arbiters, &services.sequences, sequencer, word);
+        let who = Who::Sequence {
+            id,
+            home: sequencer,
+        };
+        tell_to(&mut self.services, who, Call::Grant, time, place)?;
+        let grant = LoggedGrant::new(self.alloc, Grant { id, word })?;
+        push(&mut self.log, Entry::Granted { sequencer, grant })?;
+        self.services.reporting.newest = None;
         self.sound = true;
         Ok(())
     }

@@ -1,11 +1,14 @@
 //! The world of a run: the script, the log, and the services, each of which is what the log says.
 #![tactic(auto)]
 
+mod arbiters;
+mod arbitrating;
 mod attempts;
 mod configuring;
 mod connecting;
 mod creations;
 mod deeds;
+mod driving;
 mod entries;
 mod making;
 mod objecting;

@@ -91,6 +91,7 @@ impl World {
     {
         laws::needs_are_wanted();
         laws::performers_are_there();
+        laws::drivers_are_there();
         laws::phases_go_in_order();
         self.sound = false;
         self.leaving.clear();
@@ -121,6 +122,7 @@ impl World {
     {
         laws::needs_are_wanted();
         laws::performers_are_there();
+        laws::drivers_are_there();
         laws::phases_go_in_order();
         laws::reports_are_few();
         self.sound = false;
@@ -239,8 +241,9 @@ fn grow(services: &mut Services, act: &Act) -> NodeId
         unreachable!()
     };
     services.reporting.newest = None;
-    // Nothing passes anywhere.
+    // Nothing passes and nothing is granted anywhere.
     services.unsettled.clear();
+    services.contested = None;
     node
 }
 

@@ -14,6 +14,7 @@ ghost use Rattle.bench_history.specs.Refusals.{addition_refusal, child_refusal, 
 ghost use Rattle.bench_world.specs.Reportings.{CanReport};
 ghost use Rattle.bench_world.specs.Services.{CanPerform, IsAttempt, IsFactory};
 
+use crate::arbiters::add_arbiter;
 use crate::attempts::{Attempt, done, refused};
 use crate::connecting::add_end;
 use crate::creations::child_refusal;
@@ -45,8 +46,10 @@ pub(crate) fn add(
     services.objection.add(node, parent)?;
     add_end(&mut services.wiring, node, what)?;
     add_station(&mut services.stations, alloc, node, what)?;
-    // Nothing passes anywhere, nor in what is new.
+    add_arbiter(&mut services.arbiters, alloc, node, what)?;
+    // Nothing passes and nothing is granted anywhere, nor in what is new.
     services.unsettled.clear();
+    services.contested = None;
     Ok(done(services))
 }
 

@@ -5,15 +5,15 @@ ghost use Rattle.uvm_report.specs.Fates.{displayed_as};
 ghost use Rattle.uvm_report.specs.Lines.{report_line};
 ghost use Rattle.uvm_tree.specs.Nodes.{path_at};
 ghost use Rattle.uvm_object.specs.Acts.{node_of};
-ghost use Rattle.uvm_object.specs.Lines.{shown_path};
+ghost use Rattle.uvm_object.specs.Lines.{source_text};
 ghost use Rattle.bench_history.specs.History.{nodes_of, now_of};
 ghost use Rattle.bench_history.specs.Reports.{deed_command, line_under, newest_fate, report_text};
+ghost use Rattle.bench_history.specs.Sequences.{sequences_of};
 
 use crate::worlds::World;
 use std::alloc::AllocError;
-use uvm_object::{Act, Entry, Outcome, Who, shown_path};
+use uvm_object::{Act, Entry, Outcome, Who, shown_path, source_of};
 use uvm_report::{Report, Severity};
-use uvm_tree::NodeId;
 
 impl World {
     /// Appends the line of the report of the newest entry, with its newline, where it has a report that is displayed (IEEE
@@ -31,7 +31,8 @@ impl World {
                 self.push_deed(severity, who, &outcome.get(), act.act(), out)
             }
             Some(Entry::Note { fatal, node }) => {
-                self.push_line(severity, *node, &fatal.report(self.alloc)?, out)
+                let source = shown_path(*node, self.tree());
+                self.push_line(severity, source, &fatal.report(self.alloc)?, out)
             }
             _ => Ok(()),
         }
@@ -55,33 +56,46 @@ impl World {
         out: &mut Vec<u8>,
     ) -> Result<(), AllocError>
         requires { self.now.sound ≡ true }
-        ensures ok { OnOk result (out.new.items ≡ out.old.items ++ line_under (now_of self.now.history) (deed_command (path_at (nodes_of self.now.history) (node_of who.now)) outcome.now act.now) (Some severity)) }
+        ensures ok { OnOk result (out.new.items ≡ out.old.items ++ line_under (now_of self.now.history) (source_text (nodes_of self.now.history) (sequences_of self.now.history) who.now) (deed_command (path_at (nodes_of self.now.history) (node_of who.now)) outcome.now act.now) (Some severity)) }
         ensures err { OnErr result (out.new.items ≡ out.old.items) }
     {
         match (outcome, act) {
             (Outcome::Refused(fatal), _) => {
-                self.push_line(severity, who.node(), &fatal.report(self.alloc)?, out)
+                self.push_own(severity, who, &fatal.report(self.alloc)?, out)
             }
-            (Outcome::Done, Act::Report { report }) => {
-                self.push_line(severity, who.node(), report, out)
-            }
+            (Outcome::Done, Act::Report { report }) => self.push_own(severity, who, report, out),
             _ => Ok(()),
         }
     }
 
-    // The line of a report at a node.
-    fn push_line(
+    // The line of a report of somebody.
+    fn push_own(
         &self,
         severity: Severity,
-        node: NodeId,
+        who: &Who,
         report: &Report,
         out: &mut Vec<u8>,
     ) -> Result<(), AllocError>
         requires { self.now.sound ≡ true }
-        ensures ok { OnOk result (out.new.items ≡ out.old.items ++ report_line severity (now_of self.now.history) (shown_path (path_at (nodes_of self.now.history) node)) report.now.id report.now.text) }
+        ensures ok { OnOk result (out.new.items ≡ out.old.items ++ report_line severity (now_of self.now.history) (source_text (nodes_of self.now.history) (sequences_of self.now.history) who.now) report.now.id report.now.text) }
         ensures err { OnErr result (out.new.items ≡ out.old.items) }
     {
-        let source = shown_path(node, self.tree());
+        let source = source_of(self.alloc, who, self.tree(), self.sequences())?;
+        self.push_line(severity, source.as_slice(), report, out)
+    }
+
+    // The line of a report from a source.
+    fn push_line(
+        &self,
+        severity: Severity,
+        source: &[u8],
+        report: &Report,
+        out: &mut Vec<u8>,
+    ) -> Result<(), AllocError>
+        requires { self.now.sound ≡ true }
+        ensures ok { OnOk result (out.new.items ≡ out.old.items ++ report_line severity (now_of self.now.history) source.now report.now.id report.now.text) }
+        ensures err { OnErr result (out.new.items ≡ out.old.items) }
+    {
         report.write_line(severity, self.now(), source, out)
     }
 }

@@ -9,6 +9,7 @@ ghost use Rattle.bench_history.specs.Reports.{script_commands};
 ghost use Rattle.bench_world.specs.Reportings.{IsReporting};
 ghost use Rattle.bench_world.specs.Services.{IsFactory, IsSettings, ServicesMatch, cleared, with_call};
 
+use crate::arbiters::Arbiters;
 use crate::configuring::given_settings;
 use crate::reporting::{Reporting, given_reporting};
 use crate::stations::Stations;
@@ -75,6 +76,9 @@ pub(crate) struct Services {
     pub(crate) stations: Stations,
     // Some nodes in path order, all FIFOs among them at which something may pass.
     pub(crate) unsettled: Vec<NodeId>,
+    pub(crate) arbiters: Arbiters,
+    // The sequencer that was changed last: at no other does a lock lead, or can a driver be served.
+    pub(crate) contested: Option<NodeId>,
     pub(crate) sequences: Sequences,
     // Of the sequences, by their numbers.
     pub(crate) beginnings: Vec<Beginning>,
@@ -125,6 +129,8 @@ impl Services {
             wiring: Wiring::new(alloc),
             stations: Stations::new(alloc),
             unsettled: Vec::new(alloc),
+            arbiters: Arbiters::new(alloc),
+            contested: None,
             sequences: Sequences::new(alloc),
             beginnings: Vec::new(alloc),
             factory,

@@ -32,7 +32,7 @@ use uvm_factory::{Factory, Kind, TypeId};
 use uvm_glob::{Name, Path, PathFault};
 use uvm_object::{Act, Call, Fatal, Who};
 use uvm_phase::Phase;
-use uvm_sequencer::{SeqId, Sequences};
+use uvm_sequencer::{SeqId, Sequences, laws as sequencers};
 use uvm_tree::{NodeId, NodeKind, Tree};
 
 // The priority of a sequence that is given none, nor its parent.
@@ -117,7 +117,7 @@ fn needed(type_name: Name, path: Path) -> Need
 }
 
 // Whether a priority of 0 is given.
-fn is_none_at_all(priority: Option<u16>) -> bool
+pub(crate) fn is_none_at_all(priority: Option<u16>) -> bool
     ensures { result ≡ is_none_at_all priority }
 {
     match priority {
@@ -216,8 +216,9 @@ pub(crate) fn begin(services: &mut Services, act: &Act, home: &NodeId, place: us
     ensures id { result ≡ length services.old.sequences.started + 1 }
     ensures kept { TakesIn act.now (Started (suc (length services.old.sequences.started))) place services.old services.new }
 {
-    // Who starts it runs in the phase in which it is started.
+    // Who starts it runs in the phase in which it is started. For those that wait at a sequencer nothing changes.
     laws::living_run();
+    sequencers::starts_change_nothing();
     let starter = services.answer.speaker;
     let name = name_started(act);
     let given = priority_given(act);
@@ -291,7 +292,11 @@ pub(crate) fn sequence_in(who: &Who) -> Option<SeqId>
 }
 
 // The priority of a sequence: the one that is given, else its parent's, else the usual one.
-fn start_priority(sequences: &Sequences, parent: Option<SeqId>, given: Option<u16>) -> u16
+pub(crate) fn start_priority(
+    sequences: &Sequences,
+    parent: Option<SeqId>,
+    given: Option<u16>,
+) -> u16
     requires { is_none_at_all given ≡ false }
     ensures value { result ≡ start_priority sequences.now.started parent given }
     ensures positive { 0 < result }

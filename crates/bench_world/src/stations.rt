@@ -1,9 +1,8 @@
 //! FIFOs with who waits at them (IEEE 1800.2-2020, Clause 12).
 
-ghost use Rattle.std.specs.Prelude.{◌≡◌, [], ◌∷◌, ◌++◌, nat_eq, OnOk, IfOk, map, option_and_then};
+ghost use Rattle.std.specs.Prelude.{◌≡◌, [], ◌∷◌, ◌++◌, nat_eq, OnOk, IfOk, map, option_map, option_and_then};
 ghost use Rattle.std.specs.HashMap.{get};
 ghost use Rattle.uvm_tlm.specs.Fifos.{next_move, waiting_count};
-ghost use Rattle.std.specs.Option.{option_map_or};
 ghost use Rattle.uvm_glob.specs.Lists.{first_given};
 ghost use Rattle.bench_history.specs.Ports.{size_of};
 ghost use Rattle.bench_history.specs.Wires.{end_of};
@@ -249,14 +248,11 @@ pub(crate) fn pass(stations: &mut Stations, fifo: NodeId)
     }
 }
 
-// How many wait at a node.
-pub(crate) fn waiting_at(stations: &Stations, node: NodeId) -> usize
-    ensures { result ≡ option_map_or (λ station. waiting_count station.fifo) (get nat_eq stations.now node) 0 }
+// How many wait at a node, if a FIFO stands there.
+pub(crate) fn waiting_at(stations: &Stations, node: NodeId) -> Option<usize>
+    ensures { result ≡ option_map (λ station. waiting_count station.fifo) (get nat_eq stations.now node) }
 {
-    match stations.get(&node) {
-        Some(station) => station.fifo.waiting(),
-        None => 0,
-    }
+    Some(stations.get(&node)?.fifo.waiting())
 }
 
 // The waits end that were asked in a phase. Takes no memory; the time is that of a look at each wait.

@@ -9,24 +9,33 @@ ghost use Rattle.bench_history.specs.Dues.{caused_at, is_of_one, step_call};
 ghost use Rattle.bench_history.specs.History.{running};
 ghost use Rattle.bench_history.specs.Owners.{Event};
 ghost use Rattle.bench_history.specs.Refusals.{is_open_to};
-ghost use Rattle.bench_world.specs.Sequencings.{beginning_at, finished_events, is_told, starter_told};
+ghost use Rattle.bench_world.specs.Drivings.{IsFinished, finished_calls};
+ghost use Rattle.bench_world.specs.Sequencings.{beginning_at};
 ghost use Rattle.bench_world.specs.Services.{IsAttempt};
 
+use crate::arbiters::{driver_at, leave_at};
+use crate::arbitrating::push_item;
 use crate::attempts::{Attempt, done};
 use crate::services::{Beginning, Services};
 use crate::starting::sequence_in;
-use crate::telling::{tell, tell_to};
+use crate::telling::{tell, tell_living};
 use bench_history::Owner;
-use std::alloc::AllocError;
+use std::alloc::{AllocError, Global};
 use uvm_object::{Call, LoggedOutcome, Who};
 use uvm_phase::{Agenda, laws as agendas};
-use uvm_sequencer::{SeqId, SeqStep, Sequences, laws};
+use uvm_sequencer::{SeqId, SeqStep, laws};
+use uvm_tree::laws as trees;
 
 // The speaker, a sequence, ends the step at which it is, and is told the next one; or it has finished, and who started it is told.
-pub(crate) fn end_step(services: &mut Services, place: usize) -> Result<Attempt, AllocError>
+pub(crate) fn end_step(
+    services: &mut Services,
+    alloc: Global,
+    place: usize,
+) -> Result<Attempt, AllocError>
     requires { is_open_to EndStep services.old.answer.speaker ≡ true }
     ensures { IfOk result (λ attempt. IsAttempt EndStep attempt place services.old services.new) }
 {
+    trees::path_order_is_in_order();
     // No other sequence comes to another step.
     laws::steps_change_alone();
     let performer = services.answer.speaker;
@@ -40,7 +49,7 @@ pub(crate) fn end_step(services: &mut Services, place: usize) -> Result<Attempt,
             Ok(done(services))
         }
         None => {
-            finish(services, place, id)?;
+            finish(services, alloc, place, id)?;
             services.reporting.newest = None;
             Ok(Attempt::Became(LoggedOutcome::finished()))
         }
@@ -58,19 +67,25 @@ pub(crate) fn step_call(step: SeqStep) -> Call
     }
 }
 
-// A sequence finishes: nothing is due to it any more, none of its acts is left, and who started it is told.
-fn finish(services: &mut Services, place: usize, id: SeqId) -> Result<(), AllocError>
+// A sequence finishes: nothing is due to it any more, none of its acts is left, what it asked for and holds is gone, and who started it
+// is told, as is a driver whose `Try` it lets lapse.
+fn finish(services: &mut Services, alloc: Global, place: usize, id: SeqId) -> Result<(), AllocError>
     requires { is_open_to EndStep services.old.answer.speaker ≡ true }
-    ensures dues { OnOk result ((caused : List Event) → services.old.agenda.dues ≡ in_order caused → services.new.agenda.dues ≡
-        in_order (finished_events (starter_told (finished id services.old.sequences).steps services.old.beginnings.items id) (name_at services.old.sequences.started id) id (running services.old.stage) services.old.time (caused_at place)
-        ++ filter (λ event. not (is_of_one (services.old.answer.speaker ∷ []) event.owner)) caused)) }
-    ensures rest { services.new ≡ record services.old { agenda = services.new.agenda; sequences = finished id services.old.sequences; answer = record services.old.answer { noted = true } } }
+    ensures { OnOk result (IsFinished id place services.old services.new) }
 {
     let performer = services.answer.speaker;
+    let home = performer.node();
     services.sequences.finish(id);
     services.answer.noted = true;
+    services.contested = Some(home);
     cancel(&mut services.agenda, performer);
-    tell_starter(services, place, id)
+    let lapses = leave_at(&mut services.arbiters, home, id);
+    let driver = driver_at(&services.arbiters, home);
+    let mut calls = finished_calls(alloc, services, id)?;
+    if lapses {
+        push_item(&mut calls, driver, None)?;
+    }
+    tell_living(services, place, calls.as_slice())
 }
 
 // Nothing is due to a sequence any more.
@@ -83,41 +98,20 @@ fn cancel(agenda: &mut Agenda<Owner, Option<Call>>, performer: Who)
     agenda.cancel(&Owner::Object(performer));
 }
 
-// Who started a sequence is told that it has finished, but for a sequence that has finished.
-fn tell_starter(services: &mut Services, place: usize, id: SeqId) -> Result<(), AllocError>
-    ensures dues { OnOk result ((caused : List Event) → services.old.agenda.dues ≡ in_order caused → services.new.agenda.dues ≡
-        in_order (finished_events (starter_told services.old.sequences.steps services.old.beginnings.items id) (name_at services.old.sequences.started id) id (running services.old.stage) services.old.time (caused_at place) ++ caused)) }
-    ensures rest { services.new ≡ record services.old { agenda = services.new.agenda } }
+// The call that tells who started a sequence that it has finished.
+fn finished_calls(
+    alloc: Global,
+    services: &Services,
+    id: SeqId,
+) -> Result<Vec<(Who, Call)>, AllocError>
+    ensures { IfOk result (λ calls. calls.items ≡ finished_calls (beginning_at services.now.beginnings.items id) (name_at services.now.sequences.started id) id) }
 {
-    let beginnings = services.beginnings.as_slice();
-    let starter = starter_told(&services.sequences, beginnings, id);
-    let (Some(starter), Some(name)) = (starter, services.sequences.name(id)) else {
-        return Ok(());
-    };
-    let call = Call::Finished { name: *name, id };
-    tell_to(services, starter, call, services.time, place)
-}
-
-// Who started a sequence, unless it is a sequence that lives no longer.
-fn starter_told(sequences: &Sequences, beginnings: &[Beginning], id: SeqId) -> Option<Who>
-    ensures { result ≡ starter_told sequences.now.steps beginnings.now id }
-{
-    let starter = beginning_at(beginnings, id)?.starter;
-    if is_told(sequences, &starter) {
-        Some(starter)
-    } else {
-        None
+    let mut calls = Vec::new(alloc);
+    let beginning = beginning_at(services.beginnings.as_slice(), id);
+    if let (Some(beginning), Some(name)) = (beginning, services.sequences.name(id)) {
+        calls.push((beginning.starter, Call::Finished { name: *name, id }))?;
     }
-}
-
-// Whether somebody is a component, or a sequence that lives.
-fn is_told(sequences: &Sequences, who: &Who) -> bool
-    ensures { result ≡ is_told sequences.now.steps who.now }
-{
-    match who {
-        Who::Node(_) => true,
-        Who::Sequence { id, .. } => sequences.is_live(*id),
-    }
+    Ok(calls)
 }
 
 // A sequence as it is kept.

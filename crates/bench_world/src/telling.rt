@@ -9,6 +9,8 @@ ghost use Rattle.bench_history.specs.History.{running};
 ghost use Rattle.bench_history.specs.Limits.{most_ticks};
 ghost use Rattle.bench_history.specs.Owners.{Event};
 ghost use Rattle.bench_history.specs.Refusals.{wait_refusal};
+ghost use Rattle.bench_world.specs.Drivings.{if_told, living_numbered};
+ghost use Rattle.bench_world.specs.Sequencings.{is_told};
 ghost use Rattle.bench_world.specs.Services.{CanPerform, IsAttempt};
 
 use crate::attempts::{Attempt, done, refused};
@@ -18,6 +20,7 @@ use bench_history::{Owner, Stage};
 use std::alloc::{AllocError, Global};
 use uvm_object::{Call, Fatal, Who};
 use uvm_phase::{Agenda, Cause};
+use uvm_sequencer::Sequences;
 
 // The most ticks of a wait and of a drain time.
 pub(crate) const MAX_TICKS: u64 = 1_000_000_000_000_000;
@@ -116,4 +119,79 @@ pub(crate) fn add_event<O: Drop, N: Drop>(
         return Ok(());
     };
     agenda.due(time, cause, phase, owner, notice)
+}
+
+// Calls are due at once, while a phase runs, but for those of sequences that live no longer. The entry's place is their cause, and all are
+// numbered in their order.
+pub(crate) fn tell_living(
+    services: &mut Services,
+    place: usize,
+    calls: &[(Who, Call)],
+) -> Result<(), AllocError>
+    ensures dues { OnOk result ((caused : List Event) → services.old.agenda.dues ≡ in_order caused →
+        services.new.agenda.dues ≡ in_order (living_numbered (is_told services.old.sequences.steps) (running services.old.stage) services.old.time place 0 calls.now ++ caused)) }
+    ensures rest { services.new ≡ record services.old { agenda = services.new.agenda } }
+{
+    let (stage, time) = (services.stage, services.time);
+    let agenda = &mut services.agenda;
+    tell_each(agenda, &services.sequences, stage, time, place, calls)
+}
+
+fn tell_each(
+    agenda: &mut Agenda<Owner, Option<Call>>,
+    sequences: &Sequences,
+    stage: Stage,
+    time: u64,
+    place: usize,
+    calls: &[(Who, Call)],
+) -> Result<(), AllocError>
+    ensures { OnOk result ((caused : List Event) → agenda.old.dues ≡ in_order caused →
+        agenda.new.dues ≡ in_order (living_numbered (is_told sequences.now.steps) (running stage) time place 0 calls.now ++ caused)) }
+{
+    for (number, (who, call)) in calls.iter().enumerate() {
+        let cause = Cause {
+            place: place as u64,
+            number: number as u64,
+        };
+        tell_if(
+            agenda,
+            is_told(sequences, who),
+            stage,
+            time,
+            cause,
+            *who,
+            *call,
+        )?;
+    }
+    Ok(())
+}
+
+// A call of somebody is due, if he is told.
+fn tell_if(
+    agenda: &mut Agenda<Owner, Option<Call>>,
+    told: bool,
+    stage: Stage,
+    time: u64,
+    cause: Cause,
+    who: Who,
+    call: Call,
+) -> Result<(), AllocError>
+    ensures { OnOk result ((caused : List Event) → agenda.old.dues ≡ in_order caused →
+        agenda.new.dues ≡ in_order (if_told told (event_in (running stage) time cause (Owner.Object who) (Some call)) ++ caused)) }
+{
+    if told {
+        add_event(agenda, stage, time, cause, Owner::Object(who), Some(call))
+    } else {
+        Ok(())
+    }
+}
+
+// Whether somebody is a component, or a sequence that lives.
+pub(crate) fn is_told(sequences: &Sequences, who: &Who) -> bool
+    ensures { result ≡ is_told sequences.now.steps who.now }
+{
+    match who {
+        Who::Node(_) => true,
+        Who::Sequence { id, .. } => sequences.is_live(*id),
+    }
 }

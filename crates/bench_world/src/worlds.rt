@@ -20,11 +20,13 @@ ghost use Rattle.uvm_config.specs.Answers.{config_answer};
 ghost use Rattle.bench_history.specs.Configuration.{settings_of};
 ghost use Rattle.bench_history.specs.Dues.{due_events, due_now};
 ghost use Rattle.bench_history.specs.Next.{IsLegal};
-ghost use Rattle.bench_history.specs.Passing.{next_passed, waiting_at};
+ghost use Rattle.bench_history.specs.Arbitration.{next_locked, next_served, waiters_at};
+ghost use Rattle.bench_history.specs.Passing.{next_passed};
 ghost use Rattle.bench_history.specs.Sequences.{leaving_of, sequences_of, step_of};
 ghost use Rattle.uvm_sequencer.specs.Sequences.{step_at};
 ghost use Rattle.bench_world.specs.Worlds.{WorldValue};
 
+use crate::arbiters::{first_locked, first_served, requests_at};
 use crate::making::Waiting;
 use crate::services::Services;
 use crate::stations::{first_passing, waiting_at};
@@ -39,7 +41,7 @@ use uvm_object::{Act, Call, Deed, Log, Passage, Who};
 use uvm_objection::Objection;
 use uvm_phase::{Agenda, Due, Phase};
 use uvm_report::{Fate, Reports};
-use uvm_sequencer::Sequences;
+use uvm_sequencer::{SeqId, Sequences};
 use uvm_tlm::Wiring;
 use uvm_tree::{NodeId, Tree};
 
@@ -260,12 +262,34 @@ impl World {
         first_passing(&self.services.stations, self.services.unsettled.as_slice())
     }
 
-    /// How many puts, takes and peeks wait at a FIFO; 0 where none stands at the node.
+    /// The lock that leads, and whose it is: of the sequencers at which one does the first in path order (Clause 15).
+    pub fn next_locked(&self) -> Option<(NodeId, SeqId)>
+        requires { self.now.sound ≡ true }
+        ensures { result ≡ next_locked self.now.history }
+    {
+        let services = &self.services;
+        first_locked(&services.arbiters, &services.sequences, services.contested)
+    }
+
+    /// Whose driver is served next, and whether a word decides which sequence it is then: of the sequencers whose driver waits and
+    /// that have a candidate the first in path order (Clause 15).
+    pub fn next_served(&self) -> Option<(NodeId, bool)>
+        requires { self.now.sound ≡ true }
+        ensures { result ≡ next_served self.now.history }
+    {
+        let services = &self.services;
+        first_served(&services.arbiters, &services.sequences, services.contested)
+    }
+
+    /// How many puts, takes and peeks wait at a FIFO, or item requests and locks at a sequencer; 0 where neither stands at the node.
     pub fn waiting(&self, node: NodeId) -> usize
         requires { self.now.sound ≡ true }
-        ensures { result ≡ waiting_at self.now.history node }
+        ensures { result ≡ waiters_at self.now.history node }
     {
-        waiting_at(&self.services.stations, node)
+        match waiting_at(&self.services.stations, node) {
+            Some(count) => count,
+            None => requests_at(&self.services.arbiters, node),
+        }
     }
 
     /// What is raised at a node and below it, with what is held back below it. None where there is no such node.

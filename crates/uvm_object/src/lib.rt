@@ -22,3 +22,4 @@ pub use fatals::Fatal;
 pub use lines::{line_of, shown_path};
 pub use logs::{Log, LogFault};
 pub use objects::UvmObject;
+pub use sequence_lines::source_of;

@@ -1,5 +1,5 @@
 -- A sequencer, and what its calls answer and make of it.
-use Rattle.std.specs.Prelude.{ℕ, Bool, false, ◌==◌, ◌||◌, not, List, [], ◌∷◌, ◌++◌, Option, Some, None, is_some, Result, Ok, Err, option_map, if◌then◌else◌}
+use Rattle.std.specs.Prelude.{ℕ, Bool, false, ◌==◌, ◌||◌, not, List, [], ◌∷◌, ◌++◌, Option, Some, None, is_some, filter, Result, Ok, Err, option_map, if◌then◌else◌}
 use Rattle.std.specs.List.{list_any}
 use Rattle.std.specs.Option.{option_map_or}
 use Rattle.uvm_glob.specs.Faults.{fault_if}
@@ -17,7 +17,8 @@ use Rattle.uvm_sequencer.specs.Choices.{choice, readiness}
 use Rattle.uvm_sequencer.specs.Drivers.{is_idle, asked_by, grant_of, granted_by, hand_of, left_by, sent, wait_of}
 use Rattle.uvm_sequencer.specs.Faults.{or_fault}
 use Rattle.uvm_sequencer.specs.Queues.{item_request, lock_request, is_item_of, is_lock_of, without, without_item, without_lock, candidates, leading_lock, is_held, released, all_released}
-use Rattle.uvm_sequencer.specs.Sequences.{Start}
+use Rattle.uvm_sequencer.specs.declared.starts.SeqStep.{SeqStep}
+use Rattle.uvm_sequencer.specs.Sequences.{Start, step_at}
 
 -- how it chooses, the port that drives it and where that driver stands, what was asked for in the order of the queue, and the
 -- holders in the order of granting: a sequence stands there once for each lock that it holds
@@ -68,6 +69,14 @@ with_idle s = record s { driver = Idle }
 -- after a sequence left: what it asked for and held is gone, and its unsent grant lapses
 abbrev pub after_leave : ℕ → SequencerValue → SequencerValue
 after_leave seq s = record s { driver = left_by (grant_of seq s.driver) s.driver; queue = without seq s.queue; holders = all_released seq s.holders }
+
+-- a sequence lives
+abbrev pub is_live_at : List (Option SeqStep) → ℕ → Bool
+is_live_at steps id = is_some (step_at steps id)
+
+-- once a phase has ended: the driver is idle, and what sequences asked for and hold that live no longer is gone
+abbrev pub after_phase : List (Option SeqStep) → SequencerValue → SequencerValue
+after_phase steps s = record s { driver = Idle; queue = filter (λ request. is_live_at steps request.seq) s.queue; holders = filter (is_live_at steps) s.holders }
 
 -- the port drives the sequencer
 abbrev pub is_driver : Option ℕ → ℕ → Bool

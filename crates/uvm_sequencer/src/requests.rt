@@ -1,10 +1,11 @@
 //! What sequences ask of a sequencer.
 
-ghost use Rattle.std.specs.Prelude.{◌≡◌, ◌∷◌, ◌++◌, [], OnOk, OnErr};
+ghost use Rattle.std.specs.Prelude.{◌≡◌, ◌∷◌, ◌++◌, [], filter, OnOk, OnErr};
 ghost use Rattle.std.specs.List.{list_any};
+ghost use Rattle.uvm_sequencer.specs.Sequencers.{is_live_at};
 ghost use Rattle.uvm_sequencer.specs.Queues.{is_item, is_item_of, is_lock_of, is_of, priority_of, without, without_item, without_lock};
 
-use crate::starts::SeqId;
+use crate::starts::{SeqId, Sequences};
 use std::alloc::AllocError;
 
 /// What a sequence wants.
@@ -119,4 +120,11 @@ pub(crate) fn take_all(queue: &mut Vec<Request>, seq: SeqId)
     ensures { queue.new.items ≡ without seq queue.old.items }
 {
     queue.retain(|request| !request.is_of(seq));
+}
+
+// Takes out what sequences asked for that live no longer.
+pub(crate) fn keep_live(queue: &mut Vec<Request>, sequences: &Sequences)
+    ensures { queue.new.items ≡ filter (λ request. is_live_at sequences.now.steps request.seq) queue.old.items }
+{
+    queue.retain(|request| sequences.is_live(request.seq));
 }

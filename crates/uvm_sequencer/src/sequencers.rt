@@ -1,19 +1,20 @@
 //! The sequencer.
 
-ghost use Rattle.std.specs.Prelude.{◌≡◌, ◌<◌, None, Some, OnOk, OnErr, IfOk, IfErr, IfSome, IfNone, IsSome, is_some, nat_lt, length, vec_capacity};
+ghost use Rattle.std.specs.Prelude.{◌≡◌, ◌<◌, None, Some, OnOk, OnErr, IfOk, IfErr, IfSome, IfNone, IsSome, is_some, nat_lt, filter, length, vec_capacity};
 ghost use Rattle.uvm_glob.specs.Faults.{unless};
 ghost use Rattle.uvm_sequencer.specs.Contending.{without_place};
 ghost use Rattle.uvm_sequencer.specs.Drivers.{grant_of, is_try};
 ghost use Rattle.uvm_sequencer.specs.Faults.{or_fault, refusal};
 ghost use Rattle.uvm_sequencer.specs.Queues.{all_released, is_held, released};
-ghost use Rattle.uvm_sequencer.specs.Sequencers.{after_ask, after_leave, after_send, answer, ask_fault, candidates_at, choice_at, done_by, granted, is_driver, lock_at, lock_fault, locked, new_sequencer, ready_at, request_fault, unlocked, unlocked_by, with_grab, with_idle, with_item, with_lock, with_port};
+ghost use Rattle.uvm_sequencer.specs.Sequencers.{after_ask, after_leave, after_phase, after_send, answer, ask_fault, candidates_at, choice_at, done_by, granted, is_driver, is_live_at, lock_at, lock_fault, locked, new_sequencer, ready_at, request_fault, unlocked, unlocked_by, with_grab, with_idle, with_item, with_lock, with_port};
 
 use crate::choices::Choices;
 use crate::drivers::{Asked, Driver, How};
 use crate::faults::SeqFault;
 use crate::modes::Mode;
 use crate::requests::{
-    Request, Want, has_item, has_lock, put_first, put_last, take_all, take_item, take_lock,
+    Request, Want, has_item, has_lock, keep_live, put_first, put_last, take_all, take_item,
+    take_lock,
 };
 use crate::scans;
 use crate::starts::{SeqId, Sequences};
@@ -219,6 +220,16 @@ impl Sequencer {
         }
     }
 
+    /// A phase ended, and with it what the driver asked and some sequences: the driver is idle, as after `end_ask`, and what sequences
+    /// asked for and hold that live no longer is gone. The time is that of one look at the queue and the holders.
+    pub fn end_phase(&mut self, sequences: &Sequences)
+        ensures { self.new ≡ after_phase sequences.now.steps self.old }
+    {
+        keep_live(&mut self.queue, sequences);
+        keep_held(&mut self.holders, sequences);
+        self.driver = Driver::Idle;
+    }
+
     /// Grants the lock that leads, and answers whose it is; none where no lock leads. What leads is the first in the queue of a
     /// sequence that is not blocked.
     pub fn settle(&mut self, sequences: &Sequences) -> Option<SeqId>
@@ -331,6 +342,14 @@ fn give_back_all(holders: &mut Vec<SeqId>, seq: SeqId)
     ensures capacity { vec_capacity holders.new ≡ vec_capacity holders.old }
 {
     holders.retain(|holder| *holder != seq);
+}
+
+// Takes out each lock of a sequence that lives no longer.
+fn keep_held(holders: &mut Vec<SeqId>, sequences: &Sequences)
+    ensures items { holders.new.items ≡ filter (is_live_at sequences.now.steps) holders.old.items }
+    ensures capacity { vec_capacity holders.new ≡ vec_capacity holders.old }
+{
+    holders.retain(|holder| sequences.is_live(*holder));
 }
 
 // Where the last lock of a sequence stands.

@@ -385,6 +385,28 @@ fn what_a_dead_holder_held_is_gone(rt: HostRuntime) -> Result<(), Fail> {
 }
 
 #[test]
+fn with_a_phase_ends_what_the_dead_asked_for_and_hold(rt: HostRuntime) -> Result<(), Fail> {
+    let mut bench = Bench::new(rt.alloc(), Mode::Fifo)?;
+    let dead = bench.start(None)?;
+    let live = bench.start(None)?;
+    bench.sequencer.lock(dead)?;
+    assert_eq!(rt; bench.settle(), Some(dead));
+    bench.sequencer.request(dead, 100)?;
+    bench.sequencer.request(live, 100)?;
+    bench.ask(How::Next)?;
+    assert_eq!(rt; bench.choose(0), Some(dead));
+    bench.sequences.finish(dead);
+    bench.sequencer.end_phase(&bench.sequences);
+    assert_eq!(rt; bench.sequencer.waiting(), 1);
+    assert_eq!(rt;
+        bench.serve(0)?,
+        live,
+        "the driver was idle, and nobody holds the sequencer"
+    );
+    Ok(())
+}
+
+#[test]
 fn faults_are_told(rt: HostRuntime) -> Result<(), Fail> {
     let cases = [
         (SeqFault::NoDriver, "no driver"),

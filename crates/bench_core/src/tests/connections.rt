@@ -32,7 +32,7 @@ pub(super) const ANALYSIS: What = What::Port {
     kind: PortKind::Analysis,
 };
 
-const SEQ: What = What::Port {
+pub(super) const SEQ: What = What::Port {
     kind: PortKind::Seq,
 };
 

@@ -21,7 +21,7 @@ pub(super) enum Starting {
     Refused,
 }
 
-const SEQUENCE_SCRIPT: &[u8] =
+pub(super) const SEQUENCE_SCRIPT: &[u8] =
     b"version = 1\ntest = \"t\"\ntype = [{ name = \"t\", kind = \"component\" }, { name = \"q\", kind = \"sequence\" }]\n";
 
 // Nothing is done with fatal reports.
@@ -100,7 +100,7 @@ fn follow(starting: Starting, call: Call, acts: &mut Acts) -> Result<(), Fail> {
     Ok(())
 }
 
-fn start(
+pub(super) fn start(
     alloc: Global,
     type_name: &[u8],
     name: &[u8],
@@ -121,8 +121,8 @@ fn start(
 }
 
 // The text of the run from the begin of run on.
-fn run_text(alloc: Global, script: &[u8], starting: Starting) -> Result<Vec<u8>, Fail> {
-    let (text, _) = counted(alloc, script, Bench::Starting(starting))?;
+pub(super) fn run_text(alloc: Global, script: &[u8], bench: Bench) -> Result<Vec<u8>, Fail> {
+    let (text, _) = counted(alloc, script, bench)?;
     let lines = text.as_slice();
     for i in 0..lines.len() {
         if lines[i..].starts_with(b"begin run\n") {
@@ -136,7 +136,11 @@ fn run_text(alloc: Global, script: &[u8], starting: Starting) -> Result<Vec<u8>,
 
 #[test]
 fn sequence_goes_through_its_steps_and_leaves(rt: HostRuntime) -> Result<(), Fail> {
-    let text = run_text(rt.alloc(), SEQUENCE_SCRIPT, Starting::StepByStep)?;
+    let text = run_text(
+        rt.alloc(),
+        SEQUENCE_SCRIPT,
+        Bench::Starting(Starting::StepByStep),
+    )?;
     assert!(rt; text.as_slice().starts_with(STEP_BY_STEP));
     assert!(rt; text.as_slice().ends_with(b"over finished\n"));
     Ok(())
@@ -144,14 +148,22 @@ fn sequence_goes_through_its_steps_and_leaves(rt: HostRuntime) -> Result<(), Fai
 
 #[test]
 fn sequence_that_ends_all_steps_at_once_hears_of_none(rt: HostRuntime) -> Result<(), Fail> {
-    let text = run_text(rt.alloc(), SEQUENCE_SCRIPT, Starting::AtOnce)?;
+    let text = run_text(
+        rt.alloc(),
+        SEQUENCE_SCRIPT,
+        Bench::Starting(Starting::AtOnce),
+    )?;
     assert!(rt; text.as_slice().starts_with(AT_ONCE));
     Ok(())
 }
 
 #[test]
 fn sequences_end_with_their_phase(rt: HostRuntime) -> Result<(), Fail> {
-    let text = run_text(rt.alloc(), SEQUENCE_SCRIPT, Starting::Staying)?;
+    let text = run_text(
+        rt.alloc(),
+        SEQUENCE_SCRIPT,
+        Bench::Starting(Starting::Staying),
+    )?;
     assert!(rt; text.as_slice().starts_with(STAYING));
     Ok(())
 }
@@ -164,7 +176,11 @@ fn starts_are_refused_in_their_order(rt: HostRuntime) -> Result<(), Fail> {
         Bench::Starting(Starting::Refused),
     )?;
     assert!(rt; text.as_slice().starts_with(REFUSED_IN_BUILD));
-    let run = run_text(rt.alloc(), SILENCED_SEQUENCE_SCRIPT, Starting::Refused)?;
+    let run = run_text(
+        rt.alloc(),
+        SILENCED_SEQUENCE_SCRIPT,
+        Bench::Starting(Starting::Refused),
+    )?;
     assert!(rt; run.as_slice().starts_with(REFUSED));
     Ok(())
 }

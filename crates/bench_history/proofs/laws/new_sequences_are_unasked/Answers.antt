@@ -2,4 +2,4 @@ use Rattle.bench_history.proofs.Called.{new_sequences_are_unasked}
 use Rattle.bench_history.proofs.laws.new_sequences_are_unasked.Goals as goal
 
 pub returns : goal.returns
-returns c = new_sequences_are_unasked c.order_keeps_all.ensures
+returns c = new_sequences_are_unasked c.order_keeps_all.ensures c.lock_excludes.ensures

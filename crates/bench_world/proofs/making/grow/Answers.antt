@@ -16,6 +16,8 @@ use Rattle.bench_world.proofs.Turns.{turns-made}
 use Rattle.uvm_tree.specs.Sorted.{path_order}
 use Rattle.bench_history.specs.Passing.{passing_at}
 use Rattle.bench_world.specs.Passings.{AreUnsettled}
+use Rattle.bench_world.proofs.Arbiting.{arbitrating-grown}
+use Rattle.bench_world.proofs.Contested.{none-locked, none-served}
 use Rattle.bench_world.proofs.Passages.{settled-all, unsettled-none}
 use Rattle.bench_world.proofs.making.grow.Goals as goal
 
@@ -38,6 +40,7 @@ returns-clause-kept c = λ type_name place. record {
       let open_ = building-open c.args.services.now.wiring m.closing (sym m.built ∙ c.requires.building) in
       let connecting = connecting-grown made open_ m.connecting in
       let objections = objecting-more c.add.new.self speaker c.nodes_grow.ensures below m.objections longer is in
-      let unsettled : AreUnsettled (passing_at history) (path_order (nodes_of history ++ made ∷ [])) c.clear.new.self.items = rw c.clear.ensures.items (unsettled-none (path_order (nodes_of history ++ made ∷ [])) (settled-all history m.unsettled s.settled)) in
+      let unsettled : AreUnsettled (passing_at history) (path_order (nodes_of history ++ made ∷ [])) c.clear.new.self.items = rw c.clear.ensures.items (unsettled-none (path_order (nodes_of history ++ made ∷ [])) (settled-all history m.unsettled s.settled.unpassed)) in
+      let arbitrating = arbitrating-grown (nodes_of history ++ made ∷ []) (omega (arith, longer)) (none-locked history m.arbitrating.contested_is s.settled.unlocked) (none-served history m.arbitrating.contested_is s.settled.unserved) m.arbitrating in
       search (rules, acted);
 }

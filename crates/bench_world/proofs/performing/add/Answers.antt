@@ -15,6 +15,8 @@ use Rattle.bench_world.specs.Connectings.{IsClosedPast, IsClosing}
 use Rattle.std.specs.List.{list_any}
 use Rattle.bench_history.specs.Ports.{fifo_size}
 use Rattle.bench_history.specs.Wires.{end_of, ends_connect, wiring_of}
+use Rattle.bench_world.proofs.Arbiting.{arbitrating-added}
+use Rattle.bench_world.proofs.Contested.{none-locked, none-served}
 use Rattle.bench_world.proofs.Gates.{added-kept}
 use Rattle.uvm_tlm.specs.Wirings.{is_closed}
 use Rattle.uvm_object.specs.declared.entries.Entry.TheVariants.{Did}
@@ -55,10 +57,12 @@ returns c = λ place. rw (c.done.ensures.attempt, c.done.ensures.services) (reco
         let closed_past : IsClosedPast (list_any ends_connect history) (is_closed c.add_end.new.wiring) = rw wired m.closed_past in
         let unused : fifo_size (wiring_of history) (length (nodes_of history)) ≡ None = rw (← m.tree, ← m.connecting.ends, c.requires.unused) refl in
         let adds = rw (c.in_ok-node.ensures.id, m.tree) at c.in_ok-add_station.ensures in
-        let kept = added-kept {new = c.add_station.new.stations} c.args.services.now.answer.speaker c.args.name c.args.what m s.settled unused adds c.clear.ensures.items in
+        let kept = added-kept {new = c.add_station.new.stations} c.args.services.now.answer.speaker c.args.name c.args.what m s.settled.unpassed unused adds c.clear.ensures.items in
         let stations = kept.stations_are in
         let passed = kept.passed in
         let unsettled = kept.unsettled_are in
+        let adding = rw (c.in_ok-node.ensures.id, m.tree) at c.in_ok-add_arbiter.ensures in
+        let arbitrating = arbitrating-added history c.args.services.now.answer.speaker c.args.name c.args.what {new = c.add_arbiter.new.arbiters} some longer adding (none-locked history m.arbitrating.contested_is s.settled.unlocked) (none-served history m.arbitrating.contested_is s.settled.unserved) m.arbitrating in
         search (rules, acted);
   };
 })

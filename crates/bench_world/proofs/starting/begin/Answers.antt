@@ -13,6 +13,7 @@ use Rattle.bench_world.specs.Objectings.{AreEvents}
 use Rattle.bench_world.specs.Sequencings.{IsSequencing, enders_of}
 use Rattle.bench_world.specs.Services.{IsAgenda}
 use Rattle.bench_world.proofs.Acting.{ok-not-err}
+use Rattle.bench_world.proofs.Arbiting.{arbitrating-begun}
 use Rattle.bench_world.proofs.Begun.{next-unfinished, scene-starts, sequencing-started, start-of, task-goes}
 use Rattle.bench_world.proofs.Drained.{events-told}
 use Rattle.bench_world.proofs.Later.{acted}
@@ -46,5 +47,6 @@ returns-clause-kept c =
           let goes = task-goes (stage_of history) (ended_of history) task s.in_order in
           let starter = scene-starts c.living_run.ensures s c.requires.starts task in
           let sequencing : IsSequencing (begun_of (Did speaker (Started next) deed ∷ history)) (finished_of history) (ended_of history) (enders_of history) c.start_under.new.sequences c.push.new.beginnings.items = sequencing-started m.sequencing (nodes_of history) speaker deed home c.in-Ok.id (running (stage_of history)) c.name_started-name.result c.priority_given-given.result c.start_under.new.sequences c.push.new.beginnings.items c.requires.starts asked c.name_started-name.ensures c.priority_given-given.ensures c.in-Ok.ensures.started c.in-Ok.ensures.steps c.in-Ok.ensures.id items goes starter in
+          let arbitrating = arbitrating-begun m.arbitrating c.starts_change_nothing.ensures (record { start = start_by (nodes_of history) (sequences_of history) speaker deed; starter = speaker; phase = running (stage_of history) }) in
           search (rules, acted);
     })

@@ -1,5 +1,13 @@
-use Rattle.std.proofs.Common.{◌≡◌, ◌∷◌, suc, length, filter, Some, None, option_and_then, refl, sym, ◌∙◌, rules}
-use Rattle.uvm_sequencer.specs.Sequences.{step_after, step_at}
+use Rattle.std.proofs.Common.{◌≡◌, ◌∷◌, suc, nat_eq, IsSome, ap, length, filter, Some, None, option_and_then, refl, sym, ◌∙◌, rules}
+use Rattle.std.specs.HashMap.{get}
+use Rattle.uvm_sequencer.specs.Sequences.{finished, step_after, step_at}
+use Rattle.uvm_object.specs.Acts.{node_of}
+use Rattle.uvm_object.specs.declared.acts.Who.TheVariants as who
+use Rattle.bench_history.specs.Arbitration.{mode_at}
+use Rattle.bench_world.specs.Drivings.{lapsed_calls}
+use Rattle.bench_world.proofs.Driven.{finish-kept, lapsed-known, lapsed-told}
+use Rattle.bench_world.proofs.Numbered.{numbered-holds}
+use Rattle.bench_world.proofs.Seated.{placed}
 use Rattle.uvm_object.specs.declared.acts.Act.TheVariants.{EndStep}
 use Rattle.uvm_object.specs.declared.entries.Entry.TheVariants.{Did}
 use Rattle.uvm_object.specs.declared.entries.Outcome.TheVariants.{Done, Finished}
@@ -7,7 +15,7 @@ use Rattle.bench_history.specs.declared.owners.Owner.TheVariants.{Object}
 use Rattle.bench_history.specs.Dues.{caused_at, caused_of, due_events, heard_of, is_open, step_call}
 use Rattle.bench_history.specs.History.{now_of, running, stage_of, ended_of}
 use Rattle.bench_history.specs.Objections.{objections_of}
-use Rattle.bench_history.specs.Sequences.{finished_of, next_step, sequence_in}
+use Rattle.bench_history.specs.Sequences.{Beginning, begun_of, finished_of, next_step, sequence_in}
 use Rattle.bench_world.specs.Objectings.{AreEvents}
 use Rattle.bench_world.specs.Services.{IsAgenda}
 use Rattle.bench_world.proofs.Answered.{answer-finished}
@@ -65,8 +73,14 @@ returns-in_ok-finish-in-None c =
             let m = s.known in
             let left = s.left in
             let b = scene-begun id s (λ opens. cc) is in
+            let moded = numbered-holds (λ (one : Beginning). IsSome (mode_at history one.start.home)) (begun_of history) id b.beginning s.driving.homes b.found in
+            let there = placed s b.beginning.start.home c.path_order_is_in_order.ensures moded in
+            let home : node_of speaker ≡ b.beginning.start.home = ap node_of b.performer_is in
             let dues = rw (c.in-None.ensures.after, m.stage, m.time, ← s.place_is, b.performer_is) at (fin.dues (filter (is_open (heard_of history) (ended_of history) (finished_of history)) (caused_of history)) m.agenda.are) in
-            let h = rw (← b.performer_is) at (has-finished m c.steps_change_alone.ensures id b.beginning b.found b.lives c.finish.new.services.agenda.dues s.in_order dues) in
+            let lapse = lapsed_calls (get nat_eq services.arbiters b.beginning.start.home) id in
+            let h = rw (← b.performer_is) at (has-finished m c.steps_change_alone.ensures id b.beginning b.found b.lives lapse (lapsed-known s id b.beginning b.found b.lives moded there) c.finish.new.services.agenda.dues s.in_order (lapsed-told s id b.beginning b.found b.lives moded there (who.Sequence id b.beginning.start.home ∷ finished_of history) (finished id services.sequences).steps) dues) in
+            let left_there = rw home at fin.arbiters in
+            let arbitrating = rw (← b.performer_is) at (finish-kept s id b.beginning b.found b.lives moded there c.finish.new.services.arbiters left_there) in
             let agenda = h.agenda in
             let events = h.events in
             let sequencing = rw (← b.performer_is) at (sequencing-finished m.sequencing c.steps_change_alone.ensures id b.beginning b.found b.lives) in

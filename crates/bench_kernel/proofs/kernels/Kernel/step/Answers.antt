@@ -179,12 +179,11 @@ invariant_of-self-in-Ok-Moved g c =
     let kernel : KernelValue g.row.O.Denot = record { core = k.core; held = all_held k.seats.taken k.sequences.held; failed = k.failed; unknown = k.unknown } in
     let kept = c.self.invariant.0 in
     let told = told-turn Moved k.core c.next.new.self tt (rw c.in-Ok-Moved.field-0-is at (c.in-Ok-Moved.ensures.turn)) in
-    let moved = moved-turn k.core c.next.new.self told.turn in
+    let moved = moved-turn c.hold.ensures.silent k.core c.next.new.self told.turn in
     let under = below c.hold.ensures m.view m.name m.says kernel k.seats.taken k.sequences.held refl kept in
-    let machines = c.hold.ensures.silent k.core.script k.core.history moved.entry moved.exact in
     rw moved.is (
-      kept-moved c.hold.ensures m.view m.name m.says kernel moved.entry moved.exact c.if-self.false kept,
-      seated-later c.hold.ensures k.core.history moved.entry (paths_in k.seats.taken) k.sequences.count k.sequences.held machines.starts_none under c.self.invariant.1,
+      kept-moved c.hold.ensures m.view m.name m.says kernel moved.entry moved.next moved.something moved.machines c.if-self.false kept,
+      seated-later c.hold.ensures k.core.history moved.entry (paths_in k.seats.taken) k.sequences.count k.sequences.held moved.machines.starts_none under c.self.invariant.1,
     )
 
 pub returns-in-Ok-Moved-clause-step : goal.returns-in-Ok-Moved-clause-step
@@ -194,8 +193,8 @@ returns-in-Ok-Moved-clause-step g c =
     let kernel : KernelValue g.row.O.Denot = record { core = k.core; held = all_held k.seats.taken k.sequences.held; failed = k.failed; unknown = k.unknown } in
     let kept = c.self.invariant.0 in
     let told = told-turn Moved k.core c.next.new.self tt (rw c.in-Ok-Moved.field-0-is at (c.in-Ok-Moved.ensures.turn)) in
-    let moved = moved-turn k.core c.next.new.self told.turn in
-    rw (← c.self.view_is) (record { going = c.if-self.false; told = told.told }, moved-step m.view m.name m.says c.hold.ensures.silent kernel c.next.new.self moved)
+    let moved = moved-turn c.hold.ensures.silent k.core c.next.new.self told.turn in
+    rw (← c.self.view_is) (record { going = c.if-self.false; told = told.told }, moved-step m.view m.name m.says kernel c.next.new.self moved)
 
 pub invariant_of-self-in-Ok-Over : goal.invariant_of-self-in-Ok-Over
 invariant_of-self-in-Ok-Over g c =

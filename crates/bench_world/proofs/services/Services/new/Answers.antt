@@ -3,6 +3,7 @@ use Rattle.uvm_tree.specs.Sorted.{path_order}
 use Rattle.bench_history.specs.History.{nodes_of}
 use Rattle.bench_history.specs.Passing.{passing_at}
 use Rattle.bench_world.specs.Passings.{AreUnsettled}
+use Rattle.bench_world.proofs.Arbiting.{arbitrating-first}
 use Rattle.bench_world.proofs.Objected.{objecting-first}
 use Rattle.bench_world.proofs.Passages.{passed-first, stations-first, unsettled-none}
 use Rattle.bench_world.specs.Sequencings.{IsSequencing}
@@ -12,7 +13,7 @@ use Rattle.bench_world.proofs.services.Services.new.Goals as goal
 pub returns : goal.returns
 returns c = λ script factory settings reporting.
     let unsettled : AreUnsettled (passing_at []) (path_order (nodes_of [])) [] = unsettled-none (path_order (nodes_of [])) (λ n. refl) in
-    let sequencing : IsSequencing [] [] [] [] c.new-6.result [] = sequencing-first c.new-6.ensures.started c.new-6.ensures.steps in
+    let sequencing : IsSequencing [] [] [] [] c.new-7.result [] = sequencing-first c.new-7.ensures.started c.new-7.ensures.steps in
     record {
       stage = refl;
       time = refl;
@@ -25,6 +26,7 @@ returns c = λ script factory settings reporting.
       stations = stations-first c.new-4.ensures.empty;
       passed = passed-first;
       unsettled = search (rules, unsettled);
+      arbitrating = arbitrating-first (nodes_of []) c.new-6.ensures.empty;
       sequencing = search (rules, sequencing);
       objections = objecting-first c.new-2.result c.nodes_grow.ensures.0 c.new-2.ensures;
       factory = factory;

@@ -12,6 +12,7 @@ use Rattle.bench_world.specs.Sequencings.{IsSequencing, enders_of, leaving_with}
 use Rattle.bench_world.proofs.Connected.{closing-after, connecting-after, ends-ordered, past-after}
 use Rattle.bench_world.proofs.Drained.{events-ended}
 use Rattle.bench_world.proofs.Ending.{leaving-known, sequencing-ended}
+use Rattle.bench_world.proofs.Arbiting.{arbitrating-ended}
 use Rattle.bench_world.proofs.Later.{later, entered}
 use Rattle.bench_world.proofs.Passages.{stations-ended, unsettled-ended}
 use Rattle.bench_world.proofs.Told.{agenda-ended}
@@ -44,4 +45,6 @@ invariant_of-self-2 c =
     let stations = stations-ended before phase {new = c.end_waits.new.stations} c.end_waits.ensures m.stations in
     let unsettled = unsettled-ended before phase m.unsettled in
     let sequencing : IsSequencing (begun_of before) (finished_of before) (phase ∷ ended_of before) (enders_of before) c.finish_all.new.sequences c.self.inside.services.beginnings.items = sequencing-ended phase c.finish_all.new.sequences (rw (c.as_slice.ensures.value, left) at c.finish_all.ensures) m.sequencing in
+    let live = rw (c.as_slice.ensures.value, left) at c.finish_all.ensures in
+    let arbitrating = arbitrating-ended c.self.inside.script before phase c.living_run.ensures c.self.invariant.1.legal.each (c.running_phases_end.ensures c.self.inside.script before phase r.next) c.finish_all.new.sequences.steps sequencing.living {new = c.end_phase.new.arbiters} c.end_phase.ensures m.arbitrating in
     search (rules, later))

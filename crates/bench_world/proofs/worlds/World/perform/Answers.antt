@@ -23,7 +23,7 @@ invariant_of-self-in-Became c =
     let r = rw (← c.self.view_is) at c.requires in
     let did = rw (c.in-Became.is, c.act.ensures, c.len-place.ensures) at c.in_ok-outcome.ensures in
     let entered = c.in_ok-enter-in-Became.ensures in
-    performed c.in-Became.outcome c.args.deed c.self.invariant r.sound r.room r.settled r.left r.next c.phases_go_in_order.ensures c.performers_are_there.ensures did entered.ok entered.limit c.in_ok-self-inside-in-Became.ensures entered.services
+    performed c.in-Became.outcome c.args.deed c.self.invariant r.sound r.room r.settled r.left r.next c.phases_go_in_order.ensures c.performers_are_there.ensures c.drivers_are_there.ensures did entered.ok entered.limit c.in_ok-self-inside-in-Became.ensures entered.services
 
 pub invariant_of-self-in-Needed : goal.invariant_of-self-in-Needed
 invariant_of-self-in-Needed c =
@@ -31,7 +31,7 @@ invariant_of-self-in-Needed c =
     let kept = c.in_ok-make_room-in-Needed.ensures in
     let need = rw (c.in-Needed.is, c.act.ensures, c.len-place.ensures, ← c.in_ok-waiting-in-Needed.ensures.0, ← c.in_ok-waiting-in-Needed.ensures.1, ← c.in_ok-waiting-in-Needed.ensures.3) at c.in_ok-outcome.ensures in
     let waiting = c.in_ok-waiting-in-Needed in
-    waits waiting.waiting c.self.invariant r.sound r.room r.settled (rw waiting.ensures.1 r.left) (rw waiting.ensures.1 r.next) c.phases_go_in_order.ensures c.performers_are_there.ensures need kept.log kept.log_spare kept.services kept.nodes kept.items kept.reporting kept.objections kept.objection_spare kept.tree_spare kept.components kept.sequences kept.beginnings_items kept.dues kept.sequence_spare kept.beginnings kept.agenda_spare waiting.ensures.2 kept.report_room
+    waits waiting.waiting c.self.invariant r.sound r.room r.settled (rw waiting.ensures.1 r.left) (rw waiting.ensures.1 r.next) c.phases_go_in_order.ensures c.performers_are_there.ensures c.drivers_are_there.ensures need kept.log kept.log_spare kept.services kept.nodes kept.items kept.reporting kept.objections kept.objection_spare kept.tree_spare kept.components kept.sequences kept.beginnings_items kept.dues kept.sequence_spare kept.beginnings kept.agenda_spare waiting.ensures.2 kept.report_room
 
 pub returns-in_ok-enter-in-Became-clause-ok : goal.returns-in_ok-enter-in-Became-clause-ok
 returns-in_ok-enter-in-Became-clause-ok c =
@@ -39,7 +39,7 @@ returns-in_ok-enter-in-Became-clause-ok c =
     let m = c.self.invariant.1.services_match r.sound in
     let before = c.self.inside.log.entries in
     let did = rw (c.in-Became.is, c.act.ensures, c.len-place.ensures) at c.in_ok-outcome.ensures in
-    let scene = scene-of c.args.deed m c.self.invariant.1.legal.each r.settled r.left c.phases_go_in_order.ensures c.performers_are_there.ensures (act-next c.self.inside.script before c.args.deed r.next) in
+    let scene = scene-of c.args.deed m c.self.invariant.1.legal.each r.settled r.left c.phases_go_in_order.ensures c.performers_are_there.ensures c.drivers_are_there.ensures (act-next c.self.inside.script before c.args.deed r.next) in
     let comes = r.next ∙ (rw m.answer.speaker at (did.comes c.self.inside.script before scene)) in
     let entries = rw (did.kept.same_answer, m.answer.speaker) at c.in_ok-enter-in-Became.ensures.ok in
     rw (← c.self.view_is, comes, entries, r.sound) refl
@@ -50,7 +50,7 @@ returns-in_ok-make_room-in-Needed-clause-ok c =
     let m = c.self.invariant.1.services_match r.sound in
     let before = c.self.inside.log.entries in
     let need = rw (c.in-Needed.is, c.act.ensures, c.len-place.ensures) at c.in_ok-outcome.ensures in
-    let scene = scene-of c.args.deed m c.self.invariant.1.legal.each r.settled r.left c.phases_go_in_order.ensures c.performers_are_there.ensures (act-next c.self.inside.script before c.args.deed r.next) in
+    let scene = scene-of c.args.deed m c.self.invariant.1.legal.each r.settled r.left c.phases_go_in_order.ensures c.performers_are_there.ensures c.drivers_are_there.ensures (act-next c.self.inside.script before c.args.deed r.next) in
     let comes = need.comes c.self.inside.script before scene in
     let next = r.next ∙ need-by c.self.inside.script before c.args.deed _ _ m.answer.speaker comes.1 in
     rw (← c.self.view_is) (acted-waits c.self.inside.script before _ c.self.inside.sound _ next c.in_ok-make_room-in-Needed.ensures.log.0 r.sound c.in_ok-waiting-in-Needed.ensures.0)

@@ -1,0 +1,159 @@
+-- Whom a driver serves, and who waits for a sequencer.
+use Rattle.std.proofs.Common.{◌≡◌, ℕ, ◌==◌, ◌⊎◌, inl, inr, Bool, true, false, List, [], ◌∷◌, map, filter, All, Option, Some, None, refl, ap, sym, ◌∙◌, if◌then◌else◌}
+use Rattle.std.specs.Option.{option_map_or}
+use Rattle.std.proofs.lemmas.Bool.Decides.{nat_tests}
+use Rattle.std.proofs.Common.{arith}
+use Rattle.std.proofs.lemmas.List.Elements.{All-nil, All-cons, All-head, All-tail, All-push}
+use Rattle.uvm_sequencer.specs.declared.drivers.How.{How}
+use Rattle.uvm_sequencer.specs.declared.drivers.How.TheVariants as how
+use Rattle.uvm_sequencer.specs.declared.drivers.Driver.{Driver}
+use Rattle.uvm_sequencer.specs.declared.drivers.Driver.TheVariants as driver
+use Rattle.uvm_sequencer.specs.Drivers.{grant_of, granted_by, lapsed, left_by, sent}
+use Rattle.uvm_sequencer.specs.Sequences.{Start}
+use Rattle.uvm_object.specs.declared.acts.Who.{Who}
+use Rattle.uvm_object.specs.declared.entries.Entry.{Entry}
+use Rattle.std.proofs.Common.{IfSome}
+use Rattle.uvm_sequencer.specs.Drivers.{hand_of}
+use Rattle.uvm_tlm.specs.declared.items.Item.{Item}
+use Rattle.uvm_object.specs.declared.acts.Who.TheVariants as who
+use Rattle.uvm_object.specs.declared.acts.Call.{Call}
+use Rattle.uvm_object.specs.declared.acts.Call.TheVariants as call
+use Rattle.bench_history.specs.declared.askers.DriverPort.{DriverPort}
+use Rattle.bench_history.specs.Dues.{told_done, told_item, told_sent}
+use Rattle.bench_history.specs.Arbitration.{asker_by, still_waits, DriverMove, Awaits, IsDone, Sends, Leaves, Wanted, Wish, ForItem, ForLock, ForGrab, driver_by, leads_there, sent_by, sequence_on, sequencer_below, with_wish}
+
+-- the sequence that is granted, or whose item is in hand
+abbrev pub driver_sequence : Driver → Option ℕ
+driver_sequence driver.Idle = None
+driver_sequence (driver.Waiting how) = None
+driver_sequence (driver.Granted seq how) = Some seq
+driver_sequence (driver.InHand seq) = Some seq
+
+same-number : (a b : ℕ) → (a == b) ≡ true → a ≡ b
+same-number a b e = grind (arith, nat_tests)
+
+-- an act makes no other sequence that
+sent-kept : (id : ℕ) (state : Driver) (seq : ℕ) → driver_sequence (sent_by state id) ≡ Some seq → driver_sequence state ≡ Some seq
+sent-kept id driver.Idle seq e = e
+sent-kept id (driver.Waiting way) seq e = e
+sent-kept id (driver.InHand other) seq e = e
+sent-kept id (driver.Granted other way) seq e = tested (other == id) refl e
+  where
+    by-way : (way : How) → other ≡ id → driver_sequence (sent id way) ≡ Some seq → Some other ≡ Some seq
+    by-way how.Next same e = ap (λ (n : ℕ). Some n) same ∙ e
+    by-way how.Try same e = ap (λ (n : ℕ). Some n) same ∙ e
+    by-way how.Get same e = cc
+
+    tested : (b : Bool) → (other == id) ≡ b → driver_sequence (option_map_or (sent id) (if b then Some way else None) (driver.Granted other way)) ≡ Some seq → Some other ≡ Some seq
+    tested true is e = by-way way (same-number other id is) e
+    tested false is e = e
+
+left-kept : (id : ℕ) (state : Driver) (seq : ℕ) → driver_sequence (left_by (grant_of id state) state) ≡ Some seq → driver_sequence state ≡ Some seq
+left-kept id driver.Idle seq e = e
+left-kept id (driver.Waiting way) seq e = e
+left-kept id (driver.InHand other) seq e = e
+left-kept id (driver.Granted other way) seq e = tested (other == id) e
+  where
+    by-way : (way : How) → driver_sequence (lapsed way) ≡ Some seq → Some other ≡ Some seq
+    by-way how.Next e = cc
+    by-way how.Try e = cc
+    by-way how.Get e = cc
+
+    tested : (b : Bool) → driver_sequence (left_by (if b then Some way else None) (driver.Granted other way)) ≡ Some seq → Some other ≡ Some seq
+    tested true e = by-way way e
+    tested false e = e
+
+either-kept : (b : Bool) (new old : Driver) (seq : ℕ) → driver_sequence new ≡ None → driver_sequence (if b then new else old) ≡ Some seq → driver_sequence old ≡ Some seq
+either-kept true new old seq none e = let both : None ≡ Some seq = sym none ∙ e in cc
+either-kept false new old seq none e = e
+
+on-kept : (change : ℕ → Driver) (state : Driver) (id : Option ℕ) (seq : ℕ) → ((n : ℕ) → driver_sequence (change n) ≡ Some seq → driver_sequence state ≡ Some seq) → driver_sequence (option_map_or change id state) ≡ Some seq → driver_sequence state ≡ Some seq
+on-kept change state None seq kept e = e
+on-kept change state (Some id) seq kept e = kept id e
+
+pub move-kept : (before : List Entry) (node : ℕ) (performer : Who) (move : Option DriverMove) (state : Driver) (seq : ℕ) → driver_sequence (driver_by before node performer move state) ≡ Some seq → driver_sequence state ≡ Some seq
+move-kept before node performer None state seq e = e
+move-kept before node performer (Some (Awaits port way)) state seq e = either-kept (leads_there node (sequencer_below before performer port)) (driver.Waiting way) state seq refl e
+move-kept before node performer (Some (IsDone port)) state seq e = either-kept (leads_there node (sequencer_below before performer port)) driver.Idle state seq refl e
+move-kept before node performer (Some Sends) state seq e = on-kept (sent_by state) state (sequence_on node performer) seq (λ n. sent-kept n state seq) e
+move-kept before node performer (Some Leaves) state seq e = on-kept (λ id. left_by (grant_of id state) state) state (sequence_on node performer) seq (λ n. left-kept n state seq) e
+
+-- a grant makes the sequence that which is granted, or none another
+pub granted-kept : (id : ℕ) (state : Driver) (seq : ℕ) → driver_sequence (granted_by id state) ≡ Some seq → (seq ≡ id) ⊎ (driver_sequence state ≡ Some seq)
+granted-kept id driver.Idle seq e = cc
+granted-kept id (driver.Waiting way) seq e = let same : id ≡ seq = cc in inl (sym same)
+granted-kept id (driver.Granted other way) seq e = inr e
+granted-kept id (driver.InHand other) seq e = inr e
+
+-- what holds of a number, if there is one
+abbrev pub HoldsOf : (ℕ → Type 0) → Option ℕ → Type 0
+HoldsOf P None = Unit {0}
+HoldsOf P (Some n) = P n
+
+-- what holds of all who want something holds with one more
+module _ (P : ℕ → Type 0) where
+  abbrev pub IsBy : Wanted → Type 0
+  IsBy w = P w.request.seq
+
+  pub wish-all : (started : List Start) (place : ℕ) (wish : Option Wish) (id : Option ℕ) (asked : List Wanted) → All IsBy asked → (wish ≡ None) ⊎ HoldsOf P id → All IsBy (with_wish started place wish id asked)
+  wish-all started place None id asked all by = all
+  wish-all started place (Some wish) None asked all by = all
+  wish-all started place (Some wish) (Some id) asked all (inl none) = cc
+  wish-all started place (Some (ForItem given)) (Some id) asked all (inr holds) = All-push IsBy asked _ all holds
+  wish-all started place (Some ForLock) (Some id) asked all (inr holds) = All-push IsBy asked _ all holds
+  wish-all started place (Some ForGrab) (Some id) asked all (inr holds) = All-cons IsBy _ asked holds all
+
+-- whose item is in hand
+pub hand-sequence : (state : Driver) (id : ℕ) → hand_of state ≡ Some id → driver_sequence state ≡ Some id
+hand-sequence driver.Idle id e = cc
+hand-sequence (driver.Waiting way) id e = cc
+hand-sequence (driver.Granted other way) id e = cc
+hand-sequence (driver.InHand other) id e = e
+
+-- a driver asks for an item
+abbrev pub awaits : Option DriverMove → Bool
+awaits (Some (Awaits port way)) = true
+awaits move = false
+
+pub asked-by : (C : Who → Type 0) (before : List Entry) (node : ℕ) (performer : Who) (move : Option DriverMove) (asker : Option DriverPort) → IfSome asker (λ asker. C asker.who) → (awaits move ≡ false) ⊎ C performer → IfSome (asker_by before node performer move asker) (λ asker. C asker.who)
+asked-by C before node performer None asker has by = has
+asked-by C before node performer (Some (Awaits port way)) asker has (inl none) = cc
+asked-by C before node performer (Some (Awaits port way)) asker has (inr holds) = tested (leads_there node (sequencer_below before performer port))
+  where
+    tested : (b : Bool) → IfSome (if b then Some (record { who = performer; name = port }) else asker) (λ asker. C asker.who)
+    tested true = holds
+    tested false = has
+asked-by C before node performer (Some (IsDone port)) asker has by = has
+asked-by C before node performer (Some Sends) asker has by = has
+asked-by C before node performer (Some Leaves) asker has by = has
+
+-- what is told to a driver, and to who sends, is told to whom this holds
+module _ (T : Who × Call → Type 0) (E : Who → Type 0) (told : (who : Who) (call : Call) → E who → T (who, call)) where
+  pub item-told : (asker : Option DriverPort) (item : Option Item) → IfSome asker (λ asker. E asker.who) → All T (told_item asker item)
+  item-told None item has = All-nil T
+  item-told (Some asker) item has = All-cons T (asker.who, call.NextItem asker.name item) [] (told asker.who (call.NextItem asker.name item) has) (All-nil T)
+
+  pub sent-told : (performer : Who) (asker : Option DriverPort) (item : Item) (way : Option How) → IfSome asker (λ asker. E asker.who) → E performer → All T (told_sent performer asker item way)
+  sent-told performer asker item None has sends = All-nil T
+  sent-told performer asker item (Some how.Get) has sends = All-push T (told_item asker (Some item)) (performer, call.ItemDone None) (item-told asker (Some item) has) (told performer (call.ItemDone None) sends)
+  sent-told performer asker item (Some how.Next) has sends = item-told asker (Some item) has
+  sent-told performer asker item (Some how.Try) has sends = item-told asker (Some item) has
+
+  pub lapse-told : (lapses : Bool) (asker : Option DriverPort) → IfSome asker (λ asker. E asker.who) → All T (if lapses then told_item asker None else [])
+  lapse-told true asker has = item-told asker None has
+  lapse-told false asker has = All-nil T
+
+  pub done-told : (response : Option Item) (node : ℕ) (hand : Option ℕ) → ((id : ℕ) → hand ≡ Some id → E (who.Sequence id node)) → All T (told_done response node hand)
+  done-told response node None has = All-nil T
+  done-told response node (Some id) has = All-cons T (who.Sequence id node, call.ItemDone response) [] (told (who.Sequence id node) (call.ItemDone response) (has id refl)) (All-nil T)
+
+-- what holds of all that waits holds of the queue
+pub queue-all : (history : List Entry) (node : ℕ) (P : ℕ → Type 0) (asked : List Wanted) → All (λ w. still_waits history node w ≡ true → P w.request.seq) asked → All (λ request. P request.seq) (map (λ w. w.request) (filter (still_waits history node) asked))
+queue-all history node P [] all = All-nil _
+queue-all history node P (w ∷ asked) all = tested (still_waits history node w) refl (All-head (λ w. still_waits history node w ≡ true → P w.request.seq) w asked all) (queue-all history node P asked (All-tail (λ w. still_waits history node w ≡ true → P w.request.seq) w asked all))
+  where
+    tested :
+        (b : Bool) → still_waits history node w ≡ b → (still_waits history node w ≡ true → P w.request.seq) → All (λ request. P request.seq) (map (λ w. w.request) (filter (still_waits history node) asked))
+        → All (λ request. P request.seq) (map (λ w. w.request) (if b then w ∷ filter (still_waits history node) asked else filter (still_waits history node) asked))
+    tested true is holds rest = All-cons (λ request. P request.seq) w.request _ (holds is) rest
+    tested false is holds rest = rest

@@ -1,0 +1,216 @@
+-- What sequences ask of their sequencers, who is granted what, and where each driver stands (IEEE 1800.2-2020, Clause 15). What drivers ask is asked once
+-- the wiring is closed.
+use Rattle.std.specs.Prelude.{ℕ, Bool, true, false, not, ◌&&◌, ◌==◌, nat_lt, List, [], ◌∷◌, ◌++◌, length, map, filter, find, slice_get, Option, Some, None, option_map, option_and_then, option_to_list, unwrap_or, if◌then◌else◌}
+use Rattle.std.specs.List.{list_any}
+use Rattle.std.specs.Option.{option_map_or}
+use Rattle.uvm_glob.specs.Lists.{first_given}
+use Rattle.uvm_sequencer.specs.declared.modes.Mode.{Mode}
+use Rattle.uvm_sequencer.specs.declared.drivers.How.{How}
+use Rattle.uvm_sequencer.specs.declared.drivers.Driver.{Driver}
+use Rattle.uvm_sequencer.specs.declared.drivers.Driver.TheVariants.{Idle, Waiting}
+use Rattle.uvm_sequencer.specs.declared.requests.Request.{Request}
+use Rattle.uvm_sequencer.specs.Drivers.{grant_of, granted_by, left_by, sent}
+use Rattle.uvm_sequencer.specs.Queues.{is_item, item_request, lock_request, released}
+use Rattle.uvm_sequencer.specs.Sequences.{Start}
+use Rattle.uvm_sequencer.specs.Sequencers.{SequencerValue, lock_at, ready_at}
+use Rattle.uvm_tlm.specs.declared.ends.PortKind.TheVariants.{Seq}
+use Rattle.uvm_tlm.specs.Wirings.{targets_of}
+use Rattle.uvm_tree.specs.declared.nodes.Node.{Node}
+use Rattle.uvm_tree.specs.Sorted.{path_order}
+use Rattle.uvm_object.specs.declared.acts.Who.{Who}
+use Rattle.uvm_object.specs.declared.acts.Who.TheVariants as who
+use Rattle.uvm_object.specs.declared.acts.What.TheVariants as what
+use Rattle.uvm_object.specs.declared.acts.Act.{Act}
+use Rattle.uvm_object.specs.declared.acts.Act.TheVariants.{Add, Ask, ItemDone, Request as Requests, Lock, Grab, Unlock, Send}
+use Rattle.uvm_object.specs.declared.entries.Outcome.{Outcome}
+use Rattle.uvm_object.specs.declared.entries.Outcome.TheVariants.{Done, Waits, Finished}
+use Rattle.uvm_object.specs.declared.entries.Entry.{Entry}
+use Rattle.uvm_object.specs.declared.entries.Entry.TheVariants.{Did, Locked, Granted, End}
+use Rattle.bench_history.specs.declared.askers.DriverPort.{DriverPort}
+use Rattle.bench_history.specs.History.{nodes_of}
+use Rattle.uvm_tlm.specs.Fifos.{waiting_count}
+use Rattle.bench_history.specs.Passing.{station_at}
+use Rattle.bench_history.specs.Ports.{port_below}
+use Rattle.bench_history.specs.Sequences.{is_live, parent_priority, sequences_of}
+use Rattle.bench_history.specs.Wires.{closed_wiring}
+
+-- the mode with which each sequencer was added
+abbrev pub mode_in : List Node → Outcome → Act → Option (ℕ × Mode)
+mode_in nodes Done (Add name (what.Sequencer mode)) = Some (length nodes, mode)
+mode_in nodes outcome act = None
+
+abbrev pub modes_of : List Entry → List (ℕ × Mode)
+modes_of [] = []
+modes_of (Did performer outcome act ∷ before) = option_to_list (mode_in (nodes_of before) outcome act) ++ modes_of before
+modes_of (entry ∷ before) = modes_of before
+
+abbrev pub mode_at : List Entry → ℕ → Option Mode
+mode_at history node = option_map (λ found. found.1) (find (λ found. found.0 == node) (modes_of history))
+
+-- what a sequence wishes: to send an item, to hold the sequencer, or to hold it before all that was asked for
+pub data Wish : Type 0 where
+  ForItem : (given : Option ℕ) → Wish
+  ForLock : Wish
+  ForGrab : Wish
+
+abbrev pub wish_in : Outcome → Act → Option Wish
+wish_in Done (Requests given) = Some (ForItem given)
+wish_in Done Lock = Some ForLock
+wish_in Done Grab = Some ForGrab
+wish_in outcome act = None
+
+-- the sequence that somebody is, where it runs on a sequencer
+abbrev pub sequence_on : ℕ → Who → Option ℕ
+sequence_on node (who.Node other) = None
+sequence_on node (who.Sequence id home) = if home == node then Some id else None
+
+-- what was asked of a sequencer, and at which place
+pub record Wanted : Type 0 where
+  pub request : Request
+  pub place : ℕ
+
+abbrev pub wanted : ℕ → Request → Wanted
+wanted place request = record { request = request; place = place }
+
+-- a request has the priority that is given, else its sequence's
+abbrev pub request_priority : List Start → ℕ → Option ℕ → ℕ
+request_priority started id given = unwrap_or given (parent_priority started (Some id))
+
+-- in the order of the queue: grabs first, the latest foremost, then the others as they came
+abbrev pub with_wish : List Start → ℕ → Option Wish → Option ℕ → List Wanted → List Wanted
+with_wish started place None id asked = asked
+with_wish started place (Some wish) None asked = asked
+with_wish started place (Some (ForItem given)) (Some id) asked = asked ++ wanted place (item_request id (request_priority started id given)) ∷ []
+with_wish started place (Some ForLock) (Some id) asked = asked ++ wanted place (lock_request id) ∷ []
+with_wish started place (Some ForGrab) (Some id) asked = wanted place (lock_request id) ∷ asked
+
+abbrev pub all_wanted : List Entry → ℕ → List Wanted
+all_wanted [] node = []
+all_wanted (Did performer outcome act ∷ before) node = with_wish (sequences_of before) (length before) (wish_in outcome act) (sequence_on node performer) (all_wanted before node)
+all_wanted (entry ∷ before) node = all_wanted before node
+
+-- which sequences were granted an item there, and a lock, each at which place
+abbrev pub grants_at : List Entry → ℕ → List (ℕ × ℕ)
+grants_at [] node = []
+grants_at (Granted other grant ∷ before) node = if other == node then (grant.id, length before) ∷ grants_at before node else grants_at before node
+grants_at (entry ∷ before) node = grants_at before node
+
+abbrev pub locks_at : List Entry → ℕ → List (ℕ × ℕ)
+locks_at [] node = []
+locks_at (Locked other id ∷ before) node = if other == node then (id, length before) ∷ locks_at before node else locks_at before node
+locks_at (entry ∷ before) node = locks_at before node
+
+-- what is wanted waits: its sequence lives, and was not granted it since it asked
+abbrev pub granted_since : List (ℕ × ℕ) → Wanted → Bool
+granted_since grants w = list_any (λ grant. (grant.0 == w.request.seq) && nat_lt w.place grant.1) grants
+
+abbrev pub waits_by : (ℕ → Bool) → List (ℕ × ℕ) → List (ℕ × ℕ) → Wanted → Bool
+waits_by live grants locks w = live w.request.seq && not (granted_since (if is_item w.request then grants else locks) w)
+
+abbrev pub still_waits : List Entry → ℕ → Wanted → Bool
+still_waits history node = waits_by (is_live history) (grants_at history node) (locks_at history node)
+
+abbrev pub request_queue : List Entry → ℕ → List Request
+request_queue history node = map (λ w. w.request) (filter (still_waits history node) (all_wanted history node))
+
+-- the locks that were granted and not given back, in the order of granting; a sequence gives back the last of its own
+abbrev pub unlocks : Outcome → Act → Bool
+unlocks Done Unlock = true
+unlocks outcome act = false
+
+abbrev pub given_back : Bool → Option ℕ → List ℕ → List ℕ
+given_back false id held = held
+given_back true None held = held
+given_back true (Some id) held = released id held
+
+abbrev pub locks_held : List Entry → ℕ → List ℕ
+locks_held [] node = []
+locks_held (Locked other id ∷ before) node = if other == node then locks_held before node ++ id ∷ [] else locks_held before node
+locks_held (Did performer outcome act ∷ before) node = given_back (unlocks outcome act) (sequence_on node performer) (locks_held before node)
+locks_held (entry ∷ before) node = locks_held before node
+
+-- and whose sequence lives
+abbrev pub holders : List Entry → ℕ → List ℕ
+holders history node = filter (is_live history) (locks_held history node)
+
+-- the sequencer that is reached through a seq port: a sound one has one target
+abbrev pub if_arbitrated : List Entry → ℕ → Option ℕ
+if_arbitrated history node = option_map (λ mode. node) (mode_at history node)
+
+unfoldable pub sequencer_below : List Entry → Who → List ℕ → Option ℕ
+sequencer_below history performer name = option_and_then (λ port. option_and_then (if_arbitrated history) (slice_get (targets_of (closed_wiring history) port) 0)) (port_below history performer Seq name)
+
+-- what an act says of a driver: it waits for an item, it is done with one, it is sent one, or the sequence that it may be granted ends
+pub data DriverMove : Type 0 where
+  Awaits : (port : List ℕ) (how : How) → DriverMove
+  IsDone : (port : List ℕ) → DriverMove
+  Sends : DriverMove
+  Leaves : DriverMove
+
+abbrev pub driver_move : Outcome → Act → Option DriverMove
+driver_move Done (Ask port how) = Some (Awaits port how)
+driver_move (Waits true) (Ask port how) = Some (Awaits port how)
+driver_move Done (ItemDone port response) = Some (IsDone port)
+driver_move Done (Send item) = Some Sends
+driver_move Finished act = Some Leaves
+driver_move outcome act = None
+
+abbrev pub leads_there : ℕ → Option ℕ → Bool
+leads_there node reached = option_map_or (λ other. other == node) reached false
+
+abbrev pub sent_by : Driver → ℕ → Driver
+sent_by driver id = option_map_or (sent id) (grant_of id driver) driver
+
+abbrev pub driver_by : List Entry → ℕ → Who → Option DriverMove → Driver → Driver
+driver_by before node performer None driver = driver
+driver_by before node performer (Some (Awaits port how)) driver = if leads_there node (sequencer_below before performer port) then Waiting how else driver
+driver_by before node performer (Some (IsDone port)) driver = if leads_there node (sequencer_below before performer port) then Idle else driver
+driver_by before node performer (Some Sends) driver = option_map_or (sent_by driver) (sequence_on node performer) driver
+driver_by before node performer (Some Leaves) driver = option_map_or (λ id. left_by (grant_of id driver) driver) (sequence_on node performer) driver
+
+-- where the driver of a sequencer stands: the last of these decides, a grant, or the end of a phase
+abbrev pub driver_state : List Entry → ℕ → Driver
+driver_state [] node = Idle
+driver_state (Did performer outcome act ∷ before) node = driver_by before node performer (driver_move outcome act) (driver_state before node)
+driver_state (Granted other grant ∷ before) node = if other == node then granted_by grant.id (driver_state before node) else driver_state before node
+driver_state (End phase ∷ before) node = Idle
+driver_state (entry ∷ before) node = driver_state before node
+
+-- who drives it, and through which port of its own: who has asked last
+abbrev pub asker_by : List Entry → ℕ → Who → Option DriverMove → Option DriverPort → Option DriverPort
+asker_by before node performer None asker = asker
+asker_by before node performer (Some (Awaits port how)) asker = if leads_there node (sequencer_below before performer port) then Some (record { who = performer; name = port }) else asker
+asker_by before node performer (Some move) asker = asker
+
+abbrev pub driver_asker : List Entry → ℕ → Option DriverPort
+driver_asker [] node = None
+driver_asker (Did performer outcome act ∷ before) node = asker_by before node performer (driver_move outcome act) (driver_asker before node)
+driver_asker (entry ∷ before) node = driver_asker before node
+
+-- a sequencer, as the service has it. No port is named: a driver asks through a sound one, and of the ports that lead to a sequencer one alone is sound
+abbrev pub sequencer_with : List Entry → ℕ → Mode → SequencerValue
+sequencer_with history node mode = record { mode = mode; port = None; driver = driver_state history node; queue = request_queue history node; holders = holders history node }
+
+abbrev pub sequencer_at : List Entry → ℕ → Option SequencerValue
+sequencer_at history node = option_map (sequencer_with history node) (mode_at history node)
+
+-- of the sequencers in path order the first with a lock that leads, and whose that is
+abbrev pub locking_at : List Entry → ℕ → Option (ℕ × ℕ)
+locking_at history node = option_map (λ id. (node, id)) (option_and_then (lock_at (sequences_of history)) (sequencer_at history node))
+
+unfoldable pub next_locked : List Entry → Option (ℕ × ℕ)
+next_locked history = first_given (map (locking_at history) (path_order (nodes_of history)))
+
+-- and the first whose driver waits and that has a candidate; whether a word is drawn
+abbrev pub serving_at : List Entry → ℕ → Option (ℕ × Bool)
+serving_at history node = option_map (λ drawn. (node, drawn)) (option_and_then (ready_at (sequences_of history)) (sequencer_at history node))
+
+unfoldable pub next_served : List Entry → Option (ℕ × Bool)
+next_served history = first_given (map (serving_at history) (path_order (nodes_of history)))
+
+-- how many wait at a sequencer, and at a node: at the FIFO or at the sequencer that stands there
+abbrev pub requests_at : List Entry → ℕ → ℕ
+requests_at history node = option_map_or (λ s. length s.queue) (sequencer_at history node) 0
+
+abbrev pub waiters_at : List Entry → ℕ → ℕ
+waiters_at history node = option_map_or (λ station. waiting_count station.fifo) (station_at history node) (requests_at history node)

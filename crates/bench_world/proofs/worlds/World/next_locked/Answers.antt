@@ -1,0 +1,8 @@
+use Rattle.std.proofs.Common.{◌∙◌}
+use Rattle.bench_world.proofs.Contested.{locked-known}
+use Rattle.bench_world.proofs.worlds.World.next_locked.Goals as goal
+
+pub returns : goal.returns
+returns c =
+    let sound = rw (← c.self.view_is) at c.requires in
+    rw (← c.self.view_is) (c.first_locked.ensures ∙ locked-known (c.self.invariant.1.services_match sound))

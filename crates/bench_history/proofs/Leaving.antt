@@ -25,7 +25,8 @@ use Rattle.bench_history.specs.Sequences.{Beginning, all_begun, begun_after, beg
 use Rattle.bench_history.specs.Next.{IsNext}
 use Rattle.bench_history.specs.Laws.{IsLivingSequence, LivingLived, AreRising, LeaversLived, number_of}
 use Rattle.bench_history.proofs.Living.{numbered-more, numbered-newest}
-use Rattle.bench_history.proofs.Called.{both-hold, finisher_lives}
+use Rattle.bench_history.proofs.Expected.{both-hold}
+use Rattle.bench_history.proofs.Called.{finisher_lives}
 
 -- the sequence of each number stays
 numbered-before : {X : Type 0} (y : X) (xs : List X) (n : ℕ) → n ≤ length xs → numbered (y ∷ xs) n ≡ numbered xs n

@@ -10,6 +10,7 @@ mod Living
 mod Running
 pub mod Served
 mod Deeds
+mod Expected
 mod Called
 mod Leaving
 mod Homes

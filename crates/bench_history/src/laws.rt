@@ -39,7 +39,7 @@ pub fn performers_are_there()
 }
 
 /// Each component is a node of the tree.
-#[tactic(auto, using(crate::proofs::Called::components_are_nodes))]
+#[tactic(auto, using(crate::proofs::Expected::components_are_nodes))]
 pub fn components_are_nodes()
     ensures { ComponentsAreNodes }
 {}

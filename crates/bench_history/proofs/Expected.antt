@@ -1,0 +1,736 @@
+-- Who is to hear something, and who may act: what is known of a log in which each entry was next.
+use Rattle.std.proofs.Common.{◌≡◌, ℕ, ◌<◌, ◌==◌, ◌⊎◌, inl, inr, suc, Bool, true, false, not, ◌&&◌, filter, if◌then◌else◌, List, [], ◌∷◌, length, slice_get, Option, Some, None, option_and_then, IfSome, OnSome, refl, ap, ◌∙◌, sym, subst, arith}
+use Rattle.std.specs.Option.{option_map_or}
+use Rattle.uvm_sequencer.specs.Drivers.{granted_by, hand_of}
+use Rattle.bench_history.specs.declared.askers.DriverPort.{DriverPort}
+use Rattle.bench_history.specs.Arbitration.{Wanted, all_wanted, driver_asker, driver_move, driver_state, sequence_on, wish_in, next_locked, sequencer_below}
+use Rattle.bench_history.proofs.Served.{HoldsOf, IsBy, driver_sequence, awaits, done-told, granted-kept, hand-sequence, lapse-told, sent-told}
+use Rattle.std.specs.List.{All, Contains, flat_map, list_any}
+use Rattle.std.proofs.lemmas.Bool.Decides.{nat_tests}
+use Rattle.std.proofs.lemmas.List.Elements.{All-nil, All-cons, All-head, All-tail, All-push, All-append, All-weaker, All-filter, All-contains_itself, Contains-append_left, filter_passes}
+use Rattle.std.proofs.lemmas.List.Sorted.{All-permutation}
+use Rattle.uvm_phase.specs.declared.phases.Phase.{Phase}
+use Rattle.uvm_phase.specs.declared.agendas.Cause.{Cause}
+use Rattle.uvm_phase.specs.Phases.{same_phase}
+use Rattle.uvm_phase.specs.Dues.{in_order}
+use Rattle.uvm_phase.specs.Laws.{OrderKeepsAll}
+use Rattle.uvm_tree.specs.declared.nodes.Node as tree
+use Rattle.uvm_tree.specs.Nodes.{under_at}
+use Rattle.uvm_tree.specs.Cursors.{is_before}
+use Rattle.uvm_object.specs.Acts.{node_of}
+use Rattle.uvm_object.specs.Objects.{same_who}
+use Rattle.uvm_object.specs.declared.acts.Who.{Who}
+use Rattle.uvm_object.specs.declared.acts.Who.TheVariants.{Node, Sequence}
+use Rattle.uvm_sequencer.specs.declared.starts.SeqStep.{SeqStep}
+use Rattle.uvm_object.specs.declared.acts.Call.{Call}
+use Rattle.uvm_object.specs.declared.acts.Call.TheVariants as call
+use Rattle.uvm_object.specs.declared.fatals.Fatal.TheVariants.{NotOpen}
+use Rattle.uvm_object.specs.declared.acts.Act.{Act}
+use Rattle.uvm_object.specs.declared.acts.Act.TheVariants.{Put, Take, Peek, Write, EndStep, Send, ItemDone, Ask}
+use Rattle.uvm_object.specs.declared.entries.Outcome.{Outcome}
+use Rattle.uvm_object.specs.declared.entries.Outcome.TheVariants.{Done, Made, Started, Value, Finished, Refused, Waits}
+use Rattle.uvm_object.specs.declared.entries.Passage.{Passage}
+use Rattle.uvm_object.specs.declared.entries.Grant as entries
+use Rattle.uvm_object.specs.declared.entries.Entry.{Entry}
+use Rattle.uvm_object.specs.declared.entries.Entry.TheVariants.{Begin, Heard, Did, Passed, Granted, Locked}
+use Rattle.bench_history.specs.declared.stages.Stage.TheVariants.{Ended}
+use Rattle.bench_history.specs.Sequences.{Beginning, begun_of, finished_of, next_step, sequence_in, sequences_of, start_by, lives}
+use Rattle.bench_history.specs.Refusals.{is_open_to}
+use Rattle.bench_script.specs.Scripts.{ScriptValue}
+use Rattle.bench_history.specs.declared.needs.Need as declared
+use Rattle.uvm_objection.specs.declared.objections.Due as drain
+use Rattle.uvm_objection.specs.Nodes as objection
+use Rattle.uvm_objection.specs.Totals.{drains_begun, drains_ended}
+use Rattle.bench_history.specs.declared.owners.Owner.{Owner}
+use Rattle.bench_history.specs.declared.owners.Owner.TheVariants.{Object, Drain}
+use Rattle.bench_history.specs.Owners.{Event, who_of, is_drain_of}
+use Rattle.bench_history.specs.History.{stage_of, now_of, running, nodes_of, components_of, left_of, left_after, rest_of, speaker_of, phase_order, called_of, had_call, next_call, opening, ended_of}
+use Rattle.bench_history.specs.Wires.{wiring_of, closed_wiring}
+use Rattle.bench_history.specs.Ports.{is_imp_at, imps_below, outlets_below}
+use Rattle.bench_history.specs.Passing.{puts_asked, takes_asked, put_in, take_in}
+use Rattle.uvm_tlm.specs.declared.items.Item.{Item}
+use Rattle.bench_history.specs.Dues.{event_in, told_by, told_step, step_call, finished_by, calls_told, calls_numbered, due_from, drain_from, with_drains, caused_of, heard_of, is_open, due_events, first_due, due_at, due_now, lapsed_by, done_by}
+use Rattle.bench_history.specs.Cases.{Next, Exactly, Answer, Need, Nothing, Grant, chosen_at}
+use Rattle.bench_history.specs.Next.{next_of, Allows, IsNext}
+use Rattle.bench_history.specs.Laws.{HasGrown, HasMade, IsComponent, IsThere, ComponentsAreNodes}
+use Rattle.bench_history.proofs.Inversion.{Case, AtEnd, ByOwn, ByNeed, ByDeed, ByDue, ByTurn, ByEnd, ByBegin, ByGrant, case-of, IsOwn}
+use Rattle.bench_history.proofs.Leasts.{least-holds}
+use Rattle.bench_history.proofs.Deeds.{IsDeed, started-next, starts-act, finished-next}
+use Rattle.bench_history.proofs.Asking.{IsAskedBy, IsOwned, IsAdded, get-before, imp-after, written-hold}
+use Rattle.bench_history.proofs.Performed.{lock-case}
+use Rattle.bench_history.proofs.Living.{numbered-newest, numbered-holds, Runs, IsSequence, sequence-more, living-of, runs-still, begin-runs}
+use Rattle.bench_history.proofs.Grown.{IsPlain, IsPlainNext, plain-next, exact-keeps-components, nodes_stay, nodes-more, components-grow, made_objects_are_new}
+
+-- the components are below the nodes of one more entry, too
+below-weaker : (entry : Entry) (before : List Entry) → All (λ node. node < length (nodes_of before)) (components_of before) → All (λ node. node < length (nodes_of (entry ∷ before))) (components_of before)
+below-weaker entry before below =
+    let more = nodes-more entry before in
+    All-weaker (λ node. node < length (nodes_of before)) (λ node. node < length (nodes_of (entry ∷ before))) (λ node lt. omega (arith, more, lt)) (components_of before) below
+
+-- an entry that leaves the components as they were keeps them below the nodes
+below-same : (entry : Entry) (before : List Entry) → components_of (entry ∷ before) ≡ components_of before → All (λ node. node < length (nodes_of before)) (components_of before) → All (λ node. node < length (nodes_of (entry ∷ before))) (components_of (entry ∷ before))
+below-same entry before e below = subst (All (λ node. node < length (nodes_of (entry ∷ before)))) (sym e) (below-weaker entry before below)
+
+-- so does one that makes an object
+below-made : (entry : Entry) (before : List Entry) (path : List (List ℕ)) → HasGrown before path entry → All (λ node. node < length (nodes_of before)) (components_of before) → All (λ node. node < length (nodes_of (entry ∷ before))) (components_of (entry ∷ before))
+below-made entry before path g below =
+    let count = g.count in
+    subst (All (λ node. node < length (nodes_of (entry ∷ before)))) (sym g.components)
+    (All-push (λ node. node < length (nodes_of (entry ∷ before))) (components_of before) (length (nodes_of before)) (below-weaker entry before below) (omega (arith, count)))
+
+below-need : (before : List Entry) (need : declared.Need) (made : Outcome) (performer : Who) (act : Act) → HasMade before need made performer act → All (λ node. node < length (nodes_of before)) (components_of before) → All (λ node. node < length (nodes_of (Did performer made act ∷ before))) (components_of (Did performer made act ∷ before))
+below-need before need (Made type_name) performer act has below = below-made (Did performer (Made type_name) act) before need.path has below
+below-need before need (Started id) performer act has below = below-same (Did performer (Started id) act) before refl below
+below-need before need other performer act has below = absurd has
+
+-- and so does each entry that is next
+below-next : (script : ScriptValue) (before : List Entry) (entry : Entry) (next : Next) → next_of script before ≡ next → Allows next entry → All (λ node. node < length (nodes_of before)) (components_of before) → All (λ node. node < length (nodes_of (entry ∷ before))) (components_of (entry ∷ before))
+below-next script before entry (Exactly expected) is allows below = below-same entry before (exact-keeps-components script before entry (is ∙ ap Exactly (sym allows))) below
+below-next script before entry (Answer performer call cause) is allows below = below-same entry before (ap (λ (e : Entry). components_of (e ∷ before)) allows.1) below
+below-next script before entry (Need need made performer act) is (inl e) below = subst (λ (one : Entry). All (λ node. node < length (nodes_of (one ∷ before))) (components_of (one ∷ before))) (sym e) (below-need before need made performer act (made_objects_are_new script before need made performer act is) below)
+below-next script before entry (Need need made performer act) is (inr declined) below = below-same entry before (ap (λ (e : Entry). components_of (e ∷ before)) declined) below
+below-next script before entry (Grant sequencer drawn chosen) is allows below = below-same entry before (ap (λ (e : Entry). components_of (e ∷ before)) allows.3) below
+below-next script before entry Nothing is allows below = absurd allows
+
+-- each component is a node of the tree
+pub components_are_nodes : ComponentsAreNodes
+components_are_nodes script [] each = All-nil (λ node. node < 1)
+components_are_nodes script (entry ∷ before) each = below-next script before entry (next_of script before) refl each.0 (components_are_nodes script before each.1)
+
+-- a component stays one
+contains-more : (entry : Entry) (before : List Entry) (node : ℕ) → Contains (components_of before) node → Contains (components_of (entry ∷ before)) node
+contains-more entry before node has =
+    let more = components-grow entry before in
+    subst (λ (components : List ℕ). Contains components node) (sym more.1) (Contains-append_left (components_of before) more.0 node has)
+
+pub component-more : (entry : Entry) (before : List Entry) (performer : Who) → IsComponent (components_of before) performer → IsComponent (components_of (entry ∷ before)) performer
+component-more entry before (Node node) has = contains-more entry before node has
+component-more entry before (Sequence id home) has = absurd has
+
+-- it stands at its own node
+component-node : (components : List ℕ) (performer : Who) → IsComponent components performer → Contains components (node_of performer)
+component-node components (Node node) has = has
+component-node components (Sequence id home) has = absurd has
+
+-- who is to hear something in a phase: a component, or a sequence that was started in that phase
+abbrev IsExpected : List Entry → Phase → Who → Type 0
+IsExpected history phase (Node node) = Contains (components_of history) node
+IsExpected history phase (Sequence id home) = IsSequence history phase id home
+
+-- who has spoken and may act: a component, or a sequence whose phase runs and that has not finished
+pub record IsSpeaking (history : List Entry) (id home : ℕ) : Type 0 where
+  pub phase : Phase
+  pub sequence : IsSequence history phase id home
+  pub runs : running (stage_of history) ≡ Some phase
+  pub unfinished : list_any (same_who (Sequence id home)) (finished_of history) ≡ false
+  pub unended : list_any (same_phase phase) (ended_of history) ≡ false
+
+abbrev pub IsSpeaker : List Entry → Who → Type 0
+IsSpeaker history (Node node) = Contains (components_of history) node
+IsSpeaker history (Sequence id home) = IsSpeaking history id home
+
+abbrev pub GoesOn : List Entry → Type 0
+GoesOn history = stage_of history ≡ Ended → ⊥
+
+expected-more : (script : ScriptValue) (before : List Entry) (entry : Entry) (phase : Phase) (who : Who) → IsNext script before entry → GoesOn (entry ∷ before) → IsExpected before phase who → IsExpected (entry ∷ before) phase who
+expected-more script before entry phase (Node node) next on has = contains-more entry before node has
+expected-more script before entry phase (Sequence id home) next on has = sequence-more script before entry phase id home next on has
+
+pub component-expected : (history : List Entry) (phase : Phase) (who : Who) → IsComponent (components_of history) who → IsExpected history phase who
+component-expected history phase (Node node) has = has
+component-expected history phase (Sequence id home) has = absurd has
+
+-- who speaks is to hear what is caused now
+speaker-expected : (history : List Entry) (phase : Phase) (who : Who) → running (stage_of history) ≡ Some phase → IsSpeaker history who → IsExpected history phase who
+speaker-expected history phase (Node node) runs has = has
+speaker-expected history phase (Sequence id home) runs s =
+    let same : Some s.phase ≡ Some phase = sym s.runs ∙ runs in
+    let is : s.phase ≡ phase = cc in
+    subst (λ (p : Phase). IsSequence history p id home) is s.sequence
+
+pub speaker-there : (history : List Entry) (who : Who) → IsSpeaker history who → IsThere history who
+speaker-there history (Node node) has = has
+speaker-there history (Sequence id home) s = living-of history s.phase id home s.sequence s.unfinished s.unended
+
+-- whoever is to hear the call of an event is expected in its phase
+abbrev pub IsCallTo : List Entry → Event → Type 0
+IsCallTo history event = OnSome event.notice (IsExpected history event.phase (who_of event.owner))
+
+-- so is whoever started a sequence, in the phase in which he did
+abbrev IsStartedBy : List Entry → Beginning → Type 0
+IsStartedBy history beginning = (phase : Phase) → beginning.phase ≡ Some phase → IsExpected history phase beginning.starter
+
+-- somebody is one of the components
+abbrev pub IsOne : List ℕ → Who → Type 0
+IsOne components who = IsComponent components who
+
+-- no act is left, or the script's opening alone, or who gave the last answer may act
+pub data Speaking (script : ScriptValue) (history : List Entry) : Type 0 where
+  NoneLeft : left_of script history ≡ [] → Speaking script history
+  Opens : All (λ act. act ≡ opening script) (left_of script history) → Speaking script history
+  Speaks : IsSpeaker history (speaker_of history) → Speaking script history
+
+-- a sequence was started on a sequencer, in some phase
+pub record IsRequester (history : List Entry) (node id : ℕ) : Type 0 where
+  pub phase : Phase
+  pub sequence : IsSequence history phase id node
+
+-- and in the phase that runs
+pub record IsServed (history : List Entry) (node id : ℕ) : Type 0 where
+  pub phase : Phase
+  pub runs : running (stage_of history) ≡ Some phase
+  pub sequence : IsSequence history phase id node
+
+-- whoever waits for a call is expected, and whoever spoke last may act; who waits at a FIFO is a component, and who owns an imp; who waits for a sequencer
+-- is a sequence of it, the one that is granted or sent an item one of the phase that runs, and who drives it is a component
+pub record Known (script : ScriptValue) (history : List Entry) : Type 0 where
+  pub owners : All (IsCallTo history) (caused_of history)
+  pub starters : All (IsStartedBy history) (begun_of history)
+  pub speaker : Speaking script history
+  pub putters : (fifo : ℕ) → All (IsAskedBy {Wish = Item} (IsOne (components_of history))) (puts_asked history fifo)
+  pub takers : (fifo : ℕ) → All (IsAskedBy {Wish = Bool} (IsOne (components_of history))) (takes_asked history fifo)
+  pub imps : (node : ℕ) → is_imp_at (wiring_of history) node ≡ true → IsOwned (nodes_of history) (components_of history) node
+  pub wanting : (node : ℕ) → All (IsBy (IsRequester history node)) (all_wanted history node)
+  pub served : (node id : ℕ) → driver_sequence (driver_state history node) ≡ Some id → IsServed history node id
+  pub askers : (node : ℕ) → IfSome (driver_asker history node) (λ asker. IsComponent (components_of history) asker.who)
+
+-- with one more entry they stay
+requester-more : (script : ScriptValue) (before : List Entry) (entry : Entry) (node id : ℕ) → IsNext script before entry → GoesOn (entry ∷ before) → IsRequester before node id → IsRequester (entry ∷ before) node id
+requester-more script before entry node id next on r = record { phase = r.phase; sequence = sequence-more script before entry r.phase id node next on r.sequence }
+
+pub wanting-more : (script : ScriptValue) (before : List Entry) (entry : Entry) (node : ℕ) (asked : List Wanted) → IsNext script before entry → GoesOn (entry ∷ before) → All (IsBy (IsRequester before node)) asked → All (IsBy (IsRequester (entry ∷ before) node)) asked
+wanting-more script before entry node asked next on all = All-weaker (IsBy (IsRequester before node)) (IsBy (IsRequester (entry ∷ before) node)) (λ w. requester-more script before entry node w.request.seq next on) asked all
+
+pub served-more : (script : ScriptValue) (before : List Entry) (entry : Entry) (node id : ℕ) → IsNext script before entry → GoesOn (entry ∷ before) → running (stage_of (entry ∷ before)) ≡ running (stage_of before) → IsServed before node id → IsServed (entry ∷ before) node id
+served-more script before entry node id next on stage s = record { phase = s.phase; runs = stage ∙ s.runs; sequence = sequence-more script before entry s.phase id node next on s.sequence }
+
+pub asker-more : (before : List Entry) (entry : Entry) (asker : Option DriverPort) → IfSome asker (λ asker. IsComponent (components_of before) asker.who) → IfSome asker (λ asker. IsComponent (components_of (entry ∷ before)) asker.who)
+asker-more before entry None has = tt
+asker-more before entry (Some asker) has = component-more entry before asker.who has
+
+-- who is served is expected
+pub served-expected : (history : List Entry) (node id : ℕ) (phase : Phase) → running (stage_of history) ≡ Some phase → IsServed history node id → IsSequence history phase id node
+served-expected history node id phase runs s =
+    let same : Some s.phase ≡ Some phase = sym s.runs ∙ runs in
+    let is : s.phase ≡ phase = cc in
+    subst (λ (p : Phase). IsSequence history p id node) is s.sequence
+
+-- who is served once one is granted
+pub granted-served :
+    (before : List Entry) (node at id other : ℕ) → IsServed before node id → (driver_sequence (driver_state before at) ≡ Some other → IsServed before at other)
+    → driver_sequence (if node == at then granted_by id (driver_state before at) else driver_state before at) ≡ Some other → IsServed before at other
+granted-served before node at id other s known e = tested (node == at) refl e
+  where
+    by : node ≡ at → (other ≡ id) ⊎ (driver_sequence (driver_state before at) ≡ Some other) → IsServed before at other
+    by same (inl is) = rw (← same, is) s
+    by same (inr was) = known was
+
+    tested : (b : Bool) → (node == at) ≡ b → driver_sequence (if b then granted_by id (driver_state before at) else driver_state before at) ≡ Some other → IsServed before at other
+    tested true is e = let same : node ≡ at = grind (arith, nat_tests) in by same (granted-kept id (driver_state before at) other e)
+    tested false is e = known e
+
+-- a lock that is granted leads, and an item goes to who is chosen
+lock-alone : (node id : ℕ) (next : Next) → Allows next (Locked node id) → next ≡ Exactly (Locked node id)
+lock-alone node id (Exactly entry) allows = rw allows refl
+lock-alone node id (Answer performer call cause) allows = let other = allows.1 in cc
+lock-alone node id (Need need made performer act) (inl e) = cc
+lock-alone node id (Need need made performer act) (inr declined) = cc
+lock-alone node id (Grant sequencer drawn chosen) allows = let e : Locked node id ≡ Granted sequencer allows.0 = allows.3 in cc
+lock-alone node id Nothing allows = absurd allows
+
+pub lock-next : (script : ScriptValue) (before : List Entry) (node id : ℕ) → IsNext script before (Locked node id) → next_locked before ≡ Some (node, id)
+lock-next script before node id next = lock-case script before node id (next_of script before) (lock-alone node id (next_of script before) next) (case-of script before)
+
+abbrev GrantsIn : List Entry → ℕ → entries.Grant → Next → Type 0
+GrantsIn history node grant (Exactly entry) = Granted node grant ≡ entry → ⊥
+GrantsIn history node grant (Grant sequencer drawn chosen) = chosen ≡ chosen_at history sequencer
+GrantsIn history node grant next = Unit {0}
+
+own-grant : (script : ScriptValue) (history : List Entry) (node : ℕ) (grant : entries.Grant) (entry : Entry) → IsOwn script history entry → Granted node grant ≡ entry → ⊥
+own-grant script history node grant (Granted other by) own e = own
+own-grant script history node grant entry own e = cc
+
+grant-case : (script : ScriptValue) (history : List Entry) (node : ℕ) (grant : entries.Grant) (next : Next) → Case script history next → GrantsIn history node grant next
+grant-case script history node grant next (AtEnd over e) = subst (GrantsIn history node grant) (sym e) tt
+grant-case script history node grant next (ByOwn entry own e) = subst (GrantsIn history node grant) (sym e) (own-grant script history node grant entry own)
+grant-case script history node grant next (ByNeed act need made left upshot e) = subst (GrantsIn history node grant) (sym e) tt
+grant-case script history node grant next (ByDeed act outcome left plain comes e) = subst (GrantsIn history node grant) (sym e) (λ is. cc)
+grant-case script history node grant next (ByDue event call now is_call e) = subst (GrantsIn history node grant) (sym e) tt
+grant-case script history node grant next (ByTurn phase at turn e) = subst (GrantsIn history node grant) (sym e) tt
+grant-case script history node grant next (ByEnd phase runs e) = subst (GrantsIn history node grant) (sym e) (λ is. cc)
+grant-case script history node grant next (ByBegin phase may e) = subst (GrantsIn history node grant) (sym e) (λ is. cc)
+grant-case script history node grant next (ByGrant sequencer drawn served e) = subst (GrantsIn history node grant) (sym e) refl
+
+grant-by : (history : List Entry) (node : ℕ) (grant : entries.Grant) (next : Next) → GrantsIn history node grant next → Allows next (Granted node grant) → chosen_at history node grant.word ≡ Some grant.id
+grant-by history node grant (Exactly entry) in_it allows = absurd (in_it allows)
+grant-by history node grant (Answer performer call cause) in_it allows = let e : Granted node grant ≡ Heard performer call cause allows.0 = allows.1 in cc
+grant-by history node grant (Need need made performer act) in_it (inl e) = cc
+grant-by history node grant (Need need made performer act) in_it (inr e) = cc
+grant-by history node grant (Grant sequencer drawn chosen) in_it allows =
+    let e : Granted node grant ≡ Granted sequencer allows.0 = allows.3 in
+    let at : node ≡ sequencer = cc in
+    let what : grant ≡ allows.0 = cc in
+    rw (at, what) (ap (λ (f : Option ℕ → Option ℕ). f (allows.0).word) (sym in_it) ∙ allows.2)
+grant-by history node grant Nothing in_it allows = absurd allows
+
+pub grant-next : (script : ScriptValue) (before : List Entry) (node : ℕ) (grant : entries.Grant) → IsNext script before (Granted node grant) → chosen_at before node grant.word ≡ Some grant.id
+grant-next script before node grant next = grant-by before node grant (next_of script before) (grant-case script before node grant (next_of script before) (case-of script before)) next
+
+-- the parts of a test
+pub first-part : (a b : Bool) → a && b ≡ true → a ≡ true
+first-part true b e = refl
+first-part false b e = cc
+
+pub second-part : (a b : Bool) → a && b ≡ true → b ≡ true
+second-part true b e = e
+second-part false b e = cc
+
+abbrev pub lives_of : List Entry → ℕ → Option Beginning → Bool
+lives_of history id found = option_map_or (lives history id) found false
+
+-- none is while no phase runs
+pub served-begun : (script : ScriptValue) (before : List Entry) (phase : Phase) (node id : ℕ) → IsNext script before (Begin phase) → IsServed before node id → ⊥
+served-begun script before phase node id next s = begin-runs script before phase s.phase next s.runs
+
+-- who is asked may act
+abbrev AsksOne : List Entry → Next → Type 0
+AsksOne history (Answer performer call cause) = IsSpeaker history performer
+AsksOne history next = Unit {0}
+
+-- the node whose turn has come is a component
+turn-one : (history : List Entry) (phase : Phase) → IfSome (next_call phase history) (Contains (components_of history))
+unfolding next_call
+turn-one history phase =
+    let components = components_of history in
+    least-holds (Contains components) (is_before (phase_order phase) (nodes_of history)) _
+    (All-filter (λ node. not (had_call (called_of history) node)) (Contains components) components (All-contains_itself components))
+
+-- what holds of each event holds of the one that is due
+first-of : (P : Event → Type 0) (dues : List Event) → All P dues → IfSome (slice_get dues 0) P
+first-of P [] all = tt
+first-of P (due ∷ dues) all = All-head P due dues all
+
+-- or of none, by a test
+due-tested : (P : Event → Type 0) (due : Event) (b : Bool) → P due → IfSome (if b then Some due else None) P
+due-tested P due true holds = holds
+due-tested P due false holds = tt
+
+-- at the present time
+due-holds : (P : Event → Type 0) (now : ℕ) (first : Option Event) → IfSome first P → IfSome (due_at now first) P
+due-holds P now None holds = tt
+due-holds P now (Some due) holds = due-tested P due (due.time == now) holds
+
+-- what is due was caused, and is open
+abbrev open_now : List Entry → Event → Bool
+open_now history event = is_open (heard_of history) (ended_of history) (finished_of history) event
+
+record IsOpenCall (history : List Entry) (event : Event) : Type 0 where
+  call : IsCallTo history event
+  is : open_now history event ≡ true
+
+pub both-hold : {A : Type 0} (P Q R : A → Type 0) (xs : List A) → ((x : A) → P x → Q x → R x) → All P xs → All Q xs → All R xs
+both-hold P Q R [] make ps qs = All-nil R
+both-hold P Q R (x ∷ xs) make ps qs = All-cons R x xs (make x (All-head P x xs ps) (All-head Q x xs qs)) (both-hold P Q R xs make (All-tail P x xs ps) (All-tail Q x xs qs))
+
+open-calls : (history : List Entry) → All (IsCallTo history) (caused_of history) → All (IsOpenCall history) (due_events history)
+open-calls history calls =
+    both-hold (IsCallTo history) (λ event. open_now history event ≡ true) (IsOpenCall history) (due_events history) (λ event call is. record { call = call; is = is })
+    (All-filter (open_now history) (IsCallTo history) (caused_of history) calls) (filter_passes (open_now history) (caused_of history))
+
+-- so that who is to hear it may act
+and-parts : (a b c : Bool) → a && b && c ≡ true → (b ≡ true) × (c ≡ true)
+and-parts true true true e = (refl, refl)
+and-parts true true false e = cc
+and-parts true false c e = cc
+and-parts false b c e = cc
+
+pub not-true : (b : Bool) → not b ≡ true → b ≡ false
+not-true true e = cc
+not-true false e = refl
+
+open-speaker : (history : List Entry) (time : ℕ) (cause : Cause) (phase : Phase) (owner : Owner) (notice : Option Call) → IsExpected history phase (who_of owner) → open_now history (record { time = time; cause = cause; phase = phase; owner = owner; notice = notice }) ≡ true → IsSpeaker history (who_of owner)
+open-speaker history time cause phase (Object (Node node)) notice has is = has
+open-speaker history time cause phase (Drain node) notice has is = has
+open-speaker history time cause phase (Object (Sequence id home)) notice s is =
+    let parts = and-parts _ (not (list_any (same_phase phase) (ended_of history))) (not (list_any (same_who (Sequence id home)) (finished_of history))) is in
+    let unended = not-true (list_any (same_phase phase) (ended_of history)) parts.0 in
+    record { phase = phase; sequence = s; runs = runs-still history phase s.stands unended; unfinished = not-true (list_any (same_who (Sequence id home)) (finished_of history)) parts.1; unended = unended }
+
+module _ (keeps : OrderKeepsAll Owner (Option Call)) where
+  -- of the event that is due now
+  due-one : (history : List Entry) (P : Event → Type 0) → All P (due_events history) → IfSome (due_now history) P
+  unfolding due_now
+  due-one history P all =
+      due-holds P (now_of history) (first_due history)
+      (first-of P (in_order (due_events history)) (All-permutation P (due_events history) (in_order (due_events history)) (keeps (due_events history)) all))
+
+  -- its owner may act
+  asks-due : (history : List Entry) (event : Event) (call : Call) → All (IsCallTo history) (caused_of history) → due_now history ≡ Some event → event.notice ≡ Some call → IsSpeaker history (who_of event.owner)
+  asks-due history event call owners now is_call =
+      let here = subst (λ (found : Option Event). IfSome found (IsOpenCall history)) now (due-one history (IsOpenCall history) (open-calls history owners)) in
+      let expected = subst (λ (notice : Option Call). OnSome notice (IsExpected history event.phase (who_of event.owner))) is_call here.call in
+      open-speaker history event.time event.cause event.phase event.owner event.notice expected here.is
+
+  -- in each case of the machine who may act is asked, if anybody is
+  asks-case : (script : ScriptValue) (history : List Entry) (next : Next) → Known script history → Case script history next → AsksOne history next
+  asks-case script history next known (AtEnd ended e) = subst (AsksOne history) (sym e) tt
+  asks-case script history next known (ByOwn entry own e) = subst (AsksOne history) (sym e) tt
+  asks-case script history next known (ByNeed act need made left upshot e) = subst (AsksOne history) (sym e) tt
+  asks-case script history next known (ByDeed act outcome left plain comes e) = subst (AsksOne history) (sym e) tt
+  asks-case script history next known (ByDue event call now is_call e) = subst (AsksOne history) (sym e) (asks-due history event call known.owners now is_call)
+  asks-case script history next known (ByTurn phase node turn e) = subst (AsksOne history) (sym e) (subst (λ (found : Option ℕ). IfSome found (Contains (components_of history))) turn (turn-one history phase))
+  asks-case script history next known (ByEnd phase runs e) = subst (AsksOne history) (sym e) tt
+  asks-case script history next known (ByBegin phase may e) = subst (AsksOne history) (sym e) tt
+  asks-case script history next known (ByGrant sequencer drawn served e) = subst (AsksOne history) (sym e) tt
+
+  -- so that an answer is of one who may act
+  pub asks-one : (script : ScriptValue) (history : List Entry) (performer : Who) (call : Call) (cause : Option Cause) → Known script history → next_of script history ≡ Answer performer call cause → IsSpeaker history performer
+  asks-one script history performer call cause known e = subst (AsksOne history) e (asks-case script history _ known (case-of script history))
+
+  -- an answer was asked for
+  heard-asked : (performer : Who) (call : Call) (cause : Option Cause) (acts : List Act) (next : Next) → IsPlainNext next → Allows next (Heard performer call cause acts) → next ≡ Answer performer call cause
+  heard-asked performer call cause acts (Exactly entry) plain allows = absurd (subst IsPlain (sym allows) plain)
+  heard-asked performer call cause acts (Answer other asked why) plain allows = let same : Heard performer call cause acts ≡ Heard other asked why allows.0 = allows.1 in cc
+  heard-asked performer call cause acts (Need need made other act) plain (inl is) = cc
+  heard-asked performer call cause acts (Need need made other act) plain (inr declined) = cc
+  heard-asked performer call cause acts (Grant sequencer drawn chosen) plain allows = let e : Heard performer call cause acts ≡ Granted sequencer allows.0 = allows.3 in cc
+  heard-asked performer call cause acts Nothing plain allows = absurd allows
+
+  -- and who was heard may act
+  pub heard-one : (script : ScriptValue) (before : List Entry) (performer : Who) (call : Call) (cause : Option Cause) (acts : List Act) → Known script before → IsNext script before (Heard performer call cause acts) → IsSpeaker before performer
+  heard-one script before performer call cause acts known next =
+      asks-one script before performer call cause known (heard-asked performer call cause acts (next_of script before) (plain-next script before) next)
+
+-- what is caused is told to who is expected in the phase
+one-owner : (history : List Entry) (phase : Option Phase) (time : ℕ) (cause : Cause) (owner : Owner) (notice : Option Call) → ((p : Phase) → phase ≡ Some p → OnSome notice (IsExpected history p (who_of owner))) → All (IsCallTo history) (event_in phase time cause owner notice)
+one-owner history None time cause owner notice there = All-nil (IsCallTo history)
+one-owner history (Some phase) time cause owner notice there = All-cons (IsCallTo history) _ [] (there phase refl) (All-nil (IsCallTo history))
+
+-- the call that an act causes is its performer's
+pub due-owner :
+    (history : List Entry) (notice : Option Call) (performer : Who) (phase : Option Phase) (time : ℕ) (cause : Cause) → (notice ≡ None) ⊎ ((p : Phase) → phase ≡ Some p → IsExpected history p performer)
+    → All (IsCallTo history) (due_from notice performer phase time cause)
+due-owner history None performer phase time cause who = All-nil _
+due-owner history (Some call) performer phase time cause (inl none) = cc
+due-owner history (Some call) performer phase time cause (inr has) = one-owner history phase time cause (Object performer) (Some call) has
+
+-- and drains call nobody
+drains-call : (history : List Entry) (phase : Option Phase) (cause : Cause) (begun : List drain.Due) → All (IsCallTo history) (flat_map (drain_from phase cause) begun)
+drains-call history phase cause [] = All-nil _
+drains-call history phase cause (first ∷ begun) =
+    All-append (IsCallTo history) (drain_from phase cause first) (flat_map (drain_from phase cause) begun) (one-owner history phase first.at cause (Drain first.node) None (λ p runs. tt)) (drains-call history phase cause begun)
+
+pub with-drains-call : (history : List Entry) (phase : Option Phase) (cause : Cause) (earlier nodes : List objection.Node) (caused : List Event) → All (IsCallTo history) caused → All (IsCallTo history) (with_drains phase cause earlier nodes caused)
+with-drains-call history phase cause earlier nodes caused owners =
+    All-append (IsCallTo history) (flat_map (drain_from phase cause) (drains_begun earlier nodes)) (filter (λ event. not (is_drain_of (drains_ended earlier nodes) event.owner)) caused) (drains-call history phase cause (drains_begun earlier nodes))
+    (All-filter (λ event. not (is_drain_of (drains_ended earlier nodes) event.owner)) (IsCallTo history) caused owners)
+
+pub moved-call :
+    (history : List Entry) (moves : Bool) (phase : Option Phase) (cause : Cause) (earlier nodes : List objection.Node) (caused : List Event) → All (IsCallTo history) caused
+    → All (IsCallTo history) (if moves then with_drains phase cause earlier nodes caused else caused)
+moved-call history true phase cause earlier nodes caused owners = with-drains-call history phase cause earlier nodes caused owners
+moved-call history false phase cause earlier nodes caused owners = owners
+
+-- the opening of the run is a creation, which causes no call
+pub opening-tells : (script : ScriptValue) (outcome : Outcome) → told_by outcome (opening script) ≡ None
+opening-tells script (Value value) = refl
+opening-tells script Done = refl
+opening-tells script (Waits true) = refl
+opening-tells script (Waits false) = refl
+opening-tells script outcome = refl
+
+-- nor does it ask for anything at a FIFO
+pub opening-puts : (script : ScriptValue) (outcome : Outcome) → put_in outcome (opening script) ≡ None
+opening-puts script Done = refl
+opening-puts script outcome = refl
+
+pub opening-takes : (script : ScriptValue) (outcome : Outcome) → take_in outcome (opening script) ≡ None
+opening-takes script Done = refl
+opening-takes script outcome = refl
+
+-- with one more entry the owners stay expected, and the starters
+call-more : (script : ScriptValue) (before : List Entry) (entry : Entry) (event : Event) → IsNext script before entry → GoesOn (entry ∷ before) → IsCallTo before event → IsCallTo (entry ∷ before) event
+call-more script before entry event next on call = some-more event.notice call
+  where
+    some-more : (notice : Option Call) → OnSome notice (IsExpected before event.phase (who_of event.owner)) → OnSome notice (IsExpected (entry ∷ before) event.phase (who_of event.owner))
+    some-more None has = tt
+    some-more (Some call) has = expected-more script before entry event.phase (who_of event.owner) next on has
+
+pub owners-more : (script : ScriptValue) (before : List Entry) (entry : Entry) → IsNext script before entry → GoesOn (entry ∷ before) → Known script before → All (IsCallTo (entry ∷ before)) (caused_of before)
+owners-more script before entry next on known = All-weaker (IsCallTo before) (IsCallTo (entry ∷ before)) (λ event. call-more script before entry event next on) (caused_of before) known.owners
+
+pub starters-more : (script : ScriptValue) (before : List Entry) (entry : Entry) → IsNext script before entry → GoesOn (entry ∷ before) → Known script before → All (IsStartedBy (entry ∷ before)) (begun_of before)
+starters-more script before entry next on known =
+    All-weaker (IsStartedBy before) (IsStartedBy (entry ∷ before)) (λ beginning by phase is. expected-more script before entry phase beginning.starter next on (by phase is)) (begun_of before) known.starters
+
+-- an act is the opening, or its performer may act
+pub deed-owner : (script : ScriptValue) (before : List Entry) (performer : Who) (act : Act) → IsDeed script before performer act → Speaking script before → (act ≡ opening script) ⊎ IsSpeaker before performer
+deed-owner script before performer act deed (NoneLeft none) = let both : act ∷ rest_of (left_of script before) ≡ [] = sym deed.left ∙ none in cc
+deed-owner script before performer act deed (Opens opens) =
+    let first = subst (All (λ one. one ≡ opening script)) deed.left opens in
+    inl (All-head (λ one. one ≡ opening script) act (rest_of (left_of script before)) first)
+deed-owner script before performer act deed (Speaks speaks) = inr (rw deed.performer_is speaks)
+
+-- so that what the opening does not do is done by who may act
+pub unless-opening : (Idle : Act → Type 0) {One : Type 0} (script : ScriptValue) (act : Act) → Idle (opening script) → (act ≡ opening script) ⊎ One → Idle act ⊎ One
+unless-opening Idle script act here (inl same) = inl (subst Idle (sym same) here)
+unless-opening Idle script act here (inr one) = inr one
+
+-- so who asks at a FIFO is a component, and who adds an imp
+pub closed-puts : (outcome : Outcome) (act : Act) (id home : ℕ) → (is_open_to act (Sequence id home) ≡ false → outcome ≡ Refused NotOpen) → put_in outcome act ≡ None
+closed-puts Done (Put name item) id home refused = let e : Done ≡ Refused NotOpen = refused refl in cc
+closed-puts outcome act id home refused = refl
+
+pub closed-takes : (outcome : Outcome) (act : Act) (id home : ℕ) → (is_open_to act (Sequence id home) ≡ false → outcome ≡ Refused NotOpen) → take_in outcome act ≡ None
+closed-takes Done (Take name) id home refused = let e : Done ≡ Refused NotOpen = refused refl in cc
+closed-takes Done (Peek name) id home refused = let e : Done ≡ Refused NotOpen = refused refl in cc
+closed-takes outcome act id home refused = refl
+
+pub closed-asks : (outcome : Outcome) (act : Act) (id home : ℕ) → (is_open_to act (Sequence id home) ≡ false → outcome ≡ Refused NotOpen) → awaits (driver_move outcome act) ≡ false
+closed-asks Done (Ask port way) id home refused = let e : Done ≡ Refused NotOpen = refused refl in cc
+closed-asks (Waits true) (Ask port way) id home refused = let e : Waits true ≡ Refused NotOpen = refused refl in cc
+closed-asks (Waits true) act id home refused = refl
+closed-asks (Waits false) act id home refused = refl
+closed-asks outcome act id home refused = refl
+
+pub opening-asks : (script : ScriptValue) (outcome : Outcome) → awaits (driver_move outcome (opening script)) ≡ false
+opening-asks script Done = refl
+opening-asks script (Waits true) = refl
+opening-asks script (Waits false) = refl
+opening-asks script outcome = refl
+
+pub component-or : (Idle : Type 0) (before : List Entry) (performer : Who) → ((id home : ℕ) → performer ≡ Sequence id home → Idle) → Idle ⊎ IsSpeaker before performer → Idle ⊎ IsComponent (components_of before) performer
+component-or Idle before performer closed (inl idle) = inl idle
+component-or Idle before (Node node) closed (inr has) = inr has
+component-or Idle before (Sequence id home) closed (inr has) = inl (closed id home refl)
+
+-- nor does the opening wish for anything, and what a sequence wishes is asked of its own sequencer
+pub opening-wishes : (script : ScriptValue) (outcome : Outcome) → wish_in outcome (opening script) ≡ None
+opening-wishes script Done = refl
+opening-wishes script outcome = refl
+
+wisher : (script : ScriptValue) (before : List Entry) (entry : Entry) (performer : Who) (node : ℕ) → IsNext script before entry → GoesOn (entry ∷ before) → IsSpeaker before performer → HoldsOf (IsRequester (entry ∷ before) node) (sequence_on node performer)
+wisher script before entry (Node other) node next on speaks = tt
+wisher script before entry (Sequence id home) node next on speaks = tested (home == node) refl
+  where
+    tested : (b : Bool) → (home == node) ≡ b → HoldsOf (IsRequester (entry ∷ before) node) (if b then Some id else None)
+    tested true e =
+        let same : home ≡ node = grind (arith, nat_tests) in
+        record { phase = speaks.phase; sequence = sequence-more script before entry speaks.phase id node next on (subst (IsSequence before speaks.phase id) same speaks.sequence) }
+    tested false e = tt
+
+pub wishes-by :
+    (script : ScriptValue) (before : List Entry) (performer : Who) (outcome : Outcome) (act : Act) (node : ℕ) → IsNext script before (Did performer outcome act) → GoesOn (Did performer outcome act ∷ before) → (wish_in outcome act ≡ None) ⊎ IsSpeaker before performer
+    → (wish_in outcome act ≡ None) ⊎ HoldsOf (IsRequester (Did performer outcome act ∷ before) node) (sequence_on node performer)
+wishes-by script before performer outcome act node next on (inl none) = inl none
+wishes-by script before performer outcome act node next on (inr speaks) = inr (wisher script before (Did performer outcome act) performer node next on speaks)
+
+-- what is told to who is expected is such a call
+abbrev IsTold : List Entry → Option Phase → Who × Call → Type 0
+IsTold history phase told = (p : Phase) → phase ≡ Some p → IsExpected history p told.0
+
+pub numbered-owners : (history : List Entry) (phase : Option Phase) (time place number : ℕ) (calls : List (Who × Call)) → All (IsTold history phase) calls → All (IsCallTo history) (calls_numbered phase time place number calls)
+numbered-owners history phase time place number [] all = All-nil _
+numbered-owners history phase time place number (told ∷ calls) all =
+    All-append (IsCallTo history) (calls_numbered phase time place (suc number) calls) (event_in phase time (record { place = place; number = number }) (Object told.0) (Some told.1))
+    (numbered-owners history phase time place (suc number) calls (All-tail (IsTold history phase) told calls all))
+    (one-owner history phase time (record { place = place; number = number }) (Object told.0) (Some told.1) (All-head (IsTold history phase) told calls all))
+
+-- what is told by a write is told to components
+written-owners :
+    (script : ScriptValue) (before : List Entry) (entry : Entry) (performer : Who) (item : Item) (port : List ℕ) → ((node : ℕ) → is_imp_at (wiring_of before) node ≡ true → IsOwned (nodes_of before) (components_of before) node)
+    → All (IsTold (entry ∷ before) (running (stage_of before))) (calls_told before performer Done (Write port item))
+unfolding imps_below
+written-owners script before entry performer item port owned =
+    All-weaker (λ told. IsComponent (components_of before) told.0) (IsTold (entry ∷ before) (running (stage_of before)))
+    (λ told has p runs. component-expected (entry ∷ before) p told.0 (component-more entry before told.0 has)) _
+    (written-hold (nodes_of before) (components_of before) item (closed_wiring before) (outlets_below before performer port) owned)
+
+-- what a sequence is told of its steps is told to who speaks
+step-owners : (script : ScriptValue) (before : List Entry) (entry : Entry) (performer : Who) (step : Option SeqStep) → IsNext script before entry → GoesOn (entry ∷ before) → IsSpeaker before performer → All (IsTold (entry ∷ before) (running (stage_of before))) (told_step performer step)
+step-owners script before entry performer None next on speaks = All-nil _
+step-owners script before entry performer (Some step) next on speaks =
+    All-cons (IsTold (entry ∷ before) (running (stage_of before))) (performer, step_call step) []
+    (λ p runs. expected-more script before entry p performer next on (speaker-expected before p performer runs speaks)) (All-nil _)
+
+-- and that one has finished is told to who started it
+finished-owners :
+    (script : ScriptValue) (before : List Entry) (entry : Entry) (performer : Who) → IsNext script before entry → GoesOn (entry ∷ before) → All (IsStartedBy before) (begun_of before) → IsSpeaker before performer
+    → All (IsTold (entry ∷ before) (running (stage_of before))) (finished_by before (sequence_in performer))
+finished-owners script before entry (Node node) next on starters speaks = All-nil _
+finished-owners script before entry (Sequence id home) next on starters speaks =
+    rw speaks.sequence.begun
+    (All-cons (IsTold (entry ∷ before) (running (stage_of before))) (speaks.sequence.beginning.starter, call.Finished speaks.sequence.beginning.start.name id) [] told (All-nil _))
+  where
+    told : (p : Phase) → running (stage_of before) ≡ Some p → IsExpected (entry ∷ before) p speaks.sequence.beginning.starter
+    told p runs =
+        let at : speaks.sequence.beginning.phase ≡ Some p = speaks.sequence.phase_is ∙ sym speaks.runs ∙ runs in
+        expected-more script before entry p speaks.sequence.beginning.starter next on
+        (numbered-holds (IsStartedBy before) (begun_of before) id speaks.sequence.beginning starters speaks.sequence.begun p at)
+
+-- it is told that it was started
+started-owners :
+    (script : ScriptValue) (before : List Entry) (performer : Who) (id : ℕ) (act : Act) → IsNext script before (Did performer (Started id) act)
+    → All (IsTold (Did performer (Started id) act ∷ before) (running (stage_of before))) (calls_told before performer (Started id) act)
+started-owners script before performer id act next =
+    All-cons (IsTold (Did performer (Started id) act ∷ before) (running (stage_of before))) _ [] told (All-nil _)
+  where
+    told : (p : Phase) → running (stage_of before) ≡ Some p → IsSequence (Did performer (Started id) act ∷ before) p id (start_by (nodes_of before) (sequences_of before) performer act).home
+    told p runs = record {
+      beginning = record { start = start_by (nodes_of before) (sequences_of before) performer act; starter = performer; phase = running (stage_of before) };
+      begun = numbered-newest _ (begun_of before) id (started-next script before performer id act (next_of script before) refl next);
+      home_is = refl;
+      phase_is = runs;
+      stands = Runs runs;
+    }
+
+-- who hears what is caused in the phase that runs
+abbrev IsHearer : List Entry → Option Phase → Who → Type 0
+IsHearer history phase who = (p : Phase) → phase ≡ Some p → IsExpected history p who
+
+asker-hears : (before : List Entry) (entry : Entry) (phase : Option Phase) (asker : Option DriverPort) → IfSome asker (λ asker. IsComponent (components_of before) asker.who) → IfSome asker (λ asker. IsHearer (entry ∷ before) phase asker.who)
+asker-hears before entry phase None has = tt
+asker-hears before entry phase (Some asker) has = λ p runs. component-expected (entry ∷ before) p asker.who (component-more entry before asker.who has)
+
+-- whose item is done is the sequence that was served
+done-owners :
+    (script : ScriptValue) (before : List Entry) (performer : Who) (port : List ℕ) (response : Option Item) → Known script before → IsNext script before (Did performer Done (ItemDone port response)) → GoesOn (Did performer Done (ItemDone port response) ∷ before)
+    → (reached : Option ℕ) → All (IsTold (Did performer Done (ItemDone port response) ∷ before) (running (stage_of before))) (done_by before reached response)
+done-owners script before performer port response known next on None = All-nil _
+done-owners script before performer port response known next on (Some node) =
+    let entry = Did performer Done (ItemDone port response) in
+    let phase = running (stage_of before) in
+    done-told (IsTold (entry ∷ before) phase) (IsHearer (entry ∷ before) phase) (λ who call hears. hears) response node (hand_of (driver_state before node))
+    (λ id hand p runs. sequence-more script before entry p id node next on (served-expected before node id p runs (known.served node id (hand-sequence (driver_state before node) id hand))))
+
+-- whatever an act causes
+pub told-owners :
+    (script : ScriptValue) (before : List Entry) (performer : Who) (outcome : Outcome) (act : Act) → Known script before → IsNext script before (Did performer outcome act) → GoesOn (Did performer outcome act ∷ before) → (act ≡ opening script) ⊎ IsSpeaker before performer
+    → All (IsTold (Did performer outcome act ∷ before) (running (stage_of before))) (calls_told before performer outcome act)
+told-owners script before performer Done (Write port item) known next on who = written-owners script before (Did performer Done (Write port item)) performer item port known.imps
+told-owners script before performer Done EndStep known next on (inl opens) = cc
+told-owners script before performer Done EndStep known next on (inr speaks) = step-owners script before (Did performer Done EndStep) performer (next_step before performer) next on speaks
+told-owners script before performer Done (Send item) known next on (inl opens) = cc
+told-owners script before performer Done (Send item) known next on (inr speaks) =
+    let entry = Did performer Done (Send item) in
+    let phase = running (stage_of before) in
+    sent-told (IsTold (entry ∷ before) phase) (IsHearer (entry ∷ before) phase) (λ who call hears. hears) performer (driver_asker before (node_of performer)) item _ (asker-hears before entry phase _ (known.askers (node_of performer)))
+    (λ p runs. expected-more script before entry p performer next on (speaker-expected before p performer runs speaks))
+told-owners script before performer Done (ItemDone port response) known next on who = done-owners script before performer port response known next on (sequencer_below before performer port)
+told-owners script before performer (Started id) act known next on who = started-owners script before performer id act next
+told-owners script before performer Finished act known next on (inl opens) = let ends = finished-next script before performer act next in let e : EndStep ≡ opening script = sym ends ∙ opens in cc
+told-owners script before performer Finished act known next on (inr speaks) =
+    All-append (IsTold (Did performer Finished act ∷ before) (running (stage_of before))) (finished_by before (sequence_in performer)) (lapsed_by before (node_of performer) (sequence_in performer)) (finished-owners script before (Did performer Finished act) performer next on known.starters speaks)
+    (lapse-told (IsTold (Did performer Finished act ∷ before) (running (stage_of before))) (IsHearer (Did performer Finished act ∷ before) (running (stage_of before))) (λ who call hears. hears) _ (driver_asker before (node_of performer)) (asker-hears before (Did performer Finished act) (running (stage_of before)) _ (known.askers (node_of performer))))
+told-owners script before performer outcome act known next on who = All-nil (IsTold (Did performer outcome act ∷ before) (running (stage_of before)))
+
+-- an imp of one more entry's wiring is a component's
+pub imps-more :
+    (script : ScriptValue) (before : List Entry) (performer : Who) (outcome : Outcome) (act : Act) → ((node : ℕ) → is_imp_at (wiring_of before) node ≡ true → IsOwned (nodes_of before) (components_of before) node)
+    → (act ≡ opening script) ⊎ IsSpeaker before performer → ((id home : ℕ) → performer ≡ Sequence id home → is_open_to act performer ≡ false → outcome ≡ Refused NotOpen)
+    → (node : ℕ) → is_imp_at (wiring_of (Did performer outcome act ∷ before)) node ≡ true → IsOwned (nodes_of (Did performer outcome act ∷ before)) (components_of (Did performer outcome act ∷ before)) node
+imps-more script before performer outcome act owned who closed node is = by (imp-after (nodes_of before) (wiring_of before) performer outcome act node is)
+  where
+    stays : (under other : Option (ℕ × List ℕ)) → other ≡ under → IfSome under (λ under. Contains (components_of before) under.0) → IfSome other (λ under. Contains (components_of (Did performer outcome act ∷ before)) under.0)
+    stays None other e has = rw e tt
+    stays (Some under) other e has = rw e (contains-more (Did performer outcome act) before under.0 has)
+
+    added : (found : Option (ℕ × List ℕ)) → IfSome found (λ under. under.0 ≡ node_of performer) → Contains (components_of (Did performer outcome act ∷ before)) (node_of performer)
+        → IfSome found (λ under. Contains (components_of (Did performer outcome act ∷ before)) under.0)
+    added None is has = tt
+    added (Some under) is has = rw is has
+
+    there : (who : Who) → performer ≡ who → IsAdded (nodes_of before) performer outcome act node → IsSpeaker before who → Contains (components_of before) (node_of who)
+    there (Node other) same a has = has
+    there (Sequence id home) same a has =
+        let refused : outcome ≡ Refused NotOpen = closed id home same (rw same (a.closed id home)) in
+        let e : Done ≡ Refused NotOpen = sym a.done ∙ refused in cc
+
+    new : IsAdded (nodes_of before) performer outcome act node → (act ≡ opening script) ⊎ IsSpeaker before performer
+        → IsOwned (nodes_of (Did performer outcome act ∷ before)) (components_of (Did performer outcome act ∷ before)) node
+    new a (inl opens) = absurd (a.other script opens)
+    new a (inr speaks) = record { below = a.below; owner = added _ a.under (contains-more (Did performer outcome act) before (node_of performer) (there performer refl a speaks)) }
+
+    by : (is_imp_at (wiring_of before) node ≡ true) ⊎ IsAdded (nodes_of before) performer outcome act node → IsOwned (nodes_of (Did performer outcome act ∷ before)) (components_of (Did performer outcome act ∷ before)) node
+    by (inl old) =
+        let o = owned node old in
+        let more = nodes_stay (Did performer outcome act) before in
+        let fewer = nodes-more (Did performer outcome act) before in
+        record {
+          below = omega (arith, o.below, fewer);
+          owner = stays (under_at (nodes_of before) node) _ (ap (λ (nodes : List tree.Node). under_at nodes node) more.1 ∙ ap (option_and_then (λ (found : tree.Node). found.under)) (get-before (nodes_of before) more.0 node o.below)) o.owner;
+        }
+    by (inr a) = new a who
+
+-- what passes comes alone
+pub passed-alone : (fifo : ℕ) (passage : Passage) (next : Next) → Allows next (Passed fifo passage) → next ≡ Exactly (Passed fifo passage)
+passed-alone fifo passage (Exactly entry) allows = rw allows refl
+passed-alone fifo passage (Answer performer call cause) allows = let other = allows.1 in cc
+passed-alone fifo passage (Need need made performer act) (inl e) = cc
+passed-alone fifo passage (Need need made performer act) (inr declined) = cc
+passed-alone fifo passage (Grant sequencer drawn chosen) allows = let e : Passed fifo passage ≡ Granted sequencer allows.0 = allows.3 in cc
+passed-alone fifo passage Nothing allows = absurd allows
+
+-- what holds of all acts holds of the rest of them
+rest-all : (P : Act → Type 0) (acts : List Act) → All P acts → All P (rest_of acts)
+rest-all P [] all = all
+rest-all P (act ∷ acts) all = All-tail P act acts all
+
+left-all : (P : Act → Type 0) (outcome : Outcome) (acts : List Act) → All P acts → All P (left_after outcome acts)
+left-all P Finished acts all = All-nil P
+left-all P outcome acts all = rest-all P acts all
+
+left-none : (outcome : Outcome) (acts : List Act) → acts ≡ [] → left_after outcome acts ≡ []
+left-none Finished acts e = refl
+left-none outcome acts e = ap rest_of e
+
+-- who may act may act still, unless a phase begins or ends, or he has finished
+pub speaker-stays :
+    (script : ScriptValue) (before : List Entry) (entry : Entry) (who : Who) → IsNext script before entry → GoesOn (entry ∷ before) → running (stage_of (entry ∷ before)) ≡ running (stage_of before) → ended_of (entry ∷ before) ≡ ended_of before → finished_of (entry ∷ before) ≡ finished_of before
+    → IsSpeaker before who → IsSpeaker (entry ∷ before) who
+speaker-stays script before entry (Node node) next on stage ended finished has = contains-more entry before node has
+speaker-stays script before entry (Sequence id home) next on stage ended finished s = record {
+  phase = s.phase;
+  sequence = sequence-more script before entry s.phase id home next on s.sequence;
+  runs = stage ∙ s.runs;
+  unfinished = ap (list_any (same_who (Sequence id home))) finished ∙ s.unfinished;
+  unended = ap (list_any (same_phase s.phase)) ended ∙ s.unended;
+}
+
+-- an act leaves its performer speaking, unless it was his last
+pub speaking-did : (script : ScriptValue) (before : List Entry) (performer : Who) (outcome : Outcome) (act : Act) → IsNext script before (Did performer outcome act) → GoesOn (Did performer outcome act ∷ before) → Speaking script before → Speaking script (Did performer outcome act ∷ before)
+speaking-did script before performer outcome act next on (NoneLeft none) = NoneLeft (left-none outcome (left_of script before) none)
+speaking-did script before performer outcome act next on (Opens opens) = Opens (left-all (λ one. one ≡ opening script) outcome (left_of script before) opens)
+speaking-did script before performer Finished act next on (Speaks speaks) = NoneLeft refl
+speaking-did script before performer outcome act next on (Speaks speaks) = Speaks (speaker-stays script before (Did performer outcome act) (speaker_of before) next on refl refl refl speaks)
+
+-- so does what the machine writes by itself, but for a note
+pub speaking-on :
+    (script : ScriptValue) (before : List Entry) (entry : Entry) → IsNext script before entry → GoesOn (entry ∷ before) → running (stage_of (entry ∷ before)) ≡ running (stage_of before) → ended_of (entry ∷ before) ≡ ended_of before → finished_of (entry ∷ before) ≡ finished_of before
+    → left_of script (entry ∷ before) ≡ left_of script before → speaker_of (entry ∷ before) ≡ speaker_of before → Speaking script before → Speaking script (entry ∷ before)
+speaking-on script before entry next on stage ended finished left speaker (NoneLeft none) = NoneLeft (left ∙ none)
+speaking-on script before entry next on stage ended finished left speaker (Opens opens) = Opens (subst (All (λ one. one ≡ opening script)) (sym left) opens)
+speaking-on script before entry next on stage ended finished left speaker (Speaks speaks) = Speaks (subst (IsSpeaker (entry ∷ before)) (sym speaker) (speaker-stays script before entry (speaker_of before) next on stage ended finished speaks))
+
+-- one more sequence was started by who speaks
+pub begun-starters :
+    (script : ScriptValue) (before : List Entry) (performer : Who) (outcome : Outcome) (act : Act) → Known script before → IsNext script before (Did performer outcome act) → GoesOn (Did performer outcome act ∷ before) → (act ≡ opening script) ⊎ IsSpeaker before performer
+    → All (IsStartedBy (Did performer outcome act ∷ before)) (begun_of (Did performer outcome act ∷ before))
+begun-starters script before performer (Started id) act known next on who =
+    All-cons (IsStartedBy (Did performer (Started id) act ∷ before)) _ (begun_of before) (by who) (starters-more script before (Did performer (Started id) act) next on known)
+  where
+    by : (act ≡ opening script) ⊎ IsSpeaker before performer → (phase : Phase) → running (stage_of before) ≡ Some phase → IsExpected (Did performer (Started id) act ∷ before) phase performer
+    by (inl opens) phase runs = absurd (starts-act script before performer id act (next_of script before) refl next opens)
+    by (inr speaks) phase runs = expected-more script before (Did performer (Started id) act) phase performer next on (speaker-expected before phase performer runs speaks)
+begun-starters script before performer outcome act known next on who = starters-more script before (Did performer outcome act) next on known
+
+-- what the opening tells nobody is told to who speaks
+pub expected-unless :
+    (script : ScriptValue) (before : List Entry) (performer : Who) (outcome : Outcome) (act : Act) → IsNext script before (Did performer outcome act) → GoesOn (Did performer outcome act ∷ before) → (told_by outcome act ≡ None) ⊎ IsSpeaker before performer
+    → (told_by outcome act ≡ None) ⊎ ((p : Phase) → running (stage_of before) ≡ Some p → IsExpected (Did performer outcome act ∷ before) p performer)
+expected-unless script before performer outcome act next on (inl none) = inl none
+expected-unless script before performer outcome act next on (inr speaks) = inr (λ p runs. expected-more script before (Did performer outcome act) p performer next on (speaker-expected before p performer runs speaks))
+
+pub more-component : {Idle : Type 0} (before : List Entry) (entry : Entry) (performer : Who) → Idle ⊎ IsComponent (components_of before) performer → Idle ⊎ IsComponent (components_of (entry ∷ before)) performer
+more-component before entry performer (inl idle) = inl idle
+more-component before entry performer (inr has) = inr (component-more entry before performer has)

@@ -1,5 +1,3 @@
 pub mod Before
 pub mod Ordered
-pub mod Added
-pub mod Firsts
-pub mod Capacities
+pub mod Places

@@ -41,11 +41,11 @@ abbrev pub Behind : {O N : Type 0} → (Due O N → Due O N → Type 0) → List
 Behind R [] = Unit {0}
 Behind R (due ∷ dues) = All (R due) dues × Behind R dues
 
-AllPairs-from_behind : {O N : Type 0} (R : Due O N → Due O N → Type 0) (dues : List (Due O N)) → Behind R dues → AllPairs R dues
+pub AllPairs-from_behind : {O N : Type 0} (R : Due O N → Due O N → Type 0) (dues : List (Due O N)) → Behind R dues → AllPairs R dues
 AllPairs-from_behind R [] each = λ i j d before within. absurd (omega arith)
 AllPairs-from_behind R (due ∷ dues) each = AllPairs-cons R due dues each.0 (AllPairs-from_behind R dues each.1)
 
-behind_from_AllPairs : {O N : Type 0} (R : Due O N → Due O N → Type 0) (dues : List (Due O N)) → AllPairs R dues → Behind R dues
+pub behind_from_AllPairs : {O N : Type 0} (R : Due O N → Due O N → Type 0) (dues : List (Due O N)) → AllPairs R dues → Behind R dues
 behind_from_AllPairs R [] each = tt
 behind_from_AllPairs R (due ∷ dues) each =
     (λ k d within. each 0 (suc k) d (omega arith) (omega arith), behind_from_AllPairs R dues (λ i j d before within. each (suc i) (suc j) d (omega arith) (omega arith)))
@@ -72,7 +72,7 @@ insert_due-ordered due other others true first ordered rest =
 insert_due-ordered due other others false first ordered rest =
     (All-permutation (NotBefore other) (due ∷ others) (insert_due due others) (IsPermutation-insert_due due others) (All-cons (NotBefore other) due others first ordered.0), rest)
 
-Ordered-insert_due : {O N : Type 0} (due : Due O N) (dues : List (Due O N)) → Ordered dues → Ordered (insert_due due dues)
+pub Ordered-insert_due : {O N : Type 0} (due : Due O N) (dues : List (Due O N)) → Ordered dues → Ordered (insert_due due dues)
 Ordered-insert_due due [] ordered = (All-nil (NotBefore due), tt)
 Ordered-insert_due due (other ∷ others) ordered =
     insert_due-ordered due other others (is_due_before due other) refl ordered (Ordered-insert_due due others ordered.1)

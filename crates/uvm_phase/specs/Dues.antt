@@ -1,5 +1,5 @@
 -- What is due, in the order in which it comes due.
-use Rattle.std.specs.Prelude.{◌≡◌, ◌+◌, ℕ, Bool, true, false, ◌&&◌, ◌||◌, ◌==◌, nat_lt, List, [], ◌∷◌, ◌++◌, length, All, AllPairs, IsPermutation, if◌then◌else◌}
+use Rattle.std.specs.Prelude.{◌≡◌, ◌+◌, ℕ, Bool, false, ◌&&◌, ◌||◌, ◌==◌, nat_lt, List, [], ◌∷◌, length, AllPairs, IsPermutation, if◌then◌else◌}
 use Rattle.uvm_phase.specs.declared.agendas.Cause.{Cause}
 use Rattle.uvm_phase.specs.declared.agendas.Due.{Due}
 
@@ -35,17 +35,6 @@ pub record AgendaValue (O N : Type 0) : Type 0 where
 -- how many calls fit before memory is taken
 abbrev pub capacity_of : {O N : Type 0} → AgendaValue O N → ℕ
 capacity_of agenda = length agenda.dues + agenda.spare
-
--- the place of the one that comes due first in a list, of equal ones the first: it comes before each in front of it, and
--- none behind it comes before it
-pub record IsFirstPlace {O N : Type 0} (dues : List (Due O N)) (place : ℕ) : Type 0 where
-  pub front : List (Due O N)
-  pub due : Due O N
-  pub behind : List (Due O N)
-  pub parts : dues ≡ front ++ due ∷ behind
-  pub here : place ≡ length front
-  pub before : All (λ other. is_due_before due other ≡ true) front
-  pub after : All (λ other. is_due_before other due ≡ false) behind
 
 -- the order has what the list has, in order
 pub record IsOrderOf {O N : Type 0} (dues : List (Due O N)) : Type 0 where

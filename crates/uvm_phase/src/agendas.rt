@@ -1,11 +1,13 @@
 //! The calls that are due, each at its time.
 
-ghost use Rattle.std.specs.Prelude.{◌≡◌, ◌==◌, ◌<◌, ◌≤◌, ◌↔◌, [], not, length, filter, drop, slice_get, All, OnOk, OnErr, IsOk, IsNone, IfSome, option_copied, false, vec_capacity};
+ghost use Rattle.std.specs.Prelude.{◌≡◌, ◌==◌, ◌<◌, ◌≤◌, [], not, length, filter, drop, insert, slice_get, All, OnOk, OnErr, IsOk, IfSome, option_copied, false};
+ghost use Rattle.std.specs.VecDeque.{deque_capacity, deque_len};
 ghost use Rattle.uvm_phase.specs.Phases.{same_phase};
-ghost use Rattle.uvm_phase.specs.Dues.{is_due_before, insert_due, capacity_of, IsFirstPlace};
+ghost use Rattle.uvm_phase.specs.Dues.{is_due_before, insert_due, capacity_of, IsInOrder};
 
 use crate::phases::Phase;
 use std::alloc::{AllocError, Global};
+use std::collections::VecDeque;
 use std::marker::Model;
 
 /// What caused a call.
@@ -48,20 +50,24 @@ impl<O, N> Due<O, N> {
 
 /// The calls that are due while a phase runs (IEEE 1800.2-2020, Clause 9). They come due by time, at one time by the place of the cause, then
 /// by its number, and where these are equal in the order in which they were added. Contracts see them in this order, and
-/// beside them for how many more there is room.
+/// beside them for how many more there is room. To add one takes the time of a look at those that come after it, to take the
+/// first a constant time, and to take out those of a phase or of an owner that of a look at all.
 #[derive(Drop)]
 pub struct Agenda<O, N> {
-    // In the order in which they were added.
-    dues: Vec<Due<O, N>>,
+    // In the order in which they come due.
+    dues: VecDeque<Due<O, N>>,
 }
 
 impl<O, N> Model for Agenda<O, N> {
-    ghost use Rattle.std.specs.Prelude.{◌-◌, reverse, vec_len, vec_capacity};
-    ghost use Rattle.uvm_phase.specs.Dues.{AgendaValue, in_order};
+    ghost use Rattle.std.specs.Prelude.{◌-◌};
+    ghost use Rattle.std.specs.VecDeque.{deque_capacity, deque_len};
+    ghost use Rattle.uvm_phase.specs.Dues.{AgendaValue, IsInOrder};
 
     ghost Value = { AgendaValue O N };
 
-    ghost view = { λ a. record { dues = in_order (reverse a.dues.items); spare = vec_capacity a.dues - vec_len a.dues } };
+    ghost view = { λ a. record { dues = a.dues.items; spare = deque_capacity a.dues - deque_len a.dues } };
+
+    ghost invariant = { λ a. IsInOrder a.dues.items };
 }
 
 impl<O: Drop, N: Drop> Agenda<O, N> {
@@ -70,11 +76,12 @@ impl<O: Drop, N: Drop> Agenda<O, N> {
         ensures { result.dues ≡ [] }
     {
         Agenda {
-            dues: Vec::new(alloc),
+            dues: VecDeque::new(alloc),
         }
     }
 
-    /// Makes room for a call: the next `due` then takes no memory. No room is given up, here or below.
+    /// Makes room for a call: the next `due` then takes no memory. The error is want of memory. No call changes, and no room is
+    /// given up, here or below.
     pub fn reserve(&mut self) -> Result<(), AllocError>
         ensures dues { self.new.dues ≡ self.old.dues }
         ensures spare { OnOk result (0 < self.new.spare) }
@@ -98,13 +105,15 @@ impl<O: Drop, N: Drop> Agenda<O, N> {
         ensures room { 0 < self.old.spare → IsOk result }
         ensures capacity { capacity_of self.old ≤ capacity_of self.new }
     {
-        self.dues.push(Due {
+        let due = Due {
             time,
             cause,
             phase,
             owner,
             notice,
-        })?;
+        };
+        let place = place_of(&self.dues, &due);
+        self.dues.insert(place, due)?;
         Ok(())
     }
 
@@ -113,8 +122,7 @@ impl<O: Drop, N: Drop> Agenda<O, N> {
         ensures value { option_copied result ≡ slice_get self.now.dues 0 }
         ensures least { IfSome result (λ due. All (λ other. is_due_before other due.now ≡ false) self.now.dues) }
     {
-        let place = first_place(self.dues.as_slice())?;
-        self.dues.get(place)
+        self.dues.front()
     }
 
     /// Takes out the call that comes due first, if one is due. Takes no memory, and leaves room for another.
@@ -123,8 +131,7 @@ impl<O: Drop, N: Drop> Agenda<O, N> {
         ensures rest { self.new.dues ≡ drop 1 self.old.dues }
         ensures capacity { capacity_of self.new ≡ capacity_of self.old }
     {
-        let place = first_place(self.dues.as_slice())?;
-        Some(self.dues.remove(place))
+        self.dues.pop_front()
     }
 
     /// Takes out the calls of a phase. Takes no memory, and leaves room for as many.
@@ -160,33 +167,32 @@ impl<O: PartialEq + Drop, N: Drop> Agenda<O, N> {
     }
 }
 
-// Where the call stands that comes due first, of equal ones the first.
-fn first_place<O, N>(dues: &[Due<O, N>]) -> Option<usize>
-    ensures none { IsNone result ↔ (dues.now ≡ []) }
-    ensures first { IfSome result (IsFirstPlace dues.now) }
+// Where a call stands that is added: in front of the first that comes after it.
+fn place_of<O, N>(dues: &VecDeque<Due<O, N>>, due: &Due<O, N>) -> usize
+    requires { IsInOrder dues.now.items }
+    ensures within { result ≤ deque_len dues.now }
+    ensures place { insert dues.now.items result due.now ≡ insert_due due.now dues.now.items }
 {
-    if dues.is_empty() {
-        return None;
-    }
-    let mut first = 0;
-    for place in 1..dues.len() {
-        if dues[place].is_due_before(&dues[first]) {
-            first = place;
+    let mut place = dues.len();
+    while place > 0 {
+        if !due.is_due_before(&dues[place - 1]) {
+            return place;
         }
+        place -= 1;
     }
-    Some(first)
+    place
 }
 
-fn take_out_phase<O: Drop, N: Drop>(dues: &mut Vec<Due<O, N>>, phase: Phase)
+fn take_out_phase<O: Drop, N: Drop>(dues: &mut VecDeque<Due<O, N>>, phase: Phase)
     ensures left { dues.new.items ≡ filter (λ due. not (same_phase due.phase phase)) dues.old.items }
-    ensures capacity { vec_capacity dues.new ≡ vec_capacity dues.old }
+    ensures capacity { deque_capacity dues.new ≡ deque_capacity dues.old }
 {
     dues.retain(|due| due.phase != phase);
 }
 
-fn take_out_owner<O: PartialEq + Drop, N: Drop>(dues: &mut Vec<Due<O, N>>, owner: &O)
+fn take_out_owner<O: PartialEq + Drop, N: Drop>(dues: &mut VecDeque<Due<O, N>>, owner: &O)
     ensures left { dues.new.items ≡ filter (λ due. not (O.eq due.owner owner.now)) dues.old.items }
-    ensures capacity { vec_capacity dues.new ≡ vec_capacity dues.old }
+    ensures capacity { deque_capacity dues.new ≡ deque_capacity dues.old }
 {
     dues.retain(|due| due.owner != *owner);
 }

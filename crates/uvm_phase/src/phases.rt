@@ -67,7 +67,7 @@ impl Phase {
     }
 }
 
-/// The order of the phases, from build to final.
+/// The order of the phases, from build to final (IEEE 1800.2-2020, Clause 9).
 #[derive(Clone, Copy, Debug)]
 pub struct Schedule;
 

@@ -1,9 +1,5 @@
-use Rattle.uvm_phase.proofs.Added.{in_order-filtered}
-use Rattle.uvm_phase.proofs.Capacities.{capacity-stays}
+use Rattle.uvm_phase.proofs.Places.{left-in-order}
 use Rattle.uvm_phase.proofs.agendas.Agenda.clear.Goals as goal
 
-pub returns-clause-dues : goal.returns-clause-dues
-returns-clause-dues g c = rw (← c.self.view_is) (in_order-filtered _ c.self.inside.dues.items c.take_out_phase.new.dues.items c.take_out_phase.ensures.left)
-
-pub returns-clause-capacity : goal.returns-clause-capacity
-returns-clause-capacity g c = rw (← c.self.view_is) (capacity-stays c.self.inside.dues c.take_out_phase.new.dues c.take_out_phase.ensures.capacity)
+pub invariant_of-self : goal.invariant_of-self
+invariant_of-self g c = left-in-order _ c.self.inside.dues.items c.take_out_phase.new.dues.items c.self.invariant c.take_out_phase.ensures.left

@@ -1,5 +1,6 @@
-use Rattle.uvm_phase.proofs.Capacities.{capacity-grows}
+use Rattle.std.proofs.Common.{◌∙◌}
+use Rattle.uvm_phase.proofs.Places.{inserted-in-order}
 use Rattle.uvm_phase.proofs.agendas.Agenda.due.Goals as goal
 
-pub returns-clause-capacity : goal.returns-clause-capacity
-returns-clause-capacity g c = rw (← c.self.view_is) (capacity-grows c.self.inside.dues c.push.new.self c.in_ok-push.ensures.capacity)
+pub invariant_of-self-2 : goal.invariant_of-self-2
+invariant_of-self-2 g c = inserted-in-order _ c.self.inside.dues.items c.insert.new.self.items c.self.invariant (c.in_ok-insert.ensures.items ∙ c.place_of-place.ensures.place)

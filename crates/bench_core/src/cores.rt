@@ -42,9 +42,17 @@ pub enum Turn {
     /// An object is needed; `need` says which.
     Need,
     /// Somebody is called.
-    Ask { who: Who, call: Call },
+    Ask {
+        /// Who is to answer: a component, or a sequence.
+        who: Who,
+        /// What it is called with.
+        call: Call,
+    },
     /// A sequence has ended (IEEE 1800.2-2020, Clause 14).
-    Leave { who: Who },
+    Leave {
+        /// The sequence, with its number and its home.
+        who: Who,
+    },
     /// An entry was made.
     Moved,
     /// The run is over.
@@ -215,7 +223,7 @@ impl Core {
         self.world.now()
     }
 
-    /// The phase that runs, if one does. None once memory was refused.
+    /// The phase that runs, if one does (Clause 9). None once memory was refused.
     pub fn phase(&self) -> Option<Phase>
         ensures { result ≡ (if is_sound self.now.health then running (stage_of self.now.history) else None) }
     {

@@ -30,7 +30,7 @@ pub fn asked_are_there()
     sequencers::lock_excludes();
 }
 
-/// Whoever performs an act is there, but the script, which has the first act of all.
+/// Whoever performs an act is there, unless it is the very act by which the script creates its test, the first of all.
 pub fn performers_are_there()
     ensures { PerformersAreThere }
 {

@@ -14,7 +14,7 @@ use uvm_factory::{Factory, FactoryFault, Kind, Override, laws};
 use uvm_glob::Name;
 
 impl Script {
-    /// The factory with the types and the overrides of the script. The error is want of memory.
+    /// The factory with the types and the overrides of the script (IEEE 1800.2-2020, Clause 8). The error is want of memory.
     pub fn factory(&self, alloc: Global) -> Result<Factory, AllocError>
         ensures { IfOk result (IsFactoryOf self.now) }
     {

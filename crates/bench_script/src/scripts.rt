@@ -129,7 +129,8 @@ impl Script {
         self.quit_limit
     }
 
-    /// The types with their kinds, in the order in which they are registered. They can be registered one after another.
+    /// The types with their kinds, in the order in which they are registered, at most 1,024. They can be registered one after
+    /// another.
     pub fn types(&self) -> &[(Name, Kind)]
         ensures types { result.now ≡ self.now.types }
         ensures sound { CanRegister [] self.now.types }

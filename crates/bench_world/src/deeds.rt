@@ -23,7 +23,7 @@ use uvm_glob::Name;
 use uvm_object::{Act, Deed, Entry, Fatal, Log, LoggedOutcome, Outcome, Who};
 
 impl World {
-    /// Who gave the last answer; the top before any.
+    /// Who gave the last answer; the top before any. For a sound world.
     pub fn speaker(&self) -> Who
         requires { self.now.sound ≡ true }
         ensures { result ≡ speaker_of self.now.history }
@@ -31,7 +31,7 @@ impl World {
         self.services.answer.speaker
     }
 
-    /// The next act of the last answer.
+    /// The next act of the last answer, if one is left. For a sound world.
     pub fn next_act(&self) -> Option<&Act>
         requires { self.now.sound ≡ true }
         ensures { option_copied result ≡ head_of (left_of self.now.script self.now.history) }
@@ -42,7 +42,7 @@ impl World {
         }
     }
 
-    /// How many acts of the last answer are left.
+    /// How many acts of the last answer are left. For a sound world.
     pub fn acts_left(&self) -> usize
         requires { self.now.sound ≡ true }
         ensures { result ≡ length (left_of self.now.script self.now.history) }
@@ -55,8 +55,10 @@ impl World {
         }
     }
 
-    /// The next act of the last answer. It is performed, or refused, and has its entry then. Or it needs an object: then the log and
-    /// the services are as before, `need` tells the object, and `made` or `declined`, for which there is room, enters the act.
+    /// The next act of the last answer. It is performed, or refused, and has its entry then. Or it needs an object: then the log
+    /// and the services are as before, `need` tells the object, and `made` or `declined`, for which there is room, enters the
+    /// act. The world is sound, its log is not full, and an act is next. The error is want of memory: the log stays as it was,
+    /// and the world is not sound any more.
     pub fn did(&mut self) -> Result<(), AllocError>
         requires { MayAct self.old }
         ensures ok { OnOk result (IsActed (next_of self.old.script self.old.history) self.old self.new) }
@@ -71,9 +73,9 @@ impl World {
         }
     }
 
-    /// Why a creation or a start by somebody would be refused now, if so; whether there is an object to be made is told when it is
-    /// needed. Memory is refused after every refusal but that of a loop of overrides; for a start also before those for its sequencer
-    /// and its path.
+    /// Why a creation or a start by somebody would be refused now, if so; whether there is an object to be made is told when it
+    /// is needed. Memory is refused after every refusal but that of a loop of overrides; for a start also before those for its
+    /// sequencer and its path. For a sound world.
     pub fn refusal(&self, performer: &Who, act: &Act) -> Result<Option<Fatal>, AllocError>
         requires sound { self.now.sound ≡ true }
         requires makes { IsMaking act.now }

@@ -34,7 +34,8 @@ use uvm_sequencer::SeqId;
 use uvm_tree::{NodeId, Tree, laws as trees};
 
 impl World {
-    /// A phase begins.
+    /// A phase begins (IEEE 1800.2-2020, Clause 9). The world is sound, its log is not full, and this entry is next. The error is
+    /// want of memory: the log stays as it was, and the world is not sound any more.
     pub fn begin(&mut self, phase: Phase) -> Result<(), AllocError>
         requires { MayEnter self.old (Exactly (Begin phase)) }
         ensures ok { OnOk result (self.new ≡ world_after (Begin phase) self.old) }
@@ -52,7 +53,8 @@ impl World {
         Ok(())
     }
 
-    /// A phase ends, and with it all sequences that live (Clause 14).
+    /// A phase ends (Clause 9), and with it all sequences that live (Clause 14). The world is sound, its log is not full, and
+    /// this entry is next. The error is want of memory: the log stays as it was, and the world is not sound any more.
     pub fn end(&mut self, phase: Phase) -> Result<(), AllocError>
         requires { MayEnter self.old (Exactly (End phase)) }
         ensures ok { OnOk result (self.new ≡ world_after (End phase) self.old) }
@@ -91,7 +93,8 @@ impl World {
         Ok(())
     }
 
-    /// Time passes to a moment, in ticks.
+    /// Time passes to a moment, in ticks (Clause 9). The world is sound, its log is not full, and this entry is next. The error
+    /// is want of memory: the log stays as it was, and the world is not sound any more.
     pub fn time(&mut self, time: u64) -> Result<(), AllocError>
         requires { MayEnter self.old (Exactly (Time time)) }
         ensures ok { OnOk result (self.new ≡ world_after (Time time) self.old) }
@@ -111,7 +114,8 @@ impl World {
         Ok(())
     }
 
-    /// Somebody was called in the running phase and answered.
+    /// Somebody was called in the running phase and answered. The world is sound, its log is not full, and an answer of this one
+    /// to this call is next. The error is want of memory: the log stays as it was, and the world is not sound any more.
     pub fn heard(&mut self, who: Who, call: Call, acts: Acts) -> Result<(), AllocError>
         requires { MayEnter self.old (Answer who call None) }
         ensures ok { OnOk result (self.new ≡ world_after (Heard who call None acts) self.old) }
@@ -141,7 +145,9 @@ impl World {
         Ok(())
     }
 
-    /// Somebody had a call that was due, and answered.
+    /// Somebody had a call that was due, and answered. The world is sound, its log is not full, and an answer of this one to this
+    /// call, due for this cause, is next. The error is want of memory: the log stays as it was, and the world is not sound any
+    /// more.
     pub fn heard_due(
         &mut self,
         who: Who,
@@ -180,7 +186,9 @@ impl World {
         Ok(())
     }
 
-    /// The lock of a sequence that leads at a sequencer is granted, and the sequence is to hear of it (Clause 15).
+    /// The lock of a sequence that leads at a sequencer is granted, and the sequence is to hear of it (Clause 15). The world is
+    /// sound, its log is not full, and this entry is next. The error is want of memory: the log stays as it was, and the world is
+    /// not sound any more.
     pub fn locked(&mut self, sequencer: NodeId, id: SeqId) -> Result<(), AllocError>
         requires { MayEnter self.old (Exactly (Locked sequencer id)) }
         ensures ok { OnOk result (self.new ≡ world_after (Locked sequencer id) self.old) }
@@ -208,7 +216,9 @@ impl World {
         Ok(())
     }
 
-    /// An item is granted at a sequencer, by the word where one decides, and the sequence that may send it is to hear of it (Clause 15).
+    /// An item is granted at a sequencer, by the word where one decides, and the sequence that may send it is to hear of it
+    /// (Clause 15). The world is sound, its log is not full, a grant at this sequencer is next, and a word is given exactly where
+    /// one decides. The error is want of memory: the log stays as it was, and the world is not sound any more.
     pub fn granted(&mut self, sequencer: NodeId, word: Option<u64>) -> Result<(), AllocError>
         requires { MayGrant self.old sequencer word }
         ensures ok { OnOk result (IsGranted sequencer word self.old self.new) }
@@ -237,7 +247,9 @@ impl World {
         Ok(())
     }
 
-    /// What somebody waits for at a FIFO comes to pass, and whoever asked is to hear of it (Clause 12).
+    /// What somebody waits for at a FIFO comes to pass, and whoever asked is to hear of it (Clause 12). The world is sound, its
+    /// log is not full, and this entry is next. The error is want of memory: the log stays as it was, and the world is not sound
+    /// any more.
     pub fn passed(&mut self, fifo: NodeId, passage: Passage) -> Result<(), AllocError>
         requires { MayEnter self.old (Exactly (Passed fifo passage)) }
         ensures ok { OnOk result (self.new ≡ world_after (Passed fifo passage) self.old) }
@@ -266,7 +278,8 @@ impl World {
         Ok(())
     }
 
-    /// The drain of a node ends: what was held back is passed up (IEEE 1800.2-2020, 10.5).
+    /// The drain of a node ends: what was held back is passed up (IEEE 1800.2-2020, 10.5). The world is sound, its log is not
+    /// full, and this entry is next. The error is want of memory: the log stays as it was, and the world is not sound any more.
     pub fn drained(&mut self, node: NodeId, cause: Cause) -> Result<(), AllocError>
         requires { MayEnter self.old (Exactly (Drained node cause)) }
         ensures ok { OnOk result (self.new ≡ world_after (Drained node cause) self.old) }
@@ -294,7 +307,8 @@ impl World {
         Ok(())
     }
 
-    /// The kernel reports at a node; what is left of the last answer is passed over.
+    /// The kernel reports at a node; what is left of the last answer is passed over. The world is sound, its log is not full, and
+    /// this entry is next. The error is want of memory: the log stays as it was, and the world is not sound any more.
     pub fn note(&mut self, fatal: Fatal, node: NodeId) -> Result<(), AllocError>
         requires { MayEnter self.old (Exactly (Note fatal node)) }
         ensures ok { OnOk result (self.new ≡ world_after (Note fatal node) self.old) }
@@ -313,7 +327,8 @@ impl World {
         Ok(())
     }
 
-    /// Nothing comes after.
+    /// Nothing comes after. The world is sound, its log is not full, and this entry is next. The error is want of memory: the log
+    /// stays as it was, and the world is not sound any more.
     pub fn over(&mut self, reason: Reason) -> Result<(), AllocError>
         requires { MayEnter self.old (Exactly (Over reason)) }
         ensures ok { OnOk result (self.new ≡ world_after (Over reason) self.old) }
@@ -330,7 +345,7 @@ impl World {
         Ok(())
     }
 
-    /// Why the run is given up, if it is.
+    /// Why the run is given up, if it is. For a sound world.
     pub fn reason(&self) -> Option<Reason>
         requires { self.now.sound ≡ true }
         ensures { result ≡ reason_of self.now.script self.now.history }
@@ -350,8 +365,8 @@ impl World {
         }
     }
 
-    /// The node whose turn it is in a phase: of the components that had no call since a phase began, the least in the order
-    /// of the phase.
+    /// The node whose turn it is in a phase (Clause 9): of the components that had no call since a phase began, the least in the
+    /// order of the phase. For a sound world.
     #[tactic(auto, unfolding(bench_history::specs::History::next_call))]
     pub fn next_call(&self, phase: Phase) -> Option<NodeId>
         requires { self.now.sound ≡ true }

@@ -17,7 +17,7 @@ use uvm_report::{Report, Severity};
 
 impl World {
     /// Appends the line of the report of the newest entry, with its newline, where it has a report that is displayed (IEEE
-    /// 1800.2-2020, Clause 6). Where memory is refused nothing is appended.
+    /// 1800.2-2020, Clause 6). Where memory is refused nothing is appended. For a sound world.
     pub fn push_report(&self, out: &mut Vec<u8>) -> Result<(), AllocError>
         requires { self.now.sound ≡ true }
         ensures ok { OnOk result (out.new.items ≡ out.old.items ++ report_text self.now.script self.now.history) }

@@ -81,7 +81,7 @@ impl World {
     /// The most acts of an answer.
     pub const MAX_ACTS: usize = 64;
 
-    /// The world of a script that has a test, before the first entry.
+    /// The world of a script that has a test, before the first entry. The error is want of memory.
     pub fn new(alloc: Global, script: Script) -> Result<World, AllocError>
         requires { IsSome script.test }
         ensures { IfOk result (λ world. world ≡ record { script = script; history = []; sound = true; waiting = None }) }
@@ -139,7 +139,7 @@ impl World {
         self.log.is_full()
     }
 
-    /// Where the run stands.
+    /// Where the run stands. For a sound world.
     pub fn stage(&self) -> Stage
         requires { self.now.sound ≡ true }
         ensures { result ≡ stage_of self.now.history }
@@ -147,7 +147,7 @@ impl World {
         self.services.stage
     }
 
-    /// The phase that runs, if one does (IEEE 1800.2-2020, Clause 9).
+    /// The phase that runs, if one does (IEEE 1800.2-2020, Clause 9). For a sound world.
     pub fn phase(&self) -> Option<Phase>
         requires { self.now.sound ≡ true }
         ensures { result ≡ running (stage_of self.now.history) }
@@ -158,7 +158,7 @@ impl World {
         }
     }
 
-    /// Whether a report has asked for exit (Clause 6).
+    /// Whether a report has asked for exit (Clause 6). For a sound world.
     pub fn exit_asked(&self) -> bool
         requires { self.now.sound ≡ true }
         ensures { result ≡ is_exit_asked (report_commands self.now.script self.now.history) }
@@ -166,7 +166,8 @@ impl World {
         self.services.reporting.exit_asked
     }
 
-    /// The report server: what its calls give is what the script, the accepted acts and the reports of the log come to (Clause 6).
+    /// The report server: what its calls give is what the script, the accepted acts and the reports of the log come to
+    /// (Clause 6). For a sound world.
     pub fn reports(&self) -> &Reports
         requires { self.now.sound ≡ true }
         ensures { Gives result.now (report_commands self.now.script self.now.history) }
@@ -174,7 +175,7 @@ impl World {
         &self.services.reporting.reports
     }
 
-    /// What became of the report of the newest entry, if it has one.
+    /// What became of the report of the newest entry, if it has one. For a sound world.
     pub fn newest_fate(&self) -> Option<Fate>
         requires { self.now.sound ≡ true }
         ensures { result ≡ newest_fate self.now.script self.now.history }
@@ -182,7 +183,7 @@ impl World {
         self.services.reporting.newest
     }
 
-    /// The present time in ticks.
+    /// The present time in ticks. For a sound world.
     pub fn now(&self) -> u64
         requires { self.now.sound ≡ true }
         ensures { result ≡ now_of self.now.history }
@@ -190,7 +191,7 @@ impl World {
         self.services.time
     }
 
-    /// The value that a field has at a path, if it has one (IEEE 1800.2-2020, Annex C).
+    /// The value that a field has at a path, if it has one (IEEE 1800.2-2020, Annex C). For a sound world.
     pub fn config(&self, path: &Path, field: &Name) -> Option<i64>
         requires { self.now.sound ≡ true }
         ensures { result ≡ config_answer (settings_of self.now.script self.now.history) (path_text path.now) field.now }
@@ -198,7 +199,8 @@ impl World {
         self.services.settings.get(path, field)
     }
 
-    /// The event that is due at the present time, of several the first: somebody is to hear a call, or a drain ends.
+    /// The event that is due at the present time, of several the first: somebody is to hear a call, or a drain ends. For a sound
+    /// world.
     #[tactic(auto, unfolding(bench_history::specs::Dues::due_now))]
     pub fn due_now(&self) -> Option<&Due<Owner, Option<Call>>>
         requires { self.now.sound ≡ true }
@@ -210,7 +212,7 @@ impl World {
         }
     }
 
-    /// The factory: its types are the script's, and each step is that of the accepted overrides (Clause 8).
+    /// The factory: its types are the script's, and each step is that of the accepted overrides (Clause 8). For a sound world.
     pub fn factory(&self) -> &Factory
         requires { self.now.sound ≡ true }
         ensures { IsFactory self.now.script.types (overrides_of self.now.script self.now.history) result.now }
@@ -218,7 +220,7 @@ impl World {
         &self.services.factory
     }
 
-    /// The settings: each answer is that of the accepted settings (Annex C).
+    /// The settings: each answer is that of the accepted settings (Annex C). For a sound world.
     pub fn settings(&self) -> &Settings
         requires { self.now.sound ≡ true }
         ensures { IsSettings (settings_of self.now.script self.now.history) result.now }
@@ -226,7 +228,7 @@ impl World {
         &self.services.settings
     }
 
-    /// The agenda: the events that are due, in their order.
+    /// The agenda: the events that are due, in their order. For a sound world.
     pub fn agenda(&self) -> &Agenda<Owner, Option<Call>>
         requires { self.now.sound ≡ true }
         ensures { result.now.dues ≡ in_order (due_events self.now.history) }
@@ -234,7 +236,7 @@ impl World {
         &self.services.agenda
     }
 
-    /// The objections: what is raised at each node, and held back there (10.5).
+    /// The objections: what is raised at each node, and held back there (10.5). For a sound world.
     pub fn objection(&self) -> &Objection
         requires { self.now.sound ≡ true }
         ensures { result.now.nodes ≡ objections_of self.now.history }
@@ -242,8 +244,8 @@ impl World {
         &self.services.objection
     }
 
-    /// The wiring: what can be connected, and the connections; once it is closed, in the path order of all nodes (Clause 12). It is
-    /// closed where connect has ended.
+    /// The wiring: what can be connected, and the connections; once it is closed, in the path order of all nodes (Clause 12). It
+    /// is closed where connect has ended. For a sound world.
     pub fn wiring(&self) -> &Wiring
         requires { self.now.sound ≡ true }
         ensures kept { IsConnecting (nodes_of self.now.history) (wiring_of self.now.history) result.now }
@@ -253,7 +255,7 @@ impl World {
     }
 
     /// What passes next: of the FIFOs at which something that waits can come to pass the first in path order, and what passes
-    /// there (Clause 12).
+    /// there (Clause 12). For a sound world.
     #[tactic(auto, unfolding(bench_history::specs::Passing::next_passed))]
     pub fn next_passed(&self) -> Option<(NodeId, Passage)>
         requires { self.now.sound ≡ true }
@@ -262,7 +264,8 @@ impl World {
         first_passing(&self.services.stations, self.services.unsettled.as_slice())
     }
 
-    /// The lock that leads, and whose it is: of the sequencers at which one does the first in path order (Clause 15).
+    /// The lock that leads, and whose it is: of the sequencers at which one does the first in path order (Clause 15). For a sound
+    /// world.
     pub fn next_locked(&self) -> Option<(NodeId, SeqId)>
         requires { self.now.sound ≡ true }
         ensures { result ≡ next_locked self.now.history }
@@ -271,8 +274,8 @@ impl World {
         first_locked(&services.arbiters, &services.sequences, services.contested)
     }
 
-    /// Whose driver is served next, and whether a word decides which sequence it is then: of the sequencers whose driver waits and
-    /// that have a candidate the first in path order (Clause 15).
+    /// Whose driver is served next, and whether a word decides which sequence it is then: of the sequencers whose driver waits
+    /// and that have a candidate the first in path order (Clause 15). For a sound world.
     pub fn next_served(&self) -> Option<(NodeId, bool)>
         requires { self.now.sound ≡ true }
         ensures { result ≡ next_served self.now.history }
@@ -281,7 +284,8 @@ impl World {
         first_served(&services.arbiters, &services.sequences, services.contested)
     }
 
-    /// How many puts, takes and peeks wait at a FIFO, or item requests and locks at a sequencer; 0 where neither stands at the node.
+    /// How many puts, takes and peeks wait at a FIFO (Clause 12), or item requests and locks at a sequencer (Clause 15); 0 where
+    /// neither stands at the node. For a sound world.
     pub fn waiting(&self, node: NodeId) -> usize
         requires { self.now.sound ≡ true }
         ensures { result ≡ waiters_at self.now.history node }
@@ -292,7 +296,8 @@ impl World {
         }
     }
 
-    /// What is raised at a node and below it, with what is held back below it. None where there is no such node.
+    /// What is raised at a node and below it, with what is held back below it (10.5). None where there is no such node. For a
+    /// sound world.
     pub fn total(&self, node: NodeId) -> Option<u64>
         requires { self.now.sound ≡ true }
         ensures { result ≡ (if nat_lt node (length (nodes_of self.now.history)) then Some (total (objections_of self.now.history) node) else None) }
@@ -303,7 +308,7 @@ impl World {
         Some(self.services.objection.total(node))
     }
 
-    /// Whether an objection stands: something is raised at the top or below, or held back.
+    /// Whether an objection stands: something is raised at the top or below, or held back (10.5). For a sound world.
     pub fn objection_stands(&self) -> bool
         requires { self.now.sound ≡ true }
         ensures { result ≡ stands (objections_of self.now.history) }
@@ -312,7 +317,7 @@ impl World {
         objection.total(NodeId::TOP) > 0 || objection.held(NodeId::TOP) > 0
     }
 
-    /// The sequences that were started, and the step at which each is that lives (Clause 14).
+    /// The sequences that were started, and the step at which each is that lives (Clause 14). For a sound world.
     pub fn sequences(&self) -> &Sequences
         requires { self.now.sound ≡ true }
         ensures started { result.now.started ≡ sequences_of self.now.history }
@@ -321,8 +326,8 @@ impl World {
         &self.services.sequences
     }
 
-    /// The sequences that the newest entry has ended, in rising number: one that has ended its last step, or all that lived in the
-    /// phase that has ended (Clause 14).
+    /// The sequences that the newest entry has ended, in rising number: one that has ended its last step, or all that lived in
+    /// the phase that has ended (Clause 14). For a sound world.
     pub fn leaving(&self) -> &[Who]
         requires { self.now.sound ≡ true }
         ensures { result.now ≡ leaving_of self.now.history }
@@ -330,7 +335,7 @@ impl World {
         self.leaving.as_slice()
     }
 
-    /// The tree.
+    /// The tree. For a sound world.
     pub fn tree(&self) -> &Tree
         requires { self.now.sound ≡ true }
         ensures { result.now.nodes ≡ nodes_of self.now.history }

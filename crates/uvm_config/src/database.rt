@@ -56,10 +56,10 @@ impl Settings {
         }
     }
 
-    /// Sets a field for the paths that the scope matches. The setter is a component at a depth (0 for the top, 1 for its
-    /// children), and `building` says whether phase build runs: while it does, a setting has the default precedence less
-    /// the depth, and the default precedence afterwards. The greatest precedence answers, and among equals the last that
-    /// was set. Gives the first of `Full` and `Memory` that holds, if one does.
+    /// Sets a field for the paths that the scope matches. The setter is a component at a depth of at most 32 (0 for the top, 1
+    /// for its children), and `building` says whether phase build runs: while it does, a setting has the default precedence,
+    /// 1000, less the depth, and the default precedence at any other time. The greatest precedence answers, and among equals the
+    /// last that was set. Gives the first of `Full` and `Memory` that holds, if one does; then nothing has changed.
     #[tactic(auto, unfolding(crate::specs::Kept::answer_at, crate::specs::Kept::accepted))]
     pub fn set(
         &mut self,

@@ -19,8 +19,8 @@ use std::collections::HashMap;
 use std::marker::Model;
 use uvm_glob::{Glob, Name, Path};
 
-/// The types that are registered, and what replaces them where. Contracts see the types in the order of registration,
-/// as names with kinds, and the step of each type at each path.
+/// The types that are registered, and what replaces them where (IEEE 1800.2-2020, Clause 8). Contracts see the types in the order
+/// of registration, as names with kinds, and the step of each type at each path.
 #[derive(Drop)]
 pub struct Factory {
     // The types in the order of registration.
@@ -62,7 +62,7 @@ impl Factory {
         }
     }
 
-    /// Registers a type: the first of `Known`, `Full` and `Memory` that holds, if one does.
+    /// Registers a type (Clause 8): the first of `Known`, `Full` and `Memory` that holds, if one does; then nothing has changed.
     #[tactic(auto, unfolding(crate::specs::Kept::types_of, crate::specs::Kept::step_at))]
     pub fn register(&mut self, type_name: Name, kind: Kind) -> Result<TypeId, FactoryFault>
         ensures ok { IfOk result (λ id. (register_fault (types_of self.old) type_name ≡ None) × (id ≡ length (types_of self.old))) }
@@ -82,8 +82,9 @@ impl Factory {
         Ok(TypeId::new(place as u16))
     }
 
-    /// Replaces a type by another of its kind at every path; without `replace` an override that is there stays. Gives
-    /// the first of `NoType`, `KindDiffers` and `Memory` that holds, if one does.
+    /// Replaces a type by another of its kind at every path, but where an instance override of it matches: that goes before it,
+    /// whichever was given first (Clause 8). Without `replace` a type override that is there stays. Gives the first of `NoType`,
+    /// `KindDiffers` and `Memory` that holds, if one does; then nothing has changed.
     #[tactic(auto, unfolding(crate::specs::Kept::types_of))]
     pub fn override_type(
         &mut self,
@@ -105,8 +106,9 @@ impl Factory {
         })
     }
 
-    /// Replaces a type by another of its kind at the paths that the glob matches; of several such overrides the first
-    /// given prevails. Gives the first of `NoType`, `KindDiffers` and `Memory` that holds, if one does.
+    /// Replaces a type by another of its kind at the paths that the glob matches. It goes before every type override, and of
+    /// several instance overrides that match the first given prevails (Clause 8). Gives the first of `NoType`, `KindDiffers` and
+    /// `Memory` that holds, if one does; then nothing has changed.
     #[tactic(auto, unfolding(crate::specs::Kept::types_of))]
     pub fn override_inst(
         &mut self,
@@ -128,8 +130,9 @@ impl Factory {
         })
     }
 
-    /// The type that is made where one is asked for at a path: where the overrides lead, `Loop` where they lead in a
-    /// loop, or `NoType`. Takes no memory.
+    /// The type that is made where one is asked for at a path: where the overrides lead (Clause 8). At each step an instance
+    /// override that matches goes before a type override, and of several the first given prevails. `NoType` where the type is not
+    /// registered, else `Loop` where they lead in a loop. Takes no memory.
     #[tactic(auto, using(crate::proofs::Rows::rows), unfolding(crate::specs::Kept::types_of))]
     pub fn resolve(&self, asked: TypeId, path: &Path) -> Result<TypeId, Unmade>
         ensures { result ≡ resolved self.now path.now asked }

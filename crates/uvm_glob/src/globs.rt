@@ -51,8 +51,9 @@ impl Glob {
         }
     }
 
-    /// The glob for what lies under a path: the path, a dot and the glob; the path alone where the glob is empty, and
-    /// the glob alone where the path is the top's.
+    /// The glob for what lies under a path: the path, a dot and the glob; the path alone where the glob is empty, and the glob
+    /// alone where the path is the top's. It has at most 2,049 bytes where `new` made the given glob, and else no limit of its
+    /// own. The error is want of memory.
     pub fn under(alloc: Global, path: &Path, glob: &Glob) -> Result<Glob, AllocError>
         ensures { IfOk result (λ under. under ≡ dotted (path_text path.now) glob.now) }
     {
@@ -76,7 +77,7 @@ impl Glob {
         self.text.as_slice()
     }
 
-    /// An equal glob.
+    /// An equal glob. The error is want of memory.
     pub fn copy(&self) -> Result<Glob, AllocError>
         ensures { IfOk result (λ glob. glob ≡ self.now) }
     {

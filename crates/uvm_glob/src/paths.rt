@@ -103,7 +103,7 @@ impl Path {
         count_names(self.text.as_slice())
     }
 
-    /// Appends the text of the path.
+    /// Appends the text of the path. Where memory is refused nothing is appended.
     pub fn write(&self, out: &mut Vec<u8>) -> Result<(), AllocError>
         ensures ok { OnOk result (out.new.items ≡ out.old.items ++ path_text self.now) }
         ensures err { OnErr result (out.new.items ≡ out.old.items) }
@@ -129,7 +129,7 @@ impl Path {
         self.cmp_in(Direction::Up, other)
     }
 
-    /// An equal path.
+    /// An equal path. The error is want of memory.
     pub fn copy(&self) -> Result<Path, AllocError>
         ensures { IfOk result (λ path. path ≡ self.now) }
     {

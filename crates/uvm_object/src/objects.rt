@@ -9,7 +9,8 @@ use crate::acts::{Acts, Call};
 use std::alloc::{AllocError, Global};
 use uvm_glob::Name;
 
-/// An object of a testbench: a component (IEEE 1800.2-2020, Clause 13). It hears a call and answers with acts.
+/// An object of a testbench: a component (IEEE 1800.2-2020, Clause 13), or a sequence (Clause 14). It hears a call and answers
+/// with acts.
 ///
 /// What it means is written in three ghost members. Its `view` is what it shows of itself, as numbers; its `name` is that of
 /// its type; and its relation `says` holds of a view, a call, the acts that may answer it there, and the view that comes after.

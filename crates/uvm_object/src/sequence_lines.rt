@@ -19,8 +19,8 @@ use uvm_sequencer::{How, Mode, SeqId, Sequences};
 use uvm_tlm::Item;
 use uvm_tree::{NodeId, Tree};
 
-/// How somebody is shown as the source of a report (IEEE 1800.2-2020, Clause 6): a component by its path, a sequence by that of its
-/// home and the names from its root sequence down to itself, as `uvm_test_top.sqr@@a.b`.
+/// How somebody is shown as the source of a report (IEEE 1800.2-2020, Clause 6): a component by its path, a sequence by that of
+/// its home and the names from its root sequence down to itself, as `uvm_test_top.sqr@@a.b`. The error is want of memory.
 pub fn source_of(
     alloc: Global,
     who: &Who,

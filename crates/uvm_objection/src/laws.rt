@@ -25,7 +25,7 @@ pub fn begun_drains_are_held()
     ensures { BegunDrainsAreHeld }
 {}
 
-/// No call moves a node: the nodes stand where they stood, and the same nodes are known.
+/// No call but `add` changes which nodes are known, and none moves a node: the nodes stand where they stood.
 #[tactic(auto, using(crate::proofs::Staying::places_stay))]
 pub fn places_stay()
     ensures { PlacesStay }

@@ -27,7 +27,7 @@ pub struct Due {
 /// The objections to the end of a phase, at the nodes of a tree (IEEE 1800.2-2020, Clause 10.5). Each node has a source count,
 /// raised and dropped at it, and a total, which is its source with the totals of its children and what these hold back. A
 /// total that falls to zero under a drain time is held back, so that nothing above it falls yet, until `drained` lets it go or
-/// a raise at or below the node ends the drain.
+/// a raise at or below the node ends the drain. A node is known once it was added, and the top always.
 ///
 /// Contracts see the nodes in the order in which they were added, and for how many more there is room. A node is found by a
 /// scan, and a change goes up by another: a call looks at each node at most twice. None but `add` and `reserve` takes memory.
@@ -69,8 +69,8 @@ impl Objection {
         self.entries.reserve(1)
     }
 
-    /// Adds a node under a parent: nothing was raised at it, and its drain time is 0. Its error is want of memory, which adds
-    /// nothing, and does not come where there is room.
+    /// Adds a node that is not known, under a parent that is: nothing was raised at it, and its drain time is 0. Its error is
+    /// want of memory, which adds nothing, and does not come where there is room.
     pub fn add(&mut self, node: NodeId, parent: NodeId) -> Result<(), AllocError>
         requires unknown { is_known node self.old.nodes ≡ false }
         requires parent { IsTrue (is_known parent self.old.nodes) }
@@ -82,8 +82,8 @@ impl Objection {
         Ok(())
     }
 
-    /// Sets the drain time of a node, in ticks, at most 10^15 (the standard's `set_drain_time`). A drain that has begun stays
-    /// due when it was; none begins, and none ends.
+    /// Sets the drain time of a known node, in ticks, at most 10^15 (the standard's `set_drain_time`). A drain that has begun
+    /// stays due when it was; none begins, and none ends.
     pub fn set_drain(&mut self, node: NodeId, drain: u64)
         requires known { IsTrue (is_known node self.old.nodes) }
         requires limit { drain ≤ 10 ^ 15 }
@@ -95,9 +95,9 @@ impl Objection {
         let _ = self.pass_up(node, ChangeKind::SetDrain(drain), 0);
     }
 
-    /// Raises a count at a node (`raise_objection`), and answers the node whose drain this ended, if it ended one: then only
-    /// the difference to what was held goes up. It begins no drain, so that its time does not matter. A count of zero changes
-    /// nothing. The total of the top may come to 10^18 at most.
+    /// Raises a count at a known node (`raise_objection`), and answers the node whose drain this ended, if it ended one: then
+    /// only the difference to what was held goes up. It begins no drain, so that its time does not matter. A count of zero
+    /// changes nothing. The total of the top may come to 10^18 at most.
     pub fn raise(&mut self, node: NodeId, count: u16) -> Option<NodeId>
         requires known { IsTrue (is_known node self.old.nodes) }
         requires limit { total self.old.nodes 0 + count ≤ 10 ^ 18 }
@@ -110,9 +110,9 @@ impl Objection {
         self.pass_up(node, ChangeKind::Raise(count), 0).ended
     }
 
-    /// Drops a count at a node at a time of at most 10^18 ticks (`drop_objection`), and answers the drain that this began, if it
-    /// began one; it ends none. A count of zero changes nothing. `BelowZero` comes where the count is above the source of the
-    /// node; then nothing has changed.
+    /// Drops a count at a known node at a time of at most 10^18 ticks (`drop_objection`), and answers the drain that this began,
+    /// if it began one; it ends none. A count of zero changes nothing. `BelowZero` comes where the count is above the source of
+    /// the node; then nothing has changed.
     pub fn drop(&mut self, node: NodeId, count: u16, now: u64) -> Result<Option<Due>, BelowZero>
         requires known { IsTrue (is_known node self.old.nodes) }
         requires limit { now ≤ 10 ^ 18 }
@@ -131,9 +131,9 @@ impl Objection {
         Ok(self.pass_up(node, ChangeKind::Drop(count), now).began)
     }
 
-    /// Ends the drain of a node, and no other, which is due at a time of at most 10^18 ticks: what was held is passed up (the
-    /// standard's `all_dropped`). Answers the drain that this began above, if it began one; its time counts from the moment at
-    /// which the first was due.
+    /// Ends the drain of a known node, and no other: what it holds is passed up (the standard's `all_dropped`). The node holds
+    /// something, and its drain is due at a time of at most 10^18 ticks. Answers the drain that this began above, if it began
+    /// one; its time counts from the moment at which the first was due.
     pub fn drained(&mut self, node: NodeId) -> Option<Due>
         requires known { IsTrue (is_known node self.old.nodes) }
         requires held { 0 < held_of node self.old.nodes }
@@ -147,8 +147,8 @@ impl Objection {
         self.pass_up(node, ChangeKind::Release, due).began
     }
 
-    /// The total of a node (`get_objection_total`): its source, and of each of its children the total and what it holds back. A
-    /// node with a positive total holds nothing.
+    /// The total of a known node (`get_objection_total`): its source, and of each of its children the total and what it holds
+    /// back. A node with a positive total holds nothing.
     pub fn total(&self, node: NodeId) -> u64
         requires { IsTrue (is_known node self.now.nodes) }
         ensures value { result ≡ total self.now.nodes node }
@@ -157,7 +157,8 @@ impl Objection {
         self.entry(node).total
     }
 
-    /// The source of a node (`get_objection_count`): the sum of the accepted raises less the sum of the accepted drops at it.
+    /// The source of a known node (`get_objection_count`): the sum of the accepted raises less the sum of the accepted drops at
+    /// it.
     pub fn source(&self, node: NodeId) -> u64
         requires { IsTrue (is_known node self.now.nodes) }
         ensures { result ≡ source_of node self.now.nodes }
@@ -165,7 +166,7 @@ impl Objection {
         self.entry(node).source
     }
 
-    /// The count that a node holds back while it drains, and 0 where it does not: its total before it fell to zero.
+    /// The count that a known node holds back while it drains, and 0 where it does not: its total before it fell to zero.
     pub fn held(&self, node: NodeId) -> u64
         requires { IsTrue (is_known node self.now.nodes) }
         ensures { result ≡ held_of node self.now.nodes }

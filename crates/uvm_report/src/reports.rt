@@ -62,8 +62,9 @@ impl Reports {
         }
     }
 
-    /// Sets the level for the reports that `which` names at the paths that the scope matches: those of a greater verbosity
-    /// are dropped.
+    /// Sets the level for the reports that `which` names at the paths that the scope matches: those of a greater verbosity are
+    /// dropped. Of the settings of one class (`Which`) that are for a report the last that was set prevails. The error is want of
+    /// memory, which changes nothing.
     pub fn set_verbosity(&mut self, scope: Glob, which: Which, level: u16) -> Result<(), AllocError>
         ensures ok { OnOk result (IsAfter (SetVerbosity scope which level) self.old self.new) }
         ensures err { OnErr result (IsSame self.old self.new) }
@@ -77,7 +78,8 @@ impl Reports {
         Ok(())
     }
 
-    /// Sets what is done with the reports that `which` names at the paths that the scope matches.
+    /// Sets what is done with the reports that `which` names at the paths that the scope matches. Of the settings of one class
+    /// (`Which`) that are for a report the last that was set prevails. The error is want of memory, which changes nothing.
     pub fn set_action(
         &mut self,
         scope: Glob,
@@ -97,7 +99,9 @@ impl Reports {
     }
 
     /// Changes the severity of the reports that are issued with the severity `from`, and with the id if one is given, at the
-    /// paths that the scope matches. A change is not changed again.
+    /// paths that the scope matches. A change is not changed again. Of the changes that are for a report those with an id go
+    /// before those without, and within each class the last that was set prevails. The error is want of memory, which changes
+    /// nothing.
     pub fn set_severity(
         &mut self,
         scope: Glob,
@@ -130,7 +134,8 @@ impl Reports {
         self.quit_limit = limit;
     }
 
-    /// Makes room for a report of an id: the next `issue`, of a report of this id, takes no memory.
+    /// Makes room for a report of an id: the next `issue`, of a report of this id, takes no memory. What is set and counted stays
+    /// as it was. The error is want of memory, which does not come where there is room already.
     pub fn reserve_id(&mut self, id: &Name) -> Result<(), AllocError>
         ensures ok { OnOk result (IsTrue (has_room self.new id.now)) }
         ensures same { IsSame self.old self.new }
@@ -139,11 +144,12 @@ impl Reports {
         self.tally.reserve(id)
     }
 
-    /// Judges a report of the component at a path, and counts it if it is issued. First its severity is changed; the level
-    /// and the actions are those for the changed severity. It is dropped where its verbosity is above the level (a report
-    /// issued as WARNING, ERROR or FATAL has none), and silent where it has no action. Once the quit count has reached the
-    /// limit, each report that is issued asks for the end of the run. Memory is taken only where an id is counted for the
-    /// first time.
+    /// Judges a report of the component at a path, and counts it if it is issued; fewer than 10^18 were issued before. First its
+    /// severity is changed; the level and the actions are those for the changed severity. It is dropped where its verbosity is
+    /// above the level (a report issued as WARNING, ERROR or FATAL has none), and silent where it has no action. Once the quit
+    /// count has reached the limit, each report that is issued asks for the end of the run. The error is want of memory, which
+    /// comes only for a report that would be issued, of an id that was not counted yet and for which there is no room; then
+    /// nothing has changed.
     #[tactic(auto, using(crate::proofs::Judged::judged), unfolding(crate::specs::Kept::severity_at, crate::specs::Kept::level_at, crate::specs::Kept::actions_at, crate::specs::Kept::limit_of, crate::specs::Kept::counts_of, crate::specs::Kept::has_room, crate::specs::Fates::ruling_by))]
     pub fn issue(&mut self, path: &Path, report: &Report) -> Result<Fate, AllocError>
         requires { issued_number (counts_of self.old) < 10 ^ 18 }

@@ -50,7 +50,7 @@ impl Text {
         self.bytes.as_slice()
     }
 
-    /// An equal text.
+    /// An equal text. The error is want of memory.
     pub fn copy(&self) -> Result<Text, AllocError>
         ensures { IfOk result (λ text. text ≡ self.now) }
     {

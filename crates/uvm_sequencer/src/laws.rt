@@ -24,7 +24,7 @@ pub fn lock_excludes()
 {}
 
 /// Of any two holders of a sequencer one is the other or one of its ancestors: there is none at first, and nested holders stay
-/// so, whatever is called.
+/// so, whatever is called but `end_phase`, which takes out some of them.
 pub fn holders_stay_nested()
     ensures { HoldersStayNested }
 {}
@@ -50,13 +50,14 @@ pub fn one_item_out()
     ensures { OneItemOut }
 {}
 
-/// When a sequence is started, the lock that leads and the candidates stay what they were at every sequencer: so a queue that has
-/// not changed need not be looked at again.
+/// When a sequence is started, the lock that leads and the candidates stay what they were at every sequencer at which all that
+/// wait were started: so a queue that has not changed need not be looked at again.
 pub fn starts_change_nothing()
     ensures { StartsChangeNothing }
 {}
 
-/// A sequence waits for one item and for one lock at most: so it was at the beginning, and so it stays, whatever is called.
+/// A sequence waits for one item and for one lock at most: so it was at the beginning, and so it stays, whatever is called but
+/// `end_phase`, which takes some out.
 pub fn waits_stay_single()
     ensures { WaitsStaySingle }
 {}

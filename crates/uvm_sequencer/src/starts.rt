@@ -75,8 +75,8 @@ struct Sequence {
 /// children.
 ///
 /// Contracts see how each was started and its step, the newest first, and beside them for how many more there is room. The
-/// time of a call does not grow with the sequences, but for `is_under`, which goes up from parent to parent. None but `start`
-/// and `reserve` takes memory.
+/// time of a call does not grow with the sequences, but for `is_under` and `names`, which go up from parent to parent. None but
+/// `start`, `reserve` and `names` takes memory.
 #[derive(Drop)]
 pub struct Sequences {
     // By their numbers.

@@ -12,3 +12,4 @@ pub mod Seated
 pub mod Stepped
 pub mod Supplied
 pub mod Given
+pub mod Newcomers

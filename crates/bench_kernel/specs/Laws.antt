@@ -1,4 +1,14 @@
--- The laws of legal logs that custody rests on.
+-- The laws of legal logs that custody rests on, and what they say of who was made.
+use Rattle.std.specs.Prelude.{◌≡◌, List, [], ◌∷◌, Some, None}
+use Rattle.uvm_object.specs.declared.acts.Who.{Who}
+use Rattle.uvm_object.specs.declared.entries.Entry.{Entry}
+use Rattle.std.specs.List.{IsDistinct}
+use Rattle.std.specs.Map.{keys_of}
+use Rattle.uvm_object.specs.Objects.{life_of, same_who}
+use Rattle.bench_script.specs.Scripts.{ScriptValue}
+use Rattle.bench_history.specs.Next.{EachIsNext, IsNext, made_in, need_in, next_of}
+use Rattle.bench_world.specs.Worlds.{made_who}
+use Rattle.bench_kernel.specs.Kernels.{needed_type, types_made}
 use Rattle.bench_history.specs.Laws.{NothingAfterOver, MachineEntriesAreSilent, NodesStay, NeedsAreWanted, MadeObjectsAreNew, NewNodesAreUnasked, NewSequencesAreUnasked, ComponentsAreNodes, LivingLived, LeaversLived}
 
 pub record LogLaws : Type 0 where
@@ -12,3 +22,23 @@ pub record LogLaws : Type 0 where
   pub components : ComponentsAreNodes
   pub lived : LivingLived
   pub leavers : LeaversLived
+
+-- whoever is made is one more than were made before, with the name of the type that was needed, and was asked nothing yet
+pub record IsMadeNew (script : ScriptValue) (history : List Entry) (entry : Entry) (who : Who) : Type 0 where
+  pub types : types_made script (entry ∷ history) ≡ (who, needed_type script history) ∷ types_made script history
+  pub unasked : life_of who history ≡ []
+
+abbrev pub MadeAreNew : Type 0
+MadeAreNew =
+    (script : ScriptValue) (history : List Entry) (entry : Entry) (who : Who) → EachIsNext script history → made_in (next_of script history) ≡ Some entry
+    → made_who history (next_of script history) ≡ Some who → IsMadeNew script history entry who
+
+-- where no object is needed nobody is made
+abbrev pub OthersMakeNobody : Type 0
+OthersMakeNobody =
+    (script : ScriptValue) (history : List Entry) (entry : Entry) → need_in (next_of script history) ≡ None → IsNext script history entry
+    → types_made script (entry ∷ history) ≡ types_made script history
+
+-- nobody is made twice: no number of a node or of a sequence is used again
+abbrev pub NobodyIsMadeTwice : Type 0
+NobodyIsMadeTwice = (script : ScriptValue) (history : List Entry) → EachIsNext script history → IsDistinct same_who (keys_of (types_made script history))

@@ -35,7 +35,12 @@ pub enum Step<O> {
     /// An entry was made.
     Moved,
     /// A sequence has ended (IEEE 1800.2-2020, Clause 14), and its object is given back.
-    Back { who: Who, object: O },
+    Back {
+        /// The sequence, with its number and its home.
+        who: Who,
+        /// Its object.
+        object: O,
+    },
     /// The run is over.
     Over,
 }
@@ -52,7 +57,9 @@ pub enum Misfit {
 /// An object that was not taken, as it came.
 #[derive(Drop)]
 pub struct Unfit<O> {
+    /// The object that was supplied.
     pub object: O,
+    /// Why it is not taken.
     pub why: Misfit,
 }
 

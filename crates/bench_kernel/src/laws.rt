@@ -1,6 +1,7 @@
-//! The laws of legal logs that custody rests on.
+//! The laws of legal logs that custody rests on, and what they say of who was made. The functions do nothing that shows; their
+//! contracts are the laws (`specs/Laws.antt`).
 
-ghost use Rattle.bench_kernel.specs.Laws.{LogLaws};
+ghost use Rattle.bench_kernel.specs.Laws.{LogLaws, MadeAreNew, NobodyIsMadeTwice, OthersMakeNobody};
 
 use bench_history::laws;
 
@@ -18,4 +19,26 @@ pub(crate) fn hold()
     laws::components_are_nodes();
     laws::living_lived();
     laws::leavers_lived();
+}
+
+/// Whoever is made is new: the log names one more that was made, with the name of the type that was needed, and nothing was asked of it
+/// before.
+pub fn made_are_new()
+    ensures { MadeAreNew }
+{
+    hold();
+}
+
+/// An entry for which no object was needed makes nobody.
+pub fn others_make_nobody()
+    ensures { OthersMakeNobody }
+{
+    hold();
+}
+
+/// Nobody is made twice: no number of a node or of a sequence is used again.
+pub fn nobody_is_made_twice()
+    ensures { NobodyIsMadeTwice }
+{
+    hold();
 }

@@ -2,7 +2,7 @@
 #![tactic(auto)]
 
 mod kernels;
-mod laws;
+pub mod laws;
 mod seating;
 mod seats;
 mod sequence_seats;

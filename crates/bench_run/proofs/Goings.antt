@@ -1,20 +1,24 @@
 -- A run that is not over, and one that breaks off.
-use Rattle.std.proofs.Common.{◌≡◌, ◌<◌, ◌≤◌, ℕ, Bool, true, false, List, [], ◌∷◌, ◌++◌, length, Option, Some, None, Result, Ok, Err, ap, refl, sym, ◌∙◌, subst, if◌then◌else◌, append-nil, arith, suc, lit≤}
+use Rattle.std.proofs.Common.{◌≡◌, ◌<◌, ◌≤◌, ℕ, Bool, true, false, List, [], ◌∷◌, ◌++◌, length, Option, Some, None, Result, Ok, Err, ap, refl, sym, ◌∙◌, subst, if◌then◌else◌, append-nil, arith, suc, lit<, lit≤}
 use Rattle.std.specs.Result.{IsErrAnd}
 use Rattle.std.proofs.lemmas.List.{append_assoc}
 use Rattle.std.specs.Io.KnownBytes.{Appends}
 use Rattle.std.proofs.KnownBytes.{Appends-kept}
 use Rattle.bench_script.specs.Scripts.{ScriptValue}
 use Rattle.bench_history.specs.Limits.{log_limit}
+use Rattle.bench_history.specs.History.{is_over}
 use Rattle.bench_history.specs.Next.{IsLegal}
 use Rattle.bench_core.specs.declared.cores.Health.{Health}
 use Rattle.bench_core.specs.declared.cores.Health.TheVariants.{Good}
 use Rattle.bench_core.specs.Cores.{CoreValue, is_sound, last_text}
-use Rattle.bench_kernel.specs.Steps.{IsSameLog}
+use Rattle.uvm_object.specs.Objects.{Says, View}
+use Rattle.uvm_object.specs.declared.acts.Who.{Who}
+use Rattle.bench_kernel.specs.Kernels.{KernelValue}
+use Rattle.bench_kernel.specs.Steps.{IsBack, IsSameLog}
 use Rattle.bench_run.specs.declared.endings.Ending.{Ending}
 use Rattle.bench_run.specs.declared.faults.RunFault.{RunFault}
 use Rattle.bench_run.specs.declared.faults.RunFault.TheVariants as fault
-use Rattle.bench_run.specs.Running.{BrokeOffRun, Grows, IsHalted, IsUnwritten, LeavesRun, transcript}
+use Rattle.bench_run.specs.Running.{BrokeOffRun, Grows, HasTold, IsHalted, IsUnwritten, LeavesRun, transcript}
 
 -- what is written after what was written
 pub Appends-more : (old mid new : Option (List ℕ)) (xs ys : List ℕ) → Appends old mid xs → Appends mid new ys → Appends old new (xs ++ ys)
@@ -98,3 +102,57 @@ halts (Err given) why trace failed old new script first last told halted same ro
       record { legal = subst (λ (s : ScriptValue). IsLegal s old.history) is legal; wrote = rw append-nil wrote },
     )
     go fault.Output halted = absurd halted
+
+-- one more who has ended was told
+pub told-more : {O : Type 0} (view : O → View) (name : O → List ℕ) (says : O → Says) (who : Who) (object : O) (first old new : KernelValue O) → HasTold first old → IsBack view name says who object old new → HasTold first new
+told-more {O} view name says who object first old new told back =
+    record {
+      core = ap (λ (k : KernelValue O). k.core) back.is ∙ ap (λ (core : CoreValue). record core { leaving = new.core.leaving }) told.core;
+      failed = ap (λ (k : KernelValue O). k.failed) back.is ∙ told.failed;
+    }
+
+-- a kernel that has told some has the log that it had
+pub told-log : {O : Type 0} (old new : KernelValue O) → HasTold old new → IsSameLog old.core new.core
+told-log old new told = record { script = ap (λ (core : CoreValue). core.script) told.core; history = ap (λ (core : CoreValue). core.history) told.core }
+
+-- the run is over, and its summary was not written
+pub unsummed :
+    (result : Result Ending RunFault) (why : RunFault) (trace : Bool) (old new : CoreValue) (script : ScriptValue) (first half last : Option (List ℕ))
+    → IsErrAnd result (λ told. told ≡ why) → IsSameLog old new → is_over old.history ≡ true → IsLegal old.script old.history → old.script ≡ script
+    → Appends first half (transcript trace script old.history) → IsUnwritten why half last
+    → LeavesRun script trace new.history first last result
+unsummed (Ok ending) why trace old new script first half last told same over legal is wrote unwritten = absurd told
+unsummed (Err given) why trace old new script first half last told same over legal is wrote unwritten =
+    go given (subst (λ fault. IsUnwritten fault half last) (sym told) unwritten)
+  where
+    go : (given : RunFault) → IsUnwritten given half last → BrokeOffRun given script trace new.history first last
+    go fault.Memory kept = record {
+      unwritten = [];
+      written = old.history;
+      log = same.history;
+      newest_alone = lit≤ tt;
+      room = λ going. absurd (let bad : true ≡ false = rw over at going in cc);
+      wrote = record { legal = subst (λ (s : ScriptValue). IsLegal s old.history) is legal; wrote = Appends-kept first half last _ (rw append-nil wrote) kept };
+    }
+    go fault.LogFull bad = absurd bad
+    go fault.Output done = tt
+
+-- nothing is written
+Appends-none : (held : Option (List ℕ)) → Appends held held []
+Appends-none None = tt
+Appends-none (Some bytes) = sym (append-nil bytes)
+
+-- no machine was made
+pub never-ran : (script : ScriptValue) (trace : Bool) (held : Option (List ℕ)) → LeavesRun script trace [] held held (Err fault.Memory)
+never-ran script trace held = record {
+  unwritten = [];
+  written = [];
+  log = refl;
+  newest_alone = lit≤ tt;
+  room = λ going. lit< tt;
+  wrote = record { legal = record { each = tt; few = lit≤ tt }; wrote = Appends-none held };
+}
+
+-- and its health
+pub told-health : {O : Type 0} (old new : KernelValue O) → HasTold old new → old.core.health ≡ Good → new.core.health ≡ Good
+told-health old new told good = ap (λ (core : CoreValue). core.health) told.core ∙ good

@@ -1,1 +1,4 @@
 pub mod Goings
+pub mod Words
+pub mod Lives
+pub mod Determined

@@ -1,19 +1,23 @@
 -- What a run of a script does.
-use Rattle.std.specs.Prelude.{◌≡◌, ◌<◌, ◌≤◌, ℕ, Bool, false, List, [], ◌∷◌, ◌++◌, length, Option, Some, Result, Ok, Err}
+use Rattle.std.specs.Prelude.{◌≡◌, ◌<◌, ◌≤◌, ℕ, Bool, false, List, [], ◌∷◌, ◌++◌, length, IfSome, IsSome, Option, Some, Result, Ok, Err}
 use Rattle.std.specs.Io.KnownBytes.{Appends, Keeps}
+use Rattle.rand_core.specs.Stream.{Stream}
 use Rattle.uvm_glob.specs.Lists.{newest}
 use Rattle.uvm_report.specs.Counts.{Counts}
 use Rattle.uvm_report.specs.Commands.{quit_limit, report_counts}
 use Rattle.uvm_report.specs.Lines.{summary_text}
+use Rattle.uvm_object.specs.Objects.{Says, View}
 use Rattle.uvm_object.specs.declared.entries.Entry.{Entry}
 use Rattle.uvm_object.specs.declared.entries.Entry.TheVariants.{Over}
 use Rattle.bench_script.specs.Scripts.{ScriptValue}
-use Rattle.bench_history.specs.Next.{IsLegal}
+use Rattle.bench_history.specs.Next.{IsLegal, declined_in, next_of}
 use Rattle.bench_history.specs.Limits.{log_limit}
 use Rattle.bench_history.specs.History.{is_over}
 use Rattle.bench_history.specs.Reports.{report_commands}
 use Rattle.bench_core.specs.Cores.{CoreValue, core_after, last_text}
 use Rattle.bench_kernel.specs.Kernels.{KernelValue}
+use Rattle.bench_run.specs.Words.{HasWordsOf}
+use Rattle.bench_run.specs.Lives.{HaveLived}
 use Rattle.bench_run.specs.declared.endings.Ending.{Ending}
 use Rattle.bench_run.specs.declared.faults.RunFault.{RunFault}
 use Rattle.bench_run.specs.declared.faults.RunFault.TheVariants.{Memory, LogFull, Output}
@@ -66,9 +70,15 @@ abbrev pub LeavesRun : ScriptValue → Bool → List Entry → Option (List ℕ)
 LeavesRun script trace history old new (Ok ending) = RanTo ending script trace history old new
 LeavesRun script trace history old new (Err fault) = BrokeOffRun fault script trace history old new
 
--- the same where the log is gone
-abbrev pub IsRun : ScriptValue → Bool → Option (List ℕ) → Option (List ℕ) → Result Ending RunFault → Type 0
-IsRun script trace old new result = (history : List Entry) × LeavesRun script trace history old new result
+-- the same where the log is gone: it is legal, its words are those of a generator, and its objects those that are given for the names of their
+-- types
+module _ {O : Type 0} (view : O → View) (name : O → List ℕ) (says : O → Says) (Gives : List ℕ → Option O → Type 0) where
+  pub record IsRun (stream : Stream) (script : ScriptValue) (trace : Bool) (old new : Option (List ℕ)) (result : Result Ending RunFault) : Type 0 where
+    pub history : List Entry
+    pub legal : IsLegal script history
+    pub leaves : LeavesRun script trace history old new result
+    pub words : HasWordsOf stream history
+    pub objects : HaveLived view name says Gives script history
 
 -- at most, sequences that have ended were told, and their objects given back: the log stays, and a kernel goes on that did
 pub record HasTold {O : Type 0} (old new : KernelValue O) : Type 0 where
@@ -85,6 +95,11 @@ abbrev pub IsHalted : RunFault → Bool → CoreValue → Type 0
 IsHalted Memory failed core = failed ≡ false → length core.history < log_limit core.script
 IsHalted LogFull failed core = (log_limit core.script ≤ length core.history) × (is_over core.history ≡ false)
 IsHalted Output failed core = ⊥
+
+-- the needed object was declined
+pub record IsDeclined {O : Type 0} (old new : KernelValue O) : Type 0 where
+  pub becomes : IfSome (declined_in (next_of old.core.script old.core.history)) (λ entry. new ≡ record old { core = core_after entry old.core })
+  pub one : IsSome (declined_in (next_of old.core.script old.core.history))
 
 -- why a line was not written, and that nothing was where memory was refused
 abbrev pub IsUnwritten : RunFault → Option (List ℕ) → Option (List ℕ) → Type 0

@@ -14,6 +14,7 @@
 
 mod endings;
 mod faults;
+pub mod laws;
 mod running;
 #[cfg(test)]
 mod tests;

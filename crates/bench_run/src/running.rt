@@ -1,26 +1,28 @@
 //! The run of a script: the kernel goes on step by step, and what it needs is made.
 
-ghost use Rattle.std.specs.Prelude.{◌≡◌, [], OnErr, OnOk, IfOk, IfErr, IsSome, Some, true, false, if◌then◌else◌, MatchBool};
+ghost use Rattle.std.specs.Prelude.{◌≡◌, ◌≢◌, ◌⊎◌, [], None, OnErr, OnOk, IfOk, IfErr, IsSome, Some, true, false, if◌then◌else◌, MatchBool};
 ghost use Rattle.std.specs.Io.KnownBytes.{Appends};
 ghost use Rattle.uvm_glob.specs.Lists.{newest};
 ghost use Rattle.uvm_object.specs.declared.entries.Entry.TheVariants.{Over};
-ghost use Rattle.bench_history.specs.Next.{IsLegal};
+ghost use Rattle.bench_history.specs.Next.{IsLegal, need_in, next_of};
 ghost use Rattle.bench_core.specs.declared.cores.Health.TheVariants.{Good};
 ghost use Rattle.bench_history.specs.History.{is_over};
-ghost use Rattle.bench_core.specs.Cores.{is_sound, last_text};
-ghost use Rattle.bench_kernel.specs.Kernels.{is_done, open_need};
-ghost use Rattle.bench_kernel.specs.Steps.{IsSameLog};
+ghost use Rattle.bench_core.specs.Cores.{IsDrawn, is_sound, last_text, word_in};
+ghost use Rattle.bench_kernel.specs.Kernels.{is_done, open_need, wanted_in};
+ghost use Rattle.bench_kernel.specs.Steps.{IsSameLog, IsSupplied};
 ghost use Rattle.bench_history.specs.Reports.{report_commands};
 ghost use Rattle.uvm_report.specs.Commands.{quit_limit};
 ghost use Rattle.uvm_report.specs.Observed as reports;
 ghost use Rattle.uvm_report.specs.Observed.{limit_of};
-ghost use Rattle.bench_run.specs.Running.{Grows, HasTold, IsEnding, IsHalted, IsRun, IsUnwritten, LeavesRun, log_counts, summary_of};
+ghost use Rattle.bench_run.specs.Words.{AreDrawn, HasWordsOf, word_made};
+ghost use Rattle.bench_run.specs.Lives.{AreKept, HaveLived, MayGive};
+ghost use Rattle.bench_run.specs.Running.{Grows, HasTold, IsEnding, IsDeclined, IsHalted, IsRun, IsUnwritten, LeavesRun, log_counts, summary_of};
 
 use crate::endings::Ending;
 use crate::faults::RunFault;
 use bench_core::CoreFault;
 use bench_history::laws;
-use bench_kernel::{Kernel, Misfit, Step, Unfit};
+use bench_kernel::{Kernel, Misfit, Step, Unfit, laws as custody};
 use bench_script::Script;
 use rand_core::Rng;
 use std::alloc::{AllocError, Global};
@@ -53,17 +55,21 @@ pub fn run_script<
 ) -> Result<Ending, RunFault>
     requires callable { F.IsAlwaysCallable make }
     requires tested { IsSome script.test }
-    ensures { IsRun script trace (W.contents out.old) (W.contents out.new) result }
+    ensures { IsRun O.view O.name O.says (MayGive F.Fn make) (R.stream words.old) script trace (W.contents out.old) (W.contents out.new) result }
 {
     let mut kernel: Kernel<O> = match Kernel::new(alloc, script) {
         Ok(kernel) => kernel,
         Err(_) => return Err(RunFault::Memory),
     };
-    run_kernel(alloc, &mut kernel, words, trace, &make, out)
+    let ended = run_kernel(alloc, &mut kernel, words, trace, &make, out);
+    // Whose text was written.
+    let _log = kernel.log();
+    ended
 }
 
-/// Runs a kernel that has not begun as `run_script` runs a script, and gives each object back. The kernel then still tells its
-/// log, which is that of the run.
+/// Runs a kernel that has not begun, and was not abandoned, as `run_script` runs a script, and gives each object back. The kernel then
+/// still tells its log, which is that of the run, and, where the run is over, its reports. No word is drawn beyond those of the log,
+/// but for one at most where memory is refused.
 pub fn run_kernel<
     O: UvmObject,
     R: Rng,
@@ -79,8 +85,13 @@ pub fn run_kernel<
 ) -> Result<Ending, RunFault>
     requires callable { F.IsAlwaysCallable make.now }
     requires good { kernel.old.core.health ≡ Good }
+    requires going { kernel.old.failed ≡ false }
     requires begun { kernel.old.core.history ≡ [] }
     ensures run { LeavesRun kernel.old.core.script trace kernel.new.core.history (W.contents out.old) (W.contents out.new) result }
+    ensures sound { OnOk result (kernel.new.core.health ≡ Good) }
+    ensures words { HasWordsOf (R.stream words.old) kernel.new.core.history }
+    ensures left { OnOk result (AreDrawn R.stream kernel.new.core.history words.old words.new) }
+    ensures objects { HaveLived O.view O.name O.says (MayGive F.Fn make.now) kernel.new.core.script kernel.new.core.history }
     ensures script { kernel.new.core.script ≡ kernel.old.core.script }
     ensures back { kernel.new.held ≡ [] }
 {
@@ -101,10 +112,17 @@ fn run_to_end<O: UvmObject, R: Rng, F: Fn(&Name) -> Result<Option<O>, AllocError
 ) -> Result<Ending, RunFault>
     requires callable { F.IsAlwaysCallable make.now }
     requires good { kernel.old.core.health ≡ Good }
+    requires going { kernel.old.failed ≡ false }
     requires begun { kernel.old.core.history ≡ [] }
     ensures run { LeavesRun kernel.old.core.script trace kernel.new.core.history (W.contents out.old) (W.contents out.new) result }
+    ensures sound { OnOk result (kernel.new.core.health ≡ Good) }
+    ensures words { HasWordsOf (R.stream words.old) kernel.new.core.history }
+    ensures left { OnOk result (AreDrawn R.stream kernel.new.core.history words.old words.new) }
+    ensures objects { HaveLived O.view O.name O.says (MayGive F.Fn make.now) kernel.new.core.script kernel.new.core.history }
     ensures script { kernel.new.core.script ≡ kernel.old.core.script }
 {
+    // Before the first entry nobody is held.
+    let _held = kernel.live();
     while make_entry(kernel, words, make)? {
         write_last(alloc, kernel, trace, out)?;
     }
@@ -123,10 +141,15 @@ fn make_entry<O: UvmObject, R: Rng, F: Fn(&Name) -> Result<Option<O>, AllocError
     ensures going { IfOk result (λ made. made ≡ true → kernel.new.failed ≡ false) }
     ensures err { IfErr result (λ fault. IsHalted fault kernel.old.failed kernel.old.core) }
     ensures same { OnErr result (IsSameLog kernel.old.core kernel.new.core) }
+    ensures words { IfOk result (λ made. IsDrawn R.stream (word_made made kernel.new.core.history) words.old words.new) }
+    ensures objects { OnOk result (AreKept O.view O.name O.says (MayGive F.Fn make.now) kernel.old → AreKept O.view O.name O.says (MayGive F.Fn make.now) kernel.new) }
 {
     // Where something comes the run is not over.
     laws::nothing_after_over();
+    custody::others_make_nobody();
     loop {
+        // Nobody is held twice.
+        let _held = kernel.live();
         match kernel.step(words) {
             Ok(Step::Back { .. }) => (),
             Ok(Step::Over) => return Ok(false),
@@ -173,11 +196,15 @@ fn fill<O: UvmObject, F: Fn(&Name) -> Result<Option<O>, AllocError>>(
 ) -> Result<(), RunFault>
     requires callable { F.IsAlwaysCallable make.now }
     requires needed { IsSome (open_need kernel.old) }
+    requires asked { open_need kernel.old ≡ need_in (next_of kernel.old.core.script kernel.old.core.history) }
     ensures ok { OnOk result (Grows kernel.old.core kernel.new.core) }
     ensures going { OnOk result (kernel.new.failed ≡ kernel.old.failed) }
     ensures err { IfErr result (λ fault. fault ≡ RunFault.Memory) }
     ensures same { OnErr result (kernel.new ≡ kernel.old) }
+    ensures wordless { OnOk result (word_in kernel.new.core.history ≡ None) }
+    ensures objects { OnOk result (AreKept O.view O.name O.says (MayGive F.Fn make.now) kernel.old → AreKept O.view O.name O.says (MayGive F.Fn make.now) kernel.new) }
 {
+    custody::made_are_new();
     let Some(need) = kernel.need() else {
         unreachable!()
     };
@@ -199,6 +226,7 @@ fn supply<O: UvmObject>(kernel: &mut Kernel<O>, object: O) -> Result<(), RunFaul
     ensures going { OnOk result (kernel.new.failed ≡ kernel.old.failed) }
     ensures err { IfErr result (λ fault. fault ≡ RunFault.Memory) }
     ensures same { OnErr result (kernel.new ≡ kernel.old) }
+    ensures filled { OnOk result (IsSupplied O.view O.name O.says object kernel.old kernel.new ⊎ ((O.name object ≢ wanted_in kernel.old) × IsDeclined kernel.old kernel.new)) }
 {
     match kernel.supply(object) {
         Ok(()) => Ok(()),

@@ -1,3 +1,2 @@
-pub mod Answering
-pub mod ReadLemmas
 pub mod Reports
+pub mod Told

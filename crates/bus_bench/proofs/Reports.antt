@@ -6,18 +6,19 @@ use Rattle.uvm_object.specs.declared.entries.Entry.{Entry}
 use Rattle.bench_run.specs.declared.endings.Ending.{Ending}
 use Rattle.bench_script.specs.declared.faults.ScriptFault.{ScriptFault}
 use Rattle.bench_script.specs.Scripts.{ScriptValue}
-use Rattle.bench_run.specs.Running.{IsRun, LeavesRun, WroteLog}
+use Rattle.rand_core.specs.Stream.{Stream}
+use Rattle.bench_run.specs.Running.{LeavesRun, WroteLog}
 use Rattle.bench_run.specs.declared.faults.RunFault.{RunFault}
 use Rattle.bench_run.specs.declared.faults.RunFault.TheVariants as ran
 use Rattle.bus_command.specs.Commands.{Asked, debug, run}
-use Rattle.bus_bench.specs.Debugging.{BrokeOff, IsDebugRun}
+use Rattle.bus_jobs.specs.Debugging.{BrokeOff, IsDebugRun}
 use Rattle.bus_bench.specs.Program.{IsWork}
-use Rattle.bus_bench.specs.Runs.{IsBenchRun, script_to_run}
-use Rattle.bus_bench.specs.Verdicts.{unflushed}
-use Rattle.bus_bench.specs.declared.verdicts.Breakage.{Breakage}
-use Rattle.bus_bench.specs.declared.verdicts.Breakage.TheVariants.{Memory, LogFull, Output, Unread}
-use Rattle.bus_bench.specs.declared.verdicts.Verdict.{Verdict}
-use Rattle.bus_bench.specs.declared.verdicts.Verdict.TheVariants.{Clean, Faulty, Refused, Broken}
+use Rattle.bus_jobs.specs.Runs.{IsBenchRun, IsBusRun, script_to_run, words_of_seed}
+use Rattle.bus_jobs.specs.Verdicts.{unflushed}
+use Rattle.bus_jobs.specs.declared.verdicts.Breakage.{Breakage}
+use Rattle.bus_jobs.specs.declared.verdicts.Breakage.TheVariants.{Memory, LogFull, Output, Unread}
+use Rattle.bus_jobs.specs.declared.verdicts.Verdict.{Verdict}
+use Rattle.bus_jobs.specs.declared.verdicts.Verdict.TheVariants.{Clean, Faulty, Refused, Broken}
 
 -- what was written stays written
 
@@ -49,19 +50,20 @@ leaves_run-kept script trace history old mid new (Err ran.Memory) broke kept = r
 leaves_run-kept script trace history old mid new (Err ran.LogFull) broke kept = (broke.0, broke.1, wrote_log-kept script trace old mid new history [] broke.2 kept)
 leaves_run-kept script trace history old mid new (Err ran.Output) broke kept = broke
 
-run-kept : (script : ScriptValue) (trace : Bool) (old mid new : Option (List ℕ)) (result : Result Ending RunFault) → IsRun script trace old mid result → Keeps mid new → IsRun script trace old new result
-run-kept script trace old mid new result left kept = (left.0, leaves_run-kept script trace left.0 old mid new result left.1 kept)
+run-kept : (words : Stream) (script : ScriptValue) (trace : Bool) (old mid new : Option (List ℕ)) (result : Result Ending RunFault) → IsBusRun words script trace old mid result → Keeps mid new → IsBusRun words script trace old new result
+run-kept words script trace old mid new result left kept =
+    record { history = left.history; legal = left.legal; leaves = leaves_run-kept script trace left.history old mid new result left.leaves kept; words = left.words; objects = left.objects }
 
-bench_run-kept : (asked : Result ScriptValue ScriptFault) (trace : Bool) (old mid new : Option (List ℕ)) (verdict : Verdict) → IsBenchRun asked trace old mid verdict → Keeps mid new → IsBenchRun asked trace old new verdict
-bench_run-kept asked trace old mid new Clean done kept = (done.0, done.1, done.2, done.3, run-kept done.0 trace old mid new (Ok done.2) done.4 kept)
-bench_run-kept asked trace old mid new Faulty done kept = (done.0, done.1, done.2, done.3, run-kept done.0 trace old mid new (Ok done.2) done.4 kept)
-bench_run-kept asked trace old mid new (Refused fault) done kept = (done.0, done.1, Keeps-trans old mid new done.2 kept)
-bench_run-kept asked trace old mid new (Broken breakage) (inl none) kept = inl (none.0, Keeps-trans old mid new none.1 kept)
-bench_run-kept asked trace old mid new (Broken breakage) (inr done) kept = inr (done.0, done.1, done.2, done.3, run-kept done.0 trace old mid new (Err done.2) done.4 kept)
+bench_run-kept : (asked : Result ScriptValue ScriptFault) (words : Stream) (trace : Bool) (old mid new : Option (List ℕ)) (verdict : Verdict) → IsBenchRun asked words trace old mid verdict → Keeps mid new → IsBenchRun asked words trace old new verdict
+bench_run-kept asked words trace old mid new Clean done kept = (done.0, done.1, done.2, done.3, run-kept words done.0 trace old mid new (Ok done.2) done.4 kept)
+bench_run-kept asked words trace old mid new Faulty done kept = (done.0, done.1, done.2, done.3, run-kept words done.0 trace old mid new (Ok done.2) done.4 kept)
+bench_run-kept asked words trace old mid new (Refused fault) done kept = (done.0, done.1, Keeps-trans old mid new done.2 kept)
+bench_run-kept asked words trace old mid new (Broken breakage) (inl none) kept = inl (none.0, Keeps-trans old mid new none.1 kept)
+bench_run-kept asked words trace old mid new (Broken breakage) (inr done) kept = inr (done.0, done.1, done.2, done.3, run-kept words done.0 trace old mid new (Err done.2) done.4 kept)
 
 pub work-kept : (asked : Asked) (bytes : List ℕ) (old mid new : Option (List ℕ)) (verdict : Verdict) → IsWork asked bytes old mid verdict → Keeps mid new → IsWork asked bytes old new verdict
 work-kept (debug file) bytes old mid new verdict done kept = debug_run-kept bytes old mid new verdict done kept
-work-kept (run trace seed test file) bytes old mid new verdict done kept = bench_run-kept (script_to_run bytes test) trace old mid new verdict done kept
+work-kept (run trace seed test file) bytes old mid new verdict done kept = bench_run-kept (script_to_run bytes test) (words_of_seed seed) trace old mid new verdict done kept
 
 -- the verdict is that on the work, or that on output that could not be flushed
 pub flushed_or_not : {E : Type 0} (flush : Result (Unit {0}) E) (done verdict : Verdict) → OnOk flush (verdict ≡ done) → OnErr flush (verdict ≡ unflushed done) → (verdict ≡ done) ⊎ (verdict ≡ unflushed done)

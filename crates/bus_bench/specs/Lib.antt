@@ -1,4 +1,1 @@
-pub mod Debugging
 pub mod Program
-pub mod Runs
-pub mod Verdicts

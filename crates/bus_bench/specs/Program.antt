@@ -1,19 +1,22 @@
 -- What the program does.
-use Rattle.std.specs.Prelude.{◌≡◌, ◌⊎◌, ℕ, List, Option, Some}
-use Rattle.std.specs.Io.KnownBytes.{Keeps}
-use Rattle.clap.specs.Words.{Text}
-use Rattle.bus_command.specs.Commands.{Asked, debug, named_job, run}
+use Rattle.std.specs.Prelude.{◌≡◌, ◌⊎◌, ℕ, List, Option, Some, string_bytes}
+use Rattle.std.specs.Io.KnownBytes.{Appends, Keeps}
+use Rattle.clap.specs.Words.{IsAmong, Text, fault_of}
+use Rattle.clap.specs.declared.error.kind.ErrorKind.{ErrorKind}
+use Rattle.clap.specs.declared.error.kind.ErrorKind.TheVariants.{DisplayHelp, DisplayVersion}
+use Rattle.bus_command.specs.Commands.{Asked, bus_bench_app, debug, named_job, run}
+use Rattle.bus_command.specs.Faults.{IsFaultOf}
 use Rattle.bus_command.specs.declared.jobs.JobFault.{JobFault}
-use Rattle.bus_command.specs.declared.jobs.JobFault.TheVariants.{Refused, BadName, Memory}
-use Rattle.bus_bench.specs.Debugging.{IsDebugRun}
-use Rattle.bus_bench.specs.Runs.{IsBenchRun, script_to_run}
-use Rattle.bus_bench.specs.Verdicts.{IsUnread, status_of, unflushed}
-use Rattle.bus_bench.specs.declared.verdicts.Verdict.{Verdict}
+use Rattle.bus_command.specs.declared.jobs.JobFault.TheVariants.{Help, Version, Refused, BadName, Memory}
+use Rattle.bus_jobs.specs.Debugging.{IsDebugRun}
+use Rattle.bus_jobs.specs.Runs.{IsBenchRun, script_to_run, words_of_seed}
+use Rattle.bus_jobs.specs.Verdicts.{IsUnread, status_of, unflushed}
+use Rattle.bus_jobs.specs.declared.verdicts.Verdict.{Verdict}
 
 -- what the verdict on the bytes of a job's file says of them and of the bytes that the writer holds before and after
 abbrev pub IsWork : Asked → List ℕ → Option (List ℕ) → Option (List ℕ) → Verdict → Type 0
 IsWork (debug file) bytes old new verdict = IsDebugRun bytes old new verdict
-IsWork (run trace seed test file) bytes old new verdict = IsBenchRun (script_to_run bytes test) trace old new verdict
+IsWork (run trace seed test file) bytes old new verdict = IsBenchRun (script_to_run bytes test) (words_of_seed seed) trace old new verdict
 
 -- the same, where what was written was flushed, or could not be
 abbrev pub IsReport : Asked → List ℕ → Option (List ℕ) → Option (List ℕ) → Verdict → Type 0
@@ -24,16 +27,36 @@ abbrev pub CameTo : Asked → Option (List ℕ) → Option (List ℕ) → ℕ �
 CameTo asked old new status = (verdict : Verdict) × (status ≡ status_of verdict)
     × ((IsUnread verdict × Keeps old new) ⊎ ((bytes : List ℕ) × IsReport asked bytes old new verdict))
 
--- the exit status where the words ask for nothing
-abbrev pub status_of_fault : JobFault → ℕ
-status_of_fault (Refused error) = 2
-status_of_fault BadName = 2
-status_of_fault Memory = 3
+-- a text was written, or could not be
+abbrev pub IsShown : List ℕ → Option (List ℕ) → Option (List ℕ) → ℕ → Type 0
+IsShown text old new status = ((status ≡ 0) × Appends old new text) ⊎ (status ≡ 3)
+
+-- where the words name no job: the text that they ask for is written, or could not be; else nothing is, and this is the exit status
+abbrev pub IsTold : JobFault → Option (List ℕ) → Option (List ℕ) → ℕ → Type 0
+IsTold (Help text) old new status = IsShown (string_bytes text) old new status
+IsTold (Version text) old new status = IsShown (string_bytes text) old new status
+IsTold (Refused error) old new status = (status ≡ 2) × Keeps old new
+IsTold BadName old new status = (status ≡ 2) × Keeps old new
+IsTold Memory old new status = (status ≡ 3) × Keeps old new
 
 -- no job was done
 abbrev pub DidNothing : Option (List ℕ) → Option (List ℕ) → ℕ → Type 0
 DidNothing old new status = ((status ≡ 2) ⊎ (status ≡ 3)) × Keeps old new
 
+-- the kind of words that ask for help or for the version
+abbrev pub AsksForText : ErrorKind → Type 0
+AsksForText kind = (kind ≡ DisplayHelp) ⊎ (kind ≡ DisplayVersion)
+
+-- some words asked for a text, which was written, or could not be
+abbrev pub GaveText : Option (List ℕ) → Option (List ℕ) → ℕ → Type 0
+GaveText old new status = (words : List Text) × (kind : ErrorKind) × IsAmong kind (fault_of bus_bench_app words) × AsksForText kind × (text : List ℕ) × IsShown text old new status
+
 -- some words named a job, which came to this status
 abbrev pub DidJob : Option (List ℕ) → Option (List ℕ) → ℕ → Type 0
 DidJob old new status = (words : List Text) × (asked : Asked) × (named_job words ≡ Some asked) × CameTo asked old new status
+
+-- what some words came to: the job that they name, or why they name none
+abbrev pub IsServed : List Text → Option (List ℕ) → Option (List ℕ) → ℕ → Type 0
+IsServed words old new status =
+    ((asked : Asked) × (named_job words ≡ Some asked) × CameTo asked old new status)
+    ⊎ ((fault : JobFault) × IsFaultOf (fault_of bus_bench_app words) fault × IsTold fault old new status)

@@ -2,21 +2,11 @@
 //! runs the script.
 #![tactic(auto)]
 
-#[cfg(test)]
-mod debug_tests;
-mod debugging;
-mod files;
-#[cfg(test)]
-mod memory_tests;
 mod program;
 #[cfg(test)]
-mod run_tests;
-mod runs;
-#[cfg(test)]
-mod tests;
-mod verdicts;
+mod program_tests;
 
-use crate::verdicts::{Breakage, Verdict, tell};
+use bus_jobs::{Breakage, Verdict, tell};
 use std::io::BufWriter;
 use std::process::ExitCode;
 

@@ -1,32 +1,31 @@
 //! What the program does, on any runtime and with any writers.
-ghost use Rattle.std.specs.Prelude.{◌≡◌, ◌⊎◌, ◌≤◌, IfErr, IfOk, MatchResult, OnErr, OnOk, vec_len};
+ghost use Rattle.std.specs.Prelude.{◌≡◌, ◌⊎◌, ◌≤◌, IfErr, IfOk, map, MatchResult, OnErr, OnOk, vec_len};
 ghost use Rattle.std.specs.Io.KnownBytes.{Keeps};
 ghost use Rattle.bus_command.specs.Commands.{words_of};
-ghost use Rattle.bus_bench.specs.Program.{CameTo, DidJob, DidNothing, IsReport, IsWork, status_of_fault};
-ghost use Rattle.bus_bench.specs.Verdicts.{IsUnread, unflushed};
+ghost use Rattle.bus_bench.specs.Program.{CameTo, DidJob, DidNothing, GaveText, IsReport, IsServed, IsShown, IsTold, IsWork};
+ghost use Rattle.bus_jobs.specs.Verdicts.{IsUnread, unflushed};
 
-use crate::debugging::debug_bench;
-use crate::files::{MOST_BYTES, read_file};
-use crate::runs::run_bench;
-use crate::verdicts::{Breakage, Verdict, tell};
 use bench_script::ScriptFault;
 use bus_command::{Job, JobFault, job};
+use bus_jobs::{Breakage, MOST_BYTES, Verdict, debug_bench, read_file, run_bench, tell};
 use std::alloc::Global;
+use std::convert::AsStr;
 use std::fs::File;
 use std::io::Write;
 use std::rt::{Env, Files};
 use std::{env, io};
 
-// The exit status where the words are none that the program takes, or ask for help.
+// The exit status where the words are none that the program takes.
 const REFUSED: u8 = 2;
 
-/// Does what the words of the command line ask for, and answers the exit status. What is asked for is written to `out`, and what
-/// is wrong to `err`.
+/// Does what the words of the command line ask for, and answers the exit status: that of the job's verdict (0 clean, 1 faulty, 2
+/// refused, 3 broken); 0 for help, or 3 where that could not be written; 2 for words that it does not take, and 3 for want of memory.
+/// What is asked for is written to `out`, and what is wrong to `err`.
 pub fn run<R: Env + Files + AllocGlobal, O: Write, E: Write>(rt: &R, out: &mut O, err: &mut E) -> u8
-    ensures { DidNothing (O.contents out.old) (O.contents out.new) result ⊎ DidJob (O.contents out.old) (O.contents out.new) result }
+    ensures { DidNothing (O.contents out.old) (O.contents out.new) result ⊎ (GaveText (O.contents out.old) (O.contents out.new) result ⊎ DidJob (O.contents out.old) (O.contents out.new) result) }
 {
     match words(rt) {
-        Ok(words) => obey(rt, job(rt.alloc(), words.as_slice()), out, err),
+        Ok(words) => serve(rt, words.as_slice(), out, err),
         Err(error) if error.kind() == io::ErrorKind::OutOfMemory => {
             tell(&Verdict::Broken(Breakage::Memory), err)
         }
@@ -37,11 +36,25 @@ pub fn run<R: Env + Files + AllocGlobal, O: Write, E: Write>(rt: &R, out: &mut O
     }
 }
 
+/// Does what some words of a command line ask for, of which the first is the program's name, and answers the exit status, as `run`
+/// says. What is asked for is written to `out`, and what is wrong to `err`.
+pub fn serve<R: Files + AllocGlobal, S: AsStr, O: Write, E: Write>(
+    rt: &R,
+    words: &[S],
+    out: &mut O,
+    err: &mut E,
+) -> u8
+    ensures { IsServed (map S.text words.now) (O.contents out.old) (O.contents out.new) result }
+{
+    obey(rt, job(rt.alloc(), words), out, err)
+}
+
 fn words<R: Env + AllocGlobal>(rt: &R) -> io::Result<Vec<String>> {
     Ok(env::args(rt)?.collect(rt.alloc())?)
 }
 
-/// Does what was asked for, and answers the exit status. What is asked for is written to `out`, and what is wrong to `err`.
+/// Does what was asked for, and answers the exit status, as `run` says. What is asked for is written to `out`, and what is wrong to
+/// `err`.
 pub fn obey<R: Files + AllocGlobal, O: Write, E: Write>(
     rt: &R,
     asked: Result<Job<'_>, JobFault>,
@@ -49,28 +62,40 @@ pub fn obey<R: Files + AllocGlobal, O: Write, E: Write>(
     err: &mut E,
 ) -> u8
     ensures job { IfOk asked.entry (λ job. CameTo (words_of job) (O.contents out.old) (O.contents out.new) result) }
-    ensures fault { IfErr asked.entry (λ fault. (result ≡ status_of_fault fault) × Keeps (O.contents out.old) (O.contents out.new)) }
+    ensures fault { IfErr asked.entry (λ fault. IsTold fault (O.contents out.old) (O.contents out.new) result) }
 {
     match asked {
         Ok(job) => {
             let read = script_in(rt, file_of(&job));
             tell(&verdict_on(rt.alloc(), &job, read, out), err)
         }
-        Err(fault) => refuse(fault, err),
+        Err(fault) => refuse(fault, out, err),
     }
 }
 
-// Tells why nothing is asked for, and answers the exit status.
-fn refuse<E: Write>(fault: JobFault, err: &mut E) -> u8
-    ensures { result ≡ status_of_fault fault }
+// Tells why no job is asked for, and answers the exit status.
+fn refuse<O: Write, E: Write>(fault: JobFault, out: &mut O, err: &mut E) -> u8
+    ensures { IsTold fault (O.contents out.old) (O.contents out.new) result }
 {
     match fault {
+        JobFault::Help(text) | JobFault::Version(text) => show(text.as_str(), out, err),
         JobFault::Refused(error) => {
             let _ = write!(err, "{error}");
             REFUSED
         }
         JobFault::BadName => tell(&Verdict::Refused(ScriptFault::BadName), err),
         JobFault::Memory => tell(&Verdict::Broken(Breakage::Memory), err),
+    }
+}
+
+// Writes the text that was asked for, and answers the exit status.
+fn show<O: Write, E: Write>(text: &str, out: &mut O, err: &mut E) -> u8
+    ensures { IsShown text.now (O.contents out.old) (O.contents out.new) result }
+{
+    if out.write_all(text.as_bytes()).is_ok() && out.flush().is_ok() {
+        tell(&Verdict::Clean, err)
+    } else {
+        tell(&Verdict::Broken(Breakage::Output), err)
     }
 }
 

@@ -1,11 +1,11 @@
 -- Words with no fault name a job.
 use Rattle.std.proofs.Common.{◌≡◌, ◌⊎◌, ◌&&◌, ◌||◌, ◌∙◌, ℕ, Bool, cond, true, false, not, refl, sym, ap, subst, inl, inr, List, [], Option, Some, None, IfSome, Result, Ok, Err, IfErr, OnErr, OnOk, is_some, codes, arith}
-use Rattle.std.specs.Prelude.{IsErrAnd, unwrap_or}
+use Rattle.std.specs.Prelude.{unwrap_or}
 use Rattle.std.specs.Option.{option_map, option_map_or}
 use Rattle.clap.specs.Values.{Accepts}
 use Rattle.std.specs.Str.Parse.{ParsesUnsigned, digits_value, without_leading_plus}
 use Rattle.std.specs.Borrow.{Bor}
-use Rattle.clap.specs.Simple.{App, HasMatchesOf, Shape, is_simple, argument_words, built, built_leaf, entered, filled, names_of, subcommand_of}
+use Rattle.clap.specs.Simple.{App, HasMatchesOf, Shape, is_simple, argument_words, built, built_leaf, entered, filled, inherited, names_of, subcommand_of}
 use Rattle.clap.specs.Takes.{is_given}
 use Rattle.clap.specs.Walk.{Row, Text, first_of, nothing_held, one_of, rows_after, rows_of, stop_after, walk_from}
 use Rattle.clap.specs.Faults.{entered_fault, fault_of}
@@ -15,11 +15,11 @@ use Rattle.clap.specs.declared.parser.matches.Found.{Found}
 use Rattle.clap.proofs.WalkLemmas.{first_value-rows}
 use Rattle.bus_command.specs.declared.jobs.Job.{Job}
 use Rattle.bus_command.specs.Commands.{Asked, has_bad_name, HasFile, NamesJob, bus_bench_app, debug_app, run_app, seed_parser, seed_rule, trace_rule}
-use Rattle.bus_command.specs.Faults.{IsJobFault, IsRefusalOf}
+use Rattle.bus_command.specs.Faults.{IsFaultBy, IsFaultOf}
 use Rattle.bus_command.specs.declared.jobs.JobFault.{JobFault}
-use Rattle.bus_command.specs.declared.jobs.JobFault.TheVariants.{Refused, BadName, Memory}
+use Rattle.bus_command.specs.declared.jobs.JobFault.TheVariants.{Help, Version, Refused, BadName, Memory}
 use Rattle.clap.specs.declared.error.Error.{Error}
-use Rattle.clap.specs.declared.error.kind.ErrorKind.TheVariants.{OutOfMemory}
+use Rattle.clap.specs.declared.error.kind.ErrorKind.TheVariants.{DisplayHelp, DisplayVersion, OutOfMemory}
 use Rattle.clap.specs.declared.parser.matches.ArgMatches.{ArgMatches}
 use Rattle.clap.specs.declared.parser.matches.ArgMatches.TheViews.{out-ArgMatches}
 use Rattle.clap.specs.Words.{is_simple_and_free, kind_of, subcommand_rows_of}
@@ -37,15 +37,15 @@ abbrev app : App
 app = built bus_bench_app
 
 abbrev debug_shape : Shape
-debug_shape = built_leaf debug_app.top
+debug_shape = built_leaf (inherited app.top debug_app.top)
 
 abbrev run_shape : Shape
-run_shape = built_leaf run_app.top
+run_shape = built_leaf (inherited app.top run_app.top)
 
 debug_regular : AreRegular debug_shape.rules debug_shape.rules
 debug_regular = (
   record { known = refl; filled = λ again rows fault. cc; defaults = refl },
-  (record { known = refl; filled = λ again rows fault. cc; defaults = refl }, tt),
+  (record { known = refl; filled = λ again rows fault. cc; defaults = refl }, (record { known = refl; filled = λ again rows fault. cc; defaults = refl }, tt)),
 )
 
 run_regular : AreRegular run_shape.rules run_shape.rules
@@ -55,7 +55,10 @@ run_regular = (
     record { known = refl; filled = λ again rows fault. cc; defaults = refl },
     (
       record { known = refl; filled = λ again rows fault. cc; defaults = refl },
-      (record { known = refl; filled = λ again rows fault. cc; defaults = refl }, (record { known = refl; filled = λ again rows fault. cc; defaults = refl }, tt)),
+      (
+        record { known = refl; filled = λ again rows fault. cc; defaults = refl },
+        (record { known = refl; filled = λ again rows fault. cc; defaults = refl }, (record { known = refl; filled = λ again rows fault. cc; defaults = refl }, tt)),
+      ),
     ),
   ),
 )
@@ -180,8 +183,10 @@ pub found_rows : (a : App) (words : List Text) (m : ArgMatches) → a ≡ bus_be
 found_rows a words m is matches = (matches (ap is_simple is)).1 ∙ ap (λ (x : App). subcommand_of x words) is
 
 -- a bad name is all that is wrong with words that have no fault
-pub bad_name_alone : (kinds : Kinds) (named : Option Asked) (r : Result Job JobFault) → kinds ≡ [] → OnErr r ((r ≡ Err BadName) × (has_bad_name named ≡ true)) → IfErr r (IsRefusalOf kinds)
+pub bad_name_alone : (kinds : Kinds) (named : Option Asked) (r : Result Job JobFault) → kinds ≡ [] → OnErr r ((r ≡ Err BadName) × (has_bad_name named ≡ true)) → IfErr r (IsFaultOf kinds)
 bad_name_alone kinds named (Ok x) none bad = tt
+bad_name_alone kinds named (Err (Help given)) none bad = let other : Err (Help given) ≡ Err BadName = bad.0 in cc
+bad_name_alone kinds named (Err (Version given)) none bad = let other : Err (Version given) ≡ Err BadName = bad.0 in cc
 bad_name_alone kinds named (Err (Refused given)) none bad = let other : Err (Refused given) ≡ Err BadName = bad.0 in cc
 bad_name_alone kinds named (Err BadName) none bad = none
 bad_name_alone kinds named (Err Memory) none bad = tt
@@ -190,9 +195,10 @@ pub on_ok : {X : Type 0} (r : Result Job JobFault) → X → OnOk r X
 on_ok (Ok job) x = x
 on_ok (Err fault) x = tt
 
--- where clap's error can only be want of memory, so can the fault
-pub only_memory : {J : Type 0} (r : Result J JobFault) (e : Error) → IsErrAnd r (IsJobFault e) → kind_of e ≡ OutOfMemory → OnErr r ((r ≡ Err BadName) ⊎ (r ≡ Err Memory))
-only_memory (Ok x) e made memory = tt
-only_memory (Err (Refused given)) e made memory = absurd (made.1 memory)
-only_memory (Err BadName) e made memory = absurd made
-only_memory (Err Memory) e made memory = inr refl
+-- where clap's error is want of memory, so is the fault
+pub only_memory : (fault : JobFault) (e : Error) → IsFaultBy e fault → kind_of e ≡ OutOfMemory → fault ≡ Memory
+only_memory (Help text) e by memory = let bad : DisplayHelp ≡ OutOfMemory = sym by ∙ memory in cc
+only_memory (Version text) e by memory = let bad : DisplayVersion ≡ OutOfMemory = sym by ∙ memory in cc
+only_memory (Refused given) e by memory = absurd (by.2 memory)
+only_memory BadName e by memory = absurd by
+only_memory Memory e by memory = refl

@@ -1,14 +1,10 @@
 -- The words `PROGRAM debug FILE` and `PROGRAM run FILE`.
 use Rattle.std.proofs.Common.{◌≡◌, ◌∙◌, true, false, refl, ap, sym, List, [], ◌∷◌, None, Option, Some, Result, Ok, Err, IfOk, MatchResult, OnErr, codes}
-use Rattle.std.specs.Prelude.{IsErrAnd}
 use Rattle.clap.proofs.OnLiterals.{clap_on_literals}
-use Rattle.clap.specs.Words.{Text, kind_of, takes}
-use Rattle.clap.specs.declared.error.Error.{Error}
-use Rattle.clap.specs.declared.error.kind.ErrorKind.TheVariants.{OutOfMemory}
+use Rattle.clap.specs.Words.{Text, takes}
 use Rattle.bus_command.specs.Commands.{AsksFor, Asked, bus_bench_app, debug, has_bad_name, is_flag, named_job, run, words_of}
-use Rattle.bus_command.specs.Faults.{IsJobFault}
 use Rattle.bus_command.specs.declared.jobs.JobFault.{JobFault}
-use Rattle.bus_command.specs.declared.jobs.JobFault.TheVariants.{Refused, BadName, Memory}
+use Rattle.bus_command.specs.declared.jobs.JobFault.TheVariants.{BadName, Memory}
 use Rattle.bus_command.specs.declared.jobs.Job.{Job}
 
 debug_taken : (program file : Text) → is_flag file ≡ false → takes bus_bench_app (program ∷ codes "debug" ∷ file ∷ []) ≡ true
@@ -46,11 +42,3 @@ pub gives_job : (named : Option Asked) (asked : Asked) (r : Result Job JobFault)
     → IfOk r (λ job. named ≡ Some (words_of job)) → OnErr r ((r ≡ Err BadName) × (has_bad_name named ≡ true)) → Gives asked r
 gives_job named asked (Ok job) is good made refused = let same : Some (words_of job) ≡ Some asked = sym made ∙ is in cc
 gives_job named asked (Err fault) is good made refused = let bad : true ≡ false = sym refused.1 ∙ (ap has_bad_name is ∙ good) in cc
-
--- where such words have a fault, it is want of memory
-pub gives_memory : (words : List Text) (asked : Asked) (r : Result Job JobFault) (e : Error) → takes bus_bench_app words ≡ true → IsErrAnd r (IsJobFault e)
-    → (takes bus_bench_app words ≡ true → kind_of e ≡ OutOfMemory) → Gives asked r
-gives_memory words asked (Ok job) e taken made memory = absurd made
-gives_memory words asked (Err (Refused given)) e taken made memory = absurd (made.1 (memory taken))
-gives_memory words asked (Err BadName) e taken made memory = absurd made
-gives_memory words asked (Err Memory) e taken made memory = refl

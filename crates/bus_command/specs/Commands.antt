@@ -44,11 +44,17 @@ debug_app = with_rule (new_app (codes "debug")) file_rule
 abbrev pub run_app : App
 run_app = with_rule (with_rule (with_rule (with_rule (new_app (codes "run")) trace_rule) seed_rule) test_rule) file_rule
 
--- bus_bench, with a subcommand, which is required
+-- bus_bench, which has a version, as its subcommands then have, and needs one of these
+abbrev pub top_app : App
+top_app = on_top (λ s. record s {
+  propagate_version = true;
+  has_version = true;
+  subcommand_required = true;
+}) (new_app (codes "bus_bench"))
+
+-- bus_bench with its subcommands
 abbrev pub bus_bench_app : App
-bus_bench_app = with_subcommand (with_subcommand
-    (on_top (λ s. record s { subcommand_required = true }) (new_app (codes "bus_bench")))
-    debug_app.top) run_app.top
+bus_bench_app = with_subcommand (with_subcommand top_app debug_app.top) run_app.top
 
 -- ---- the job that the words name
 
@@ -124,6 +130,20 @@ is_flag (x ∷ rest) = x == 45
 abbrev pub AsksFor : Text → List Text → Text → Type 0
 AsksFor command words file =
     (program : Text) × (words ≡ program ∷ command ∷ file ∷ []) × (is_flag file ≡ false)
+
+-- the words are `PROGRAM FLAG ..`, `PROGRAM debug FLAG ..` or `PROGRAM run FLAG ..`
+abbrev pub AsksBy : Text → List Text → Type 0
+AsksBy flag words = (program : Text) × (rest : List Text)
+    × ((words ≡ program ∷ flag ∷ rest)
+    ⊎ ((words ≡ program ∷ codes "debug" ∷ flag ∷ rest) ⊎ (words ≡ program ∷ codes "run" ∷ flag ∷ rest)))
+
+-- the words have a flag that asks for help there
+abbrev pub AsksForHelp : List Text → Type 0
+AsksForHelp words = AsksBy (codes "--help") words ⊎ AsksBy (codes "-h") words
+
+-- the words have a flag that asks for the version there
+abbrev pub AsksForVersion : List Text → Type 0
+AsksForVersion words = AsksBy (codes "--version") words ⊎ AsksBy (codes "-V") words
 
 -- the job is to debug this file
 abbrev pub IsDebugOf : Text → Job → Type 0

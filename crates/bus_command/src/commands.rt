@@ -1,14 +1,16 @@
 //! The command line.
-ghost use Rattle.std.specs.Prelude.{◌≡◌, ◌⊎◌, ℕ, List, Some, Err, IfOk, IfErr, MatchResult, OnOk, OnErr, codes, map, option_map, [], false, true};
-ghost use Rattle.clap.specs.Words.{app_of, fault_of, first_of, found_of, rows_of, rule_of, subcommand_rows_of, takes};
+ghost use Rattle.std.specs.Prelude.{◌≡◌, ◌⊎◌, ℕ, List, Some, Err, IfOk, IfErr, IsErrAnd, MatchResult, OnOk, OnErr, codes, map, option_map, [], ◌∷◌, false, true};
+ghost use Rattle.clap.specs.Words.{app_of, fault_of, first_of, found_of, new_app, rows_of, rule_of, subcommand_rows_of, takes};
 ghost use Rattle.clap.specs.Takes.{is_given};
 ghost use Rattle.clap.specs.declared.builder.command.Command.TheViews.{out-Command};
-ghost use Rattle.bus_command.specs.Commands.{bus_bench_app, debug_app, file_rule, run_app, seed_rule, test_rule, trace_rule};
+ghost use Rattle.clap.specs.declared.error.kind.ErrorKind.TheVariants.{DisplayHelp, DisplayVersion};
+ghost use Rattle.bus_command.specs.Commands.{bus_bench_app, debug_app, file_rule, run_app, seed_rule, test_rule, top_app, trace_rule};
 ghost use Rattle.bus_command.specs.Commands.{asked_in, has_bad_name, is_bad_test, job_named, named_job, seed_in, words_of};
-ghost use Rattle.bus_command.specs.Commands.{AsksFor, HasFile, IsDebugOf, IsRunOf, NamesJob, ReadsSeed, ReadsTrace};
-ghost use Rattle.bus_command.specs.Faults.{IsRefusalOf};
+ghost use Rattle.bus_command.specs.Commands.{AsksFor, AsksForHelp, AsksForVersion, HasFile, IsDebugOf, IsRunOf, NamesJob, ReadsSeed, ReadsTrace};
+ghost use Rattle.bus_command.specs.Faults.{IsFaultOf, IsHelp, IsVersion};
 
-use crate::jobs::{Job, JobFault};
+use crate::jobs::{Job, JobFault, fault_by};
+use crate::texts::{ABOUT, ABOUT_DEBUG, ABOUT_RUN, EXAMPLE, LONG_ABOUT, VERSION};
 use clap::{Arg, ArgAction, ArgMatches, Command, value_parser};
 use std::alloc::{AllocError, Global};
 use std::convert::AsStr;
@@ -16,18 +18,30 @@ use uvm_glob::Name;
 
 /// Reads the words of the command line, of which the first is the program's name.
 ///
-/// The error is `Refused` where the words are none that the program takes, or ask for help,
-/// `BadName` where they are, and what they give as the test is no name, and `Memory` where an
-/// allocation was refused.
+/// The error is `Help` or `Version` where the words ask for that, `Refused` where they are none that
+/// the program takes, `BadName` where they are, and what they give as the test is no name, and
+/// `Memory` where an allocation was refused.
 pub fn job<'a, S: AsStr>(alloc: Global, words: &'a [S]) -> Result<Job<'a>, JobFault>
     // A job is what clap's meaning of the command line makes of the words, which have no fault.
     ensures named { IfOk result (λ job. named_job (map S.text words.now) ≡ Some (words_of job)) }
     ensures faultless { OnOk result (fault_of bus_bench_app (map S.text words.now) ≡ []) }
 
-    // A refusal has a kind that clap's meaning gives the words, and words that it takes have none.
-    ensures refused { IfErr result (IsRefusalOf (fault_of bus_bench_app (map S.text words.now))) }
+    // Help, the version and a refusal have a kind that clap's meaning gives the words, and words that
+    // it takes have none. What asks for help or for the version is no refusal.
+    ensures refused { IfErr result (IsFaultOf (fault_of bus_bench_app (map S.text words.now))) }
     ensures taken { takes bus_bench_app (map S.text words.now) ≡ true
         → OnErr result ((result ≡ Err JobFault.BadName) ⊎ (result ≡ Err JobFault.Memory)) }
+
+    // Where that is all that this meaning gives the words, help or the version is what they get.
+    ensures help { fault_of bus_bench_app (map S.text words.now) ≡ DisplayHelp ∷ []
+        → IsErrAnd result IsHelp }
+    ensures version { fault_of bus_bench_app (map S.text words.now) ≡ DisplayVersion ∷ []
+        → IsErrAnd result IsVersion }
+
+    // `--help` or `-h` right behind the program's name, or behind that of `debug` or `run`, asks for
+    // help, and `--version` or `-V` there for the version, whatever follows.
+    ensures plain_help { AsksForHelp (map S.text words.now) → IsErrAnd result IsHelp }
+    ensures plain_version { AsksForVersion (map S.text words.now) → IsErrAnd result IsVersion }
 
     // `BadName` comes only where what is given as the test is no name, and then there is no job.
     ensures bad_name { result ≡ Err JobFault.BadName
@@ -41,8 +55,10 @@ pub fn job<'a, S: AsStr>(alloc: Global, words: &'a [S]) -> Result<Job<'a>, JobFa
     ensures plain_run { (file : List ℕ) → AsksFor (codes "run") (map S.text words.now) file
         → MatchResult result (IsRunOf file) (λ fault. fault ≡ JobFault.Memory) }
 {
-    let matches = command(alloc)?.try_get_matches_from(words)?;
-    job_of(&matches)
+    match command(alloc)?.try_get_matches_from(words) {
+        Ok(matches) => job_of(&matches),
+        Err(error) => Err(fault_by(alloc, error)?),
+    }
 }
 
 // The job that the matches name.
@@ -131,11 +147,18 @@ fn command<'a>(alloc: Global) -> Result<Command<'a>, AllocError>
 {
     let debug = debug_command(alloc)?;
     let run = run_command(alloc)?;
-    Command::new(alloc, "bus_bench")
-        .about("Runs the script of a bench")
+    top_command(alloc).subcommand(debug)?.subcommand(run)
+}
+
+// `bus_bench` without its subcommands.
+fn top_command<'a>(alloc: Global) -> Command<'a>
+    ensures { app_of result ≡ top_app }
+{
+    described(alloc, "bus_bench", ABOUT)
+        .long_about(LONG_ABOUT)
+        .version(VERSION)
+        .propagate_version(true)
         .subcommand_required(true)
-        .subcommand(debug)?
-        .subcommand(run)
 }
 
 // `debug FILE`.
@@ -143,9 +166,7 @@ fn debug_command<'a>(alloc: Global) -> Result<Command<'a>, AllocError>
     ensures app { IfOk result (λ c. app_of c ≡ debug_app) }
     ensures local { IfOk result (λ c. (out-Command c).has_globals ≡ false) }
 {
-    Command::new(alloc, "debug")
-        .about("Reads a script and prints the answers to its questions")
-        .arg(file_arg(alloc))
+    described(alloc, "debug", ABOUT_DEBUG).arg(file_arg(alloc))
 }
 
 // `run [--trace] [--seed N] [--test NAME] FILE`.
@@ -153,12 +174,21 @@ fn run_command<'a>(alloc: Global) -> Result<Command<'a>, AllocError>
     ensures app { IfOk result (λ c. app_of c ≡ run_app) }
     ensures local { IfOk result (λ c. (out-Command c).has_globals ≡ false) }
 {
-    Command::new(alloc, "run")
-        .about("Runs a script")
+    described(alloc, "run", ABOUT_RUN)
         .arg(trace_arg(alloc))?
         .arg(seed_arg(alloc))?
         .arg(test_arg(alloc))?
         .arg(file_arg(alloc))
+}
+
+// A command whose help says what it is for, and has the example.
+fn described<'a>(alloc: Global, name: &'a str, purpose: &'a str) -> Command<'a>
+    ensures app { app_of result ≡ new_app name.entry.now }
+    ensures local { (out-Command result).has_globals ≡ false }
+    ensures purpose { (out-Command result).about ≡ Some purpose.entry }
+    ensures example { option_map (λ text. text.now) (out-Command result).after_help ≡ Some EXAMPLE.now }
+{
+    Command::new(alloc, name).about(purpose).after_help(EXAMPLE)
 }
 
 // `FILE`.

@@ -1,10 +1,10 @@
 //! What the words of the command line ask for.
-ghost use Rattle.std.specs.Prelude.{◌≡◌};
-ghost use Rattle.bus_command.specs.Faults.{IsJobFault};
+ghost use Rattle.std.specs.Prelude.{◌≡◌, IfOk};
+ghost use Rattle.bus_command.specs.Faults.{IsFaultBy};
 ghost use Rattle.bus_command.specs.declared.jobs.JobFault.TheVariants.{Memory};
 
 use clap::error::ErrorKind;
-use std::alloc::AllocError;
+use std::alloc::{AllocError, Global};
 use uvm_glob::Name;
 
 /// What the words of the command line ask for.
@@ -24,11 +24,14 @@ pub enum Job<'a> {
     },
 }
 
-/// Why the words of the command line ask for nothing.
+/// Why the words of the command line name no job.
 #[derive(Debug, Drop)]
 pub enum JobFault {
-    /// The words are none that the program takes, or ask for help. The error's `Display` is the
-    /// text for the user.
+    /// The words ask for help, which is this text.
+    Help(String),
+    /// The words ask for the version, which this text tells.
+    Version(String),
+    /// The words are none that the program takes. The error's `Display` is the text for the user.
     Refused(clap::Error),
     /// What was given as the test is no name.
     BadName,
@@ -44,13 +47,14 @@ impl From<AllocError> for JobFault {
     }
 }
 
-impl From<clap::Error> for JobFault {
-    ghost from_gives = { IsJobFault };
-
-    fn from(error: clap::Error) -> JobFault {
-        match error.kind() {
-            ErrorKind::OutOfMemory => JobFault::Memory,
-            _ => JobFault::Refused(error),
-        }
-    }
+// The fault that an error of clap comes to.
+pub(crate) fn fault_by(alloc: Global, error: clap::Error) -> Result<JobFault, AllocError>
+    ensures { IfOk result (IsFaultBy error) }
+{
+    Ok(match error.kind() {
+        ErrorKind::DisplayHelp => JobFault::Help(error.to_string(alloc)?),
+        ErrorKind::DisplayVersion => JobFault::Version(error.to_string(alloc)?),
+        ErrorKind::OutOfMemory => JobFault::Memory,
+        _ => JobFault::Refused(error),
+    })
 }

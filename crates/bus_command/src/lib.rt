@@ -5,6 +5,7 @@ mod commands;
 mod jobs;
 #[cfg(test)]
 mod tests;
+mod texts;
 
 pub use commands::job;
 pub use jobs::{Job, JobFault};

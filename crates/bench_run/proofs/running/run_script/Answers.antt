@@ -1,9 +1,31 @@
-use Rattle.std.proofs.Common.{◌≡◌, ap}
+use Rattle.std.proofs.Common.{◌≡◌, ◌∙◌, [], ap, lit≤, refl, subst}
+use Rattle.bench_script.specs.Scripts.{ScriptValue}
+use Rattle.bench_history.specs.Next.{IsLegal}
 use Rattle.bench_kernel.specs.Kernels.{KernelValue}
+use Rattle.bench_run.specs.Lives.{HaveLived, MayGive}
+use Rattle.bench_run.proofs.Goings.{never-ran}
+use Rattle.bench_run.proofs.Lives.{none-lived}
 use Rattle.bench_run.proofs.running.run_script.Goals as goal
 
 -- the log is that of the kernel, which is of the script
 pub returns : goal.returns
 returns g c =
     let script : c.in-Ok.kernel.core.script ≡ c.args.script = ap (λ (k : KernelValue g.row.O.Denot). k.core.script) c.in-Ok.ensures.ok.1 in
-    (c.run_kernel.new.kernel.core.history, rw script at (c.run_kernel.ensures.run))
+    let same : c.run_kernel-ended.new.kernel.core.script ≡ c.args.script = c.run_kernel-ended.ensures.script ∙ script in
+    record {
+      history = c.run_kernel-ended.new.kernel.core.history;
+      legal = subst (λ (s : ScriptValue). IsLegal s c.run_kernel-ended.new.kernel.core.history) same c.log-log.ensures.legal;
+      leaves = rw script at (c.run_kernel-ended.ensures.run);
+      words = c.run_kernel-ended.ensures.words;
+      objects = subst (λ (s : ScriptValue). HaveLived g.O.UvmObject.view g.O.UvmObject.name g.O.UvmObject.says (MayGive g.F.Fn c.args.make) s c.run_kernel-ended.new.kernel.core.history) same c.run_kernel-ended.ensures.objects;
+    }
+
+-- there is no log
+pub returns-in-Err : goal.returns-in-Err
+returns-in-Err g c = record {
+  history = [];
+  legal = record { each = tt; few = lit≤ tt };
+  leaves = never-ran c.args.script c.args.trace (g.W.Write.contents c.args.out.now);
+  words = refl;
+  objects = none-lived g.O.UvmObject.view g.O.UvmObject.name g.O.UvmObject.says _ c.args.script;
+}

@@ -1,6 +1,9 @@
-use Rattle.std.proofs.Common.{◌≡◌, true, false}
+use Rattle.std.proofs.Common.{◌≡◌, refl, rules, true, false}
+use Rattle.bench_run.specs.Words.{AreDrawn}
 use Rattle.bench_run.specs.Running.{Grows}
-use Rattle.bench_run.proofs.Goings.{breaks-off, goes-on, grown-health, grown-script, halts}
+use Rattle.bench_run.proofs.Goings.{breaks-off, goes-on, grown-health, grown-script, halts, told-health, told-log, unsummed}
+use Rattle.bench_run.proofs.Lives.{begins, lived-same}
+use Rattle.bench_run.proofs.Words.{drawn-grown, drawn-none, drawn-told, words-same}
 use Rattle.bench_run.proofs.running.run_to_end.Goals as goal
 
 -- one more entry, and its text
@@ -13,6 +16,8 @@ loop-kernel-preserved g c =
       good = grown-health grown inv.good;
       script = grown-script grown inv.script;
       legal = c.in_ok-write_last.ensures.legal;
+      drawn = drawn-grown g.R.Rng.stream _ _ _ _ _ grown (rw c.if-branch.true at (c.in_ok-make_entry.ensures.words)) inv.drawn;
+      objects = c.in_ok-make_entry.ensures.objects inv.objects;
       room = λ failed. absurd (let bad : true ≡ false = rw failed at going in cc);
       wrote = goes-on c.args.trace _ _ c.args.kernel.now.core.script _ _ _ grown inv.good inv.script inv.wrote c.in_ok-write_last.ensures.ok;
     }
@@ -31,3 +36,66 @@ returns-in_err-make_entry-clause-run g c =
     let inv = c.loop-kernel.invariant in
     halts c.from_residual.result c.in_err-make_entry.field-0.0 c.args.trace _ _ _ c.args.kernel.now.core.script _ _
     c.from_residual.ensures.1 c.in_err-make_entry.ensures.err c.in_err-make_entry.ensures.same inv.room inv.legal inv.script inv.wrote
+
+-- nothing has begun
+pub loop-kernel-init : goal.loop-kernel-init
+loop-kernel-init g c = record {
+  good = c.requires.good;
+  script = refl;
+  legal = search rules;
+  room = search rules;
+  drawn = rw c.requires.begun (drawn-none g.R.Rng.stream c.args.words.now);
+  objects = begins g.O.UvmObject.view g.O.UvmObject.name g.O.UvmObject.says _ c.args.kernel.now c.requires.begun c.live-held.ensures.made;
+  wrote = search rules;
+}
+
+pub returns-in_err-write_last-clause-words : goal.returns-in_err-write_last-clause-words
+returns-in_err-write_last-clause-words g c =
+    let inv = c.loop-kernel.invariant in
+    let grown : Grows c.loop-kernel.kernel.core c.make_entry.new.kernel.core = rw c.if-branch.true at c.in_ok-make_entry.ensures.ok in
+    let drawn : AreDrawn g.R.Rng.stream c.make_entry.new.kernel.core.history c.args.words.now c.make_entry.new.words = drawn-grown g.R.Rng.stream _ _ _ _ _ grown (rw c.if-branch.true at (c.in_ok-make_entry.ensures.words)) inv.drawn in
+    drawn.words
+
+pub returns-in_err-write_last-clause-objects : goal.returns-in_err-write_last-clause-objects
+returns-in_err-write_last-clause-objects g c = (c.in_ok-make_entry.ensures.objects c.loop-kernel.invariant.objects).lived
+
+pub returns-in_err-make_entry-clause-words : goal.returns-in_err-make_entry-clause-words
+returns-in_err-make_entry-clause-words g c = words-same (g.R.Rng.stream c.args.words.now) _ _ c.in_err-make_entry.ensures.same c.loop-kernel.invariant.drawn.words
+
+pub returns-in_err-make_entry-clause-objects : goal.returns-in_err-make_entry-clause-objects
+returns-in_err-make_entry-clause-objects g c =
+    lived-same g.O.UvmObject.view g.O.UvmObject.name g.O.UvmObject.says _ _ _ c.in_err-make_entry.ensures.same c.loop-kernel.invariant.objects.lived
+
+-- the run is over
+pub returns-in_err-write_summary-clause-words : goal.returns-in_err-write_summary-clause-words
+returns-in_err-write_summary-clause-words g c =
+    let ended = rw c.if-branch.false at (c.in_ok-make_entry.ensures.ok) in
+    words-same (g.R.Rng.stream c.args.words.now) _ _ (told-log _ _ ended.1) c.loop-kernel.invariant.drawn.words
+
+pub returns-in_err-write_summary-clause-objects : goal.returns-in_err-write_summary-clause-objects
+returns-in_err-write_summary-clause-objects g c = (c.in_ok-make_entry.ensures.objects c.loop-kernel.invariant.objects).lived
+
+pub returns-in_err-write_summary-clause-run : goal.returns-in_err-write_summary-clause-run
+returns-in_err-write_summary-clause-run g c =
+    let inv = c.loop-kernel.invariant in
+    let ended = rw c.if-branch.false at (c.in_ok-make_entry.ensures.ok) in
+    unsummed c.from_residual-in_err-write_summary.result c.in_err-write_summary.field-0.0 c.args.trace _ _ c.args.kernel.now.core.script _ _ _
+    c.from_residual-in_err-write_summary.ensures.1 (told-log _ _ ended.1) ended.0 inv.legal inv.script inv.wrote c.in_err-write_summary.ensures.err
+
+pub returns-clause-words : goal.returns-clause-words
+returns-clause-words g c =
+    let ended = rw c.if-branch.false at (c.in_ok-make_entry.ensures.ok) in
+    words-same (g.R.Rng.stream c.args.words.now) _ _ (told-log _ _ ended.1) c.loop-kernel.invariant.drawn.words
+
+pub returns-clause-objects : goal.returns-clause-objects
+returns-clause-objects g c = (c.in_ok-make_entry.ensures.objects c.loop-kernel.invariant.objects).lived
+
+pub returns-clause-left : goal.returns-clause-left
+returns-clause-left g c =
+    let ended = rw c.if-branch.false at (c.in_ok-make_entry.ensures.ok) in
+    drawn-told g.R.Rng.stream _ _ _ _ _ (told-log _ _ ended.1) (rw c.if-branch.false at (c.in_ok-make_entry.ensures.words)) c.loop-kernel.invariant.drawn
+
+pub returns-clause-sound : goal.returns-clause-sound
+returns-clause-sound g c =
+    let ended = rw c.if-branch.false at (c.in_ok-make_entry.ensures.ok) in
+    told-health _ _ ended.1 c.loop-kernel.invariant.good

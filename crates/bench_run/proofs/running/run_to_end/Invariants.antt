@@ -3,16 +3,20 @@ use Rattle.std.proofs.Common.{◌≡◌, ◌<◌, ◌-◌, true, length}
 use Rattle.bench_history.specs.Limits.{log_limit}
 use Rattle.bench_history.specs.Next.{IsLegal}
 use Rattle.bench_core.specs.declared.cores.Health.TheVariants.{Good}
+use Rattle.bench_run.specs.Lives.{AreKept, MayGive}
+use Rattle.bench_run.specs.Words.{AreDrawn}
 use Rattle.bench_run.specs.Running.{transcript}
 use Rattle.bench_run.proofs.running.run_to_end.Given as goal
 
--- the text of the log so far was written, which has room where the kernel has failed
+-- the text of the log so far was written, which has room where the kernel has failed; its words were drawn, and its objects have lived
 abbrev pub invariant-loop-kernel : goal.invariant-loop-kernel
 invariant-loop-kernel g l = record {
   good : l.kernel.core.health ≡ Good;
   script : l.kernel.core.script ≡ l.fn.kernel.core.script;
   legal : IsLegal l.kernel.core.script l.kernel.core.history;
   room : l.kernel.failed ≡ true → length l.kernel.core.history < log_limit l.fn.kernel.core.script;
+  drawn : AreDrawn g.R.Rng.stream l.kernel.core.history l.fn.words l.words;
+  objects : AreKept g.O.UvmObject.view g.O.UvmObject.name g.O.UvmObject.says (MayGive g.F.Fn l.fn.make) l.kernel;
   wrote : Appends (g.W.Write.contents l.fn.out) (g.W.Write.contents l.out) (transcript l.trace l.fn.kernel.core.script l.kernel.core.history);
 }
 

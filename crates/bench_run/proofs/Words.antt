@@ -1,0 +1,52 @@
+-- How the words of a run go on.
+use Rattle.std.proofs.Common.{◌≡◌, ◌∙◌, ℕ, true, List, [], ◌∷◌, length, Option, Some, None, refl, sym, ap, subst}
+use Rattle.std.specs.List.{cons_option}
+use Rattle.rand_core.specs.Stream.{Stream, next_u64}
+use Rattle.uvm_object.specs.declared.entries.Entry.{Entry}
+use Rattle.bench_core.specs.Cores.{CoreValue, IsDrawn, word_in}
+use Rattle.bench_kernel.specs.Steps.{IsSameLog}
+use Rattle.bench_run.specs.Running.{Grows}
+use Rattle.bench_run.specs.Words.{AreDrawn, HasWordsOf, word_made, stream_after, words_drawn, words_of}
+
+module _ {Words : Type 0} (stream : Words → Stream) where
+  -- nothing was drawn
+  pub drawn-none : (words : Words) → AreDrawn stream [] words words
+  drawn-none words = record { words = refl; left = refl }
+
+  -- one more entry, with its word
+  pub drawn-more : (entry : Entry) (history : List Entry) (first half last : Words) → IsDrawn stream (word_in (entry ∷ history)) half last → AreDrawn stream history first half → AreDrawn stream (entry ∷ history) first last
+  drawn-more entry history first half last drawn were =
+      let all = go (word_in (entry ∷ history)) drawn in
+      record { words = all.0; left = all.1 }
+    where
+      go : (word : Option ℕ) → IsDrawn stream word half last
+          → (cons_option word (words_of history) ≡ words_drawn (length (cons_option word (words_of history))) (stream first)) × (stream last ≡ stream_after (length (cons_option word (words_of history))) (stream first))
+      go None same = (were.words, ap stream same ∙ were.left)
+      go (Some word) next =
+          let from : (word, stream last) ≡ next_u64 (stream_after (length (words_of history)) (stream first)) = next ∙ ap next_u64 were.left in (
+            ap (λ w. w ∷ words_of history) (ap (λ (p : ℕ × Stream). p.0) from) ∙ ap (λ ws. (next_u64 (stream_after (length (words_of history)) (stream first))).0 ∷ ws) were.words,
+            ap (λ (p : ℕ × Stream). p.1) from,
+          )
+
+  -- where nothing was drawn before
+  pub drawn-from : (word : Option ℕ) (first half last : Words) → half ≡ first → IsDrawn stream word half last → IsDrawn stream word first last
+  drawn-from word first half last same drawn = subst (λ w. IsDrawn stream word w last) same drawn
+
+  -- and where nothing is
+  pub drawn-nothing : (word : Option ℕ) (first half last : Words) → word ≡ None → half ≡ first → last ≡ half → IsDrawn stream word first last
+  drawn-nothing word first half last none same still = subst (λ w. IsDrawn stream w first last) (sym none) (still ∙ same)
+
+  -- the log has grown by an entry, with its word
+  pub drawn-grown : (old new : CoreValue) (first half last : Words) → Grows old new → IsDrawn stream (word_made true new.history) half last → AreDrawn stream old.history first half → AreDrawn stream new.history first last
+  drawn-grown old new first half last grown drawn were =
+      let is : new.history ≡ grown.entry ∷ old.history = ap (λ (core : CoreValue). core.history) grown.is in
+      subst (λ history. AreDrawn stream history first last) (sym is) (drawn-more grown.entry old.history first half last (subst (λ history. IsDrawn stream (word_in history) half last) is drawn) were)
+
+  -- nothing more was drawn for the same log
+  pub drawn-told : (old new : CoreValue) (first half last : Words) → IsSameLog old new → last ≡ half → AreDrawn stream old.history first half → AreDrawn stream new.history first last
+  drawn-told old new first half last same still were =
+      subst (λ history. AreDrawn stream history first last) (sym same.history) (subst (λ w. AreDrawn stream old.history first w) (sym still) were)
+
+-- the log is the same
+pub words-same : (stream : Stream) (old new : CoreValue) → IsSameLog old new → HasWordsOf stream old.history → HasWordsOf stream new.history
+words-same stream old new same has = subst (HasWordsOf stream) (sym same.history) has

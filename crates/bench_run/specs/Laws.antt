@@ -1,0 +1,35 @@
+-- What holds of all runs over objects that are functions of their calls.
+use Rattle.std.specs.Prelude.{◌≡◌, ◌⊎◌, ◌≤◌, ℕ, true, List, length, Option}
+use Rattle.rand_core.specs.Stream.{Stream}
+use Rattle.uvm_object.specs.declared.acts.Act.{Act}
+use Rattle.uvm_object.specs.declared.acts.Call.{Call}
+use Rattle.uvm_object.specs.declared.entries.Entry.{Entry}
+use Rattle.uvm_object.specs.Objects.{Says, View}
+use Rattle.bench_script.specs.Scripts.{ScriptValue}
+use Rattle.bench_history.specs.History.{is_over}
+use Rattle.bench_history.specs.Limits.{log_limit}
+use Rattle.bench_history.specs.Next.{IsLegal}
+use Rattle.bench_run.specs.Words.{HasWordsOf}
+use Rattle.bench_run.specs.Lives.{HaveLived}
+
+-- one answer and one next view are allowed at most
+abbrev pub AllowsOneAtMost : (List Act → View → Type 0) → Type 0
+AllowsOneAtMost allowed = (acts others : List Act) (after next : View) → allowed acts after → allowed others next → (others ≡ acts) × (next ≡ after)
+
+-- nothing comes any more, or there is no room
+abbrev pub HasEnded : ScriptValue → List Entry → Type 0
+HasEnded script history = (is_over history ≡ true) ⊎ (log_limit script ≤ length history)
+
+module _ {O : Type 0} (view : O → View) (name : O → List ℕ) (says : O → Says) where
+  -- the log of a run on some words, over the objects that are given for the names of types
+  pub record IsRunLog (given : List ℕ → Option O) (words : Stream) (script : ScriptValue) (history : List Entry) : Type 0 where
+    pub legal : IsLegal script history
+    pub drawn : HasWordsOf words history
+    pub objects : HaveLived view name says (λ type_name object. object ≡ given type_name) script history
+
+  -- where each object is a function of its calls, what they are given by, the words and the script determine the log of a run that has ended
+  abbrev pub RunsAreFunctions : Type 0
+  RunsAreFunctions =
+      ((object : O) (before : View) (call : Call) → AllowsOneAtMost (says object before call))
+      → (given : List ℕ → Option O) (words : Stream) (script : ScriptValue) (first second : List Entry) → IsRunLog given words script first → IsRunLog given words script second
+      → HasEnded script first → HasEnded script second → second ≡ first

@@ -1,0 +1,4 @@
+pub mod Answering
+pub mod ReadLemmas
+pub mod Given
+pub mod Determined

@@ -1,0 +1,40 @@
+-- What a run of reads has read of what there was.
+use Rattle.std.proofs.Common.{◌≡◌, ◌≢◌, ◌⊎◌, ◌∙◌, ◌≤◌, ◌++◌, ℕ, List, [], ◌∷◌, Option, Some, None, IfSome, length, take, inl, inr, sym, ap, arith, append-nil}
+use Rattle.std.proofs.lemmas.List.{take-append-le, take_all}
+use Rattle.std.specs.Io.KnownBytes.{Consumes, IsAtEnd}
+use Rattle.std.proofs.KnownBytes.{Consumes-trans}
+use Rattle.bus_jobs.specs.declared.verdicts.Breakage.TheVariants.{Memory, LogFull, Output, Unread}
+use Rattle.bus_jobs.specs.declared.verdicts.Verdict.{Verdict}
+use Rattle.bus_jobs.specs.declared.verdicts.Verdict.TheVariants.{Clean, Faulty, Refused, Broken}
+use Rattle.bus_jobs.specs.Verdicts.{IsReadFault}
+
+-- what was read is the front of what there was: as much as was wanted, or all
+pub read_front : (old new : Option (List ℕ)) (bs : List ℕ) (n : ℕ) → Consumes old new bs → length bs ≤ n → (length bs ≡ n) ⊎ IsAtEnd new
+    → IfSome old (λ all. bs ≡ take n all)
+read_front None new bs n taken fits why = tt
+read_front (Some all) None bs n taken fits why = absurd taken
+read_front (Some all) (Some rest) bs n taken fits (inl full) =
+    let enough : n ≤ length bs = omega arith in
+    sym (ap (take n) taken ∙ (take-append-le n bs rest enough ∙ take_all n bs fits))
+read_front (Some all) (Some rest) bs n taken fits (inr end) =
+    sym (ap (take n) (taken ∙ (ap (λ r. bs ++ r) end ∙ append-nil bs)) ∙ take_all n bs fits)
+
+-- one more read
+pub read_more : (old mid new : Option (List ℕ)) (bs more all : List ℕ) → Consumes old mid bs → Consumes mid new more → all ≡ bs ++ more → Consumes old new all
+read_more old mid new bs more all first second is = rw is (Consumes-trans old mid new bs more first second)
+
+some-after : (bs more : List ℕ) → more ≢ [] → bs ++ more ≢ []
+some-after [] more some none = some none
+some-after (b ∷ bs) more some none =
+    let empty : length (b ∷ (bs ++ more)) ≡ 0 = ap length none in
+    absurd (omega arith)
+
+-- the fault of a read is one of the reads before it, too
+pub fault_after : (old mid new : Option (List ℕ)) (bs : List ℕ) (verdict : Verdict) → Consumes old mid bs → IsReadFault mid new verdict → IsReadFault old new verdict
+fault_after old mid new bs Clean first fault = fault
+fault_after old mid new bs Faulty first fault = fault
+fault_after old mid new bs (Refused why) first fault = fault
+fault_after old mid new bs (Broken Memory) first fault = (bs ++ fault.0, some-after bs fault.0 fault.1, Consumes-trans old mid new bs fault.0 first fault.2)
+fault_after old mid new bs (Broken LogFull) first fault = fault
+fault_after old mid new bs (Broken Output) first fault = fault
+fault_after old mid new bs (Broken Unread) first fault = fault

@@ -1,0 +1,29 @@
+use Rattle.std.proofs.Common.{arith, inl, inr, rules}
+use Rattle.std.proofs.lemmas.List.{length-take}
+use Rattle.bus_jobs.specs.declared.files.TheConstants.{MOST_BYTES}
+use Rattle.bus_jobs.proofs.ReadLemmas.{read_front, read_more, fault_after}
+use Rattle.bus_jobs.proofs.files.read_file.Goals as goal
+
+pub returns-then-room-eq0-clause-bytes : goal.returns-then-room-eq0-clause-bytes
+returns-then-room-eq0-clause-bytes g c =
+    read_front _ _ c.reads.bytes.items MOST_BYTES c.reads.invariant.left (omega (arith, c.reads.bytes.ok.0)) (inl (omega (arith, c.reads.bytes.ok.0)))
+
+pub returns-then-branch-clause-bytes : goal.returns-then-branch-clause-bytes
+returns-then-branch-clause-bytes g c =
+    let more = c.in_ok-read_piece.ensures.more in
+    read_front _ _ c.read_piece.new.bytes.items MOST_BYTES
+    (read_more _ _ _ c.reads.bytes.items more.0 c.read_piece.new.bytes.items c.reads.invariant.left more.2 more.1)
+    (omega (arith, c.read_piece.new.bytes.ok.0, c.in_ok-read_piece.ensures.bound, length-take c.min-room.result c.reads.piece))
+    (inr (c.in_ok-read_piece.ensures.end c.if-branch.true))
+
+pub reads-preserved : goal.reads-preserved
+reads-preserved g c =
+    let more = c.in_ok-read_piece.ensures.more in
+    record {
+      bound = omega (arith, c.in_ok-read_piece.ensures.bound, length-take c.min-room.result c.reads.piece);
+      left = read_more _ _ _ c.reads.bytes.items more.0 c.read_piece.new.bytes.items c.reads.invariant.left more.2 more.1;
+    }
+
+pub returns-in_err-read_piece-clause-fault : goal.returns-in_err-read_piece-clause-fault
+returns-in_err-read_piece-clause-fault g c =
+    search (fault_after _ _ _ c.reads.bytes.items _ c.reads.invariant.left c.in_err-read_piece.ensures.fault, rules)

@@ -1,0 +1,11 @@
+use Rattle.std.proofs.Common.{◌≤◌, vec_len}
+use Rattle.std.specs.Io.KnownBytes.{Consumes}
+use Rattle.bus_jobs.specs.declared.files.TheConstants.{MOST_BYTES}
+use Rattle.bus_jobs.proofs.files.read_file.Given as goal
+
+-- what was read so far is what the reader has lost, and not too much
+abbrev pub invariant-reads : goal.invariant-reads
+invariant-reads g l = record {
+  bound : vec_len l.bytes ≤ MOST_BYTES;
+  left : Consumes (g.R.Read.remaining l.initial.reader) (g.R.Read.remaining l.reader) l.bytes.items;
+}

@@ -1,0 +1,6 @@
+use Rattle.bus_jobs.proofs.Determined.{runs-are-determined}
+use Rattle.bus_jobs.proofs.laws.runs_are_determined.Goals as goal
+
+-- their logs are the same
+pub returns : goal.returns
+returns c = runs-are-determined c.objects_are_functions.ensures c.runs_are_functions.ensures

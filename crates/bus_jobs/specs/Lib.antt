@@ -1,0 +1,4 @@
+pub mod Verdicts
+pub mod Debugging
+pub mod Runs
+pub mod Laws

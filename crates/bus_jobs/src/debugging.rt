@@ -1,0 +1,96 @@
+//! The command `debug`.
+
+ghost use Rattle.std.specs.Prelude.{[], ◌≡◌, ◌++◌, ◌<◌, length, OnOk, IfOk, IfErr};
+ghost use Rattle.std.specs.List.{concat};
+ghost use Rattle.std.specs.Io.KnownBytes.{Appends};
+ghost use Rattle.uvm_factory.specs.Observed.{types_of, made_at};
+ghost use Rattle.bench_script.specs.Factories.{IsFactoryOf};
+ghost use Rattle.bus_jobs.specs.Debugging.{IsDebugRun, BrokeOff, answer_line, answer_text, debug_lines};
+ghost use Rattle.bench_history.specs.History.{type_name_or};
+
+use crate::verdicts::{Breakage, Verdict};
+use bench_script::{Probe, Script, ScriptFault};
+use std::alloc::{AllocError, Global};
+use std::io;
+use uvm_factory::{Factory, TypeId, Unmade};
+
+/// Writes a line for each probe of the script in `bytes`: which type the factory makes there. The verdict is `Clean`
+/// where all were written, a loop of overrides included; `Refused` where the bytes are no script, with nothing written;
+/// `Broken` where memory was refused (whole lines were written, from the first on) or a write failed.
+pub fn debug_bench<W: io::Write>(alloc: Global, bytes: &[u8], out: &mut W) -> Verdict
+    ensures { IsDebugRun bytes.now (W.contents out.old) (W.contents out.new) result }
+{
+    match bench_script::read(alloc, bytes) {
+        Ok(script) => match answer(alloc, &script, out) {
+            Ok(()) => Verdict::Clean,
+            Err(breakage) => Verdict::Broken(breakage),
+        },
+        Err(ScriptFault::Memory) => Verdict::Broken(Breakage::Memory),
+        Err(fault) => Verdict::Refused(fault),
+    }
+}
+
+// Writes the line of each probe of a script.
+fn answer<W: io::Write>(alloc: Global, script: &Script, out: &mut W) -> Result<(), Breakage>
+    ensures ok { OnOk result (Appends (W.contents out.old) (W.contents out.new) (concat (debug_lines script.now))) }
+    ensures err { IfErr result (BrokeOff (debug_lines script.now) (W.contents out.old) (W.contents out.new)) }
+{
+    match script.factory(alloc) {
+        Ok(factory) => write_answers(alloc, &factory, script, out),
+        Err(_) => Err(Breakage::Memory),
+    }
+}
+
+// Writes the line of each probe, by the factory of the script.
+fn write_answers<W: io::Write>(
+    alloc: Global,
+    factory: &Factory,
+    script: &Script,
+    out: &mut W,
+) -> Result<(), Breakage>
+    requires { IsFactoryOf script.now factory.now }
+    ensures ok { OnOk result (Appends (W.contents out.old) (W.contents out.new) (concat (debug_lines script.now))) }
+    ensures err { IfErr result (BrokeOff (debug_lines script.now) (W.contents out.old) (W.contents out.new)) }
+{
+    let probes = script.probes();
+    for probe in probes {
+        let Ok(line) = line_of(alloc, factory, probe) else {
+            return Err(Breakage::Memory);
+        };
+        let Ok(()) = out.write_all(line.as_slice()) else {
+            return Err(Breakage::Output);
+        };
+    }
+    Ok(())
+}
+
+// The line of a probe.
+fn line_of(alloc: Global, factory: &Factory, probe: &Probe) -> Result<Vec<u8>, AllocError>
+    requires { probe.now.type_id < length (types_of factory.now) }
+    ensures { IfOk result (λ line. line.items ≡ answer_line (types_of factory.now) probe.now (made_at factory.now probe.now.path probe.now.type_id)) }
+{
+    let mut line = Vec::new(alloc);
+    push_name(factory, probe.type_id, &mut line)?;
+    line.extend_from_slice(b" @ ")?;
+    probe.path.write(&mut line)?;
+    match factory.resolve(probe.type_id, &probe.path) {
+        Ok(made) => {
+            line.extend_from_slice(b" -> ")?;
+            push_name(factory, made, &mut line)?;
+        }
+        Err(Unmade::Loop) => line.extend_from_slice(b" loops")?,
+        Err(Unmade::NoType) => unreachable!(),
+    }
+    line.push(b'\n')?;
+    Ok(line)
+}
+
+// Appends the name of a type.
+fn push_name(factory: &Factory, type_id: TypeId, line: &mut Vec<u8>) -> Result<(), AllocError>
+    ensures { OnOk result (line.new.items ≡ line.old.items ++ type_name_or (types_of factory.now) type_id []) }
+{
+    match factory.name_of(type_id) {
+        Some(name) => line.extend_from_slice(name.as_bytes()),
+        None => Ok(()),
+    }
+}

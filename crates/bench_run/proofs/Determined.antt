@@ -25,9 +25,9 @@ use Rattle.bench_history.specs.Limits.{log_limit}
 use Rattle.bench_kernel.specs.Kernels.{types_made}
 use Rattle.bench_kernel.specs.Laws.{NobodyIsMadeTwice}
 use Rattle.bench_core.specs.Cores.{word_in}
-use Rattle.bench_run.specs.Words.{HasWordsOf, stream_after, words_drawn, words_of}
+use Rattle.bench_run.specs.Words.{HasWordsOf, stream_after, words_drawn, log_words}
 use Rattle.bench_run.specs.Lives.{AreMade, HasLived, HaveLived, IsFilled, IsGiven, IsHonestBetween, IsUnknown, first_of}
-use Rattle.bench_run.specs.Laws.{AllowsOneAtMost, HasEnded, IsRunLog, RunsAreFunctions}
+use Rattle.bench_run.specs.Laws.{AllowsOneAtMost, IsSpent, IsRunLog, RunsAreFunctions}
 use Rattle.bench_run.proofs.Lives.{All-from_recursion, contains-key, heard-same, same_who-self}
 
 -- ---- the words of an older part of a log
@@ -37,7 +37,7 @@ words-tail words None older is = is
 words-tail words (Some word) older is = cc
 
 words-older : (words : Stream) (entry : Entry) (history : List Entry) → HasWordsOf words (entry ∷ history) → HasWordsOf words history
-words-older words entry history is = words-tail words (word_in (entry ∷ history)) (words_of history) is
+words-older words entry history is = words-tail words (word_in (entry ∷ history)) (log_words history) is
 
 -- the word of a grant is the next one
 word-next : (words : Stream) (word : ℕ) (older : List ℕ) → (word ∷ older) ≡ words_drawn (length (word ∷ older)) words → word ≡ (next_u64 (stream_after (length older) words)).0
@@ -212,7 +212,7 @@ module _ {O : Type 0} (view : O → View) (name : O → List ℕ) (says : O → 
   same-grant : (history : List Entry) (sequencer : ℕ) (drawn : Bool) (chosen : Option ℕ → Option ℕ) (grant other : entries.Grant) → Log (Granted sequencer grant ∷ history) → Log (Granted sequencer other ∷ history)
       → is_some grant.word ≡ drawn → is_some other.word ≡ drawn → chosen grant.word ≡ Some grant.id → chosen other.word ≡ Some other.id → other ≡ grant
   same-grant history sequencer drawn chosen grant other log also is are by by_other =
-      let word_is : other.word ≡ grant.word = same-word words drawn (words_of history) grant.word other.word is are log.drawn also.drawn in
+      let word_is : other.word ≡ grant.word = same-word words drawn (log_words history) grant.word other.word is are log.drawn also.drawn in
       let id_is : other.id ≡ grant.id = same_Some other.id grant.id (sym by_other ∙ ap chosen word_is ∙ by) in
       ap (λ id. grant-of id other.word) id_is ∙ ap (grant-of grant.id) word_is
 
@@ -243,12 +243,12 @@ module _ {O : Type 0} (view : O → View) (name : O → List ℕ) (says : O → 
       ap (λ e. e ∷ second) next ∙ ap (λ history. entry ∷ history) older
 
   -- nothing follows one that has ended
-  ended-first : (first : List Entry) → Log first → HasEnded script first → (other : Entry) → Log (other ∷ first) → ⊥
+  ended-first : (first : List Entry) → Log first → IsSpent script first → (other : Entry) → Log (other ∷ first) → ⊥
   ended-first first log (inl ended) other more = let none = over script first ended in subst (λ comes. Allows comes other) none more.legal.each.0
   ended-first first log (inr full) other more = let few : suc (length first) ≤ log_limit script = more.legal.few in absurd (omega (arith, few, full))
 
   -- a longer one, or one as long, is the same
-  ended-same : (second first : List Entry) → Log first → HasEnded script first → Log second → length first ≤ length second → second ≡ first
+  ended-same : (second first : List Entry) → Log first → IsSpent script first → Log second → length first ≤ length second → second ≡ first
   ended-same [] first log ended also short = agree first [] log also (omega (arith, short))
   ended-same (other ∷ second) first log ended also short = go (λ within. ended-same second first log ended (log-older other second also) within) (length first == suc (length second)) refl
     where
@@ -258,7 +258,7 @@ module _ {O : Type 0} (view : O → View) (name : O → List ℕ) (says : O → 
           let within : length first ≤ length second = grind (arith, nat_tests, is, short) in
           absurd (ended-first first log ended other (subst (λ history. Log (other ∷ history)) (rest within) also))
 
-  both-ended : (first second : List Entry) → Log first → Log second → HasEnded script first → HasEnded script second → second ≡ first
+  both-ended : (first second : List Entry) → Log first → Log second → IsSpent script first → IsSpent script second → second ≡ first
   both-ended first second log also ended ends = go (nat_le (length first) (length second)) refl
     where
       go : (short : Bool) → nat_le (length first) (length second) ≡ short → second ≡ first

@@ -6,7 +6,7 @@ use Rattle.uvm_object.specs.declared.entries.Entry.{Entry}
 use Rattle.bench_core.specs.Cores.{CoreValue, IsDrawn, word_in}
 use Rattle.bench_kernel.specs.Steps.{IsSameLog}
 use Rattle.bench_run.specs.Running.{Grows}
-use Rattle.bench_run.specs.Words.{AreDrawn, HasWordsOf, word_made, stream_after, words_drawn, words_of}
+use Rattle.bench_run.specs.Words.{AreDrawn, HasWordsOf, word_made, stream_after, words_drawn, log_words}
 
 module _ {Words : Type 0} (stream : Words → Stream) where
   -- nothing was drawn
@@ -20,11 +20,11 @@ module _ {Words : Type 0} (stream : Words → Stream) where
       record { words = all.0; left = all.1 }
     where
       go : (word : Option ℕ) → IsDrawn stream word half last
-          → (cons_option word (words_of history) ≡ words_drawn (length (cons_option word (words_of history))) (stream first)) × (stream last ≡ stream_after (length (cons_option word (words_of history))) (stream first))
+          → (cons_option word (log_words history) ≡ words_drawn (length (cons_option word (log_words history))) (stream first)) × (stream last ≡ stream_after (length (cons_option word (log_words history))) (stream first))
       go None same = (were.words, ap stream same ∙ were.left)
       go (Some word) next =
-          let from : (word, stream last) ≡ next_u64 (stream_after (length (words_of history)) (stream first)) = next ∙ ap next_u64 were.left in (
-            ap (λ w. w ∷ words_of history) (ap (λ (p : ℕ × Stream). p.0) from) ∙ ap (λ ws. (next_u64 (stream_after (length (words_of history)) (stream first))).0 ∷ ws) were.words,
+          let from : (word, stream last) ≡ next_u64 (stream_after (length (log_words history)) (stream first)) = next ∙ ap next_u64 were.left in (
+            ap (λ w. w ∷ log_words history) (ap (λ (p : ℕ × Stream). p.0) from) ∙ ap (λ ws. (next_u64 (stream_after (length (log_words history)) (stream first))).0 ∷ ws) were.words,
             ap (λ (p : ℕ × Stream). p.1) from,
           )
 

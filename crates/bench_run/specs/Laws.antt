@@ -17,8 +17,8 @@ abbrev pub AllowsOneAtMost : (List Act → View → Type 0) → Type 0
 AllowsOneAtMost allowed = (acts others : List Act) (after next : View) → allowed acts after → allowed others next → (others ≡ acts) × (next ≡ after)
 
 -- nothing comes any more, or there is no room
-abbrev pub HasEnded : ScriptValue → List Entry → Type 0
-HasEnded script history = (is_over history ≡ true) ⊎ (log_limit script ≤ length history)
+abbrev pub IsSpent : ScriptValue → List Entry → Type 0
+IsSpent script history = (is_over history ≡ true) ⊎ (log_limit script ≤ length history)
 
 module _ {O : Type 0} (view : O → View) (name : O → List ℕ) (says : O → Says) where
   -- the log of a run on some words, over the objects that are given for the names of types
@@ -32,4 +32,4 @@ module _ {O : Type 0} (view : O → View) (name : O → List ℕ) (says : O → 
   RunsAreFunctions =
       ((object : O) (before : View) (call : Call) → AllowsOneAtMost (says object before call))
       → (given : List ℕ → Option O) (words : Stream) (script : ScriptValue) (first second : List Entry) → IsRunLog given words script first → IsRunLog given words script second
-      → HasEnded script first → HasEnded script second → second ≡ first
+      → IsSpent script first → IsSpent script second → second ≡ first

@@ -6,9 +6,9 @@ use Rattle.uvm_object.specs.declared.entries.Entry.{Entry}
 use Rattle.bench_core.specs.Cores.{word_in}
 
 -- the words of a log, the newest first: those of its grants
-abbrev pub words_of : List Entry → List ℕ
-words_of [] = []
-words_of (entry ∷ before) = cons_option (word_in (entry ∷ before)) (words_of before)
+abbrev pub log_words : List Entry → List ℕ
+log_words [] = []
+log_words (entry ∷ before) = cons_option (word_in (entry ∷ before)) (log_words before)
 
 -- the stream that is left once so many words were drawn
 abbrev pub stream_after : ℕ → Stream → Stream
@@ -22,12 +22,12 @@ words_drawn (suc count) stream = (next_u64 (stream_after count stream)).0 ∷ wo
 
 -- the words of a log are, in their order, the first that a generator gives
 abbrev pub HasWordsOf : Stream → List Entry → Type 0
-HasWordsOf stream history = words_of history ≡ words_drawn (length (words_of history)) stream
+HasWordsOf stream history = log_words history ≡ words_drawn (length (log_words history)) stream
 
 -- and the generator is where it is once these were drawn
 pub record AreDrawn {Words : Type 0} (stream : Words → Stream) (history : List Entry) (first last : Words) : Type 0 where
   pub words : HasWordsOf (stream first) history
-  pub left : stream last ≡ stream_after (length (words_of history)) (stream first)
+  pub left : stream last ≡ stream_after (length (log_words history)) (stream first)
 
 -- the word that is drawn where one more entry is made: its word, if it has one
 abbrev pub word_made : Bool → List Entry → Option ℕ

@@ -5,7 +5,7 @@ use Rattle.clap.specs.Words.{IsAmong, Text, fault_of}
 use Rattle.clap.specs.declared.error.kind.ErrorKind.{ErrorKind}
 use Rattle.clap.specs.declared.error.kind.ErrorKind.TheVariants.{DisplayHelp, DisplayVersion}
 use Rattle.bus_command.specs.Commands.{Asked, bus_bench_app, debug, named_job, run}
-use Rattle.bus_command.specs.Faults.{IsFaultOf}
+use Rattle.bus_command.specs.Faults.{IsJobFaultOf}
 use Rattle.bus_command.specs.declared.jobs.JobFault.{JobFault}
 use Rattle.bus_command.specs.declared.jobs.JobFault.TheVariants.{Help, Version, Refused, BadName, Memory}
 use Rattle.bus_jobs.specs.Debugging.{IsDebugRun}
@@ -59,4 +59,4 @@ DidJob old new status = (words : List Text) × (asked : Asked) × (named_job wor
 abbrev pub IsServed : List Text → Option (List ℕ) → Option (List ℕ) → ℕ → Type 0
 IsServed words old new status =
     ((asked : Asked) × (named_job words ≡ Some asked) × CameTo asked old new status)
-    ⊎ ((fault : JobFault) × IsFaultOf (fault_of bus_bench_app words) fault × IsTold fault old new status)
+    ⊎ ((fault : JobFault) × IsJobFaultOf (fault_of bus_bench_app words) fault × IsTold fault old new status)

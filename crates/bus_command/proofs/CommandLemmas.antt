@@ -15,7 +15,7 @@ use Rattle.clap.specs.declared.parser.matches.Found.{Found}
 use Rattle.clap.proofs.WalkLemmas.{first_value-rows}
 use Rattle.bus_command.specs.declared.jobs.Job.{Job}
 use Rattle.bus_command.specs.Commands.{Asked, has_bad_name, HasFile, NamesJob, bus_bench_app, debug_app, run_app, seed_parser, seed_rule, trace_rule}
-use Rattle.bus_command.specs.Faults.{IsFaultBy, IsFaultOf}
+use Rattle.bus_command.specs.Faults.{IsFaultBy, IsJobFaultOf}
 use Rattle.bus_command.specs.declared.jobs.JobFault.{JobFault}
 use Rattle.bus_command.specs.declared.jobs.JobFault.TheVariants.{Help, Version, Refused, BadName, Memory}
 use Rattle.clap.specs.declared.error.Error.{Error}
@@ -183,7 +183,7 @@ pub found_rows : (a : App) (words : List Text) (m : ArgMatches) → a ≡ bus_be
 found_rows a words m is matches = (matches (ap is_simple is)).1 ∙ ap (λ (x : App). subcommand_of x words) is
 
 -- a bad name is all that is wrong with words that have no fault
-pub bad_name_alone : (kinds : Kinds) (named : Option Asked) (r : Result Job JobFault) → kinds ≡ [] → OnErr r ((r ≡ Err BadName) × (has_bad_name named ≡ true)) → IfErr r (IsFaultOf kinds)
+pub bad_name_alone : (kinds : Kinds) (named : Option Asked) (r : Result Job JobFault) → kinds ≡ [] → OnErr r ((r ≡ Err BadName) × (has_bad_name named ≡ true)) → IfErr r (IsJobFaultOf kinds)
 bad_name_alone kinds named (Ok x) none bad = tt
 bad_name_alone kinds named (Err (Help given)) none bad = let other : Err (Help given) ≡ Err BadName = bad.0 in cc
 bad_name_alone kinds named (Err (Version given)) none bad = let other : Err (Version given) ≡ Err BadName = bad.0 in cc

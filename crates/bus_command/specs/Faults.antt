@@ -21,12 +21,12 @@ IsFaultBy error Memory = kind_of error ≡ OutOfMemory
 
 -- the fault of words to which clap's meaning gives these kinds: help, the version and a refusal are of one of them, and a bad
 -- name is told only where there are none
-abbrev pub IsFaultOf : Kinds → JobFault → Type 0
-IsFaultOf kinds (Help text) = IsAmong DisplayHelp kinds
-IsFaultOf kinds (Version text) = IsAmong DisplayVersion kinds
-IsFaultOf kinds (Refused error) = IsAmong (kind_of error) kinds × IsRefusal (kind_of error)
-IsFaultOf kinds BadName = kinds ≡ []
-IsFaultOf kinds Memory = Unit {0}
+abbrev pub IsJobFaultOf : Kinds → JobFault → Type 0
+IsJobFaultOf kinds (Help text) = IsAmong DisplayHelp kinds
+IsJobFaultOf kinds (Version text) = IsAmong DisplayVersion kinds
+IsJobFaultOf kinds (Refused error) = IsAmong (kind_of error) kinds × IsRefusal (kind_of error)
+IsJobFaultOf kinds BadName = kinds ≡ []
+IsJobFaultOf kinds Memory = Unit {0}
 
 -- help is given, unless memory was refused
 abbrev pub IsHelp : JobFault → Type 0

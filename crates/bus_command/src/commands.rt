@@ -7,7 +7,7 @@ ghost use Rattle.clap.specs.declared.error.kind.ErrorKind.TheVariants.{DisplayHe
 ghost use Rattle.bus_command.specs.Commands.{bus_bench_app, debug_app, file_rule, run_app, seed_rule, test_rule, top_app, trace_rule};
 ghost use Rattle.bus_command.specs.Commands.{asked_in, has_bad_name, is_bad_test, job_named, named_job, seed_in, words_of};
 ghost use Rattle.bus_command.specs.Commands.{AsksFor, AsksForHelp, AsksForVersion, HasFile, IsDebugOf, IsRunOf, NamesJob, ReadsSeed, ReadsTrace};
-ghost use Rattle.bus_command.specs.Faults.{IsFaultOf, IsHelp, IsVersion};
+ghost use Rattle.bus_command.specs.Faults.{IsJobFaultOf, IsHelp, IsVersion};
 
 use crate::jobs::{Job, JobFault, fault_by};
 use crate::texts::{ABOUT, ABOUT_DEBUG, ABOUT_RUN, EXAMPLE, LONG_ABOUT, VERSION};
@@ -28,7 +28,7 @@ pub fn job<'a, S: AsStr>(alloc: Global, words: &'a [S]) -> Result<Job<'a>, JobFa
 
     // Help, the version and a refusal have a kind that clap's meaning gives the words, and words that
     // it takes have none. What asks for help or for the version is no refusal.
-    ensures refused { IfErr result (IsFaultOf (fault_of bus_bench_app (map S.text words.now))) }
+    ensures refused { IfErr result (IsJobFaultOf (fault_of bus_bench_app (map S.text words.now))) }
     ensures taken { takes bus_bench_app (map S.text words.now) ≡ true
         → OnErr result ((result ≡ Err JobFault.BadName) ⊎ (result ≡ Err JobFault.Memory)) }
 

@@ -17,7 +17,7 @@ use Rattle.bench_run.specs.declared.endings.Ending.{Ending}
 use Rattle.bench_run.specs.declared.faults.RunFault.{RunFault}
 use Rattle.bench_run.specs.declared.faults.RunFault.TheVariants as ran
 use Rattle.bench_run.specs.Endings.{is_clean}
-use Rattle.bench_run.specs.Laws.{AllowsOneAtMost, HasEnded, IsRunLog, RunsAreFunctions}
+use Rattle.bench_run.specs.Laws.{AllowsOneAtMost, IsSpent, IsRunLog, RunsAreFunctions}
 use Rattle.bench_run.specs.Running.{IsEnding, summary_of, transcript}
 use Rattle.bus_objects.specs.Laws.{ObjectsAreFunctions}
 use Rattle.bus_objects.specs.Objects.{name_of, object_named, says_of, view_of}
@@ -101,7 +101,7 @@ came-of asked words trace held new (Broken Memory) done decided = absurd decided
 came-of asked words trace held new (Broken Output) done decided = absurd decided
 came-of asked words trace held new (Broken Unread) done decided = absurd decided
 
-has-ended : (trace : Bool) (held : List ℕ) (new : Option (List ℕ)) (verdict : Verdict) (script : ScriptValue) (history : List Entry) → Ended trace held new verdict script history → HasEnded script history
+has-ended : (trace : Bool) (held : List ℕ) (new : Option (List ℕ)) (verdict : Verdict) (script : ScriptValue) (history : List Entry) → Ended trace held new verdict script history → IsSpent script history
 has-ended trace held new verdict script history (IsOver ending is wrote verdict_is) = inl (newest-over history ending.reason is.reason)
 has-ended trace held new verdict script history (IsFull full going wrote verdict_is) = inr full
 

@@ -1,4 +1,4 @@
-//! A testbench of a user's own: one object, and one run of a script over it.
+//! A testbench of a user's own: an object, a script that makes it the test, and one run of that script.
 #![tactic(auto)]
 
 use bench_run::run_script;
@@ -11,15 +11,15 @@ use uvm_object::{Act, Acts, Call, UvmObject};
 use uvm_phase::Phase;
 use uvm_report::{Report, Severity, Text, verbosity};
 
-/// One type of components, which is the test.
+/// One type of component, and the test of that type.
 const SCRIPT: &[u8] = br#"
 version = 1
 test = "greeter"
 type = [{ name = "greeter", kind = "component" }]
 "#;
 
-/// Raises an objection in run, so that the phase goes on; after 10 ticks it reports a greeting under its type's name, and
-/// drops the objection. It answers each other call with no acts, and shows nothing of itself.
+/// Raises an objection in run, so that the phase goes on; after 10 ticks it reports a greeting, with the name of its type as the
+/// id, and drops the objection. It answers each other call with no acts, and shows nothing of itself.
 #[derive(Drop)]
 struct Greeter {
     type_name: Name,
@@ -36,11 +36,11 @@ impl UvmObject for Greeter {
 
     ghost name = { λ greeter. greeter.type_name };
 
+    // What it answers in run, when it wakes, and to any other call.
     ghost says = { λ greeter _ call acts _.
+        let greeting = Report (record { severity = Info; id = greeter.type_name; text = codes "hello"; verbosity = 100 }) in
         (call ≡ Phase Run → acts ≡ RaiseObjection 1 ∷ Wait 10 0 ∷ [])
-        × (call ≡ Wake 0 → acts ≡
-        Report (record { severity = Info; id = greeter.type_name; text = codes "hello, world"; verbosity = 100 })
-        ∷ DropObjection 1 ∷ [])
+        × (call ≡ Wake 0 → acts ≡ greeting ∷ DropObjection 1 ∷ [])
         × (call ≢ Phase Run → call ≢ Wake 0 → acts ≡ []) };
 
     fn type_name(&self) -> &Name {
@@ -55,7 +55,8 @@ impl UvmObject for Greeter {
                 acts.push(Act::Wait { ticks: 10, tag: 0 })?;
             }
             Call::Wake { tag: 0 } => {
-                let Ok(text) = Text::new(alloc, b"hello, world") else {
+                // The text has no fault, so it is memory that is refused.
+                let Ok(text) = Text::new(alloc, b"hello") else {
                     return Err(AllocError);
                 };
                 let report = Report {

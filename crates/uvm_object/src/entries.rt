@@ -1,6 +1,6 @@
 //! The entries of the log.
 
-ghost use Rattle.std.specs.Prelude.{◌≡◌, IfOk};
+ghost use Rattle.std.specs.Prelude.{◌≡◌, IfOk, IsOk, None};
 ghost use Rattle.uvm_object.specs.declared.entries.Outcome.TheVariants.{Done, Made, Started, Value, Stored, Taken, Waits, Finished, Refused};
 ghost use Rattle.uvm_object.specs.declared.entries.Entry.TheVariants.{Heard};
 
@@ -223,9 +223,10 @@ impl LoggedOutcome {
         }
     }
 
-    /// The outcome `Taken`. It takes memory for an item; the error is want of it.
+    /// The outcome `Taken`. It takes memory for an item; the error is want of it, which does not come where there is no item.
     pub fn taken(alloc: Global, item: Option<Item>) -> Result<LoggedOutcome, AllocError>
-        ensures { IfOk result (λ outcome. outcome ≡ Taken item) }
+        ensures ok { IfOk result (λ outcome. outcome ≡ Taken item) }
+        ensures none { item ≡ None → IsOk result }
     {
         let compact = match item {
             Some(item) => CompactOutcome::Taken(Box::new(alloc, item)?),

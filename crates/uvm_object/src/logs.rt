@@ -1,6 +1,6 @@
 //! The log.
 
-ghost use Rattle.std.specs.Prelude.{◌≡◌, ◌≢◌, ◌==◌, ◌↔◌, ◌∷◌, ◌<◌, ◌≤◌, [], length, reverse, nat_le, slice_get, Err, OnOk, OnErr, option_copied};
+ghost use Rattle.std.specs.Prelude.{◌≡◌, ◌≢◌, ◌==◌, ◌↔◌, ◌∷◌, ◌<◌, ◌≤◌, [], length, reverse, nat_le, slice_get, Err, IsOk, OnOk, OnErr, option_copied};
 ghost use Rattle.std.specs.Slice.Iter.{iter_rest};
 ghost use Rattle.uvm_glob.specs.Lists.{newest};
 
@@ -75,11 +75,14 @@ impl Log {
         }
     }
 
-    /// Makes room for an entry: the next `push` then takes no memory. The error is want of memory.
+    /// Makes room for an entry: the next `push` then takes no memory. The error is want of memory, which does not come where there
+    /// is room. No room is given up.
     pub fn reserve(&mut self) -> Result<(), AllocError>
         ensures entries { self.new.entries ≡ self.old.entries }
         ensures limit { self.new.limit ≡ self.old.limit }
         ensures spare { OnOk result (0 < self.new.spare) }
+        ensures room { 0 < self.old.spare → IsOk result }
+        ensures kept { self.old.spare ≤ self.new.spare }
     {
         self.entries.reserve(1)
     }

@@ -1,7 +1,8 @@
 -- No call moves a node.
 use Rattle.std.proofs.Common.{◌≡◌, ℕ, Bool, true, false, ◌==◌, ◌+◌, ◌-◌, ◌||◌, List, [], ◌∷◌, Option, refl, ap, ◌∙◌, sym, if◌then◌else◌}
 use Rattle.std.specs.List.{list_any}
-use Rattle.uvm_objection.specs.Nodes.{Node, is_known, changed_at}
+use Rattle.std.proofs.lemmas.List.{map-append}
+use Rattle.uvm_objection.specs.Nodes.{Node, new_node, is_known, changed_at}
 use Rattle.uvm_objection.specs.Totals.{settled}
 use Rattle.uvm_objection.specs.Laws.{places, PlacesStay}
 
@@ -28,6 +29,7 @@ known_at node (e ∷ newer) = ap (λ b. (e.node == node) || b) (known_at node ne
 
 pub places_stay : PlacesStay
 places_stay = record {
+  added = λ node parent nodes. map-append place_of nodes (new_node node parent ∷ []);
   settled = settled_stay;
   raised = λ node count nodes. changed_stay node (λ e. record e { source = e.source + count }) (λ n. refl) nodes;
   dropped = λ node count nodes. changed_stay node (λ e. record e { source = e.source - count }) (λ n. refl) nodes;

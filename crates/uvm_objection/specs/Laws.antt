@@ -1,5 +1,5 @@
 -- What holds of the nodes of every objection, and what follows.
-use Rattle.std.specs.Prelude.{◌≡◌, ◌≢◌, ℕ, Bool, true, false, ◌||◌, ◌==◌, ◌+◌, ◌<◌, ◌≤◌, List, [], ◌∷◌, ◌++◌, map, filter, sum_by, All, Option, None, IsTrue}
+use Rattle.std.specs.Prelude.{◌≡◌, ◌≢◌, ℕ, Bool, true, false, ◌||◌, ◌==◌, ◌+◌, ◌<◌, ◌≤◌, List, [], ◌∷◌, ◌++◌, map, filter, sum_by, All, Option, None, Some, IsTrue}
 use Rattle.std.specs.Option.{option_map_or}
 use Rattle.uvm_objection.specs.Nodes.{Node, top, new_node, is_known, source_of, drain_of, held_of, due_of, raised, dropped, released, with_drain}
 use Rattle.uvm_objection.specs.Totals.{total, is_child, held_after, due_after, settled, drains_begun}
@@ -58,8 +58,9 @@ pub record IsHeldUntilDue (nodes : List Node) (drain : Due) : Type 0 where
 abbrev pub BegunDrainsAreHeld : Type 0
 BegunDrainsAreHeld = (earlier nodes : List Node) → AreNodes nodes → All (IsHeldUntilDue nodes) (drains_begun earlier nodes)
 
--- no call moves a node: the nodes stand where they stood, and who stands where decides who is known
+-- no call moves a node: the nodes stand where they stood, one that is added behind them, and who stands where decides who is known
 pub record PlacesStay : Type 0 where
+  pub added : (node parent : ℕ) (nodes : List Node) → places (nodes ++ new_node node parent ∷ []) ≡ places nodes ++ (node, Some parent) ∷ []
   pub settled : (time : ℕ) (before : ℕ → ℕ) (nodes : List Node) → places (settled time before nodes) ≡ places nodes
   pub raised : (node count : ℕ) (nodes : List Node) → places (raised node count nodes) ≡ places nodes
   pub dropped : (node count : ℕ) (nodes : List Node) → places (dropped node count nodes) ≡ places nodes

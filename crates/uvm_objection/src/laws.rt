@@ -25,7 +25,8 @@ pub fn begun_drains_are_held()
     ensures { BegunDrainsAreHeld }
 {}
 
-/// No call but `add` changes which nodes are known, and none moves a node: the nodes stand where they stood.
+/// No call moves a node: the nodes stand where they stood, with the one that `add` adds behind them. So no other call changes
+/// which nodes are known.
 #[tactic(auto, using(crate::proofs::Staying::places_stay))]
 pub fn places_stay()
     ensures { PlacesStay }

@@ -61,10 +61,13 @@ impl Objection {
         }
     }
 
-    /// Makes room for a node: the next `add` then takes no memory. Its error is want of memory, which changes no node.
+    /// Makes room for a node: the next `add` then takes no memory. Its error is want of memory, which changes no node, and does
+    /// not come where there is room. No room is given up.
     pub fn reserve(&mut self) -> Result<(), AllocError>
         ensures nodes { self.new.nodes ≡ self.old.nodes }
         ensures spare { OnOk result (0 < self.new.spare) }
+        ensures room { 0 < self.old.spare → IsOk result }
+        ensures kept { self.old.spare ≤ self.new.spare }
     {
         self.entries.reserve(1)
     }

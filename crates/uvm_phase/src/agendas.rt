@@ -80,11 +80,12 @@ impl<O: Drop, N: Drop> Agenda<O, N> {
         }
     }
 
-    /// Makes room for a call: the next `due` then takes no memory. The error is want of memory. No call changes, and no room is
-    /// given up, here or below.
+    /// Makes room for a call: the next `due` then takes no memory. The error is want of memory, which does not come where there is
+    /// room. No call changes, and no room is given up, here or below.
     pub fn reserve(&mut self) -> Result<(), AllocError>
         ensures dues { self.new.dues ≡ self.old.dues }
         ensures spare { OnOk result (0 < self.new.spare) }
+        ensures room { 0 < self.old.spare → IsOk result }
         ensures capacity { capacity_of self.old ≤ capacity_of self.new }
     {
         self.dues.reserve(1)

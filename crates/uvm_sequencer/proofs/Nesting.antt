@@ -6,6 +6,7 @@ use Rattle.std.specs.List.{list_all}
 use Rattle.std.specs.Option.{option_map_or}
 use Rattle.uvm_sequencer.specs.Sequences.{Start, ancestors_of, is_under}
 use Rattle.uvm_sequencer.specs.Queues.{is_held, released}
+use Rattle.uvm_sequencer.specs.Sequencers.{is_live_at}
 use Rattle.uvm_sequencer.specs.Laws.{are_nested, HoldersStayNested}
 use Rattle.uvm_sequencer.proofs.Granting.{lock-free}
 use Rattle.uvm_sequencer.proofs.Unders.{is_among}
@@ -106,5 +107,6 @@ holders_stay_nested = record {
   locks = λ started s seq nested is. nested-push started s.holders seq nested (lock-free started s seq is).under;
   unlocks = λ started s seq nested. nested-released started seq s.holders nested;
   leaves = λ started s seq nested. nested-left started (λ holder. not (holder == seq)) s.holders nested;
+  phase_ends = λ started s steps nested. nested-left started (is_live_at steps) s.holders nested;
   starts = λ start started holders nested. nested-started start started holders nested;
 }

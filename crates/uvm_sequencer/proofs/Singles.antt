@@ -9,6 +9,7 @@ use Rattle.uvm_sequencer.specs.declared.requests.Request.{Request}
 use Rattle.uvm_sequencer.specs.declared.faults.SeqFault.TheVariants.{Twice}
 use Rattle.uvm_sequencer.specs.Drivers.{grant_of}
 use Rattle.uvm_sequencer.specs.Queues.{is_item_of, is_lock_of, is_of, item_request, lock_request}
+use Rattle.uvm_sequencer.specs.Sequencers.{is_live_at}
 use Rattle.uvm_sequencer.specs.Laws.{AreSingle, WaitsStaySingle}
 
 -- no more pass a test of what is left
@@ -105,6 +106,7 @@ waits_stay_single = record {
   lock_grants = λ s seq single. single-left (λ request. not (is_lock_of seq request)) s.queue single;
   item_grants = λ s seq single. single-left (λ request. not (is_item_of seq request)) s.queue single;
   leaves = λ s seq single. single-left (λ request. not (is_of seq request)) s.queue single;
+  phase_ends = λ s steps single. single-left (λ request. is_live_at steps request.seq) s.queue single;
 }
 
 -- what passes a test and what does not are all

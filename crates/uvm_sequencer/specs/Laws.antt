@@ -10,7 +10,7 @@ use Rattle.uvm_sequencer.specs.Choices.{choice, first_over, is_strict}
 use Rattle.uvm_sequencer.specs.Drivers.{grant_of, hand_of, wait_of}
 use Rattle.uvm_sequencer.specs.Queues.{is_candidate, is_item, is_item_of, is_lock_of, lock_request, priority_of}
 use Rattle.uvm_sequencer.specs.Sequences.{Start, SequencesValue, IsSequences, AreStarted, ancestors_of, is_under, numbered, parent_of, step_at, with_step}
-use Rattle.uvm_sequencer.specs.Sequencers.{SequencerValue, after_leave, ask_fault, candidates_at, choice_at, granted, lock_at, lock_fault, locked, new_sequencer, request_fault, unlocked, with_grab, with_item, with_lock}
+use Rattle.uvm_sequencer.specs.Sequencers.{SequencerValue, after_leave, after_phase, ask_fault, candidates_at, choice_at, granted, lock_at, lock_fault, locked, new_sequencer, request_fault, unlocked, with_grab, with_item, with_lock}
 
 -- the ancestors of a sequence are its parent and the ancestors of that
 abbrev pub AncestorsByParents : Type 0
@@ -40,12 +40,14 @@ abbrev pub are_nested : List Start → List ℕ → Bool
 are_nested started [] = true
 are_nested started (first ∷ later) = list_all (λ holder. is_under started holder first) later && are_nested started later
 
--- the holders are nested at first, and stay so when a lock is granted or given back, a sequence leaves, or another is started
+-- the holders are nested at first, and stay so when a lock is granted or given back, a sequence leaves, a phase ends, or another
+-- sequence is started
 pub record HoldersStayNested : Type 0 where
   pub begins : (started : List Start) (mode : Mode) → IsTrue (are_nested started (new_sequencer mode).holders)
   pub locks : (started : List Start) (s : SequencerValue) (seq : ℕ) → IsTrue (are_nested started s.holders) → lock_at started s ≡ Some seq → IsTrue (are_nested started (locked seq s).holders)
   pub unlocks : (started : List Start) (s : SequencerValue) (seq : ℕ) → IsTrue (are_nested started s.holders) → IsTrue (are_nested started (unlocked seq s).holders)
   pub leaves : (started : List Start) (s : SequencerValue) (seq : ℕ) → IsTrue (are_nested started s.holders) → IsTrue (are_nested started (after_leave seq s).holders)
+  pub phase_ends : (started : List Start) (s : SequencerValue) (steps : List (Option SeqStep)) → IsTrue (are_nested started s.holders) → IsTrue (are_nested started (after_phase steps s).holders)
   pub starts : (start : Start) (started : List Start) (holders : List ℕ) → IsTrue (are_nested started holders) → IsTrue (are_nested (start ∷ started) holders)
 
 -- a request of a list passes a test, and none before it does
@@ -106,6 +108,7 @@ pub record WaitsStaySingle : Type 0 where
   pub lock_grants : (s : SequencerValue) (seq : ℕ) → AreSingle s.queue → AreSingle (locked seq s).queue
   pub item_grants : (s : SequencerValue) (seq : ℕ) → AreSingle s.queue → AreSingle (granted seq s).queue
   pub leaves : (s : SequencerValue) (seq : ℕ) → AreSingle s.queue → AreSingle (after_leave seq s).queue
+  pub phase_ends : (s : SequencerValue) (steps : List (Option SeqStep)) → AreSingle s.queue → AreSingle (after_phase steps s).queue
 
 -- each grant then ends one wait
 pub record EachGrantEndsAWait : Type 0 where

@@ -24,7 +24,7 @@ pub fn lock_excludes()
 {}
 
 /// Of any two holders of a sequencer one is the other or one of its ancestors: there is none at first, and nested holders stay
-/// so, whatever is called but `end_phase`, which takes out some of them.
+/// so, whatever is called.
 pub fn holders_stay_nested()
     ensures { HoldersStayNested }
 {}
@@ -56,8 +56,7 @@ pub fn starts_change_nothing()
     ensures { StartsChangeNothing }
 {}
 
-/// A sequence waits for one item and for one lock at most: so it was at the beginning, and so it stays, whatever is called but
-/// `end_phase`, which takes some out.
+/// A sequence waits for one item and for one lock at most: so it was at the beginning, and so it stays, whatever is called.
 pub fn waits_stay_single()
     ensures { WaitsStaySingle }
 {}

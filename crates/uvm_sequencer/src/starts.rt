@@ -1,6 +1,6 @@
 //! The sequences that were started.
 
-ghost use Rattle.std.specs.Prelude.{◌≡◌, ◌+◌, ◌<◌, ◌∷◌, ◌++◌, [], length, None, Some, OnOk, OnErr, IfOk, IfSome, IsOk, IsSome, is_some, option_map, vec_len, vec_capacity};
+ghost use Rattle.std.specs.Prelude.{◌≡◌, ◌+◌, ◌<◌, ◌≤◌, ◌∷◌, ◌++◌, [], length, None, Some, OnOk, OnErr, IfOk, IfSome, IsOk, IsSome, is_some, option_map, vec_len, vec_capacity};
 ghost use Rattle.std.specs.Option.{option_copied, option_and_then, option_to_list, ForSome};
 ghost use Rattle.uvm_sequencer.specs.Sequences.{name_at, names_of, numbered, parent_of, step_at, step_after, with_step, stepped, finished, is_under, IsSequences};
 ghost use Rattle.uvm_sequencer.specs.Kept.{place_in, start_of, starts_of, steps_of};
@@ -75,8 +75,8 @@ struct Sequence {
 /// children.
 ///
 /// Contracts see how each was started and its step, the newest first, and beside them for how many more there is room. The
-/// time of a call does not grow with the sequences, but for `is_under` and `names`, which go up from parent to parent. None but
-/// `start`, `reserve` and `names` takes memory.
+/// time of a call does not grow with the sequences, but where `start` or `reserve` moves them to find room, and for `is_under` and
+/// `names`, which go up from parent to parent. None but `start`, `reserve` and `names` takes memory.
 #[derive(Drop)]
 pub struct Sequences {
     // By their numbers.
@@ -106,11 +106,14 @@ impl Sequences {
         }
     }
 
-    /// Makes room for a sequence: the next `start` then takes no memory. Its error is want of memory, which changes no sequence.
+    /// Makes room for a sequence: the next `start` then takes no memory. Its error is want of memory, which changes no sequence,
+    /// and does not come where there is room. No room is given up.
     pub fn reserve(&mut self) -> Result<(), AllocError>
         ensures started { self.new.started ≡ self.old.started }
         ensures steps { self.new.steps ≡ self.old.steps }
         ensures spare { OnOk result (0 < self.new.spare) }
+        ensures room { 0 < self.old.spare → IsOk result }
+        ensures kept { self.old.spare ≤ self.new.spare }
     {
         self.sequences.reserve(1)
     }

@@ -60,8 +60,8 @@ pub struct WaitingTake {
 }
 
 /// A FIFO (IEEE 1800.2-2020, 12.2.8): the items in it, and the puts, takes and peeks that wait, each in their order. A put, take
-/// or peek waits until `settle` makes its move; at each call of it one wait ends at most. But for `clear_waiting`, and where a put
-/// moves what is there to find room, the time of a call does not grow with what is there.
+/// or peek waits until `settle` makes its move; at each call of it one wait ends at most. But for `clear_waiting`, and where a
+/// call moves what is there to find room, the time of a call does not grow with what is there.
 ///
 /// Contracts see the size, the items, and what waits.
 #[derive(Drop)]

@@ -13,7 +13,7 @@ use Rattle.uvm_tree.specs.declared.faults.TreeFault.{TreeFault}
 use Rattle.uvm_tree.specs.declared.faults.TreeFault.TheVariants.{NoParent, NameTaken, TooDeep, Full}
 use Rattle.uvm_tree.specs.declared.nodes.Node.{Node}
 use Rattle.uvm_tree.specs.declared.nodes.NodeKind.{NodeKind}
-use Rattle.uvm_tree.specs.Nodes.{AreNodes, AreSiblingsApart, add_fault, child, is_child, is_named, most_nodes, node_at, path_at, top, under_at}
+use Rattle.uvm_tree.specs.Nodes.{AreNodes, AreSiblingsApart, NodesGrow, add_fault, child, is_child, is_named, most_nodes, node_at, path_at, top, under_at}
 
 -- the nodes before one more are what they were
 before : (nodes : List Node) (x : Node) (id : ℕ) → id < length nodes → node_at (nodes ++ x ∷ []) id ≡ node_at nodes id
@@ -184,3 +184,26 @@ added nodes new parent name kind (Err fault) are free is same =
 pub siblings : AreSiblingsApart
 siblings nodes are m n under e f =
     are.apart m n (within nodes m under e) (within nodes n under f) (are.paths m under e ∙ sym (are.paths n under f))
+
+-- the top alone
+alone : (id : ℕ) (under : ℕ × List ℕ) → under_at (top ∷ []) id ≡ Some under → ⊥
+alone zero under e = cc
+alone (suc id) under e = cc
+
+only : (id : ℕ) → id < length (top ∷ []) → id ≡ 0
+only id h = omega arith
+
+top_alone : AreNodes (top ∷ [])
+top_alone = record {
+  top_first = refl;
+  others = λ id low high. absurd (omega (arith, only id high));
+  parents = λ id under e. absurd (alone id under e);
+  paths = λ id under e. absurd (alone id under e);
+  apart = λ m n here there e. only m here ∙ sym (only n there);
+}
+
+pub nodes_grow : NodesGrow
+nodes_grow = record {
+  begins = top_alone;
+  added = λ nodes parent name kind are free. (added nodes (nodes ++ child nodes parent name kind ∷ []) parent name kind (Ok 0) are free refl tt).0;
+}

@@ -91,3 +91,8 @@ add_fault nodes parent name =
     ∷ fault_if (is_some (path_fault (path_at nodes parent ++ name ∷ []))) TooDeep
     ∷ fault_if (nat_lt most_nodes (length nodes)) Full
     ∷ [])
+
+-- the top alone is the nodes of a tree, and such nodes with one more that may be added are
+pub record NodesGrow : Type 0 where
+  pub begins : AreNodes (top ∷ [])
+  pub added : (nodes : List Node) (parent : ℕ) (name : List ℕ) (kind : NodeKind) → AreNodes nodes → add_fault nodes parent name ≡ None → AreNodes (nodes ++ child nodes parent name kind ∷ [])

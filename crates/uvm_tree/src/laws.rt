@@ -1,7 +1,7 @@
 //! Laws of the definitions. The functions do nothing; their contracts are the laws.
 
 ghost use Rattle.uvm_tree.specs.Cursors.{AreNodesOrdered, LeastIsLeast, OneIsLeast};
-ghost use Rattle.uvm_tree.specs.Nodes.{AreSiblingsApart};
+ghost use Rattle.uvm_tree.specs.Nodes.{AreSiblingsApart, NodesGrow};
 ghost use Rattle.uvm_tree.specs.Sorted.{PathOrderIsInOrder};
 
 use uvm_glob::laws::orders_are_total;
@@ -16,6 +16,13 @@ pub fn least_is_least()
 #[tactic(auto, using(crate::proofs::Grown::siblings))]
 pub fn siblings_are_apart()
     ensures { AreSiblingsApart }
+{}
+
+/// The top alone is the nodes of a tree, and so are such nodes with one more with which nothing is wrong: so the paths of a tree
+/// stay apart, whatever is added.
+#[tactic(auto, using(crate::proofs::Grown::nodes_grow))]
+pub fn nodes_grow()
+    ensures { NodesGrow }
 {}
 
 /// The paths of the nodes of a tree order its nodes, in each direction: the order is total, and no two nodes are equal in it.

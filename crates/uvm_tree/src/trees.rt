@@ -1,6 +1,6 @@
 //! The tree.
 
-ghost use Rattle.std.specs.Prelude.{◌≡◌, ◌≢◌, ◌∷◌, ◌++◌, ◌+◌, ◌-◌, ◌<◌, ◌≤◌, [], length, vec_capacity, None, Some, Ok, Err, OnOk, OnErr, IfOk, IfErr, IsSome, IsOk, option_map, option_and_then, position};
+ghost use Rattle.std.specs.Prelude.{◌≡◌, ◌≢◌, ◌∷◌, ◌++◌, ◌+◌, ◌-◌, ◌<◌, ◌≤◌, ◌↔◌, [], length, vec_capacity, None, Some, Ok, Err, OnOk, OnErr, IfOk, IfErr, IsSome, IsOk, IsTrue, option_map, option_and_then, position};
 ghost use Rattle.std.specs.List.{list_any};
 ghost use Rattle.std.specs.Option.{option_copied, ForSome};
 ghost use Rattle.uvm_glob.specs.Paths.{path_fault};
@@ -62,17 +62,23 @@ impl Tree {
         }
     }
 
-    /// Makes room for the next child of a parent, if there is such a node: its `add` then takes no memory. An error where
-    /// memory is refused; no node changes.
+    /// Makes room for the next child of a parent, in place of any other's: its `add` then takes no memory. The error is want of
+    /// memory, which does not come where there is that room, and where there is no such node; it changes no node and leaves the
+    /// room as it was.
     pub fn reserve(&mut self, parent: NodeId) -> Result<(), AllocError>
         ensures nodes { self.new.nodes ≡ self.old.nodes }
         ensures spare { OnOk result (IsSome (node_at self.old.nodes parent) → self.new.spare ≡ Some parent) }
+        ensures room { self.old.spare ≡ Some parent → IsOk result }
+        ensures no_parent { node_at self.old.nodes parent ≡ None → IsOk result × (self.new.spare ≡ self.old.spare) }
+        ensures err { OnErr result (self.new.spare ≡ self.old.spare) }
     {
+        if self.has_room_for(parent) {
+            return Ok(());
+        }
         let Some(above) = self.node(parent) else {
             return Ok(());
         };
         let path = ChildRoom::new(&above.path)?;
-        self.room = None;
         self.nodes.reserve(1)?;
         self.room = Some(Room { parent, path });
         Ok(())
@@ -176,6 +182,16 @@ impl Tree {
         ensures { result ≡ under_at self.now.nodes id }
     {
         self.node(id)?.under
+    }
+
+    // Whether there is room for the next child of a parent.
+    fn has_room_for(&self, parent: NodeId) -> bool
+        ensures { IsTrue result ↔ (self.now.spare ≡ Some parent) }
+    {
+        match &self.room {
+            Some(room) => room.parent == parent,
+            None => false,
+        }
     }
 
     // The path of a node, or that of the top where there is no such node.

@@ -1,10 +1,10 @@
 -- The sequences that end lived until then.
-use Rattle.std.proofs.Common.{◌≡◌, ℕ, ◌<◌, ◌≤◌, ◌==◌, Bool, true, false, not, ◌&&◌, ◌||◌, filter, if◌then◌else◌, List, [], ◌∷◌, ◌++◌, length, Option, Some, None, option_map, refl, ap, ◌∙◌, sym, subst, arith}
+use Rattle.std.proofs.Common.{◌≡◌, ℕ, zero, suc, ◌<◌, ◌≤◌, ◌==◌, Bool, true, false, not, ◌&&◌, ◌||◌, filter, if◌then◌else◌, List, [], ◌∷◌, ◌++◌, length, Option, Some, None, option_map, refl, ap, ◌∙◌, sym, subst, arith}
 use Rattle.uvm_sequencer.specs.Laws.{LockExcludes}
 use Rattle.std.specs.Option.{option_map_or}
-use Rattle.std.specs.List.{All, list_any}
+use Rattle.std.specs.List.{All, Contains, list_any}
 use Rattle.std.proofs.lemmas.Bool.Decides.{nat_tests}
-use Rattle.std.proofs.lemmas.List.Elements.{All-nil, All-cons, All-head, All-tail, All-push, All-weaker, All-filter, filter_passes}
+use Rattle.std.proofs.lemmas.List.Elements.{All-nil, All-cons, All-head, All-tail, All-push, All-weaker, All-filter, Contains-append_left, Contains-push, filter_passes}
 use Rattle.uvm_phase.specs.declared.phases.Phase.{Phase}
 use Rattle.uvm_phase.specs.Phases.{same_phase}
 use Rattle.uvm_phase.specs.Laws.{OrderKeepsAll}
@@ -23,8 +23,8 @@ use Rattle.bench_history.specs.declared.owners.Owner.{Owner}
 use Rattle.bench_history.specs.History.{stage_of, running, nodes_of, ended_of, ended_in}
 use Rattle.bench_history.specs.Sequences.{Beginning, all_begun, begun_after, begun_of, finished_of, finished_in, is_live, is_living, is_over_phase, leaving_of, leaving_after, lives}
 use Rattle.bench_history.specs.Next.{IsNext}
-use Rattle.bench_history.specs.Laws.{IsLivingSequence, LivingLived, AreRising, LeaversLived, number_of}
-use Rattle.bench_history.proofs.Living.{numbered-more, numbered-newest}
+use Rattle.bench_history.specs.Laws.{IsLiving, IsLivingSequence, LivingLived, AreRising, LeaversLived, number_of}
+use Rattle.bench_history.proofs.Living.{begun-more, numbered-more, numbered-newest}
 use Rattle.bench_history.proofs.Expected.{both-hold}
 use Rattle.bench_history.proofs.Called.{finisher_lives}
 
@@ -191,12 +191,95 @@ rising-after : (performer : Who) (outcome : Outcome) → AreRising (leaving_afte
 rising-after performer Finished = (All-nil _, tt)
 rising-after performer outcome = tt
 
+-- a sequence whose life an entry does not end lives on
+found-stays :
+    (entry : Entry) (before : List Entry) (id home : ℕ) (found : Option Beginning) → ((beginning : Beginning) → lives before id beginning ≡ true → beginning.start.home ≡ home → lives (entry ∷ before) id beginning ≡ true)
+    → numbered (begun_of before) id ≡ found → option_map_or (lives before id) found false ≡ true → option_map (λ beginning. beginning.start.home) found ≡ Some home → IsLiving (entry ∷ before) id home
+unfolding is_live
+found-stays entry before id home None on is alive at = cc
+found-stays entry before id home (Some beginning) on is alive at =
+    let same : beginning.start.home ≡ home = cc in
+    let still = begun-more entry before id beginning is in
+    record { lives = rw still (on beginning alive same); home_is = ap (option_map (λ (one : Beginning). one.start.home)) still ∙ at }
+
+stays-living :
+    (entry : Entry) (before : List Entry) (id home : ℕ) → ((beginning : Beginning) → lives before id beginning ≡ true → beginning.start.home ≡ home → lives (entry ∷ before) id beginning ≡ true)
+    → IsLiving before id home → IsLiving (entry ∷ before) id home
+unfolding is_live
+stays-living entry before id home on living = found-stays entry before id home (numbered (begun_of before) id) on refl living.lives living.home_is
+
+-- so one that an entry ends is among those that finish with it
+plain-all : (entry : Entry) (before : List Entry) (id home : ℕ) → finished_in entry ≡ [] → ended_in entry ≡ [] → IsLiving before id home → (IsLiving (entry ∷ before) id home → ⊥) → Contains [] (who.Sequence id home)
+plain-all entry before id home finished ended living gone = absurd (gone (stays-living entry before id home (λ beginning alive at. rw (finished, ended) alive) living))
+
+and-second : (a b : Bool) → a && b ≡ true → b ≡ true
+and-second true b e = e
+and-second false b e = cc
+
+same-is : (performer : Who) (id home : ℕ) → same_who (who.Sequence id home) performer ≡ true → performer ≡ who.Sequence id home
+same-is (who.Node node) id home same = cc
+same-is (who.Sequence other there) id home same =
+    let first = and-first (id == other) (home == there) same in
+    let second = and-second (id == other) (home == there) same in
+    let number : other ≡ id = grind (arith, nat_tests, first) in
+    let place : there ≡ home = grind (arith, nat_tests, second) in
+    rw (number, place) refl
+
+other-stays :
+    (before : List Entry) (performer : Who) (act : Act) (id home : ℕ) → same_who (who.Sequence id home) performer ≡ false → (beginning : Beginning) → lives before id beginning ≡ true → beginning.start.home ≡ home
+    → lives (Did performer Finished act ∷ before) id beginning ≡ true
+other-stays before performer act id home other beginning alive at =
+    let differs : same_who (who.Sequence id beginning.start.home) performer ≡ false = rw at other in
+    rw differs alive
+
+left-all :
+    (before : List Entry) (performer : Who) (outcome : Outcome) (act : Act) (id home : ℕ) → IsLiving before id home → (IsLiving (Did performer outcome act ∷ before) id home → ⊥)
+    → Contains (leaving_after performer outcome) (who.Sequence id home)
+left-all before performer Finished act id home living gone = by (same_who (who.Sequence id home) performer) refl
+  where
+    by : (same : Bool) → same_who (who.Sequence id home) performer ≡ same → Contains (performer ∷ []) (who.Sequence id home)
+    by true same = (0, omega arith, same-is performer id home same)
+    by false other = absurd (gone (stays-living (Did performer Finished act) before id home (other-stays before performer act id home other) living))
+left-all before performer outcome act id home living gone = plain-all (Did performer outcome act) before id home refl refl living gone
+
+-- or with its phase: who was started is among all that were
+started-there : (begun : List Beginning) (id home : ℕ) → option_map (λ beginning. beginning.start.home) (numbered begun id) ≡ Some home → Contains (all_begun begun) (who.Sequence id home)
+started-there [] id home e = cc
+started-there (beginning ∷ older) id home e = tested (id == length (beginning ∷ older)) refl e (started-there older id home)
+  where
+    tested : (newest : Bool) → (id == length (beginning ∷ older)) ≡ newest → option_map (λ beginning. beginning.start.home) (if newest then Some beginning else numbered older id) ≡ Some home
+        → (option_map (λ beginning. beginning.start.home) (numbered older id) ≡ Some home → Contains (all_begun older) (who.Sequence id home)) → Contains (all_begun (beginning ∷ older)) (who.Sequence id home)
+    tested true is at earlier =
+        let number : id ≡ length (beginning ∷ older) = grind (arith, nat_tests, is) in
+        let place : beginning.start.home ≡ home = cc in
+        rw (number, ← place) (Contains-push (all_begun older) (who.Sequence (length (beginning ∷ older)) beginning.start.home))
+    tested false is at earlier = Contains-append_left (all_begun older) _ (who.Sequence id home) (earlier at)
+
+filter-has : {X : Type 0} (p : X → Bool) (xs : List X) (x : X) → p x ≡ true → Contains xs x → Contains (filter p xs) x
+filter-has p [] x passes has = absurd (omega (arith, has.1))
+filter-has p (y ∷ ys) x passes (zero, low, at) = let first : p y ≡ true = rw at passes in rw first (zero, omega arith, at)
+filter-has p (y ∷ ys) x passes (suc k, low, at) = behind (p y) (filter-has p ys x passes (k, omega (arith, low), at))
+  where
+    behind : (b : Bool) → Contains (filter p ys) x → Contains (if b then y ∷ filter p ys else filter p ys) x
+    behind true has = let within = has.1 in (suc has.0, omega (arith, within), has.2)
+    behind false has = has
+
+ended-all : (before : List Entry) (phase : Phase) (id home : ℕ) → IsLiving before id home → (IsLiving (End phase ∷ before) id home → ⊥) → Contains (leaving_of (End phase ∷ before)) (who.Sequence id home)
+ended-all before phase id home living gone = by (is_live (End phase ∷ before) id) refl
+  where
+    by : (lives_on : Bool) → is_live (End phase ∷ before) id ≡ lives_on → Contains (leaving_of (End phase ∷ before)) (who.Sequence id home)
+    by true on = absurd (gone (record { lives = on; home_is = living.home_is }))
+    by false dead =
+        let ends : ends_then before phase (who.Sequence id home) ≡ true = rw (living.lives, dead) refl in
+        filter-has (ends_then before phase) (all_begun (begun_of before)) (who.Sequence id home) ends (started-there (begun_of before) id home living.home_is)
+
 module _ (keeps : OrderKeepsAll Owner (Option Call)) (excludes : LockExcludes) where
   pub leavers_lived : LeaversLived
   leavers_lived script before (Did performer outcome act) each next = record {
     lived = left-after before performer outcome (λ finishes. finisher_lives keeps excludes script before performer act each (subst (λ (o : Outcome). IsNext script before (Did performer o act)) finishes next));
     gone = left-gone before performer outcome act;
+    all = left-all before performer outcome act;
     rising = rising-after performer outcome;
   }
-  leavers_lived script before (End phase) each next = record { lived = ended-lived before phase; gone = ended-gone before phase; rising = rising-filter _ (all_begun (begun_of before)) (begun-rising (begun_of before)) }
-  leavers_lived script before entry each next = record { lived = All-nil _; gone = All-nil _; rising = tt }
+  leavers_lived script before (End phase) each next = record { lived = ended-lived before phase; gone = ended-gone before phase; all = ended-all before phase; rising = rising-filter _ (all_begun (begun_of before)) (begun-rising (begun_of before)) }
+  leavers_lived script before entry each next = record { lived = All-nil _; gone = All-nil _; all = λ id home. plain-all entry before id home refl refl; rising = tt }

@@ -7,7 +7,7 @@ use Rattle.uvm_phase.specs.Phases.{phases, phase_number}
 use Rattle.uvm_sequencer.specs.Drivers.{hand_of}
 use Rattle.uvm_sequencer.specs.Sequences.{numbered}
 use Rattle.uvm_tree.specs.declared.nodes.Node.{Node}
-use Rattle.uvm_tree.specs.Nodes.{node_at, path_at}
+use Rattle.uvm_tree.specs.Nodes.{AreNodes, node_at, path_at}
 use Rattle.uvm_report.specs.Counts.{issued_number}
 use Rattle.uvm_report.specs.Commands.{report_counts}
 use Rattle.uvm_object.specs.Acts.{node_of}
@@ -278,6 +278,10 @@ MachineEntriesAreSilent = (script : ScriptValue) (history : List Entry) (entry :
 abbrev pub NodesStay : Type 0
 NodesStay = (entry : Entry) (before : List Entry) → (more : List Node) × (nodes_of (entry ∷ before) ≡ nodes_of before ++ more)
 
+-- the nodes that a log comes to are those of a tree: so no path is that of two nodes, and as no entry takes a node away, none is used again
+abbrev pub NodesAreATree : Type 0
+NodesAreATree = (script : ScriptValue) (history : List Entry) → EachIsNext script history → AreNodes (nodes_of history)
+
 -- an object that is made is one component more: the node behind those that were there, at its path
 pub record HasGrown (history : List Entry) (path : List (List ℕ)) (entry : Entry) : Type 0 where
   pub components : components_of (entry ∷ history) ≡ components_of history ++ length (nodes_of history) ∷ []
@@ -328,10 +332,11 @@ abbrev pub AreRising : List Who → Type 0
 AreRising [] = Unit {0}
 AreRising (first ∷ others) = All (λ other. number_of first < number_of other) others × AreRising others
 
--- the sequences that an entry ends lived before it, live no longer, and go in rising number
+-- the sequences that an entry ends lived before it, live no longer, are all that do so, and go in rising number
 pub record AreLeaving (before : List Entry) (entry : Entry) : Type 0 where
   pub lived : All (IsLivingSequence before) (leaving_of (entry ∷ before))
   pub gone : All (λ who. IsLivingSequence (entry ∷ before) who → ⊥) (leaving_of (entry ∷ before))
+  pub all : (id home : ℕ) → IsLiving before id home → (IsLiving (entry ∷ before) id home → ⊥) → Contains (leaving_of (entry ∷ before)) (who.Sequence id home)
   pub rising : AreRising (leaving_of (entry ∷ before))
 
 abbrev pub LeaversLived : Type 0

@@ -1,13 +1,14 @@
 //! What holds of all logs, or of all in which each entry was next, as in each legal one, and of what comes next in them. The functions do
 //! nothing that shows; their contracts are the laws (`specs/Laws.antt`), for all scripts.
 
-ghost use Rattle.bench_history.specs.Laws.{PhasesGoInOrder, RunningPhasesEnd, AskedAreThere, PerformersAreThere, ComponentsAreNodes, HomesAreNodes, DueCallsGoInOrder, DrainsGoInOrder, PassagesGoInOrder, WaitersAreComponents, LocksGoInOrder, LockersAreThere, GrantsGoInOrder, ChosenAreThere, DriversAreThere, ActsGoInOrder, NeedsAreWanted, NothingAfterOver, SomethingBeforeOver, MachineEntriesAreSilent, NodesStay, MadeObjectsAreNew, NewNodesAreUnasked, NewSequencesAreUnasked, LivingLived, LivingRun, LeaversLived, ReportsAreFew, TimeStaysWithin, WiringStays, ConnectFollowsBuild, TasksFollowConnect};
+ghost use Rattle.bench_history.specs.Laws.{PhasesGoInOrder, RunningPhasesEnd, AskedAreThere, PerformersAreThere, ComponentsAreNodes, HomesAreNodes, DueCallsGoInOrder, DrainsGoInOrder, PassagesGoInOrder, WaitersAreComponents, LocksGoInOrder, LockersAreThere, GrantsGoInOrder, ChosenAreThere, DriversAreThere, ActsGoInOrder, NeedsAreWanted, NothingAfterOver, SomethingBeforeOver, MachineEntriesAreSilent, NodesStay, NodesAreATree, MadeObjectsAreNew, NewNodesAreUnasked, NewSequencesAreUnasked, LivingLived, LivingRun, LeaversLived, ReportsAreFew, TimeStaysWithin, WiringStays, ConnectFollowsBuild, TasksFollowConnect};
 
 use crate::owners::Owner;
 use uvm_object::Call;
 use uvm_phase::laws as agenda;
 use uvm_report::laws as reports;
 use uvm_sequencer::laws as sequencers;
+use uvm_tree::laws as trees;
 
 /// The phases go in their order (IEEE 1800.2-2020, Clause 9): until the end of the run those that have ended are the first of the
 /// nine, each once, and so they stand before the one that runs, or may begin next.
@@ -150,6 +151,15 @@ pub fn nodes_stay()
     ensures { NodesStay }
 {}
 
+/// The nodes that a log comes to are those of a tree: the top stands first, each other node behind its parent, and no path is that of two
+/// nodes. As no entry takes a node away, no path is used again.
+#[tactic(auto, using(crate::proofs::Treed::nodes_are_a_tree))]
+pub fn nodes_are_a_tree()
+    ensures { NodesAreATree }
+{
+    trees::nodes_grow();
+}
+
 /// An object that is made is one component more, the newest node, or the newest sequence.
 #[tactic(auto, using(crate::proofs::Grown::made_objects_are_new))]
 pub fn made_objects_are_new()
@@ -184,7 +194,7 @@ pub fn living_run()
     ensures { LivingRun }
 {}
 
-/// The sequences that an entry ends lived before it, live no longer, and go in rising number.
+/// The sequences that an entry ends lived before it, live no longer, are all that do so, and go in rising number.
 pub fn leavers_lived()
     ensures { LeaversLived }
 {

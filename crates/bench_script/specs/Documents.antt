@@ -1,5 +1,5 @@
 -- The script that a TOML tree stands for, or its first fault.
-use Rattle.std.specs.Prelude.{ℕ, ℤ, pos, negsuc, ◌==◌, List, [], ◌∷◌, Option, Some, None, Result, Ok, Err, ok_or, slice_get, codes, nat_lt, not, length, if◌then◌else◌}
+use Rattle.std.specs.Prelude.{◌≤◌, IsTrue, ℕ, ℤ, pos, negsuc, ◌==◌, List, [], ◌∷◌, Option, Some, None, Result, Ok, Err, ok_or, slice_get, codes, nat_lt, not, length, if◌then◌else◌}
 use Rattle.std.specs.Str.{is_utf8}
 use Rattle.toml.specs.Parse.{parse_document}
 use Rattle.toml.specs.Data.{Data, Members}
@@ -77,6 +77,10 @@ script_of root =
 abbrev pub script_in : Option Members → Result ScriptValue ScriptFault
 script_in None = Err NotToml
 script_in (Some root) = script_of root
+
+-- the bytes are a text, and not too many
+abbrev pub IsReadable : List ℕ → Type 0
+IsReadable bytes = (length bytes ≤ most_script_bytes) × IsTrue (is_utf8 bytes)
 
 -- the script that the bytes of a file stand for
 abbrev pub script_of_bytes : List ℕ → Result ScriptValue ScriptFault

@@ -1,11 +1,11 @@
 //! Reads a script.
 
-ghost use Rattle.std.specs.Prelude.{◌≡◌, IfOk};
+ghost use Rattle.std.specs.Prelude.{◌≡◌, IfOk, MatchResult};
 ghost use Rattle.toml.specs.View.{table_view};
 ghost use Rattle.toml.specs.Parse.{parse_document};
 ghost use Rattle.bench_script.specs.Reading.{IsReading};
 ghost use Rattle.bench_script.specs.Sound.{IsComponentAt};
-ghost use Rattle.bench_script.specs.Documents.{script_of, script_in, script_of_bytes, test_among};
+ghost use Rattle.bench_script.specs.Documents.{IsReadable, script_of, script_in, script_of_bytes, test_among};
 
 use crate::faults::ScriptFault;
 use crate::heads::read_head;
@@ -23,9 +23,11 @@ use uvm_glob::Name;
 const MAX_LEN: usize = 1_048_576;
 
 /// Reads a script. The fault is the first of `TooLong`, `NotText`, `NotToml` and those of the document's keys in their
-/// order; `Memory` is answered where a growth was refused.
+/// order; `Memory` is answered where a growth was refused, and nothing grows before the bytes are known to be a text that is
+/// not too long.
 pub fn read(alloc: Global, bytes: &[u8]) -> Result<Script, ScriptFault>
-    ensures { IsReading (script_of_bytes bytes.now) result }
+    ensures reading { IsReading (script_of_bytes bytes.now) result }
+    ensures readable { MatchResult result (λ _. IsReadable bytes.now) (λ fault. fault ≡ ScriptFault.Memory → IsReadable bytes.now) }
 {
     if bytes.len() > MAX_LEN {
         return Err(ScriptFault::TooLong);

@@ -1,6 +1,6 @@
 //! The machine.
 
-ghost use Rattle.std.specs.Prelude.{◌≡◌, ◌<◌, ◌∷◌, [], true, false, OnOk, OnErr, IfOk, IfErr, IfSome, IfNone, IsSome, is_some, Some, None, ◌&&◌, length, ◌++◌, nat_lt, if◌then◌else◌, option_map};
+ghost use Rattle.std.specs.Prelude.{◌≡◌, ◌≢◌, ◌<◌, ◌∷◌, [], true, false, OnOk, OnErr, IfOk, IfErr, IfSome, IfNone, IsSome, is_some, Some, None, ◌&&◌, length, ◌++◌, nat_lt, if◌then◌else◌, option_map};
 ghost use Rattle.std.specs.Bool.{OnTrue, OnFalse};
 ghost use Rattle.std.specs.Option.{option_copied};
 ghost use Rattle.uvm_tree.specs.Nodes.{node_at, number_at};
@@ -312,10 +312,12 @@ impl Core {
     }
 
     /// Appends the text of the newest entry: its line, where `trace` asks for it and there is one, and the line of its report,
-    /// where it has one that is displayed; nothing where memory is refused, or was.
+    /// where it has one that is displayed; nothing where memory is refused, or was. It is not refused where the text is empty.
+    #[tactic(auto, using(crate::proofs::Shown::some_in_front, crate::proofs::Shown::some_behind))]
     pub fn last_text(&self, trace: bool, out: &mut Vec<u8>) -> Result<(), AllocError>
         ensures ok { OnOk result (out.new.items ≡ out.old.items ++ (if is_sound self.now.health then last_text trace self.now.script self.now.history else [])) }
         ensures err { OnErr result (out.new.items ≡ out.old.items) }
+        ensures some { OnErr result (last_text trace self.now.script self.now.history ≢ []) }
     {
         if !self.is_sound() {
             return Ok(());
@@ -327,9 +329,11 @@ impl Core {
     }
 
     // The line of the newest entry, where it is asked for and there is one.
+    #[tactic(auto, using(crate::proofs::Shown::line_some))]
     fn push_last_line(&self, trace: bool, text: &mut Vec<u8>) -> Result<(), AllocError>
         requires { is_sound self.now.health ≡ true }
-        ensures { OnOk result (text.new.items ≡ text.old.items ++ last_line trace self.now.history) }
+        ensures ok { OnOk result (text.new.items ≡ text.old.items ++ last_line trace self.now.history) }
+        ensures some { OnErr result (last_line trace self.now.history ≢ []) }
     {
         match self.world.log().last() {
             Some(entry) if trace => {

@@ -38,3 +38,4 @@ pub mod Arbiting
 pub mod Seated
 pub mod Driven
 pub mod Granted
+pub mod Shown

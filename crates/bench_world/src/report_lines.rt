@@ -1,27 +1,31 @@
 //! The line of the report of the newest entry.
 
-ghost use Rattle.std.specs.Prelude.{◌≡◌, ◌++◌, true, OnOk, OnErr, option_and_then};
+ghost use Rattle.std.specs.Prelude.{◌≡◌, ◌≢◌, ◌++◌, [], true, OnOk, OnErr, option_and_then};
 ghost use Rattle.uvm_report.specs.Fates.{displayed_as};
 ghost use Rattle.uvm_report.specs.Lines.{report_line};
 ghost use Rattle.uvm_tree.specs.Nodes.{path_at};
 ghost use Rattle.uvm_object.specs.Acts.{node_of};
-ghost use Rattle.uvm_object.specs.Lines.{source_text};
+ghost use Rattle.uvm_object.specs.Fatals.{fatal_report};
+ghost use Rattle.uvm_object.specs.Lines.{shown_path, source_text};
 ghost use Rattle.bench_history.specs.History.{nodes_of, now_of};
 ghost use Rattle.bench_history.specs.Reports.{deed_command, line_under, newest_fate, report_text};
 ghost use Rattle.bench_history.specs.Sequences.{sequences_of};
 
 use crate::worlds::World;
 use std::alloc::AllocError;
-use uvm_object::{Act, Entry, Outcome, Who, shown_path, source_of};
+use uvm_object::{Act, Entry, Fatal, Outcome, Who, shown_path, source_of};
 use uvm_report::{Report, Severity};
+use uvm_tree::NodeId;
 
 impl World {
     /// Appends the line of the report of the newest entry, with its newline, where it has a report that is displayed (IEEE
-    /// 1800.2-2020, Clause 6). Where memory is refused nothing is appended. For a sound world.
+    /// 1800.2-2020, Clause 6). Where memory is refused nothing is appended; it is not where there is nothing to be appended. For
+    /// a sound world.
     pub fn push_report(&self, out: &mut Vec<u8>) -> Result<(), AllocError>
         requires { self.now.sound ≡ true }
         ensures ok { OnOk result (out.new.items ≡ out.old.items ++ report_text self.now.script self.now.history) }
         ensures err { OnErr result (out.new.items ≡ out.old.items) }
+        ensures some { OnErr result (report_text self.now.script self.now.history ≢ []) }
     {
         let Some(severity) = self.displayed_severity() else {
             return Ok(());
@@ -30,10 +34,7 @@ impl World {
             Some(Entry::Did { who, outcome, act }) => {
                 self.push_deed(severity, who, &outcome.get(), act.act(), out)
             }
-            Some(Entry::Note { fatal, node }) => {
-                let source = shown_path(*node, self.tree());
-                self.push_line(severity, source, &fatal.report(self.alloc)?, out)
-            }
+            Some(Entry::Note { fatal, node }) => self.push_note(severity, fatal, *node, out),
             _ => Ok(()),
         }
     }
@@ -58,6 +59,7 @@ impl World {
         requires { self.now.sound ≡ true }
         ensures ok { OnOk result (out.new.items ≡ out.old.items ++ line_under (now_of self.now.history) (source_text (nodes_of self.now.history) (sequences_of self.now.history) who.now) (deed_command (path_at (nodes_of self.now.history) (node_of who.now)) outcome.now act.now) (Some severity)) }
         ensures err { OnErr result (out.new.items ≡ out.old.items) }
+        ensures some { OnErr result (line_under (now_of self.now.history) (source_text (nodes_of self.now.history) (sequences_of self.now.history) who.now) (deed_command (path_at (nodes_of self.now.history) (node_of who.now)) outcome.now act.now) (Some severity) ≢ []) }
     {
         match (outcome, act) {
             (Outcome::Refused(fatal), _) => {
@@ -66,6 +68,24 @@ impl World {
             (Outcome::Done, Act::Report { report }) => self.push_own(severity, who, report, out),
             _ => Ok(()),
         }
+    }
+
+    // The line of the report of a note.
+    #[tactic(auto, using(crate::proofs::Shown::line_lost))]
+    fn push_note(
+        &self,
+        severity: Severity,
+        fatal: &Fatal,
+        node: NodeId,
+        out: &mut Vec<u8>,
+    ) -> Result<(), AllocError>
+        requires { self.now.sound ≡ true }
+        ensures ok { OnOk result (out.new.items ≡ out.old.items ++ report_line severity (now_of self.now.history) (shown_path (path_at (nodes_of self.now.history) node)) (fatal_report fatal.now).id (fatal_report fatal.now).text) }
+        ensures err { OnErr result (out.new.items ≡ out.old.items) }
+        ensures some { OnErr result (report_line severity (now_of self.now.history) (shown_path (path_at (nodes_of self.now.history) node)) (fatal_report fatal.now).id (fatal_report fatal.now).text ≢ []) }
+    {
+        let source = shown_path(node, self.tree());
+        self.push_line(severity, source, &fatal.report(self.alloc)?, out)
     }
 
     // The line of a report of somebody.

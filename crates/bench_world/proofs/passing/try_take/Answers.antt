@@ -31,7 +31,7 @@ returns c =
     let found = rw c.in-Ok.is at c.in_ok-open.ensures in
     let told = c.in_ok-tell.ensures in
     let item = c.take_at_once-item.result in
-    rw (c.in_ok-taken.ensures, told.rest) (record {
+    rw (c.in_ok-taken.ensures.ok, told.rest) (record {
       comes = λ script history s.
           let g = gate-open s c.requires found in
           let does : passing_refusal (running (stage_of history)) (is_some (gate_below history speaker through.Get c.args.name.now)) ≡ None = open-does g in

@@ -73,7 +73,7 @@ living-more lived history performer act new id home number living = go (id == su
         inl (lived (Did performer (Started new) act) history id home low living)
 
 -- each that was started has a number of those
-all-numbered : (begun : List Beginning) → All (λ who. number_of who ≤ length begun) (all_begun begun)
+pub all-numbered : (begun : List Beginning) → All (λ who. number_of who ≤ length begun) (all_begun begun)
 all-numbered [] = All-nil (λ who. number_of who ≤ 0)
 all-numbered (beginning ∷ older) =
     All-push (λ who. number_of who ≤ length (beginning ∷ older)) (all_begun older) (Sequence (length (beginning ∷ older)) beginning.start.home)

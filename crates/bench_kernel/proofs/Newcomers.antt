@@ -1,17 +1,18 @@
 -- Who was made, after an entry.
-use Rattle.std.proofs.Common.{◌≡◌, ◌∙◌, ap, ℕ, false, List, [], ◌∷◌, arith, Option, Some, None, inl, inr, refl, sym, subst}
-use Rattle.std.proofs.lemmas.List.Elements.{All-cons, All-nil, All-weaker}
+use Rattle.std.proofs.Common.{◌≡◌, ◌∙◌, ◌≤◌, ◌⊎◌, ap, ℕ, suc, false, List, [], ◌∷◌, length, arith, Option, Some, None, inl, inr, refl, sym, subst}
+use Rattle.std.proofs.lemmas.List.Elements.{All-cons, All-contains, All-nil, All-weaker, Contains-push_cases}
 use Rattle.std.proofs.lemmas.Map.Keys.{IsDistinct-cons, IsDistinct-from_apart}
 use Rattle.std.proofs.lemmas.Option.{same_Some}
-use Rattle.std.specs.Prelude.{All}
+use Rattle.std.specs.Prelude.{All, Contains}
 use Rattle.std.specs.List.{IsDistinct}
 use Rattle.std.specs.Map.{keys_of}
 use Rattle.uvm_object.specs.Objects.{same_who}
 use Rattle.uvm_object.specs.declared.fatals.Fatal.TheVariants.{NoObject}
 use Rattle.uvm_object.specs.declared.entries.Outcome.TheVariants.{Made, Refused, Started}
 use Rattle.bench_history.specs.History.{components_of}
-use Rattle.bench_history.specs.Sequences.{begun_of}
+use Rattle.bench_history.specs.Sequences.{Beginning, all_begun, begun_of}
 use Rattle.uvm_object.specs.declared.acts.Who.{Who}
+use Rattle.uvm_object.specs.declared.acts.Who.TheVariants.{Sequence}
 use Rattle.uvm_object.specs.declared.acts.Act.{Act}
 use Rattle.uvm_object.specs.declared.entries.Outcome.{Outcome}
 use Rattle.uvm_object.specs.declared.entries.Entry.{Entry}
@@ -20,11 +21,11 @@ use Rattle.bench_script.specs.Scripts.{ScriptValue}
 use Rattle.bench_history.specs.declared.needs.Need as declared
 use Rattle.bench_history.specs.Cases.{Next, Exactly, Answer, Need, Grant, Nothing}
 use Rattle.bench_history.specs.Next.{Allows, EachIsNext, made_in, need_in, next_of}
-use Rattle.bench_history.specs.Laws.{IsMachines}
+use Rattle.bench_history.specs.Laws.{IsMachines, number_of}
 use Rattle.bench_world.specs.Worlds.{made_who}
 use Rattle.bench_kernel.specs.Kernels.{WasMade, needed_type, types_made}
 use Rattle.bench_kernel.specs.Laws.{IsMadeNew, LogLaws, MadeAreNew, NobodyIsMadeTwice, OthersMakeNobody}
-use Rattle.bench_kernel.proofs.Custody.{HasCome, WasMade-same, has-come, types-same}
+use Rattle.bench_kernel.proofs.Custody.{HasCome, WasMade-same, all-numbered, has-come, types-same}
 use Rattle.bench_kernel.proofs.Lists.{recursion-from_All}
 
 pub made-are-new : LogLaws → MadeAreNew
@@ -106,5 +107,34 @@ module _ (laws : LogLaws) (script : ScriptValue) where
   once-all [] each = record { were = All-nil (WasMade []); once = IsDistinct-from_apart same_who [] (λ i j d before within. absurd (omega arith)) }
   once-all (entry ∷ history) each = once-later entry history each.1 each.0 (once-all history each.1)
 
+-- each number of a sequence has one sequencer
+one-home : (begun : List Beginning) (id home other : ℕ) → Contains (all_begun begun) (Sequence id home) → Contains (all_begun begun) (Sequence id other) → home ≡ other
+one-home [] id home other first second = absurd (omega (arith, first.1))
+one-home (beginning ∷ older) id home other first second =
+    go (one-home older id home other) (Contains-push_cases (all_begun older) newest (Sequence id home) first) (Contains-push_cases (all_begun older) newest (Sequence id other) second)
+  where
+    newest : Who
+    newest = Sequence (length (beginning ∷ older)) beginning.start.home
+
+    higher : {A : Type 0} (at : ℕ) → Contains (all_begun older) (Sequence id at) → length (beginning ∷ older) ≡ id → A
+    higher at there is =
+        let low : id ≤ length older = All-contains (λ who. number_of who ≤ length older) (all_begun older) (Sequence id at) (all-numbered older) there in
+        absurd (omega (arith, low, is))
+
+    go : (Contains (all_begun older) (Sequence id home) → Contains (all_begun older) (Sequence id other) → home ≡ other) → Contains (all_begun older) (Sequence id home) ⊎ (newest ≡ Sequence id home)
+        → Contains (all_begun older) (Sequence id other) ⊎ (newest ≡ Sequence id other) → home ≡ other
+    go earlier (inl there) (inl here) = earlier there here
+    go earlier (inl there) (inr is) = let number : length (beginning ∷ older) ≡ id = cc in higher home there number
+    go earlier (inr is) (inl there) = let number : length (beginning ∷ older) ≡ id = cc in higher other there number
+    go earlier (inr is) (inr also) = let both : Sequence id home ≡ Sequence id other = sym is ∙ also in cc
+
+once-numbers : (script : ScriptValue) (history : List Entry) → AreOnce script history → (id home other : ℕ) → Contains (keys_of (types_made script history)) (Sequence id home)
+    → Contains (keys_of (types_made script history)) (Sequence id other) → home ≡ other
+once-numbers script history once id home other first second =
+    one-home (begun_of history) id home other (All-contains (WasMade history) (keys_of (types_made script history)) (Sequence id home) once.were first)
+    (All-contains (WasMade history) (keys_of (types_made script history)) (Sequence id other) once.were second)
+
 pub nobody-is-made-twice : LogLaws → NobodyIsMadeTwice
-nobody-is-made-twice laws script history each = (once-all laws script history each).once
+nobody-is-made-twice laws script history each =
+    let once = once-all laws script history each in
+    record { distinct = once.once; numbers = once-numbers script history once }

@@ -1,6 +1,7 @@
 -- The laws of legal logs that custody rests on, and what they say of who was made.
-use Rattle.std.specs.Prelude.{◌≡◌, List, [], ◌∷◌, Some, None}
+use Rattle.std.specs.Prelude.{◌≡◌, ℕ, List, [], ◌∷◌, Some, None, Contains}
 use Rattle.uvm_object.specs.declared.acts.Who.{Who}
+use Rattle.uvm_object.specs.declared.acts.Who.TheVariants.{Sequence}
 use Rattle.uvm_object.specs.declared.entries.Entry.{Entry}
 use Rattle.std.specs.List.{IsDistinct}
 use Rattle.std.specs.Map.{keys_of}
@@ -39,6 +40,11 @@ OthersMakeNobody =
     (script : ScriptValue) (history : List Entry) (entry : Entry) → need_in (next_of script history) ≡ None → IsNext script history entry
     → types_made script (entry ∷ history) ≡ types_made script history
 
+-- each that was made was made once, and of two sequences none has the number of the other, on whichever sequencers they were started
+pub record AreMadeOnce (made : List Who) : Type 0 where
+  pub distinct : IsDistinct same_who made
+  pub numbers : (id home other : ℕ) → Contains made (Sequence id home) → Contains made (Sequence id other) → home ≡ other
+
 -- nobody is made twice: no number of a node or of a sequence is used again
 abbrev pub NobodyIsMadeTwice : Type 0
-NobodyIsMadeTwice = (script : ScriptValue) (history : List Entry) → EachIsNext script history → IsDistinct same_who (keys_of (types_made script history))
+NobodyIsMadeTwice = (script : ScriptValue) (history : List Entry) → EachIsNext script history → AreMadeOnce (keys_of (types_made script history))

@@ -11,7 +11,7 @@ ghost use Rattle.bench_core.specs.Cores.{IsDrawing, IsUnmade, core_after, is_sou
 ghost use Rattle.bench_core.specs.Cores.{Nothing};
 ghost use Rattle.bench_core.specs.declared.cores.Health.TheVariants.{Good};
 ghost use Rattle.bench_kernel.specs.Orders.{IsFirstBack};
-ghost use Rattle.bench_kernel.specs.Kernels.{AreAllHeld, AreHonest, WasMade, abandoned, is_done, open_need, types_made, wanted_in, who_held};
+ghost use Rattle.bench_kernel.specs.Kernels.{AreAllHeld, AreHonest, AreToldNext, WasMade, abandoned, is_done, open_need, types_made, wanted_in, who_held};
 ghost use Rattle.uvm_object.specs.Objects.{same_who};
 ghost use Rattle.bench_kernel.specs.Steps.{IsMisfit, IsStep, IsSupplied, drawn_in};
 
@@ -262,13 +262,15 @@ impl<O: UvmObject> Kernel<O> {
 
     /// How many objects are held. Nobody is held twice. Who is held is a component or a sequence that was made, and the object is of
     /// the type that was made; while the run goes on each component is held, each sequence that lives, and each that has ended and
-    /// was not given back yet.
+    /// was not given back yet. Until the kernel has failed those that are still to be given back at once have ended, and go in rising
+    /// number.
     pub fn live(&self) -> usize
         ensures count { result ≡ length self.now.held }
         ensures distinct { IsDistinct same_who (who_held self.now) }
         ensures made { All (WasMade self.now.core.history) (who_held self.now) }
         ensures named { All (λ seat. Contains (types_made self.now.core.script self.now.core.history) (seat.0, O.name seat.1)) self.now.held }
         ensures whole { is_done self.now ≡ false → AreAllHeld self.now.core.history self.now.core.leaving (who_held self.now) }
+        ensures told { self.now.failed ≡ false → AreToldNext self.now.core.history self.now.core.leaving }
     {
         self.seats.len() + self.sequences.len()
     }

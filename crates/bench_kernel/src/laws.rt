@@ -36,7 +36,7 @@ pub fn others_make_nobody()
     hold();
 }
 
-/// Nobody is made twice: no number of a node or of a sequence is used again.
+/// Nobody is made twice: no number of a node is used again, and none of a sequence, on whichever sequencer.
 pub fn nobody_is_made_twice()
     ensures { NobodyIsMadeTwice }
 {

@@ -12,3 +12,6 @@ returns-clause-named g c = rw (← c.self.view_is) c.self.invariant.0.custody.na
 
 pub returns-clause-whole : goal.returns-clause-whole
 returns-clause-whole g c = rw (← c.self.view_is) c.self.invariant.0.custody.whole
+
+pub returns-clause-told : goal.returns-clause-told
+returns-clause-told g c = rw (← c.self.view_is) c.self.invariant.0.told

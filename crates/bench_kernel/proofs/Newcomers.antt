@@ -1,5 +1,5 @@
 -- Who was made, after an entry.
-use Rattle.std.proofs.Common.{◌≡◌, ◌∙◌, ◌≤◌, ◌⊎◌, ap, ℕ, suc, false, List, [], ◌∷◌, length, arith, Option, Some, None, inl, inr, refl, sym, subst}
+use Rattle.std.proofs.Common.{◌≡◌, ◌∙◌, ◌≤◌, ◌⊎◌, ap, ℕ, false, List, [], ◌∷◌, length, arith, Option, Some, None, inl, inr, refl, sym, subst}
 use Rattle.std.proofs.lemmas.List.Elements.{All-cons, All-contains, All-nil, All-weaker, Contains-push_cases}
 use Rattle.std.proofs.lemmas.Map.Keys.{IsDistinct-cons, IsDistinct-from_apart}
 use Rattle.std.proofs.lemmas.Option.{same_Some}

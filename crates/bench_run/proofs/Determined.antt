@@ -173,7 +173,7 @@ module _ {O : Type 0} (view : O → View) (name : O → List ℕ) (says : O → 
       go (inr more) =
           let was : Lived (entry ∷ history) who = All-contains (Lived (entry ∷ history)) (keys_of (types_made script (entry ∷ history))) who lived.lived
           (subst (λ all. Contains (keys_of all) who) (sym more.1) (suc named.0, omega (arith, named.1), named.2)) in
-          from was (named-before more.0 (types_made script history) who was.type_name (subst (λ all. IsDistinct same_who (keys_of all)) more.1 (twice script (entry ∷ history) each)) named
+          from was (named-before more.0 (types_made script history) who was.type_name (subst (λ all. IsDistinct same_who (keys_of all)) more.1 (twice script (entry ∷ history) each).distinct) named
           (subst (λ all. Contains all (who, was.type_name)) more.1 was.made))
 
   -- a log of a run without its newest entry is one
@@ -195,7 +195,7 @@ module _ {O : Type 0} (view : O → View) (name : O → List ℕ) (says : O → 
     where
       answers : Lived (Heard hearer call cause acts ∷ history) hearer → Lived (Heard hearer call cause others ∷ history) hearer → others ≡ acts
       answers lives also =
-          let type_is : also.type_name ≡ lives.type_name = one-type (types_made script history) hearer lives.type_name also.type_name (twice script history log.legal.each.1) lives.made also.made in
+          let type_is : also.type_name ≡ lives.type_name = one-type (types_made script history) hearer lives.type_name also.type_name (twice script history log.legal.each.1).distinct lives.made also.made in
           let object_is : also.object ≡ lives.object = same_Some also.object lives.object (also.given.gives ∙ ap given type_is ∙ sym lives.given.gives) in
           same-acts (says lives.object) (one lives.object) call acts others (life_of hearer history) (view lives.object) lives.last also.last
           (subst (IsHonestBetween (says lives.object) (view lives.object) lives.last) (heard-same hearer call cause acts history) lives.honest)

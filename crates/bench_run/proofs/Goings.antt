@@ -1,5 +1,5 @@
 -- A run that is not over, and one that breaks off.
-use Rattle.std.proofs.Common.{◌≡◌, ◌<◌, ◌≤◌, ℕ, Bool, true, false, List, [], ◌∷◌, ◌++◌, length, Option, Some, None, Result, Ok, Err, ap, refl, sym, ◌∙◌, subst, if◌then◌else◌, append-nil, arith, suc, lit<, lit≤}
+use Rattle.std.proofs.Common.{◌≡◌, ◌≢◌, ◌<◌, ◌≤◌, ℕ, Bool, true, false, List, [], ◌∷◌, ◌++◌, length, Option, Some, None, Result, Ok, Err, ap, refl, sym, ◌∙◌, subst, if◌then◌else◌, append-nil, arith, suc, lit<, lit≤}
 use Rattle.std.specs.Result.{IsErrAnd}
 use Rattle.std.proofs.lemmas.List.{append_assoc}
 use Rattle.std.specs.Io.KnownBytes.{Appends}
@@ -53,25 +53,27 @@ pub breaks-off :
     (result : Result Ending RunFault) (why : RunFault) (trace : Bool) (old new : CoreValue) (script : ScriptValue) (first half last : Option (List ℕ))
     → IsErrAnd result (λ told. told ≡ why) → Grows old new → new.script ≡ script → IsLegal script old.history → IsLegal new.script new.history
     → Appends first half (transcript trace script old.history) → IsUnwritten why half last
+    → (why ≡ fault.Memory → last_text trace new.script new.history ≢ [])
     → LeavesRun script trace new.history first last result
-breaks-off (Ok ending) why trace old new script first half last told grown same legal more wrote unwritten = absurd told
-breaks-off (Err given) why trace old new script first half last told grown same legal more wrote unwritten =
-    go given (subst (λ fault. IsUnwritten fault half last) (sym told) unwritten)
+breaks-off (Ok ending) why trace old new script first half last told grown same legal more wrote unwritten lost = absurd told
+breaks-off (Err given) why trace old new script first half last told grown same legal more wrote unwritten lost =
+    go given (subst (λ fault. IsUnwritten fault half last) (sym told) unwritten) (subst (λ (told_fault : RunFault). told_fault ≡ fault.Memory → last_text trace new.script new.history ≢ []) (sym told) lost)
   where
     one_more : length new.history ≡ suc (length old.history)
     one_more = ap (λ (core : CoreValue). length core.history) grown.is
 
-    go : (given : RunFault) → IsUnwritten given half last → BrokeOffRun given script trace new.history first last
-    go fault.Memory kept = record {
+    go : (given : RunFault) → IsUnwritten given half last → (given ≡ fault.Memory → last_text trace new.script new.history ≢ []) → BrokeOffRun given script trace new.history first last
+    go fault.Memory kept missed = record {
       unwritten = grown.entry ∷ [];
       written = old.history;
       log = ap (λ (core : CoreValue). core.history) grown.is;
       newest_alone = lit≤ tt;
+      lost = λ some. subst (λ (s : ScriptValue). last_text trace s new.history ≢ []) same (missed refl);
       room = λ going. omega (arith, one_more, more.few);
       wrote = record { legal = legal; wrote = Appends-kept first half last _ (rw append-nil wrote) kept };
     }
-    go fault.LogFull bad = absurd bad
-    go fault.Output done = tt
+    go fault.LogFull bad missed = absurd bad
+    go fault.Output done missed = tt
 
 -- no more entry
 pub halts :
@@ -93,6 +95,7 @@ halts (Err given) why trace failed old new script first last told halted same ro
       written = old.history;
       log = same.history;
       newest_alone = lit≤ tt;
+      lost = λ some. absurd (some refl);
       room = λ on. has-room failed halted room;
       wrote = record { legal = subst (λ (s : ScriptValue). IsLegal s old.history) is legal; wrote = rw append-nil wrote };
     }
@@ -131,6 +134,7 @@ unsummed (Err given) why trace old new script first half last told same over leg
       written = old.history;
       log = same.history;
       newest_alone = lit≤ tt;
+      lost = λ some. absurd (some refl);
       room = λ going. absurd (let bad : true ≡ false = rw over at going in cc);
       wrote = record { legal = subst (λ (s : ScriptValue). IsLegal s old.history) is legal; wrote = Appends-kept first half last _ (rw append-nil wrote) kept };
     }
@@ -149,6 +153,7 @@ never-ran script trace held = record {
   written = [];
   log = refl;
   newest_alone = lit≤ tt;
+  lost = λ some. absurd (some refl);
   room = λ going. lit< tt;
   wrote = record { legal = record { each = tt; few = lit≤ tt }; wrote = Appends-none held };
 }

@@ -1,12 +1,16 @@
 -- How the words of a run go on.
-use Rattle.std.proofs.Common.{◌≡◌, ◌∙◌, ℕ, true, List, [], ◌∷◌, length, Option, Some, None, refl, sym, ap, subst}
+use Rattle.std.proofs.Common.{◌≡◌, ◌∙◌, ◌+◌, ◌≤◌, ℕ, suc, true, List, [], ◌∷◌, length, Option, Some, None, Result, Ok, Err, refl, sym, ap, subst, arith, lit≤}
+use Rattle.std.specs.Result.{IsErrAnd}
 use Rattle.std.specs.List.{cons_option}
 use Rattle.rand_core.specs.Stream.{Stream, next_u64}
 use Rattle.uvm_object.specs.declared.entries.Entry.{Entry}
 use Rattle.bench_core.specs.Cores.{CoreValue, IsDrawn, word_in}
 use Rattle.bench_kernel.specs.Steps.{IsSameLog}
 use Rattle.bench_run.specs.Running.{Grows}
-use Rattle.bench_run.specs.Words.{AreDrawn, HasWordsOf, word_made, stream_after, words_drawn, log_words}
+use Rattle.bench_run.specs.declared.endings.Ending.{Ending}
+use Rattle.bench_run.specs.declared.faults.RunFault.{RunFault}
+use Rattle.bench_run.specs.declared.faults.RunFault.TheVariants.{Memory, LogFull, Output}
+use Rattle.bench_run.specs.Words.{AreDrawn, HasGiven, HasLost, HasWordsOf, lost_at, may_lose, word_made, stream_after, words_drawn, log_words}
 
 module _ {Words : Type 0} (stream : Words → Stream) where
   -- nothing was drawn
@@ -46,6 +50,33 @@ module _ {Words : Type 0} (stream : Words → Stream) where
   pub drawn-told : (old new : CoreValue) (first half last : Words) → IsSameLog old new → last ≡ half → AreDrawn stream old.history first half → AreDrawn stream new.history first last
   drawn-told old new first half last same still were =
       subst (λ history. AreDrawn stream history first last) (sym same.history) (subst (λ w. AreDrawn stream old.history first w) (sym still) were)
+
+  -- all that was drawn stands in the log
+  pub given-all : (most : ℕ) (history : List Entry) (first last : Words) → AreDrawn stream history first last → HasGiven most history (stream first) (stream last)
+  given-all most history first last drawn =
+      let same : length (log_words history) ≡ 0 + length (log_words history) = omega arith in
+      record { lost = 0; few = omega arith; left = drawn.left ∙ ap (λ (n : ℕ). stream_after n (stream first)) same }
+
+  -- or but for what was lost with a fault
+  pub given-lost : (fault : RunFault) (history : List Entry) (first half last : Words) → AreDrawn stream history first half → HasLost stream fault half last → HasGiven (lost_at fault) history (stream first) (stream last)
+  given-lost Memory history first half last were lost = go lost.0 lost.1
+    where
+      one_more : suc (length (log_words history)) ≡ 1 + length (log_words history)
+      one_more = omega arith
+
+      go : (word : Option ℕ) → IsDrawn stream word half last → HasGiven 1 history (stream first) (stream last)
+      go None same = given-all 1 history first last (subst (λ w. AreDrawn stream history first w) (sym same) were)
+      go (Some word) next =
+          let from : (word, stream last) ≡ next_u64 (stream_after (length (log_words history)) (stream first)) = next ∙ ap next_u64 were.left in
+          record { lost = 1; few = lit≤ tt; left = ap (λ (p : ℕ × Stream). p.1) from ∙ ap (λ (n : ℕ). stream_after n (stream first)) one_more }
+  given-lost LogFull history first half last were same = given-all 0 history first last (subst (λ w. AreDrawn stream history first w) (sym same) were)
+  given-lost Output history first half last were same = given-all 0 history first last (subst (λ w. AreDrawn stream history first w) (sym same) were)
+
+-- the fault is that of the run
+pub given-broken : (result : Result Ending RunFault) (why : RunFault) (old new : CoreValue) (first last : Stream) → IsErrAnd result (λ told. told ≡ why) → IsSameLog old new → HasGiven (lost_at why) old.history first last → HasGiven (may_lose result) new.history first last
+given-broken (Ok ending) why old new first last told same given = absurd told
+given-broken (Err fault) why old new first last told same given =
+    subst (λ (history : List Entry). HasGiven (lost_at fault) history first last) (sym same.history) (subst (λ (f : RunFault). HasGiven (lost_at f) old.history first last) (sym told) given)
 
 -- the log is the same
 pub words-same : (stream : Stream) (old new : CoreValue) → IsSameLog old new → HasWordsOf stream old.history → HasWordsOf stream new.history

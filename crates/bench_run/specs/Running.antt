@@ -1,5 +1,5 @@
 -- What a run of a script does.
-use Rattle.std.specs.Prelude.{◌≡◌, ◌<◌, ◌≤◌, ℕ, Bool, false, List, [], ◌∷◌, ◌++◌, length, IfSome, IsSome, Option, Some, Result, Ok, Err}
+use Rattle.std.specs.Prelude.{◌≡◌, ◌≢◌, ◌<◌, ◌≤◌, ℕ, Bool, false, List, [], ◌∷◌, ◌++◌, length, IfSome, IsSome, Option, Some, Result, Ok, Err}
 use Rattle.std.specs.Io.KnownBytes.{Appends, Keeps}
 use Rattle.rand_core.specs.Stream.{Stream}
 use Rattle.uvm_glob.specs.Lists.{newest}
@@ -16,7 +16,7 @@ use Rattle.bench_history.specs.History.{is_over}
 use Rattle.bench_history.specs.Reports.{report_commands}
 use Rattle.bench_core.specs.Cores.{CoreValue, core_after, last_text}
 use Rattle.bench_kernel.specs.Kernels.{KernelValue}
-use Rattle.bench_run.specs.Words.{HasWordsOf}
+use Rattle.bench_run.specs.Words.{HasGiven, HasWordsOf, may_lose}
 use Rattle.bench_run.specs.Lives.{HaveLived}
 use Rattle.bench_run.specs.declared.endings.Ending.{Ending}
 use Rattle.bench_run.specs.declared.faults.RunFault.{RunFault}
@@ -49,13 +49,14 @@ pub record IsEnding (ending : Ending) (script : ScriptValue) (history : List Ent
 abbrev pub RanTo : Ending → ScriptValue → Bool → List Entry → Option (List ℕ) → Option (List ℕ) → Type 0
 RanTo ending script trace history old new = IsEnding ending script history × WroteLog script trace old new history (summary_of script history)
 
--- where memory was refused: the text of the log that is left was written, or of all of it but its newest entry; what was written is not
--- full, unless the run is over
+-- where memory was refused: the text of the log that is left was written, or of all of it but its newest entry, which then has one; what
+-- was written is not full, unless the run is over
 pub record WroteSoFar (script : ScriptValue) (trace : Bool) (history : List Entry) (old new : Option (List ℕ)) : Type 0 where
   pub unwritten : List Entry
   pub written : List Entry
   pub log : history ≡ unwritten ++ written
   pub newest_alone : length unwritten ≤ 1
+  pub lost : unwritten ≢ [] → last_text trace script history ≢ []
   pub room : is_over written ≡ false → length written < log_limit script
   pub wrote : WroteLog script trace old new written []
 
@@ -70,14 +71,15 @@ abbrev pub LeavesRun : ScriptValue → Bool → List Entry → Option (List ℕ)
 LeavesRun script trace history old new (Ok ending) = RanTo ending script trace history old new
 LeavesRun script trace history old new (Err fault) = BrokeOffRun fault script trace history old new
 
--- the same where the log is gone: it is legal, its words are those of a generator, and its objects those that are given for the names of their
--- types
+-- the same where the log is gone: it is legal, its words are those of a generator, which has given no others but what may be lost, and its
+-- objects those that are given for the names of their types
 module _ {O : Type 0} (view : O → View) (name : O → List ℕ) (says : O → Says) (Gives : List ℕ → Option O → Type 0) where
-  pub record IsRun (stream : Stream) (script : ScriptValue) (trace : Bool) (old new : Option (List ℕ)) (result : Result Ending RunFault) : Type 0 where
+  pub record IsRun (stream left : Stream) (script : ScriptValue) (trace : Bool) (old new : Option (List ℕ)) (result : Result Ending RunFault) : Type 0 where
     pub history : List Entry
     pub legal : IsLegal script history
     pub leaves : LeavesRun script trace history old new result
     pub words : HasWordsOf stream history
+    pub given : HasGiven (may_lose result) history stream left
     pub objects : HaveLived view name says Gives script history
 
 -- at most, sequences that have ended were told, and their objects given back: the log stays, and a kernel goes on that did

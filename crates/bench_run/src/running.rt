@@ -1,6 +1,6 @@
 //! The run of a script: the kernel goes on step by step, and what it needs is made.
 
-ghost use Rattle.std.specs.Prelude.{◌≡◌, ◌≢◌, ◌⊎◌, [], None, OnErr, OnOk, IfOk, IfErr, IsSome, Some, true, false, if◌then◌else◌, MatchBool};
+ghost use Rattle.std.specs.Prelude.{◌≡◌, ◌≢◌, ◌⊎◌, [], None, Err, OnErr, OnOk, IfOk, IfErr, IsSome, Some, true, false, if◌then◌else◌, MatchBool};
 ghost use Rattle.std.specs.Io.KnownBytes.{Appends};
 ghost use Rattle.uvm_glob.specs.Lists.{newest};
 ghost use Rattle.uvm_object.specs.declared.entries.Entry.TheVariants.{Over};
@@ -14,7 +14,7 @@ ghost use Rattle.bench_history.specs.Reports.{report_commands};
 ghost use Rattle.uvm_report.specs.Commands.{quit_limit};
 ghost use Rattle.uvm_report.specs.Observed as reports;
 ghost use Rattle.uvm_report.specs.Observed.{limit_of};
-ghost use Rattle.bench_run.specs.Words.{AreDrawn, HasWordsOf, word_made};
+ghost use Rattle.bench_run.specs.Words.{HasGiven, HasLost, HasWordsOf, may_lose, word_made};
 ghost use Rattle.bench_run.specs.Lives.{AreKept, HaveLived, MayGive};
 ghost use Rattle.bench_run.specs.Running.{Grows, HasTold, IsEnding, IsDeclined, IsHalted, IsRun, IsUnwritten, LeavesRun, log_counts, summary_of};
 
@@ -55,7 +55,7 @@ pub fn run_script<
 ) -> Result<Ending, RunFault>
     requires callable { F.IsAlwaysCallable make }
     requires tested { IsSome script.test }
-    ensures { IsRun O.view O.name O.says (MayGive F.Fn make) (R.stream words.old) script trace (W.contents out.old) (W.contents out.new) result }
+    ensures { IsRun O.view O.name O.says (MayGive F.Fn make) (R.stream words.old) (R.stream words.new) script trace (W.contents out.old) (W.contents out.new) result }
 {
     let mut kernel: Kernel<O> = match Kernel::new(alloc, script) {
         Ok(kernel) => kernel,
@@ -90,7 +90,7 @@ pub fn run_kernel<
     ensures run { LeavesRun kernel.old.core.script trace kernel.new.core.history (W.contents out.old) (W.contents out.new) result }
     ensures sound { OnOk result (kernel.new.core.health ≡ Good) }
     ensures words { HasWordsOf (R.stream words.old) kernel.new.core.history }
-    ensures left { OnOk result (AreDrawn R.stream kernel.new.core.history words.old words.new) }
+    ensures left { HasGiven (may_lose result) kernel.new.core.history (R.stream words.old) (R.stream words.new) }
     ensures objects { HaveLived O.view O.name O.says (MayGive F.Fn make.now) kernel.new.core.script kernel.new.core.history }
     ensures script { kernel.new.core.script ≡ kernel.old.core.script }
     ensures back { kernel.new.held ≡ [] }
@@ -117,7 +117,7 @@ fn run_to_end<O: UvmObject, R: Rng, F: Fn(&Name) -> Result<Option<O>, AllocError
     ensures run { LeavesRun kernel.old.core.script trace kernel.new.core.history (W.contents out.old) (W.contents out.new) result }
     ensures sound { OnOk result (kernel.new.core.health ≡ Good) }
     ensures words { HasWordsOf (R.stream words.old) kernel.new.core.history }
-    ensures left { OnOk result (AreDrawn R.stream kernel.new.core.history words.old words.new) }
+    ensures left { HasGiven (may_lose result) kernel.new.core.history (R.stream words.old) (R.stream words.new) }
     ensures objects { HaveLived O.view O.name O.says (MayGive F.Fn make.now) kernel.new.core.script kernel.new.core.history }
     ensures script { kernel.new.core.script ≡ kernel.old.core.script }
 {
@@ -142,6 +142,7 @@ fn make_entry<O: UvmObject, R: Rng, F: Fn(&Name) -> Result<Option<O>, AllocError
     ensures err { IfErr result (λ fault. IsHalted fault kernel.old.failed kernel.old.core) }
     ensures same { OnErr result (IsSameLog kernel.old.core kernel.new.core) }
     ensures words { IfOk result (λ made. IsDrawn R.stream (word_made made kernel.new.core.history) words.old words.new) }
+    ensures lost { IfErr result (λ fault. HasLost R.stream fault words.old words.new) }
     ensures objects { OnOk result (AreKept O.view O.name O.says (MayGive F.Fn make.now) kernel.old → AreKept O.view O.name O.says (MayGive F.Fn make.now) kernel.new) }
 {
     // Where something comes the run is not over.
@@ -253,6 +254,7 @@ fn write_last<O: UvmObject, W: io::Write>(
     ensures legal { IsLegal kernel.now.core.script kernel.now.core.history }
     ensures ok { OnOk result (Appends (W.contents out.old) (W.contents out.new) (if is_sound kernel.now.core.health then last_text trace kernel.now.core.script kernel.now.core.history else [])) }
     ensures err { IfErr result (λ fault. IsUnwritten fault (W.contents out.old) (W.contents out.new)) }
+    ensures lost { result ≡ Err RunFault.Memory → last_text trace kernel.now.core.script kernel.now.core.history ≢ [] }
 {
     // It belongs to a legal log.
     let _log = kernel.log();

@@ -75,16 +75,16 @@ data Came (asked : Result ScriptValue ScriptFault) (words : Stream) (trace : Boo
 over-came : (asked : Result ScriptValue ScriptFault) (words : Stream) (trace : Bool) (held : List ℕ) (new : Option (List ℕ)) (verdict : Verdict) (script : ScriptValue) (ending : Ending)
     → asked ≡ Ok script → verdict ≡ (if is_clean ending then Clean else Faulty) → IsBusRun words script trace (Some held) new (Ok ending) → Came asked words trace held new verdict
 over-came asked words trace held new verdict script ending is verdict_is run =
-    Ran script is run.history (record { legal = run.legal; drawn = run.words; objects = run.objects })
-    (IsOver ending run.leaves.0 (appended held (transcript trace script run.history ++ summary_of script run.history) new run.leaves.1.wrote) verdict_is)
+    Ran script is run.1.history (record { legal = run.1.legal; drawn = run.1.words; objects = run.1.objects })
+    (IsOver ending run.1.leaves.0 (appended held (transcript trace script run.1.history ++ summary_of script run.1.history) new run.1.leaves.1.wrote) verdict_is)
 
 full-came : (asked : Result ScriptValue ScriptFault) (words : Stream) (trace : Bool) (held : List ℕ) (new : Option (List ℕ)) (script : ScriptValue) (fault : RunFault)
     → asked ≡ Ok script → fault ≡ ran.LogFull → IsBusRun words script trace (Some held) new (Err fault) → Came asked words trace held new (Broken LogFull)
 full-came asked words trace held new script ran.Memory is bad run = cc
 full-came asked words trace held new script ran.Output is bad run = cc
 full-came asked words trace held new script ran.LogFull is same run =
-    Ran script is run.history (record { legal = run.legal; drawn = run.words; objects = run.objects })
-    (IsFull run.leaves.0 run.leaves.1 (appended held (transcript trace script run.history ++ []) new run.leaves.2.wrote) refl)
+    Ran script is run.1.history (record { legal = run.1.legal; drawn = run.1.words; objects = run.1.objects })
+    (IsFull run.1.leaves.0 run.1.leaves.1 (appended held (transcript trace script run.1.history ++ []) new run.1.leaves.2.wrote) refl)
 
 full-fault : (fault : RunFault) → LogFull ≡ breakage_of fault → fault ≡ ran.LogFull
 full-fault ran.Memory is = cc

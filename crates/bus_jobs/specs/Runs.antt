@@ -44,7 +44,7 @@ GivesNamed type_name given = given ≡ object_named type_name
 
 -- a run on the words of a generator, over the objects of the bench
 abbrev pub IsBusRun : Stream → ScriptValue → Bool → Option (List ℕ) → Option (List ℕ) → Result Ending RunFault → Type 0
-IsBusRun words script trace old new result = IsRun view_of name_of says_of GivesNamed words script trace old new result
+IsBusRun words script trace old new result = (left : Stream) × IsRun view_of name_of says_of GivesNamed words left script trace old new result
 
 -- what the verdict says of the script and of the bytes that the writer holds before and after
 abbrev pub IsBenchRun : Result ScriptValue ScriptFault → Stream → Bool → Option (List ℕ) → Option (List ℕ) → Verdict → Type 0

@@ -4,6 +4,7 @@ ghost use Rattle.std.specs.Prelude.{[], ◌≡◌, ◌++◌, ◌<◌, length, On
 ghost use Rattle.std.specs.List.{concat};
 ghost use Rattle.std.specs.Io.KnownBytes.{Appends};
 ghost use Rattle.uvm_factory.specs.Observed.{types_of, made_at};
+ghost use Rattle.bench_script.specs.Documents.{IsReadable};
 ghost use Rattle.bench_script.specs.Factories.{IsFactoryOf};
 ghost use Rattle.bus_jobs.specs.Debugging.{IsDebugRun, BrokeOff, answer_line, answer_text, debug_lines};
 ghost use Rattle.bench_history.specs.History.{type_name_or};
@@ -16,9 +17,11 @@ use uvm_factory::{Factory, TypeId, Unmade};
 
 /// Writes a line for each probe of the script in `bytes`: which type the factory makes there. The verdict is `Clean`
 /// where all were written, a loop of overrides included; `Refused` where the bytes are no script, with nothing written;
-/// `Broken` where memory was refused (whole lines were written, from the first on) or a write failed.
+/// `Broken` where memory was refused (whole lines were written, from the first on), which it is not for bytes that are no text or
+/// too many, or a write failed.
 pub fn debug_bench<W: io::Write>(alloc: Global, bytes: &[u8], out: &mut W) -> Verdict
-    ensures { IsDebugRun bytes.now (W.contents out.old) (W.contents out.new) result }
+    ensures run { IsDebugRun bytes.now (W.contents out.old) (W.contents out.new) result }
+    ensures memory { result ≡ Verdict.Broken Breakage.Memory → IsReadable bytes.now }
 {
     match bench_script::read(alloc, bytes) {
         Ok(script) => match answer(alloc, &script, out) {

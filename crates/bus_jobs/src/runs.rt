@@ -1,6 +1,7 @@
 //! The command `run`.
 
-ghost use Rattle.std.specs.Prelude.{◌≡◌, ◌≢◌, IfErr, IfOk, IsSome, Ok, Err, if◌then◌else◌, option_copied};
+ghost use Rattle.std.specs.Prelude.{◌≡◌, ◌≢◌, IfErr, IfOk, IsSome, MatchResult, Ok, Err, if◌then◌else◌, option_copied};
+ghost use Rattle.bench_script.specs.Documents.{IsReadable};
 ghost use Rattle.bench_run.specs.Endings.{is_clean};
 ghost use Rattle.bus_jobs.specs.Runs.{GivesNamed, IsBenchRun, IsBusRun, script_to_run, words_of_seed};
 
@@ -21,7 +22,8 @@ use uvm_glob::Name;
 ///
 /// The verdict is `Clean` where the run finished and neither an ERROR nor a FATAL was counted, `Faulty` where it ended otherwise,
 /// and `Refused` where the bytes are no script or it has no such test (`Missing` where it has none at all), with nothing
-/// written. It is `Broken` where the log is full, memory was refused, or a write failed.
+/// written. It is `Broken` where the log is full, memory was refused, or a write failed; memory is not refused for bytes that are
+/// no text or too many.
 pub fn run_bench<W: io::Write>(
     alloc: Global,
     bytes: &[u8],
@@ -30,7 +32,8 @@ pub fn run_bench<W: io::Write>(
     trace: bool,
     out: &mut W,
 ) -> Verdict
-    ensures { IsBenchRun (script_to_run bytes.now (option_copied test.entry)) (words_of_seed seed) trace (W.contents out.old) (W.contents out.new) result }
+    ensures run { IsBenchRun (script_to_run bytes.now (option_copied test.entry)) (words_of_seed seed) trace (W.contents out.old) (W.contents out.new) result }
+    ensures memory { result ≡ Verdict.Broken Breakage.Memory → IsReadable bytes.now }
 {
     match script_to_run(alloc, bytes, test) {
         Ok(script) => {
@@ -61,6 +64,7 @@ fn script_to_run(alloc: Global, bytes: &[u8], test: Option<&Name>) -> Result<Scr
     ensures ok { IfOk result (λ script. script_to_run bytes.now (option_copied test.entry) ≡ Ok script) }
     ensures tested { IfOk result (λ script. IsSome script.test) }
     ensures err { IfErr result (λ fault. fault ≢ ScriptFault.Memory → script_to_run bytes.now (option_copied test.entry) ≡ Err fault) }
+    ensures readable { MatchResult result (λ _. IsReadable bytes.now) (λ fault. fault ≡ ScriptFault.Memory → IsReadable bytes.now) }
 {
     let script = bench_script::read(alloc, bytes)?;
     let script = match test {

@@ -17,6 +17,7 @@ returns g c =
       legal = subst (λ (s : ScriptValue). IsLegal s c.run_kernel-ended.new.kernel.core.history) same c.log-log.ensures.legal;
       leaves = rw script at (c.run_kernel-ended.ensures.run);
       words = c.run_kernel-ended.ensures.words;
+      given = c.run_kernel-ended.ensures.left;
       objects = subst (λ (s : ScriptValue). HaveLived g.O.UvmObject.view g.O.UvmObject.name g.O.UvmObject.says (MayGive g.F.Fn c.args.make) s c.run_kernel-ended.new.kernel.core.history) same c.run_kernel-ended.ensures.objects;
     }
 
@@ -27,5 +28,6 @@ returns-in-Err g c = record {
   legal = record { each = tt; few = lit≤ tt };
   leaves = never-ran c.args.script c.args.trace (g.W.Write.contents c.args.out.now);
   words = refl;
+  given = record { lost = 0; few = lit≤ tt; left = refl };
   objects = none-lived g.O.UvmObject.view g.O.UvmObject.name g.O.UvmObject.says _ c.args.script;
 }

@@ -1,9 +1,9 @@
-use Rattle.std.proofs.Common.{◌≡◌, refl, rules, true, false}
+use Rattle.std.proofs.Common.{◌≡◌, Err, ap, refl, rules, true, false}
 use Rattle.bench_run.specs.Words.{AreDrawn}
 use Rattle.bench_run.specs.Running.{Grows}
 use Rattle.bench_run.proofs.Goings.{breaks-off, goes-on, grown-health, grown-script, halts, told-health, told-log, unsummed}
 use Rattle.bench_run.proofs.Lives.{begins, lived-same}
-use Rattle.bench_run.proofs.Words.{drawn-grown, drawn-none, drawn-told, words-same}
+use Rattle.bench_run.proofs.Words.{drawn-grown, drawn-none, drawn-told, given-all, given-broken, given-lost, words-same}
 use Rattle.bench_run.proofs.running.run_to_end.Goals as goal
 
 -- one more entry, and its text
@@ -29,6 +29,7 @@ returns-in_err-write_last-clause-run g c =
     let grown : Grows c.loop-kernel.kernel.core c.make_entry.new.kernel.core = rw c.if-branch.true at c.in_ok-make_entry.ensures.ok in
     breaks-off c.from_residual-in_err-write_last.result c.in_err-write_last.field-0.0 c.args.trace _ _ c.args.kernel.now.core.script _ _ _
     c.from_residual-in_err-write_last.ensures.1 grown (grown-script grown inv.script) (rw inv.script at (inv.legal)) c.in_err-write_last.ensures.legal inv.wrote c.in_err-write_last.ensures.err
+    (λ memory. c.in_err-write_last.ensures.lost (ap Err memory))
 
 -- no more entry was made
 pub returns-in_err-make_entry-clause-run : goal.returns-in_err-make_entry-clause-run
@@ -93,7 +94,25 @@ returns-clause-objects g c = (c.in_ok-make_entry.ensures.objects c.loop-kernel.i
 pub returns-clause-left : goal.returns-clause-left
 returns-clause-left g c =
     let ended = rw c.if-branch.false at (c.in_ok-make_entry.ensures.ok) in
-    drawn-told g.R.Rng.stream _ _ _ _ _ (told-log _ _ ended.1) (rw c.if-branch.false at (c.in_ok-make_entry.ensures.words)) c.loop-kernel.invariant.drawn
+    given-all g.R.Rng.stream _ _ _ _
+    (drawn-told g.R.Rng.stream _ _ _ _ _ (told-log _ _ ended.1) (rw c.if-branch.false at (c.in_ok-make_entry.ensures.words)) c.loop-kernel.invariant.drawn)
+
+pub returns-in_err-write_summary-clause-left : goal.returns-in_err-write_summary-clause-left
+returns-in_err-write_summary-clause-left g c =
+    let ended = rw c.if-branch.false at (c.in_ok-make_entry.ensures.ok) in
+    given-all g.R.Rng.stream _ _ _ _
+    (drawn-told g.R.Rng.stream _ _ _ _ _ (told-log _ _ ended.1) (rw c.if-branch.false at (c.in_ok-make_entry.ensures.words)) c.loop-kernel.invariant.drawn)
+
+pub returns-in_err-write_last-clause-left : goal.returns-in_err-write_last-clause-left
+returns-in_err-write_last-clause-left g c =
+    let inv = c.loop-kernel.invariant in
+    let grown : Grows c.loop-kernel.kernel.core c.make_entry.new.kernel.core = rw c.if-branch.true at c.in_ok-make_entry.ensures.ok in
+    given-all g.R.Rng.stream _ _ _ _ (drawn-grown g.R.Rng.stream _ _ _ _ _ grown (rw c.if-branch.true at (c.in_ok-make_entry.ensures.words)) inv.drawn)
+
+pub returns-in_err-make_entry-clause-left : goal.returns-in_err-make_entry-clause-left
+returns-in_err-make_entry-clause-left g c =
+    given-broken c.from_residual.result c.in_err-make_entry.field-0.0 _ _ _ _ c.from_residual.ensures.1 c.in_err-make_entry.ensures.same
+    (given-lost g.R.Rng.stream _ _ _ _ _ c.loop-kernel.invariant.drawn c.in_err-make_entry.ensures.lost)
 
 pub returns-clause-sound : goal.returns-clause-sound
 returns-clause-sound g c =

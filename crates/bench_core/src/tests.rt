@@ -5,6 +5,7 @@ mod connections;
 mod objections;
 mod passages;
 mod sequences;
+mod worlds;
 
 use crate::{Core, CoreFault, Turn};
 use rand_pcg::Pcg32;

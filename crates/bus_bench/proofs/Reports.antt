@@ -44,6 +44,7 @@ leaves_run-kept script trace history old mid new (Err ran.Memory) broke kept = r
   written = broke.written;
   log = broke.log;
   newest_alone = broke.newest_alone;
+  lost = broke.lost;
   room = broke.room;
   wrote = wrote_log-kept script trace old mid new broke.written [] broke.wrote kept;
 }
@@ -52,7 +53,7 @@ leaves_run-kept script trace history old mid new (Err ran.Output) broke kept = b
 
 run-kept : (words : Stream) (script : ScriptValue) (trace : Bool) (old mid new : Option (List ℕ)) (result : Result Ending RunFault) → IsBusRun words script trace old mid result → Keeps mid new → IsBusRun words script trace old new result
 run-kept words script trace old mid new result left kept =
-    record { history = left.history; legal = left.legal; leaves = leaves_run-kept script trace left.history old mid new result left.leaves kept; words = left.words; objects = left.objects }
+    (left.0, record { history = left.1.history; legal = left.1.legal; leaves = leaves_run-kept script trace left.1.history old mid new result left.1.leaves kept; words = left.1.words; given = left.1.given; objects = left.1.objects })
 
 bench_run-kept : (asked : Result ScriptValue ScriptFault) (words : Stream) (trace : Bool) (old mid new : Option (List ℕ)) (verdict : Verdict) → IsBenchRun asked words trace old mid verdict → Keeps mid new → IsBenchRun asked words trace old new verdict
 bench_run-kept asked words trace old mid new Clean done kept = (done.0, done.1, done.2, done.3, run-kept words done.0 trace old mid new (Ok done.2) done.4 kept)

@@ -12,7 +12,7 @@ use Rattle.bench_run.specs.declared.faults.RunFault.{RunFault}
 use Rattle.bench_run.specs.declared.faults.RunFault.TheVariants as ran
 use Rattle.bus_command.specs.Commands.{Asked, debug, run}
 use Rattle.bus_jobs.specs.Debugging.{BrokeOff, IsDebugRun}
-use Rattle.bus_bench.specs.Program.{IsWork}
+use Rattle.bus_bench.specs.Program.{IsJobDone, IsJobOn, IsWork}
 use Rattle.bus_jobs.specs.Runs.{IsBenchRun, IsBusRun, script_to_run, words_of_seed}
 use Rattle.bus_jobs.specs.Verdicts.{unflushed}
 use Rattle.bus_jobs.specs.declared.verdicts.Breakage.{Breakage}
@@ -70,3 +70,8 @@ work-kept (run trace seed test file) bytes old mid new verdict done kept = bench
 pub flushed_or_not : {E : Type 0} (flush : Result (Unit {0}) E) (done verdict : Verdict) → OnOk flush (verdict ≡ done) → OnErr flush (verdict ≡ unflushed done) → (verdict ≡ done) ⊎ (verdict ≡ unflushed done)
 flushed_or_not (Ok u) done verdict ok err = inl ok
 flushed_or_not (Err e) done verdict ok err = inr err
+
+-- what is said of the bytes of a file is said of some
+pub done_of : (asked : Asked) (file old new : Option (List ℕ)) (verdict : Verdict) → IsJobOn asked file old new verdict → IsJobDone asked old new verdict
+done_of asked file old new verdict (inl unread) = inl unread
+done_of asked file old new verdict (inr done) = inr (done.0, done.2)

@@ -1,5 +1,5 @@
 -- What the program does.
-use Rattle.std.specs.Prelude.{◌≡◌, ◌⊎◌, ℕ, List, Option, Some, string_bytes}
+use Rattle.std.specs.Prelude.{◌≡◌, ◌⊎◌, ℕ, List, take, IfSome, Option, Some, string_bytes}
 use Rattle.std.specs.Io.KnownBytes.{Appends, Keeps}
 use Rattle.clap.specs.Words.{IsAmong, Text, fault_of}
 use Rattle.clap.specs.declared.error.kind.ErrorKind.{ErrorKind}
@@ -8,6 +8,7 @@ use Rattle.bus_command.specs.Commands.{Asked, bus_bench_app, debug, named_job, r
 use Rattle.bus_command.specs.Faults.{IsJobFaultOf}
 use Rattle.bus_command.specs.declared.jobs.JobFault.{JobFault}
 use Rattle.bus_command.specs.declared.jobs.JobFault.TheVariants.{Help, Version, Refused, BadName, Memory}
+use Rattle.bus_jobs.specs.declared.files.TheConstants.{MOST_BYTES}
 use Rattle.bus_jobs.specs.Debugging.{IsDebugRun}
 use Rattle.bus_jobs.specs.Runs.{IsBenchRun, script_to_run, words_of_seed}
 use Rattle.bus_jobs.specs.Verdicts.{IsUnread, status_of, unflushed}
@@ -22,10 +23,18 @@ IsWork (run trace seed test file) bytes old new verdict = IsBenchRun (script_to_
 abbrev pub IsReport : Asked → List ℕ → Option (List ℕ) → Option (List ℕ) → Verdict → Type 0
 IsReport asked bytes old new verdict = (done : Verdict) × IsWork asked bytes old new done × ((verdict ≡ done) ⊎ (verdict ≡ unflushed done))
 
--- a job came to this status: nothing was read of its file, or some bytes were
+-- a job on a file that tells its bytes: nothing was read of it, or its bytes were, as many as are read at most
+abbrev pub IsJobOn : Asked → Option (List ℕ) → Option (List ℕ) → Option (List ℕ) → Verdict → Type 0
+IsJobOn asked file old new verdict = (IsUnread verdict × Keeps old new)
+    ⊎ ((bytes : List ℕ) × IfSome file (λ all. bytes ≡ take MOST_BYTES all) × IsReport asked bytes old new verdict)
+
+-- a job on its file, whose bytes no clause can say: nothing was read of it, or some bytes were
+abbrev pub IsJobDone : Asked → Option (List ℕ) → Option (List ℕ) → Verdict → Type 0
+IsJobDone asked old new verdict = (IsUnread verdict × Keeps old new) ⊎ ((bytes : List ℕ) × IsReport asked bytes old new verdict)
+
+-- such a job came to this status
 abbrev pub CameTo : Asked → Option (List ℕ) → Option (List ℕ) → ℕ → Type 0
-CameTo asked old new status = (verdict : Verdict) × (status ≡ status_of verdict)
-    × ((IsUnread verdict × Keeps old new) ⊎ ((bytes : List ℕ) × IsReport asked bytes old new verdict))
+CameTo asked old new status = (verdict : Verdict) × (status ≡ status_of verdict) × IsJobDone asked old new verdict
 
 -- a text was written, or could not be
 abbrev pub IsShown : List ℕ → Option (List ℕ) → Option (List ℕ) → ℕ → Type 0

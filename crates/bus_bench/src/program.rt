@@ -1,13 +1,12 @@
 //! What the program does, on any runtime and with any writers.
-ghost use Rattle.std.specs.Prelude.{◌≡◌, ◌⊎◌, ◌≤◌, IfErr, IfOk, map, MatchResult, OnErr, OnOk, vec_len};
-ghost use Rattle.std.specs.Io.KnownBytes.{Keeps};
+ghost use Rattle.std.specs.Prelude.{◌≡◌, ◌⊎◌, IfErr, IfOk, map, OnErr, OnOk};
 ghost use Rattle.bus_command.specs.Commands.{words_of};
-ghost use Rattle.bus_bench.specs.Program.{CameTo, DidJob, DidNothing, GaveText, IsReport, IsServed, IsShown, IsTold, IsWork};
-ghost use Rattle.bus_jobs.specs.Verdicts.{IsUnread, unflushed};
+ghost use Rattle.bus_bench.specs.Program.{CameTo, DidJob, DidNothing, GaveText, IsJobDone, IsJobOn, IsReport, IsServed, IsShown, IsTold, IsWork};
+ghost use Rattle.bus_jobs.specs.Verdicts.{unflushed};
 
 use bench_script::ScriptFault;
 use bus_command::{Job, JobFault, job};
-use bus_jobs::{Breakage, MOST_BYTES, Verdict, debug_bench, read_file, run_bench, tell};
+use bus_jobs::{Breakage, Verdict, debug_bench, read_file, run_bench, tell};
 use std::alloc::Global;
 use std::convert::AsStr;
 use std::fs::File;
@@ -66,8 +65,8 @@ pub fn obey<R: Files + AllocGlobal, O: Write, E: Write>(
 {
     match asked {
         Ok(job) => {
-            let read = script_in(rt, file_of(&job));
-            tell(&verdict_on(rt.alloc(), &job, read, out), err)
+            let verdict = verdict_on_file(rt, &job, out);
+            tell(&verdict, err)
         }
         Err(fault) => refuse(fault, out, err),
     }
@@ -106,29 +105,28 @@ fn file_of<'a>(job: &Job<'a>) -> &'a str {
     }
 }
 
-// The bytes of the script, or of as much of it as is read.
-fn script_in<R: Files + AllocGlobal>(rt: &R, file: &str) -> Result<Vec<u8>, Verdict>
-    ensures bound { IfOk result (λ bytes. vec_len bytes ≤ MOST_BYTES) }
-    ensures err { IfErr result IsUnread }
+// Opens the file of a job and does the job on it.
+#[tactic(auto, using(crate::proofs::Reports::done_of))]
+fn verdict_on_file<R: Files + AllocGlobal, O: Write>(rt: &R, job: &Job<'_>, out: &mut O) -> Verdict
+    ensures { IsJobDone (words_of job.now) (O.contents out.old) (O.contents out.new) result }
 {
-    match File::open(rt, file) {
-        Ok(mut file) => read_file(rt.alloc(), &mut file),
-        Err(_) => Err(Verdict::Broken(Breakage::Unread)),
+    match File::open(rt, file_of(job)) {
+        Ok(mut file) => do_job(rt.alloc(), job, &mut file, out),
+        Err(_) => Verdict::Broken(Breakage::Unread),
     }
 }
 
-// The verdict on a job of whose file this was read: that on the bytes, or why there are none.
-fn verdict_on<O: Write>(
+/// Does a job on what is read of its file, flushes what it wrote to `out`, and answers the verdict: `Broken` for a file that is not
+/// read, with nothing written, or for output that could not be flushed, and else that of the job.
+pub fn do_job<I: io::Read, O: Write>(
     alloc: Global,
     job: &Job<'_>,
-    read: Result<Vec<u8>, Verdict>,
+    file: &mut I,
     out: &mut O,
 ) -> Verdict
-    ensures { MatchResult read
-        (λ bytes. IsReport (words_of job.now) bytes.items (O.contents out.old) (O.contents out.new) result)
-        (λ unread. (result ≡ unread) × Keeps (O.contents out.old) (O.contents out.new)) }
+    ensures { IsJobOn (words_of job.now) (I.remaining file.old) (O.contents out.old) (O.contents out.new) result }
 {
-    match read {
+    match read_file(alloc, file) {
         Ok(bytes) => report(alloc, job, bytes.as_slice(), out),
         Err(unread) => unread,
     }

@@ -1,4 +1,4 @@
-use crate::program::obey;
+use crate::program::{do_job, obey};
 use bus_command::{JobFault, job};
 use bus_jobs::{Verdict, debug_bench, run_bench};
 use std::io;
@@ -85,6 +85,26 @@ fn help_that_cannot_be_written_is_an_output_fault(rt: HostRuntime) {
     let status = obey(&rt, job(rt.alloc(), &words), &mut Unflushed, &mut err);
     assert_eq!(rt; status, 3);
     assert_eq!(rt; err.as_slice(), b"bus_bench: output fault\n".as_slice());
+}
+
+#[test]
+fn a_job_is_done_on_the_bytes_of_its_file(rt: HostRuntime) {
+    let words = ["bus_bench", "debug", "bus.toml"];
+    let Ok(job) = job(rt.alloc(), &words) else {
+        panic!(rt; "no job")
+    };
+    let mut file: &[u8] = br#"
+version = 1
+type = [{ name = "bus_test", kind = "component" }]
+probe = [{ type = "bus_test", path = "uvm_test_top" }]
+"#;
+    let mut out = Vec::new(rt.alloc());
+    let verdict = do_job(rt.alloc(), &job, &mut file, &mut out);
+    assert_eq!(rt; verdict, Verdict::Clean);
+    assert_eq!(rt;
+        out.as_slice(),
+        b"bus_test @ uvm_test_top -> bus_test\n".as_slice()
+    );
 }
 
 #[test]

@@ -5,7 +5,6 @@ mod connections;
 mod objections;
 mod passages;
 mod sequences;
-mod worlds;
 
 use crate::{Core, CoreFault, Turn};
 use rand_pcg::Pcg32;

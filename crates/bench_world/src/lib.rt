@@ -23,6 +23,8 @@ mod starting;
 mod stations;
 mod stepping;
 mod telling;
+#[cfg(test)]
+mod tests;
 mod worlds;
 mod writing;
 

@@ -1,11 +1,12 @@
 use crate::BusObject;
-use std::alloc::Global;
+use std::alloc::{AllocGlobal, Global};
+use std::process::Abort;
 use std::str;
 use std::test::Fail;
 use uvm_glob::Name;
 use uvm_object::{Act, Call, UvmObject};
 use uvm_phase::Phase;
-use uvm_report::{Report, Severity};
+use uvm_report::Report;
 use uvm_sequencer::Sequences;
 use uvm_tlm::Item;
 use uvm_tree::NodeId;
@@ -53,6 +54,12 @@ fn stored(port: &[u8]) -> Result<Call, Fail> {
     })
 }
 
+fn done(response: Option<[i64; 4]>) -> Call {
+    Call::ItemDone {
+        response: response.map(Item),
+    }
+}
+
 fn finished(alloc: Global, name: &[u8]) -> Result<Call, Fail> {
     let name = Name::new(name)?;
     let id = Sequences::new(alloc).start(NodeId::TOP, None, name, 100)?;
@@ -68,6 +75,7 @@ fn act_text(alloc: Global, act: &Act) -> Result<String, Fail> {
         Act::Get { field } => format!(in alloc; "get {field}")?,
         Act::RaiseObjection { count } => format!(in alloc; "raise {count}")?,
         Act::DropObjection { count } => format!(in alloc; "drop {count}")?,
+        Act::SetDrain { ticks } => format!(in alloc; "drain {ticks}")?,
         Act::Put { port, item } => format!(in alloc; "put {port} {:?}", item.0)?,
         Act::Take { port } => format!(in alloc; "take {port}")?,
         Act::Write { port, item } => format!(in alloc; "write {port} {:?}", item.0)?,
@@ -117,11 +125,33 @@ fn answer(alloc: Global, object: &mut BusObject, call: &Call) -> Result<String, 
     Ok(text)
 }
 
+// Asks an object of the type that is named, and expects these answers, one after another.
+fn expect_answers<R: Abort + AllocGlobal>(
+    rt: &R,
+    type_name: &[u8],
+    rows: &[(Call, &str)],
+) -> Result<(), Fail> {
+    let mut object = made(rt.alloc(), type_name)?;
+    for (call, want) in rows {
+        expect_answer(rt, &mut object, call, want)?;
+    }
+    Ok(())
+}
+
+fn expect_answer<R: Abort + AllocGlobal>(
+    rt: &R,
+    object: &mut BusObject,
+    call: &Call,
+    want: &str,
+) -> Result<(), Fail> {
+    let text = answer(rt.alloc(), object, call)?;
+    assert_eq!(rt; text.as_str(), want);
+    Ok(())
+}
+
 #[test]
 fn bus_monitor_reports_an_item_and_writes_it_on(rt: HostRuntime) -> Result<(), Fail> {
-    let alloc = rt.alloc();
-    let mut monitor = made(alloc, b"bus_monitor")?;
-    for (call, want) in [
+    let rows = [
         (
             Call::Phase(Phase::Build),
             "add bus Imp;add ap Port { kind: Analysis };",
@@ -140,38 +170,27 @@ fn bus_monitor_reports_an_item_and_writes_it_on(rt: HostRuntime) -> Result<(), F
             "UVM_INFO MON 200: read 0 0;write ap [2, 0, 0, 0];",
         ),
         (Call::Wake { tag: 1 }, ""),
-    ] {
-        assert_eq!(rt; answer(alloc, &mut monitor, &call)?.as_str(), want);
-    }
-    Ok(())
+    ];
+    expect_answers(&rt, b"bus_monitor", &rows)
 }
 
 #[test]
 fn longest_texts_are_reported(rt: HostRuntime) -> Result<(), Fail> {
-    let alloc = rt.alloc();
-    let mut monitor = made(alloc, b"bus_monitor")?;
-    let mut scoreboard = made(alloc, b"bus_scoreboard")?;
-    let call = written([1, i64::MIN, i64::MAX, 0])?;
-    assert_eq!(rt;
-        answer(alloc, &mut monitor, &call)?.as_str(),
-        "UVM_INFO MON 200: write -9223372036854775808 9223372036854775807;\
-        write ap [1, -9223372036854775808, 9223372036854775807, 0];"
-    );
-    assert_eq!(rt; answer(alloc, &mut scoreboard, &call)?.as_str(), "");
-    let call = written([0, i64::MIN, i64::MIN, 0])?;
-    assert_eq!(rt;
-        answer(alloc, &mut scoreboard, &call)?.as_str(),
-        "UVM_ERROR SB 0: read -9223372036854775808 gave -9223372036854775808 not 9223372036854775807;"
-    );
-    Ok(())
+    let written_words = [1, i64::MIN, i64::MAX, 0];
+    let text = "UVM_INFO MON 200: write -9223372036854775808 9223372036854775807;\
+        write ap [1, -9223372036854775808, 9223372036854775807, 0];";
+    expect_answers(&rt, b"bus_monitor", &[(written(written_words)?, text)])?;
+    let read_words = [0, i64::MIN, i64::MIN, 0];
+    let text =
+        "UVM_ERROR SB 0: read -9223372036854775808 gave -9223372036854775808 not 9223372036854775807;";
+    let rows = [(written(written_words)?, ""), (written(read_words)?, text)];
+    expect_answers(&rt, b"bus_scoreboard", &rows)
 }
 
 #[test]
 fn bus_mem_waits_for_the_value_that_it_is_told(rt: HostRuntime) -> Result<(), Fail> {
-    let alloc = rt.alloc();
-    let mut memory = made(alloc, b"bus_mem")?;
     let item = [0, 1, 2, 3];
-    for (call, want) in [
+    let rows = [
         (
             Call::Phase(Phase::Build),
             "add req Port { kind: Get };add rsp Port { kind: Put };get waits;",
@@ -186,10 +205,8 @@ fn bus_mem_waits_for_the_value_that_it_is_told(rt: HostRuntime) -> Result<(), Fa
         (told(Some(-1))?, ""),
         (taken(item)?, "wait 2 1;"),
         (Call::Phase(Phase::Report), ""),
-    ] {
-        assert_eq!(rt; answer(alloc, &mut memory, &call)?.as_str(), want);
-    }
-    Ok(())
+    ];
+    expect_answers(&rt, b"bus_mem", &rows)
 }
 
 // Items that a memory takes one after another, and what it puts: of `bus_mem`, and of `bus_mem_bad`.
@@ -232,52 +249,47 @@ const TURNS: [([i64; 4], &str, &str); 7] = [
 ];
 
 #[test]
+fn bus_mem_begins_with_an_item_of_zeros(rt: HostRuntime) -> Result<(), Fail> {
+    let rows = [
+        (Call::Wake { tag: 1 }, "put rsp [0, 0, 0, 0];"),
+        (Call::Phase(Phase::Run), "take req;"),
+    ];
+    expect_answers(&rt, b"bus_mem", &rows)
+}
+
+#[test]
 fn bus_mem_performs_the_items_that_it_takes(rt: HostRuntime) -> Result<(), Fail> {
-    let alloc = rt.alloc();
-    let mut memory = made(alloc, b"bus_mem")?;
-    let wake = Call::Wake { tag: 1 };
-    let stored = Call::Stored {
-        port: Name::new(b"rsp")?,
-    };
-    let run = Call::Phase(Phase::Run);
-    assert_eq!(rt;
-        answer(alloc, &mut memory, &wake)?.as_str(),
-        "put rsp [0, 0, 0, 0];"
-    );
-    assert_eq!(rt; answer(alloc, &mut memory, &run)?.as_str(), "take req;");
+    let mut memory = made(rt.alloc(), b"bus_mem")?;
     for (words, want, _) in TURNS {
-        assert_eq!(rt;
-            answer(alloc, &mut memory, &taken(words)?)?.as_str(),
-            "wait 0 1;"
-        );
-        assert_eq!(rt; answer(alloc, &mut memory, &wake)?.as_str(), want);
-        assert_eq!(rt; answer(alloc, &mut memory, &stored)?.as_str(), "take req;");
+        expect_turn(&rt, &mut memory, words, want)?;
     }
     Ok(())
 }
 
 #[test]
 fn bus_mem_bad_flips_the_lowest_bit_of_what_it_reads(rt: HostRuntime) -> Result<(), Fail> {
-    let alloc = rt.alloc();
-    let mut memory = made(alloc, b"bus_mem_bad")?;
+    let mut memory = made(rt.alloc(), b"bus_mem_bad")?;
     for (words, _, want) in TURNS {
-        assert_eq!(rt;
-            answer(alloc, &mut memory, &taken(words)?)?.as_str(),
-            "wait 0 1;"
-        );
-        assert_eq!(rt;
-            answer(alloc, &mut memory, &Call::Wake { tag: 1 })?.as_str(),
-            want
-        );
+        expect_turn(&rt, &mut memory, words, want)?;
     }
     Ok(())
 }
 
+// Lets a memory take an item, and expects that it puts this one.
+fn expect_turn<R: Abort + AllocGlobal>(
+    rt: &R,
+    memory: &mut BusObject,
+    words: [i64; 4],
+    want: &str,
+) -> Result<(), Fail> {
+    expect_answer(rt, memory, &taken(words)?, "wait 0 1;")?;
+    expect_answer(rt, memory, &Call::Wake { tag: 1 }, want)?;
+    expect_answer(rt, memory, &stored(b"rsp")?, "take req;")
+}
+
 #[test]
 fn bus_scoreboard_reports_bad_reads_and_its_counts(rt: HostRuntime) -> Result<(), Fail> {
-    let alloc = rt.alloc();
-    let mut scoreboard = made(alloc, b"bus_scoreboard")?;
-    for (call, want) in [
+    let rows = [
         (Call::Phase(Phase::Build), "add seen Imp;"),
         (Call::Phase(Phase::Report), "UVM_INFO SB 200: 0 seen 0 bad;"),
         (written([0, 4, 0, 0])?, ""),
@@ -299,36 +311,28 @@ fn bus_scoreboard_reports_bad_reads_and_its_counts(rt: HostRuntime) -> Result<()
         ),
         (Call::Phase(Phase::Run), ""),
         (Call::Phase(Phase::Report), "UVM_INFO SB 200: 7 seen 3 bad;"),
-    ] {
-        assert_eq!(rt; answer(alloc, &mut scoreboard, &call)?.as_str(), want);
-    }
-    Ok(())
+    ];
+    expect_answers(&rt, b"bus_scoreboard", &rows)
 }
 
 #[test]
 fn bus_test_starts_a_sequence_under_an_objection(rt: HostRuntime) -> Result<(), Fail> {
-    let alloc = rt.alloc();
-    let mut test = made(alloc, b"bus_test")?;
-    for (call, want) in [
+    let rows = [
         (Call::Phase(Phase::Build), "create bus_env env;"),
         (Call::Phase(Phase::Connect), ""),
         (
             Call::Phase(Phase::Run),
             "raise 1;start seq_smoke seq (env.agent.sqr) None;",
         ),
-        (finished(alloc, b"seq")?, "drop 1;"),
+        (finished(rt.alloc(), b"seq")?, "drop 1;"),
         (Call::Phase(Phase::Extract), ""),
-    ] {
-        assert_eq!(rt; answer(alloc, &mut test, &call)?.as_str(), want);
-    }
-    Ok(())
+    ];
+    expect_answers(&rt, b"bus_test", &rows)
 }
 
 #[test]
 fn bus_env_creates_and_connects_its_parts(rt: HostRuntime) -> Result<(), Fail> {
-    let alloc = rt.alloc();
-    let mut environment = made(alloc, b"bus_env")?;
-    for (call, want) in [
+    let rows = [
         (
             Call::Phase(Phase::Build),
             "create bus_agent agent;create bus_mem mem;create bus_scoreboard sb;\
@@ -340,20 +344,27 @@ fn bus_env_creates_and_connects_its_parts(rt: HostRuntime) -> Result<(), Fail> {
             connect mem.rsp rspf;connect agent.mon.ap sb.seen;",
         ),
         (Call::Phase(Phase::Run), ""),
-    ] {
-        assert_eq!(rt; answer(alloc, &mut environment, &call)?.as_str(), want);
-    }
-    Ok(())
+    ];
+    expect_answers(&rt, b"bus_env", &rows)
+}
+
+#[test]
+fn bus_agent_asks_which_sequencer_to_add_and_connects_its_parts(
+    rt: HostRuntime,
+) -> Result<(), Fail> {
+    let rows = [
+        (Call::Phase(Phase::Build), "get arb;"),
+        (
+            Call::Phase(Phase::Connect),
+            "connect drv.sqp sqr;connect drv.ap mon.bus;",
+        ),
+        (Call::Phase(Phase::Run), ""),
+    ];
+    expect_answers(&rt, b"bus_agent", &rows)
 }
 
 #[test]
 fn bus_agent_adds_the_sequencer_that_it_is_told(rt: HostRuntime) -> Result<(), Fail> {
-    let alloc = rt.alloc();
-    let mut agent = made(alloc, b"bus_agent")?;
-    assert_eq!(rt;
-        answer(alloc, &mut agent, &Call::Phase(Phase::Build))?.as_str(),
-        "get arb;"
-    );
     for (value, mode) in [
         (Some(0), "Fifo"),
         (Some(1), "Weighted"),
@@ -364,22 +375,11 @@ fn bus_agent_adds_the_sequencer_that_it_is_told(rt: HostRuntime) -> Result<(), F
         (Some(-1), "Fifo"),
         (None, "Fifo"),
     ] {
-        let want = format!(in alloc;
+        let want = format!(in rt.alloc();
             "add sqr Sequencer {{ mode: {mode} }};create bus_driver drv;create bus_monitor mon;"
         )?;
-        assert_eq!(rt;
-            answer(alloc, &mut agent, &told(value)?)?.as_str(),
-            want.as_str()
-        );
+        expect_answers(&rt, b"bus_agent", &[(told(value)?, want.as_str())])?;
     }
-    assert_eq!(rt;
-        answer(alloc, &mut agent, &Call::Phase(Phase::Connect))?.as_str(),
-        "connect drv.sqp sqr;connect drv.ap mon.bus;"
-    );
-    assert_eq!(rt;
-        answer(alloc, &mut agent, &Call::Phase(Phase::Run))?.as_str(),
-        ""
-    );
     Ok(())
 }
 
@@ -393,9 +393,7 @@ const RESULT_TOLD: &str = "write ap [1, 2, 3, 0];done sqp [1, 2, 3, 0];ask sqp N
 
 #[test]
 fn bus_driver_puts_each_item_and_responds(rt: HostRuntime) -> Result<(), Fail> {
-    let alloc = rt.alloc();
-    let mut driver = made(alloc, b"bus_driver")?;
-    for (call, want) in [
+    let rows = [
         (Call::Phase(Phase::Build), PORTS_ADDED),
         (Call::Phase(Phase::Run), "ask sqp Next;"),
         (next_item(None)?, ""),
@@ -404,17 +402,13 @@ fn bus_driver_puts_each_item_and_responds(rt: HostRuntime) -> Result<(), Fail> {
         (taken(RESULT)?, RESULT_TOLD),
         (Call::Wake { tag: 1 }, ""),
         (Call::Body, ""),
-    ] {
-        assert_eq!(rt; answer(alloc, &mut driver, &call)?.as_str(), want);
-    }
-    Ok(())
+    ];
+    expect_answers(&rt, b"bus_driver", &rows)
 }
 
 #[test]
 fn slow_driver_puts_each_item_when_it_wakes(rt: HostRuntime) -> Result<(), Fail> {
-    let alloc = rt.alloc();
-    let mut driver = made(alloc, b"slow_driver")?;
-    for (call, want) in [
+    let rows = [
         (Call::Phase(Phase::Build), PORTS_ADDED),
         (Call::Phase(Phase::Run), "ask sqp Next;"),
         (Call::Wake { tag: 1 }, "put req [0, 0, 0, 0];"),
@@ -425,165 +419,123 @@ fn slow_driver_puts_each_item_when_it_wakes(rt: HostRuntime) -> Result<(), Fail>
         (taken(RESULT)?, RESULT_TOLD),
         (Call::Wake { tag: 1 }, "put req [0, 2, -4, 0];"),
         (Call::Phase(Phase::Report), ""),
-    ] {
-        assert_eq!(rt; answer(alloc, &mut driver, &call)?.as_str(), want);
-    }
-    Ok(())
+    ];
+    expect_answers(&rt, b"slow_driver", &rows)
 }
 
 #[test]
 fn seq_smoke_sends_two_items(rt: HostRuntime) -> Result<(), Fail> {
-    let alloc = rt.alloc();
-    let mut sequence = made(alloc, b"seq_smoke")?;
-    let done = Call::ItemDone { response: None };
-    for (call, want) in [
+    let rows = [
         (Call::PreStart, "end;"),
         (Call::Body, "request None;"),
         (Call::Grant, "send [1, 0, 10, 0];"),
-        (done, "request None;"),
+        (done(None), "request None;"),
         (Call::Grant, "send [0, 0, 0, 0];"),
-        (done, "end;"),
+        (done(None), "end;"),
         (Call::PostStart, "end;"),
         (Call::Grant, ""),
         (Call::Held, ""),
         (Call::Wake { tag: 1 }, ""),
-    ] {
-        assert_eq!(rt; answer(alloc, &mut sequence, &call)?.as_str(), want);
-    }
-    Ok(())
+    ];
+    expect_answers(&rt, b"seq_smoke", &rows)
 }
 
 #[test]
 fn seq_burst_sends_four_items_under_a_lock(rt: HostRuntime) -> Result<(), Fail> {
-    let alloc = rt.alloc();
-    let mut sequence = made(alloc, b"seq_burst")?;
-    let done = Call::ItemDone {
-        response: Some(Item(RESULT)),
-    };
-    for (call, want) in [
+    let rows = [
         (Call::PreStart, "end;"),
         (Call::Body, "lock;"),
         (Call::Held, "request None;"),
         (Call::Grant, "send [1, 0, 20, 0];"),
-        (done, "request None;"),
+        (done(Some(RESULT)), "request None;"),
         (Call::Grant, "send [1, 1, 21, 0];"),
-        (done, "request None;"),
+        (done(Some(RESULT)), "request None;"),
         (Call::Grant, "send [0, 0, 0, 0];"),
-        (done, "request None;"),
+        (done(Some(RESULT)), "request None;"),
         (Call::Grant, "send [0, 1, 0, 0];"),
-        (done, "unlock;end;"),
+        (done(Some(RESULT)), "unlock;end;"),
         (Call::PostStart, "end;"),
         (Call::Grant, ""),
         (Call::Phase(Phase::Run), ""),
-    ] {
-        assert_eq!(rt; answer(alloc, &mut sequence, &call)?.as_str(), want);
-    }
-    Ok(())
+    ];
+    expect_answers(&rt, b"seq_burst", &rows)
 }
 
 #[test]
 fn seq_pair_ends_at_the_second_of_its_children(rt: HostRuntime) -> Result<(), Fail> {
-    let alloc = rt.alloc();
-    let mut sequence = made(alloc, b"seq_pair")?;
-    for (call, want) in [
+    let rows = [
         (Call::PreStart, "end;"),
         (
             Call::Body,
             "start seq_smoke a () None;start seq_burst b () Some(200);",
         ),
-        (finished(alloc, b"b")?, ""),
+        (finished(rt.alloc(), b"b")?, ""),
         (Call::Grant, ""),
-        (finished(alloc, b"a")?, "end;"),
+        (finished(rt.alloc(), b"a")?, "end;"),
         (Call::PostStart, "end;"),
-        (finished(alloc, b"a")?, ""),
-    ] {
-        assert_eq!(rt; answer(alloc, &mut sequence, &call)?.as_str(), want);
-    }
-    Ok(())
+        (finished(rt.alloc(), b"a")?, ""),
+    ];
+    expect_answers(&rt, b"seq_pair", &rows)
 }
 
 #[test]
 fn idle_answers_with_no_acts(rt: HostRuntime) -> Result<(), Fail> {
-    let name = Name::new(b"idle")?;
-    let mut idle = BusObject::of_type(rt.alloc(), &name).ok_or("no object")?;
-    assert_eq!(rt; *idle.type_name(), name);
-    for phase in [Phase::Build, Phase::Run, Phase::Final] {
-        assert!(rt; idle.hear(rt.alloc(), &Call::Phase(phase))?.is_empty());
-    }
-    Ok(())
+    let rows = [
+        (Call::Phase(Phase::Build), ""),
+        (Call::Phase(Phase::Run), ""),
+        (Call::Phase(Phase::Final), ""),
+    ];
+    expect_answers(&rt, b"idle", &rows)
 }
 
 #[test]
 fn loud_reports_three_errors_when_it_builds(rt: HostRuntime) -> Result<(), Fail> {
-    let name = Name::new(b"loud")?;
-    let mut loud = BusObject::of_type(rt.alloc(), &name).ok_or("no object")?;
-    assert_eq!(rt; *loud.type_name(), name);
-    assert!(rt; loud.hear(rt.alloc(), &Call::Phase(Phase::Run))?.is_empty());
-    let acts = loud.hear(rt.alloc(), &Call::Phase(Phase::Build))?;
-    assert_eq!(rt; acts.len(), 3);
-    for (act, text) in acts.iter().zip(["one", "two", "three"]) {
-        let Act::Report { report } = act else {
-            return Err("no report".into());
-        };
-        assert_eq!(rt; report.severity, Severity::Error);
-        assert_eq!(rt; report.id, Name::new(b"E")?);
-        assert_eq!(rt; report.text.as_bytes(), text.as_bytes());
-        assert_eq!(rt; report.verbosity, 0);
-    }
-    Ok(())
+    let errors = "UVM_ERROR E 0: one;UVM_ERROR E 0: two;UVM_ERROR E 0: three;";
+    let rows = [
+        (Call::Phase(Phase::Run), ""),
+        (Call::Phase(Phase::Build), errors),
+    ];
+    expect_answers(&rt, b"loud", &rows)
 }
 
 #[test]
 fn pulse_wakes_three_times(rt: HostRuntime) -> Result<(), Fail> {
-    let name = Name::new(b"pulse")?;
-    let mut pulse = BusObject::of_type(rt.alloc(), &name).ok_or("no object")?;
-    assert_eq!(rt; *pulse.type_name(), name);
-    assert_eq!(rt; pulse.hear(rt.alloc(), &Call::Phase(Phase::Run))?.len(), 3);
-    for (tag, count) in [(1, 2), (2, 2), (3, 1), (4, 0)] {
-        let acts = pulse.hear(rt.alloc(), &Call::Wake { tag })?;
-        assert_eq!(rt; acts.len(), count, "at tag {tag}");
-    }
-    assert!(rt;
-        pulse
-            .hear(rt.alloc(), &Call::Phase(Phase::Build))?
-            .is_empty()
-    );
-    Ok(())
+    let rows = [
+        (Call::Phase(Phase::Run), "drain 5;raise 1;wait 10 1;"),
+        (Call::Wake { tag: 1 }, "drop 1;wait 2 2;"),
+        (Call::Wake { tag: 2 }, "raise 1;wait 8 3;"),
+        (Call::Wake { tag: 3 }, "drop 1;"),
+        (Call::Wake { tag: 4 }, ""),
+        (Call::Phase(Phase::Build), ""),
+    ];
+    expect_answers(&rt, b"pulse", &rows)
 }
 
 #[test]
 fn sleeper_waits_for_the_value_that_it_is_told(rt: HostRuntime) -> Result<(), Fail> {
-    let name = Name::new(b"sleeper")?;
-    let mut sleeper = BusObject::of_type(rt.alloc(), &name).ok_or("no object")?;
-    assert_eq!(rt; *sleeper.type_name(), name);
-    for (value, count) in [(None, 2), (Some(7), 2), (Some(-1), 1)] {
-        let field = Name::new(b"at")?;
-        let told = sleeper.hear(rt.alloc(), &Call::Config { field, value })?;
-        assert!(rt; told.is_empty());
-        let acts = sleeper.hear(rt.alloc(), &Call::Phase(Phase::Run))?;
-        assert_eq!(rt; acts.len(), count, "at {value:?}");
-    }
-    let woken = sleeper.hear(rt.alloc(), &Call::Wake { tag: 1 })?;
-    assert!(rt; matches!(woken.get(0), Some(Act::DropObjection { count: 1 })));
-    Ok(())
+    let at = Name::new(b"at")?;
+    let told = |value| Call::Config { field: at, value };
+    let rows = [
+        (Call::Phase(Phase::Build), "get at;"),
+        (told(None), ""),
+        (Call::Phase(Phase::Run), "raise 1;wait 0 1;"),
+        (told(Some(7)), ""),
+        (Call::Phase(Phase::Run), "raise 1;wait 7 1;"),
+        (told(Some(-1)), ""),
+        (Call::Phase(Phase::Run), "raise 1;"),
+        (Call::Wake { tag: 1 }, "drop 1;"),
+    ];
+    expect_answers(&rt, b"sleeper", &rows)
 }
 
 #[test]
 fn spinner_waits_again_and_again(rt: HostRuntime) -> Result<(), Fail> {
-    let name = Name::new(b"spinner")?;
-    let mut spinner = BusObject::of_type(rt.alloc(), &name).ok_or("no object")?;
-    assert_eq!(rt; *spinner.type_name(), name);
-    assert!(rt;
-        spinner
-            .hear(rt.alloc(), &Call::Phase(Phase::Build))?
-            .is_empty()
-    );
-    for call in [Call::Phase(Phase::Run), Call::Wake { tag: 1 }] {
-        let acts = spinner.hear(rt.alloc(), &call)?;
-        assert_eq!(rt; acts.len(), 1);
-        assert!(rt; matches!(acts.get(0), Some(Act::Wait { ticks: 0, tag: 1 })));
-    }
-    Ok(())
+    let rows = [
+        (Call::Phase(Phase::Build), ""),
+        (Call::Phase(Phase::Run), "wait 0 1;"),
+        (Call::Wake { tag: 1 }, "wait 0 1;"),
+    ];
+    expect_answers(&rt, b"spinner", &rows)
 }
 
 #[test]

@@ -8,7 +8,7 @@ use self::plain::PlainOverrides;
 use crate::{Factory, FactoryFault, Kind, Override, OverrideStep, TypeId, Unmade};
 use std::alloc::Global;
 use std::test::Fail;
-use uvm_glob::{Glob, Name, Path};
+use uvm_glob::{Glob, Name, Path, PathFault};
 
 // Where an override holds, and whether it replaces one that holds everywhere.
 #[derive(Clone, Copy)]
@@ -30,25 +30,47 @@ fn letters(alloc: Global) -> Result<Factory, Fail> {
     Ok(factory)
 }
 
-fn type_of(factory: &Factory, type_name: &str) -> Result<TypeId, Fail> {
-    let type_name = Name::new(type_name.as_bytes())?;
-    Ok(factory.find(&type_name).ok_or("a type")?)
+fn type_of(factory: &Factory, type_name: &str) -> Option<TypeId> {
+    let type_name = Name::new(type_name.as_bytes()).ok()?;
+    factory.find(&type_name)
+}
+
+// A factory of the letters with these overrides.
+fn overridden(alloc: Global, overrides: &[(&str, &str, Scope)]) -> Result<Factory, Fail> {
+    let mut factory = letters(alloc)?;
+    for (original, new, scope) in overrides {
+        let original = type_of(&factory, original).ok_or("a type")?;
+        let new = type_of(&factory, new).ok_or("a type")?;
+        override_in(alloc, &mut factory, original, new, *scope)?;
+    }
+    Ok(factory)
+}
+
+fn override_in(
+    alloc: Global,
+    factory: &mut Factory,
+    original: TypeId,
+    new: TypeId,
+    scope: Scope,
+) -> Result<(), Fail> {
+    match scope {
+        At(glob) => factory.override_inst(original, new, Glob::new(alloc, glob.as_bytes())?)?,
+        Everywhere => factory.override_type(original, new, false)?,
+        EverywhereReplacing => factory.override_type(original, new, true)?,
+    }
+    Ok(())
 }
 
 // The name of the type that is made for A at a path, or why none is.
 fn made(alloc: Global, overrides: &[(&str, &str, Scope)], path: &str) -> Result<String, Fail> {
-    let mut factory = letters(alloc)?;
-    for (original, new, scope) in overrides {
-        let original = type_of(&factory, original)?;
-        let new = type_of(&factory, new)?;
-        match scope {
-            At(glob) => factory.override_inst(original, new, Glob::new(alloc, glob.as_bytes())?)?,
-            Everywhere => factory.override_type(original, new, false)?,
-            EverywhereReplacing => factory.override_type(original, new, true)?,
-        }
-    }
+    let factory = overridden(alloc, overrides)?;
+    made_by(alloc, &factory, path)
+}
+
+fn made_by(alloc: Global, factory: &Factory, path: &str) -> Result<String, Fail> {
+    let asked = type_of(factory, "A").ok_or("a type")?;
     let path = Path::parse(alloc, path.as_bytes())?;
-    match factory.resolve(type_of(&factory, "A")?, &path) {
+    match factory.resolve(asked, &path) {
         Ok(type_id) => {
             let type_name = factory.name_of(type_id).ok_or("a name")?;
             Ok(format!(in alloc; "{type_name}")?)
@@ -114,31 +136,33 @@ fn overrides_that_lead_back_are_a_loop(rt: HostRuntime) -> Result<(), Fail> {
 
 #[test]
 fn registering_gives_the_first_fault(rt: HostRuntime) -> Result<(), Fail> {
-    let mut factory = Factory::new(rt.alloc());
-    for place in 0..Factory::MAX_TYPES {
-        let text = format!(in rt.alloc(); "type{place}")?;
-        factory.register(Name::new(text.as_bytes())?, Kind::Sequence)?;
-    }
-    for (name, want) in [
-        ("type7", FactoryFault::Known),
-        ("another", FactoryFault::Full),
-    ] {
-        let given = factory.register(Name::new(name.as_bytes())?, Kind::Component);
+    let (known, another) = (Name::new(b"type7")?, Name::new(b"another")?);
+    let mut factory = types(rt.alloc(), Factory::MAX_TYPES)?;
+    for (name, want) in [(known, FactoryFault::Known), (another, FactoryFault::Full)] {
+        let given = factory.register(name, Kind::Sequence);
         assert_eq!(rt; given.err(), Some(want), "{name}");
     }
     Ok(())
 }
 
+// A factory of so many components, type0 and so on.
+fn types(alloc: Global, count: usize) -> Result<Factory, Fail> {
+    let mut factory = Factory::new(alloc);
+    for place in 0..count {
+        let text = format!(in alloc; "type{place}")?;
+        factory.register(Name::new(text.as_bytes())?, Kind::Component)?;
+    }
+    Ok(factory)
+}
+
 #[test]
 fn overriding_gives_the_first_fault(rt: HostRuntime) -> Result<(), Fail> {
     let (different, unknown) = (Some(FactoryFault::KindDiffers), Some(FactoryFault::NoType));
-    let mut factory = letters(rt.alloc())?;
-    let (a, b, s) = (
-        type_of(&factory, "A")?,
-        type_of(&factory, "B")?,
-        type_of(&factory, "S")?,
-    );
     let missing = missing_type(rt.alloc())?;
+    let mut factory = letters(rt.alloc())?;
+    let a = type_of(&factory, "A").expect(&rt, "a type");
+    let b = type_of(&factory, "B").expect(&rt, "a type");
+    let s = type_of(&factory, "S").expect(&rt, "a type");
     for (original, new, want) in [
         (a, b, None),
         (a, a, None),
@@ -150,7 +174,8 @@ fn overriding_gives_the_first_fault(rt: HostRuntime) -> Result<(), Fail> {
     ] {
         let given = factory.override_type(original, new, true);
         assert_eq!(rt; given.err(), want, "{original:?} by {new:?}");
-        let given = factory.override_inst(original, new, Glob::new(rt.alloc(), b"*")?);
+        let scope = Glob::new(rt.alloc(), b"*").expect(&rt, "a glob");
+        let given = factory.override_inst(original, new, scope);
         assert_eq!(rt; given.err(), want, "{original:?} by {new:?}");
     }
     Ok(())
@@ -164,19 +189,19 @@ fn missing_type(alloc: Global) -> Result<TypeId, Fail> {
 
 #[test]
 fn types_are_found_by_name_and_number(rt: HostRuntime) -> Result<(), Fail> {
+    let missing = missing_type(rt.alloc())?;
     let factory = letters(rt.alloc())?;
     for (letter, kind) in [
         ("A", Kind::Component),
         ("D", Kind::Component),
         ("S", Kind::Sequence),
     ] {
-        let name = Name::new(letter.as_bytes())?;
-        let found = factory.find(&name).ok_or("a type")?;
-        assert_eq!(rt; factory.name_of(found).copied(), Some(name));
+        let found = type_of(&factory, letter).expect(&rt, "a type");
+        let name = factory.name_of(found).copied();
+        assert_eq!(rt; name, Name::new(letter.as_bytes()).ok(), "{letter}");
         assert_eq!(rt; factory.kind_of(found), Some(kind), "{letter}");
     }
-    assert_eq!(rt; factory.find(&Name::new(b"E")?), None);
-    let missing = missing_type(rt.alloc())?;
+    assert_eq!(rt; type_of(&factory, "E"), None);
     assert_eq!(rt; factory.name_of(missing).copied(), None);
     assert_eq!(rt; factory.kind_of(missing), None);
     let top = Path::top(rt.alloc());
@@ -186,20 +211,17 @@ fn types_are_found_by_name_and_number(rt: HostRuntime) -> Result<(), Fail> {
 
 #[test]
 fn a_step_tells_its_override(rt: HostRuntime) -> Result<(), Fail> {
-    let mut factory = letters(rt.alloc())?;
-    let (a, b, c) = (
-        type_of(&factory, "A")?,
-        type_of(&factory, "B")?,
-        type_of(&factory, "C")?,
-    );
-    factory.override_type(a, b, false)?;
-    factory.override_inst(a, c, Glob::new(rt.alloc(), b"x.*")?)?;
+    let overrides = [("A", "B", Everywhere), ("A", "C", At("x.*"))];
+    let factory = overridden(rt.alloc(), &overrides)?;
+    let a = type_of(&factory, "A").expect(&rt, "a type");
+    let b = type_of(&factory, "B").expect(&rt, "a type");
+    let c = type_of(&factory, "C").expect(&rt, "a type");
     for (type_id, path, want) in [
         (a, "x", Some(OverrideStep::ByType(b))),
         (a, "x.y", Some(OverrideStep::ByInstance(c))),
         (b, "x.y", None),
     ] {
-        let path_made = Path::parse(rt.alloc(), path.as_bytes())?;
+        let path_made = Path::parse(rt.alloc(), path.as_bytes()).expect(&rt, "a path");
         let step = factory.step(type_id, &path_made);
         assert_eq!(rt; step, want, "{type_id:?} at {path}");
         let new = match step {
@@ -257,7 +279,7 @@ fn glob_text(number: u32) -> &'static str {
 }
 
 // An override of one of so many types, as the numbers say.
-fn random_override(alloc: Global, number: &mut u32, types: u16) -> Result<Override, Fail>
+fn random_override(alloc: Global, number: &mut u32, types: u16) -> Result<Override, PathFault>
     requires { 0 < types }
 {
     let original = TypeId::new(next_random(number, u32::from(types)) as u16);
@@ -302,70 +324,67 @@ const PATHS: [&str; 4] = ["x", "x.y", "x.z", "z.y"];
 
 #[test]
 fn steps_are_those_of_a_plain_list(rt: HostRuntime) -> Result<(), Fail> {
-    let alloc = rt.alloc();
     for seed in 0..20 {
         let mut number = seed;
-        let mut factory = Factory::new(alloc);
-        for letter in ["A", "B", "C", "D", "E"] {
-            factory.register(Name::new(letter.as_bytes())?, Kind::Component)?;
-        }
-        let mut plain = PlainOverrides::new(alloc);
+        let mut factory = types(rt.alloc(), 5)?;
+        let mut plain = PlainOverrides::new(rt.alloc());
         for _ in 0..12 {
-            let given = random_override(alloc, &mut number, 5)?;
-            plain.add(given.copy()?)?;
-            give(&mut factory, given)?;
+            give_both(rt.alloc(), &mut number, &mut factory, &mut plain).expect(&rt, "an override");
             for path in PATHS {
-                let path = Path::parse(alloc, path.as_bytes())?;
-                for place in 0..5 {
-                    let type_id = TypeId::new(place);
-                    assert_eq!(rt;
-                        factory.step(type_id, &path),
-                        plain.step(type_id, &path),
-                        "{type_id:?} at {path}"
-                    );
-                    assert_eq!(rt;
-                        factory.resolve(type_id, &path).ok(),
-                        plain.resolve(type_id, &path, 5),
-                        "{type_id:?} at {path}"
-                    );
-                }
+                assert!(rt;
+                    give_the_same(rt.alloc(), &factory, &plain, path),
+                    "{seed} at {path}"
+                );
             }
         }
     }
     Ok(())
 }
 
+// Gives one override to a factory of five types, and to a plain list.
+fn give_both(
+    alloc: Global,
+    number: &mut u32,
+    factory: &mut Factory,
+    plain: &mut PlainOverrides,
+) -> Option<()> {
+    let given = random_override(alloc, number, 5).ok()?;
+    plain.add(given.copy().ok()?).ok()?;
+    give(factory, given).ok()
+}
+
+// Whether both give the same steps and the same types at a path.
+fn give_the_same(alloc: Global, factory: &Factory, plain: &PlainOverrides, path: &str) -> bool {
+    let Ok(path) = Path::parse(alloc, path.as_bytes()) else {
+        return false;
+    };
+    (0..5).all(|place| {
+        let type_id = TypeId::new(place);
+        factory.step(type_id, &path) == plain.step(type_id, &path)
+            && factory.resolve(type_id, &path).ok() == plain.resolve(type_id, &path, 5)
+    })
+}
+
 // The types of a factory whose maps grow when they have some already.
 const MANY_TYPES: u16 = 12;
 
-// A factory of so many components.
-fn many_types(alloc: Global) -> Result<Factory, Fail> {
-    let mut factory = Factory::new(alloc);
-    for place in 0..MANY_TYPES {
-        let text = format!(in alloc; "type{place}")?;
-        factory.register(Name::new(text.as_bytes())?, Kind::Component)?;
-    }
-    Ok(factory)
-}
-
 // The steps of these types at the paths.
-fn steps(alloc: Global, factory: &Factory) -> Result<Vec<Option<OverrideStep>>, Fail> {
+fn steps(alloc: Global, factory: &Factory) -> Option<Vec<Option<OverrideStep>>> {
     let mut steps = Vec::new(alloc);
     for path in PATHS {
-        let path = Path::parse(alloc, path.as_bytes())?;
+        let path = Path::parse(alloc, path.as_bytes()).ok()?;
         for place in 0..MANY_TYPES {
-            steps.push(factory.step(TypeId::new(place), &path))?;
+            steps.push(factory.step(TypeId::new(place), &path)).ok()?;
         }
     }
-    Ok(steps)
+    Some(steps)
 }
 
 #[test]
 fn a_refusal_for_memory_changes_no_type(rt: HostRuntime) -> Result<(), Fail> {
     let mut factory = Factory::new(rt.alloc());
     for place in 0..MANY_TYPES {
-        let text = format!(in rt.alloc(); "type{place}")?;
-        let type_name = Name::new(text.as_bytes())?;
+        let type_name = numbered(rt.alloc(), place).expect(&rt, "a name");
         if factory.register(type_name, Kind::Component) == Err(FactoryFault::Memory) {
             assert_eq!(rt; factory.find(&type_name), None);
             assert_eq!(rt;
@@ -377,16 +396,21 @@ fn a_refusal_for_memory_changes_no_type(rt: HostRuntime) -> Result<(), Fail> {
     Ok(())
 }
 
+fn numbered(alloc: Global, place: u16) -> Option<Name> {
+    let text = format!(in alloc; "type{place}").ok()?;
+    Name::new(text.as_bytes()).ok()
+}
+
 #[test]
 fn a_refusal_for_memory_changes_no_step(rt: HostRuntime) -> Result<(), Fail> {
-    let alloc = rt.alloc();
     let mut number = 3;
-    let mut factory = many_types(alloc)?;
+    let mut factory = types(rt.alloc(), usize::from(MANY_TYPES))?;
     for _ in 0..80 {
-        let before = steps(alloc, &factory)?;
-        let given = random_override(alloc, &mut number, MANY_TYPES)?;
+        let before = steps(rt.alloc(), &factory).expect(&rt, "the steps before");
+        let given = random_override(rt.alloc(), &mut number, MANY_TYPES).expect(&rt, "an override");
         if give(&mut factory, given) == Err(FactoryFault::Memory) {
-            assert_eq!(rt; steps(alloc, &factory)?.as_slice(), before.as_slice());
+            let after = steps(rt.alloc(), &factory).expect(&rt, "the steps after");
+            assert_eq!(rt; after.as_slice(), before.as_slice());
         }
     }
     Ok(())

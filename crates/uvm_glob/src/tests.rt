@@ -48,16 +48,17 @@ fn globs_match_whole_paths(rt: HostRuntime) -> Result<(), Fail> {
         ("x[0]", "x[0]", true),
         ("*a+b*", "xaabz", true),
     ] {
-        let path_made = path_at(rt.alloc(), path.as_bytes())?;
-        let glob_made = Glob::new(rt.alloc(), glob.as_bytes())?;
-        assert_eq!(rt; glob_made.matches(&path_made), want, "'{glob}' at '{path}'");
-        assert_eq!(rt;
-            glob_made.copy()?.matches(&path_made),
-            want,
-            "a copy of '{glob}' at '{path}'"
-        );
+        let found = matches(rt.alloc(), glob.as_bytes(), path.as_bytes())?;
+        assert_eq!(rt; found, (want, want), "'{glob}' and its copy at '{path}'");
     }
     Ok(())
+}
+
+// Whether a glob and its copy match at a path.
+fn matches(alloc: Global, glob: &[u8], path: &[u8]) -> Result<(bool, bool), PathFault> {
+    let path = path_at(alloc, path)?;
+    let glob = Glob::new(alloc, glob)?;
+    Ok((glob.matches(&path), glob.copy()?.matches(&path)))
 }
 
 #[test]
@@ -69,15 +70,20 @@ fn globs_under_a_path_match_below_it(rt: HostRuntime) -> Result<(), Fail> {
         ("", "*", "", true),
         ("", "b", "b", true),
     ] {
-        let under = Glob::under(
-            rt.alloc(),
-            &path_at(rt.alloc(), front.as_bytes())?,
-            &Glob::new(rt.alloc(), glob.as_bytes())?,
-        )?;
-        let found = under.matches(&path_at(rt.alloc(), path.as_bytes())?);
-        assert_eq!(rt; found, want, "'{glob}' under '{front}' at '{path}'");
+        let under = glob_under(rt.alloc(), front.as_bytes(), glob.as_bytes())?;
+        let path_made = path_at(rt.alloc(), path.as_bytes())?;
+        assert_eq!(rt;
+            under.matches(&path_made),
+            want,
+            "'{glob}' under '{front}' at '{path}'"
+        );
     }
     Ok(())
+}
+
+fn glob_under(alloc: Global, front: &[u8], glob: &[u8]) -> Result<Glob, PathFault> {
+    let front = path_at(alloc, front)?;
+    Ok(Glob::under(alloc, &front, &Glob::new(alloc, glob)?)?)
 }
 
 #[test]
@@ -262,23 +268,28 @@ fn parents_stand_first_in_down(rt: HostRuntime) -> Result<(), Fail> {
         (b"a.x", b"a-b"),
     ] {
         let (first, second) = (path_at(rt.alloc(), path)?, path_at(rt.alloc(), next)?);
-        assert_eq!(rt; first.cmp(&second), Ordering::Less, "{path:?} and {next:?}");
-        assert_eq!(rt;
-            second.cmp(&first),
-            Ordering::Greater,
-            "{next:?} and {path:?}"
-        );
-        assert!(rt; first < second, "{path:?} and {next:?}");
-        assert_eq!(rt;
-            first.cmp_in(Direction::Down, &second),
-            Ordering::Less,
-            "{path:?} and {next:?}"
-        );
-        assert_ne!(rt; first, second);
-        assert_eq!(rt; first.cmp(&first.copy()?), Ordering::Equal, "{path:?}");
-        assert_eq!(rt; first, first.copy()?);
+        assert!(rt; stands_before(&first, &second), "{path:?} and {next:?}");
+        assert!(rt; equals_its_copy(&first)?, "{path:?}");
     }
     Ok(())
+}
+
+// Whether one path stands before another in Down, by each of the comparisons.
+fn stands_before(first: &Path, second: &Path) -> bool {
+    first.cmp(second) == Ordering::Less
+        && second.cmp(first) == Ordering::Greater
+        && first.cmp_in(Direction::Down, second) == Ordering::Less
+        && first < second
+        && first != second
+}
+
+fn equals_its_copy(path: &Path) -> Result<bool, PathFault> {
+    let copy = path.copy()?;
+    Ok(
+        path.cmp(&copy) == Ordering::Equal
+            && path.cmp_in(Direction::Up, &copy) == Ordering::Equal
+            && *path == copy,
+    )
 }
 
 #[test]
@@ -304,11 +315,6 @@ fn children_stand_first_in_up(rt: HostRuntime) -> Result<(), Fail> {
             second.cmp_in(Direction::Up, &first),
             Ordering::Greater,
             "{next:?} and {path:?}"
-        );
-        assert_eq!(rt;
-            first.cmp_in(Direction::Up, &first.copy()?),
-            Ordering::Equal,
-            "{path:?}"
         );
     }
     Ok(())

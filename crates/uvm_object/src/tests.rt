@@ -13,11 +13,12 @@ use std::test::Fail;
 use uvm_glob::{Glob, Name, Path};
 use uvm_phase::{Cause, Phase};
 use uvm_report::{Actions, Report, Severity, Text, Which};
-use uvm_sequencer::Sequences;
+use uvm_sequencer::{SeqId, Sequences};
 use uvm_tlm::PortKind;
 use uvm_tree::{NodeId, NodeKind, Tree};
 
-// A tree of `uvm_test_top` and `a` below it, and their nodes.
+// Lines are shown in a tree of `uvm_test_top` and `a` below it, in which two sequences were started at `a`. A test holds no more of
+// these than their nodes and numbers, which are the same in each tree like this.
 fn small_tree(alloc: Global) -> Result<(Tree, NodeId, NodeId), Fail> {
     let mut tree = Tree::new(alloc);
     let test = tree.add(
@@ -27,6 +28,63 @@ fn small_tree(alloc: Global) -> Result<(Tree, NodeId, NodeId), Fail> {
     )?;
     let below = tree.add(test, Name::new(b"a")?, NodeKind::Component)?;
     Ok((tree, test, below))
+}
+
+// The nodes of `uvm_test_top` and of `a`.
+fn nodes(alloc: Global) -> Result<(NodeId, NodeId), Fail> {
+    let (_tree, test, below) = small_tree(alloc)?;
+    Ok((test, below))
+}
+
+// A sequence `a`, and `b` that it started, on the sequencer at a node.
+fn two_sequences(alloc: Global, home: NodeId) -> Result<(Sequences, SeqId, SeqId), Fail> {
+    let mut sequences = Sequences::new(alloc);
+    let parent = sequences.start(home, None, Name::new(b"a")?, 100)?;
+    let child = sequences.start(home, Some(parent), Name::new(b"b")?, 100)?;
+    Ok((sequences, parent, child))
+}
+
+// Whether that is the line of an entry.
+fn line_is(alloc: Global, entry: &Entry, want: &str) -> Result<bool, Fail> {
+    let (tree, _, home) = small_tree(alloc)?;
+    let (sequences, _, _) = two_sequences(alloc, home)?;
+    line_with(alloc, &tree, &sequences, entry, want)
+}
+
+fn line_with(
+    alloc: Global,
+    tree: &Tree,
+    sequences: &Sequences,
+    entry: &Entry,
+    want: &str,
+) -> Result<bool, Fail> {
+    let mut line = Vec::new(alloc);
+    line_of(entry, tree, sequences, &mut line)?;
+    Ok(line.as_slice() == want.as_bytes())
+}
+
+// Whether that is the line of an act of `uvm_test_top` with this outcome.
+fn did_line_is(alloc: Global, outcome: LoggedOutcome, act: Act, want: &str) -> Result<bool, Fail> {
+    let entry = did(alloc, outcome, act)?;
+    line_is(alloc, &entry, want)
+}
+
+// Whether that is the line of an act of `uvm_test_top` that was done.
+fn done_line_is(alloc: Global, act: Act, want: &str) -> Result<bool, Fail> {
+    did_line_is(alloc, LoggedOutcome::done(), act, want)
+}
+
+// Whether it is that of the act and of its copy.
+fn copied_line_is(alloc: Global, act: Act, want: &str) -> Result<bool, Fail> {
+    let copy = act.copy()?;
+    Ok(done_line_is(alloc, act, want)? && done_line_is(alloc, copy, want)?)
+}
+
+// Whether that is the line of an answer without acts, by `uvm_test_top` to this call.
+fn heard_line_is(alloc: Global, call: Call, want: &str) -> Result<bool, Fail> {
+    let (test, _) = nodes(alloc)?;
+    let heard = Entry::heard(alloc, Who::Node(test), call, None, Acts::new(alloc))?;
+    line_is(alloc, &heard, want)
 }
 
 fn override_type(replace: bool) -> Result<Act, Fail> {
@@ -59,12 +117,31 @@ fn add_fifo() -> Result<Act, Fail> {
     })
 }
 
-fn did(alloc: Global, node: NodeId, outcome: LoggedOutcome, act: Act) -> Result<Entry, Fail> {
+// An act of `uvm_test_top`, with what it came to.
+fn did(alloc: Global, outcome: LoggedOutcome, act: Act) -> Result<Entry, Fail> {
+    let (test, _) = nodes(alloc)?;
+    did_at(alloc, test, outcome, act)
+}
+
+fn did_at(alloc: Global, node: NodeId, outcome: LoggedOutcome, act: Act) -> Result<Entry, Fail> {
     Ok(Entry::Did {
         who: Who::Node(node),
         outcome,
         act: Deed::new(alloc, act)?,
     })
+}
+
+// Overrides of a type, one for each word on replacing.
+fn overrides(alloc: Global, replacing: &[bool]) -> Result<Acts, Fail> {
+    let mut acts = Acts::new(alloc);
+    for &replace in replacing {
+        push_override(&mut acts, replace)?;
+    }
+    Ok(acts)
+}
+
+fn push_override(acts: &mut Acts, replace: bool) -> Result<(), Fail> {
+    Ok(acts.push(override_type(replace)?)?)
 }
 
 fn is_replaced(act: Option<&Act>) -> Option<bool> {
@@ -83,10 +160,8 @@ fn ended(entry: Option<&Entry>) -> Option<Phase> {
 
 #[test]
 fn acts_stand_in_order(rt: HostRuntime) -> Result<(), Fail> {
-    let mut acts = Acts::new(rt.alloc());
-    assert!(rt; acts.is_empty());
-    acts.push(override_type(true)?)?;
-    acts.push(override_type(false)?.copy()?)?;
+    assert!(rt; Acts::new(rt.alloc()).is_empty());
+    let acts = overrides(rt.alloc(), &[true, false])?;
     assert!(rt; !acts.is_empty());
     assert_eq!(rt; acts.len(), 2);
     assert_eq!(rt; is_replaced(acts.get(0)), Some(true));
@@ -96,38 +171,35 @@ fn acts_stand_in_order(rt: HostRuntime) -> Result<(), Fail> {
 }
 
 #[test]
-fn acts_are_gone_over_in_order(rt: HostRuntime) -> Result<(), Fail> {
-    let mut acts = Acts::new(rt.alloc());
-    for (place, replace) in [true, false, false].into_iter().enumerate() {
-        assert_eq!(rt; acts.iter().len(), place);
-        acts.push(override_type(replace)?)?;
-    }
-    let mut seen = Vec::new(rt.alloc());
-    for act in &acts {
-        seen.push(is_replaced(Some(act)))?;
-    }
-    assert_eq!(rt;
-        seen.as_slice(),
-        [Some(true), Some(false), Some(false)].as_slice()
-    );
+fn an_act_is_copied(rt: HostRuntime) -> Result<(), Fail> {
+    let copy = override_type(false)?.copy()?;
+    assert_eq!(rt; is_replaced(Some(&copy)), Some(false));
     Ok(())
 }
 
 #[test]
-fn a_log_is_gone_over_from_the_oldest(rt: HostRuntime) -> Result<(), Fail> {
+fn acts_are_gone_over_in_order(rt: HostRuntime) -> Result<(), Fail> {
+    let acts = overrides(rt.alloc(), &[true, false, false])?;
+    assert_eq!(rt; acts.iter().len(), 3);
+    let mut seen = [None; 3];
+    for (slot, act) in seen.iter_mut().zip(&acts) {
+        *slot = is_replaced(Some(act));
+    }
+    assert_eq!(rt; seen, [Some(true), Some(false), Some(false)]);
+    Ok(())
+}
+
+#[test]
+fn a_log_is_gone_over_from_the_oldest(rt: HostRuntime) {
     let mut log = Log::new(rt.alloc(), 2);
     for phase in [Phase::Build, Phase::Connect] {
-        log.push(Entry::End(phase))?;
+        assert!(rt; log.push(Entry::End(phase)).is_ok());
     }
-    let mut seen = Vec::new(rt.alloc());
-    for entry in &log {
-        seen.push(ended(Some(entry)))?;
+    let mut seen = [None; 2];
+    for (slot, entry) in seen.iter_mut().zip(&log) {
+        *slot = ended(Some(entry));
     }
-    assert_eq!(rt;
-        seen.as_slice(),
-        [Some(Phase::Build), Some(Phase::Connect)].as_slice()
-    );
-    Ok(())
+    assert_eq!(rt; seen, [Some(Phase::Build), Some(Phase::Connect)]);
 }
 
 #[test]
@@ -150,129 +222,93 @@ fn a_log_is_full_at_its_limit(rt: HostRuntime) {
 }
 
 #[test]
-fn a_log_takes_an_entry_after_room_was_made(rt: HostRuntime) -> Result<(), Fail> {
+fn a_log_takes_an_entry_after_room_was_made(rt: HostRuntime) {
     let mut log = Log::new(rt.alloc(), 1);
-    log.reserve()?;
+    assert!(rt; log.reserve().is_ok());
     assert!(rt; log.push(Entry::Begin(Phase::Build)).is_ok());
-    Ok(())
 }
 
 #[test]
 fn lines_of_phases_notes_and_ends(rt: HostRuntime) -> Result<(), Fail> {
-    let (tree, test, _) = small_tree(rt.alloc())?;
-    assert!(rt; phase_lines_are_right(rt.alloc(), &tree)?);
-    assert!(rt; end_lines_are_right(rt.alloc(), &tree, test)?);
+    let (test, _) = nodes(rt.alloc())?;
+    let note = Entry::Note {
+        fatal: Fatal::TooManyActs,
+        node: test,
+    };
+    for (entry, line) in [
+        (Entry::Begin(Phase::Build), "begin build\n"),
+        (
+            Entry::End(Phase::EndOfElaboration),
+            "end end_of_elaboration\n",
+        ),
+        (note, "note ACTLIM uvm_test_top\n"),
+        (Entry::Over(Reason::NoTest), "over no_test\n"),
+        (Entry::Over(Reason::Exit), "over exit\n"),
+        (Entry::Over(Reason::Finished), "over finished\n"),
+    ] {
+        assert!(rt; line_is(rt.alloc(), &entry, line)?, "{line}");
+    }
     Ok(())
 }
 
 #[test]
 fn the_line_of_an_answer_counts_its_acts(rt: HostRuntime) -> Result<(), Fail> {
-    let (tree, test, _) = small_tree(rt.alloc())?;
-    assert!(rt; answer_line_is_right(rt.alloc(), &tree, test)?);
+    let acts = three_acts(rt.alloc())?;
+    assert!(rt; answer_line_is(rt.alloc(), acts, "heard uvm_test_top build: 3\n")?);
     Ok(())
 }
 
-#[test]
-fn lines_of_acts_say_what_became_of_them(rt: HostRuntime) -> Result<(), Fail> {
-    let (tree, test, below) = small_tree(rt.alloc())?;
-    assert!(rt; creation_lines_are_right(rt.alloc(), &tree, test)?);
-    assert!(rt; override_lines_are_right(rt.alloc(), &tree, test, below)?);
-    Ok(())
-}
-
-fn phase_lines_are_right(alloc: Global, tree: &Tree) -> Result<bool, Fail> {
-    Ok(
-        line_is(alloc, tree, Entry::Begin(Phase::Build), "begin build\n")?
-            && line_is(
-                alloc,
-                tree,
-                Entry::End(Phase::EndOfElaboration),
-                "end end_of_elaboration\n",
-            )?,
-    )
-}
-
-fn end_lines_are_right(alloc: Global, tree: &Tree, test: NodeId) -> Result<bool, Fail> {
-    let note = Entry::Note {
-        fatal: Fatal::TooManyActs,
-        node: test,
-    };
-    Ok(
-        line_is(alloc, tree, note, "note ACTLIM uvm_test_top\n")?
-            && line_is(alloc, tree, Entry::Over(Reason::NoTest), "over no_test\n")?
-            && line_is(alloc, tree, Entry::Over(Reason::Exit), "over exit\n")?
-            && line_is(
-                alloc,
-                tree,
-                Entry::Over(Reason::Finished),
-                "over finished\n",
-            )?,
-    )
-}
-
-fn answer_line_is_right(alloc: Global, tree: &Tree, test: NodeId) -> Result<bool, Fail> {
-    let acts = three_acts(alloc)?;
-    let heard = Entry::heard(
-        alloc,
-        Who::Node(test),
-        Call::Phase(Phase::Build),
-        None,
-        acts,
-    )?;
-    line_is(alloc, tree, heard, "heard uvm_test_top build: 3\n")
+fn answer_line_is(alloc: Global, acts: Acts, want: &str) -> Result<bool, Fail> {
+    let (test, _) = nodes(alloc)?;
+    let call = Call::Phase(Phase::Build);
+    let heard = Entry::heard(alloc, Who::Node(test), call, None, acts)?;
+    line_is(alloc, &heard, want)
 }
 
 fn three_acts(alloc: Global) -> Result<Acts, Fail> {
-    let mut acts = Acts::new(alloc);
-    for _ in 0..3 {
-        acts.push(add_fifo()?)?;
-    }
-    Ok(acts)
+    overrides(alloc, &[true, true, true])
 }
 
-fn creation_lines_are_right(alloc: Global, tree: &Tree, test: NodeId) -> Result<bool, Fail> {
+#[test]
+fn the_line_of_a_creation_says_what_was_made(rt: HostRuntime) -> Result<(), Fail> {
+    let line = "did uvm_top create t uvm_test_top: made t\n";
+    assert!(rt; creation_line_is(rt.alloc(), line)?);
+    assert!(rt;
+        done_line_is(
+            rt.alloc(),
+            add_fifo()?,
+            "did uvm_test_top add f fifo 1: done\n"
+        )?
+    );
+    Ok(())
+}
+
+fn creation_line_is(alloc: Global, want: &str) -> Result<bool, Fail> {
     let room = Box::new(alloc, Name::new(b"f")?)?;
     let made = LoggedOutcome::made(room, Name::new(b"t")?);
-    let created = did(alloc, NodeId::TOP, made, create()?)?;
-    let created_line = line_is(
-        alloc,
-        tree,
-        created,
-        "did uvm_top create t uvm_test_top: made t\n",
-    )?;
-    let added = did(alloc, test, LoggedOutcome::done(), add_fifo()?)?;
-    Ok(created_line && line_is(alloc, tree, added, "did uvm_test_top add f fifo 1: done\n")?)
+    let created = did_at(alloc, NodeId::TOP, made, create()?)?;
+    line_is(alloc, &created, want)
 }
 
-fn override_lines_are_right(
-    alloc: Global,
-    tree: &Tree,
-    test: NodeId,
-    below: NodeId,
-) -> Result<bool, Fail> {
+#[test]
+fn lines_of_overrides_say_where_they_hold(rt: HostRuntime) -> Result<(), Fail> {
     let refused = LoggedOutcome::refused(Fatal::InvalidType);
-    let whole = did(alloc, test, refused, override_type(true)?)?;
-    let whole_line = line_is(
-        alloc,
-        tree,
-        whole,
-        "did uvm_test_top override x y replace: refused INVTYP\n",
-    )?;
-    let instance = did(alloc, below, LoggedOutcome::done(), override_inst(alloc)?)?;
-    Ok(
-        whole_line
-            && line_is(
-                alloc,
-                tree,
-                instance,
-                "did uvm_test_top.a override x y at (*.b): done\n",
-            )?,
-    )
+    let line = "did uvm_test_top override x y replace: refused INVTYP\n";
+    assert!(rt; did_line_is(rt.alloc(), refused, override_type(true)?, line)?);
+    let line = "did uvm_test_top.a override x y at (*.b): done\n";
+    assert!(rt; instance_line_is(rt.alloc(), line)?);
+    Ok(())
+}
+
+fn instance_line_is(alloc: Global, want: &str) -> Result<bool, Fail> {
+    let (_, below) = nodes(alloc)?;
+    let instance = did_at(alloc, below, LoggedOutcome::done(), override_inst(alloc)?)?;
+    line_is(alloc, &instance, want)
 }
 
 #[test]
 fn lines_of_additions_say_what_is_added(rt: HostRuntime) -> Result<(), Fail> {
-    let (tree, test, _) = small_tree(rt.alloc())?;
+    let name = Name::new(b"p")?;
     let port = |kind| What::Port { kind };
     let export = |kind| What::Export { kind };
     for (what, line) in [
@@ -294,129 +330,112 @@ fn lines_of_additions_say_what_is_added(rt: HostRuntime) -> Result<(), Fail> {
         ),
         (What::Imp, "did uvm_test_top add p imp: done\n"),
     ] {
-        let name = Name::new(b"p")?;
-        let added = did(
-            rt.alloc(),
-            test,
-            LoggedOutcome::done(),
-            Act::Add { name, what },
-        )?;
-        assert!(rt; line_is(rt.alloc(), &tree, added, line)?);
+        assert!(rt;
+            done_line_is(rt.alloc(), Act::Add { name, what }, line)?,
+            "{line}"
+        );
     }
     Ok(())
 }
 
 #[test]
 fn the_line_of_a_connection_has_its_paths_as_given(rt: HostRuntime) -> Result<(), Fail> {
-    let (tree, test, _) = small_tree(rt.alloc())?;
-    let connection = Act::Connect {
-        from: Path::parse(rt.alloc(), b"agent.drv.req")?,
-        to: Path::parse(rt.alloc(), b"reqf")?,
-    };
     let line = "did uvm_test_top connect (agent.drv.req) (reqf): done\n";
-    // So has that of a copy.
-    let copied = did(rt.alloc(), test, LoggedOutcome::done(), connection.copy()?)?;
-    assert!(rt; line_is(rt.alloc(), &tree, copied, line)?);
-    let connected = did(rt.alloc(), test, LoggedOutcome::done(), connection)?;
-    assert!(rt; line_is(rt.alloc(), &tree, connected, line)?);
+    assert!(rt; copied_line_is(rt.alloc(), connection(rt.alloc())?, line)?);
     Ok(())
+}
+
+fn connection(alloc: Global) -> Result<Act, Fail> {
+    Ok(Act::Connect {
+        from: Path::parse(alloc, b"agent.drv.req")?,
+        to: Path::parse(alloc, b"reqf")?,
+    })
 }
 
 #[test]
 fn lines_of_settings_and_what_is_found(rt: HostRuntime) -> Result<(), Fail> {
-    let (tree, test, _) = small_tree(rt.alloc())?;
-    assert!(rt; setting_lines_are_right(rt.alloc(), &tree, test)?);
-    assert!(rt; due_line_is_right(rt.alloc(), &tree, test)?);
+    let field = Name::new(b"f")?;
+    let line = "did uvm_test_top set () f -9: done\n";
+    assert!(rt; copied_line_is(rt.alloc(), setting(rt.alloc(), field)?, line)?);
+    let value = LoggedOutcome::value(Some(7));
+    let line = "did uvm_test_top get f: value 7\n";
+    assert!(rt; did_line_is(rt.alloc(), value, Act::Get { field }.copy()?, line)?);
+    let call = Call::Config { field, value: None };
+    assert!(rt; heard_line_is(rt.alloc(), call, "heard uvm_test_top config f none: 0\n")?);
     Ok(())
 }
 
-fn setting_lines_are_right(alloc: Global, tree: &Tree, test: NodeId) -> Result<bool, Fail> {
-    let set = Act::Set {
+fn setting(alloc: Global, field: Name) -> Result<Act, Fail> {
+    Ok(Act::Set {
         glob: Glob::new(alloc, b"")?,
-        field: Name::new(b"f")?,
+        field,
         value: -9,
-    };
-    let set = did(alloc, test, LoggedOutcome::done(), set.copy()?)?;
-    let set_line = line_is(alloc, tree, set, "did uvm_test_top set () f -9: done\n")?;
-    let get = Act::Get {
-        field: Name::new(b"f")?,
-    };
-    let get = did(alloc, test, LoggedOutcome::value(Some(7)), get.copy()?)?;
-    Ok(set_line && line_is(alloc, tree, get, "did uvm_test_top get f: value 7\n")?)
-}
-
-fn due_line_is_right(alloc: Global, tree: &Tree, test: NodeId) -> Result<bool, Fail> {
-    let call = Call::Config {
-        field: Name::new(b"f")?,
-        value: None,
-    };
-    let cause = Cause {
-        place: 4,
-        number: 0,
-    };
-    let acts = Acts::new(alloc);
-    let heard = Entry::heard(alloc, Who::Node(test), call, Some(cause), acts)?;
-    line_is(alloc, tree, heard, "heard uvm_test_top config f none: 0\n")
+    })
 }
 
 #[test]
 fn lines_of_acts_that_report(rt: HostRuntime) -> Result<(), Fail> {
-    let (alloc, (tree, test, _)) = (rt.alloc(), small_tree(rt.alloc())?);
+    let line = "did uvm_test_top report ERROR E: done\n";
+    assert!(rt; done_line_is(rt.alloc(), report(rt.alloc())?, line)?);
+    Ok(())
+}
+
+#[test]
+fn lines_of_report_settings_say_of_which_reports(rt: HostRuntime) -> Result<(), Fail> {
     let (id, severity) = (Name::new(b"E")?, Severity::Error);
-    let all = [true, true, true];
-    let said = did(alloc, test, LoggedOutcome::done(), report(alloc)?)?;
-    assert!(rt;
-        line_is(
-            alloc,
-            &tree,
-            said,
-            "did uvm_test_top report ERROR E: done\n"
-        )?
-    );
-    for (act, line) in [
+    for (which, line) in [
+        (Which::All, "did uvm_test_top verbosity all 300: done\n"),
         (
-            level(Which::All),
-            "did uvm_test_top verbosity all 300: done\n",
-        ),
-        (
-            level(Which::Severity(severity)),
+            Which::Severity(severity),
             "did uvm_test_top verbosity ERROR 300: done\n",
         ),
+        (Which::Id(id), "did uvm_test_top verbosity id E 300: done\n"),
         (
-            level(Which::Id(id)),
-            "did uvm_test_top verbosity id E 300: done\n",
-        ),
-        (
-            level(Which::Both(severity, id)),
+            Which::Both(severity, id),
             "did uvm_test_top verbosity ERROR E 300: done\n",
         ),
+    ] {
+        let act = Act::Verbosity { which, level: 300 };
+        assert!(rt; done_line_is(rt.alloc(), act, line)?, "{line}");
+    }
+    Ok(())
+}
+
+#[test]
+fn lines_of_actions_list_them(rt: HostRuntime) -> Result<(), Fail> {
+    for (shown, line) in [
         (
-            actions(all),
+            [true, true, true],
             "did uvm_test_top actions all display,count,exit: done\n",
         ),
         (
-            actions([false, true, false]),
+            [false, true, false],
             "did uvm_test_top actions all count: done\n",
         ),
         (
-            actions([true, false, true]),
+            [true, false, true],
             "did uvm_test_top actions all display,exit: done\n",
         ),
         (
-            actions([false, false, false]),
+            [false, false, false],
             "did uvm_test_top actions all none: done\n",
         ),
+    ] {
+        assert!(rt; done_line_is(rt.alloc(), actions(shown), line)?, "{line}");
+    }
+    Ok(())
+}
+
+#[test]
+fn lines_of_changes_of_severities_name_both(rt: HostRuntime) -> Result<(), Fail> {
+    for (id, line) in [
+        (None, "did uvm_test_top severity ERROR none INFO: done\n"),
         (
-            change(None),
-            "did uvm_test_top severity ERROR none INFO: done\n",
-        ),
-        (
-            change(Some(id)),
+            Some(Name::new(b"E")?),
             "did uvm_test_top severity ERROR E INFO: done\n",
         ),
     ] {
-        let entry = did(alloc, test, LoggedOutcome::done(), act)?;
-        assert!(rt; line_is(alloc, &tree, entry, line)?, "{line}");
+        assert!(rt; done_line_is(rt.alloc(), change(id), line)?, "{line}");
     }
     Ok(())
 }
@@ -430,10 +449,6 @@ fn report(alloc: Global) -> Result<Act, Fail> {
             verbosity: 0,
         },
     })
-}
-
-fn level(which: Which) -> Act {
-    Act::Verbosity { which, level: 300 }
 }
 
 fn actions([display, count, exit]: [bool; 3]) -> Act {
@@ -473,13 +488,6 @@ fn the_top_is_shown_by_its_name(rt: HostRuntime) -> Result<(), Fail> {
     Ok(())
 }
 
-// Whether that is the line of an entry, where no sequence was started.
-fn line_is(alloc: Global, tree: &Tree, entry: Entry, want: &str) -> Result<bool, Fail> {
-    let mut line = Vec::new(alloc);
-    line_of(&entry, tree, &Sequences::new(alloc), &mut line)?;
-    Ok(line.as_slice() == want.as_bytes())
-}
-
 #[test]
 fn fatal_reports_have_ids_and_texts(rt: HostRuntime) {
     for (fatal, id, text) in [
@@ -509,8 +517,7 @@ fn fatal_reports_have_ids_and_texts(rt: HostRuntime) {
         (Fatal::TooManyConnections, "CONNERR", "too many connections"),
         (Fatal::NoPort, "NOPORT", "no such port"),
     ] {
-        assert_eq!(rt; fatal.id(), id);
-        assert_eq!(rt; fatal.text(), text);
+        assert_eq!(rt; (fatal.id(), fatal.text()), (id, text));
     }
 }
 

@@ -28,7 +28,7 @@ impl Bench {
     }
 
     // One more sequence, under another if one is given.
-    fn start(&mut self, parent: Option<SeqId>) -> Result<SeqId, Fail> {
+    fn start(&mut self, parent: Option<SeqId>) -> Option<SeqId> {
         start(&mut self.sequences, parent)
     }
 
@@ -62,47 +62,44 @@ impl Bench {
     }
 
     // The driver gets an item, and is done with it.
-    fn serve(&mut self, word: u64) -> Result<SeqId, Fail> {
-        self.ask(How::Next)?;
-        let seq = self.choose(word).ok_or("nobody is ready")?;
-        self.sequencer.send(seq)?;
-        Ok(self.done()?)
+    fn serve(&mut self, word: u64) -> Option<SeqId> {
+        self.ask(How::Next).ok()?;
+        let seq = self.choose(word)?;
+        self.sequencer.send(seq).ok()?;
+        self.done().ok()
     }
 }
 
-// One more sequence, under another if one is given.
-fn start(sequences: &mut Sequences, parent: Option<SeqId>) -> Result<SeqId, Fail> {
+// One more sequence, under another if one is given; none where there is no such parent, or no memory.
+fn start(sequences: &mut Sequences, parent: Option<SeqId>) -> Option<SeqId> {
     if let Some(parent) = parent {
-        if sequences.home(parent).is_none() {
-            return Err(Fail::from("no such parent"));
-        }
+        sequences.home(parent)?;
     }
-    Ok(sequences.start(NodeId::TOP, parent, Name::new(b"s")?, 100)?)
+    let name = Name::new(b"s").ok()?;
+    sequences.start(NodeId::TOP, parent, name, 100).ok()
 }
 
 #[test]
 fn names_go_from_the_root_sequence_down(rt: HostRuntime) -> Result<(), Fail> {
+    let (a, b) = (Name::new(b"a")?, Name::new(b"b")?);
     let mut sequences = Sequences::new(rt.alloc());
-    let root = sequences.start(NodeId::TOP, None, Name::new(b"a")?, 100)?;
-    let child = sequences.start(NodeId::TOP, Some(root), Name::new(b"b")?, 100)?;
+    let root = sequences.start(NodeId::TOP, None, a, 100)?;
+    let child = sequences.start(NodeId::TOP, Some(root), b, 100)?;
     // Also through one that has ended.
     sequences.finish(root);
     let names = sequences.names(rt.alloc(), child)?;
-    assert_eq!(rt;
-        names.as_slice(),
-        [Name::new(b"a")?, Name::new(b"b")?].as_slice()
-    );
+    assert_eq!(rt; names.as_slice(), [a, b].as_slice());
     Ok(())
 }
 
 #[test]
 fn sequences_stand_under_their_ancestors(rt: HostRuntime) -> Result<(), Fail> {
     let mut sequences = Sequences::new(rt.alloc());
-    sequences.reserve()?;
-    let root = start(&mut sequences, None)?;
-    let child = start(&mut sequences, Some(root))?;
-    let grandchild = start(&mut sequences, Some(child))?;
-    let other = start(&mut sequences, None)?;
+    assert!(rt; sequences.reserve().is_ok());
+    let root = start(&mut sequences, None).expect(&rt, "a sequence");
+    let child = start(&mut sequences, Some(root)).expect(&rt, "a sequence");
+    let grandchild = start(&mut sequences, Some(child)).expect(&rt, "a sequence");
+    let other = start(&mut sequences, None).expect(&rt, "a sequence");
     assert_eq!(rt; (root.number(), other.number()), (1, 4));
     for live in [true, false] {
         assert_eq!(rt; sequences.is_live(child), live);
@@ -117,15 +114,15 @@ fn sequences_stand_under_their_ancestors(rt: HostRuntime) -> Result<(), Fail> {
     assert!(rt; sequences.is_live(grandchild));
     assert_eq!(rt; sequences.home(child), Some(NodeId::TOP));
     assert_eq!(rt; sequences.priority(child), Some(100));
-    assert!(rt; sequences.name(child) == Some(&Name::new(b"s")?));
+    assert_eq!(rt; sequences.name(child).copied(), Name::new(b"s").ok());
     Ok(())
 }
 
 #[test]
 fn a_live_sequence_goes_through_three_steps(rt: HostRuntime) -> Result<(), Fail> {
     let mut sequences = Sequences::new(rt.alloc());
-    let id = start(&mut sequences, None)?;
-    let other = start(&mut sequences, None)?;
+    let id = start(&mut sequences, None).expect(&rt, "a sequence");
+    let other = start(&mut sequences, None).expect(&rt, "a sequence");
     for want in [Some(SeqStep::Body), Some(SeqStep::PostStart), None] {
         assert!(rt; sequences.is_live(id));
         assert_eq!(rt; sequences.step(id), want);
@@ -140,20 +137,20 @@ fn a_live_sequence_goes_through_three_steps(rt: HostRuntime) -> Result<(), Fail>
 #[test]
 fn locks_and_grabs_keep_others_back(rt: HostRuntime) -> Result<(), Fail> {
     let mut bench = Bench::new(rt.alloc(), Mode::Fifo)?;
-    let s1 = bench.start(None)?;
-    let s2 = bench.start(None)?;
-    let s3 = bench.start(None)?;
-    let s4 = bench.start(None)?;
+    let s1 = bench.start(None).expect(&rt, "a sequence");
+    let s2 = bench.start(None).expect(&rt, "a sequence");
+    let s3 = bench.start(None).expect(&rt, "a sequence");
+    let s4 = bench.start(None).expect(&rt, "a sequence");
     assert_eq!(rt; bench.done(), Err(SeqFault::NothingOut));
-    bench.sequencer.request(s1, 100)?;
-    bench.sequencer.lock(s2)?;
-    bench.sequencer.request(s3, 100)?;
-    bench.sequencer.grab(s4)?;
+    assert_eq!(rt; bench.sequencer.request(s1, 100), Ok(()));
+    assert_eq!(rt; bench.sequencer.lock(s2), Ok(()));
+    assert_eq!(rt; bench.sequencer.request(s3, 100), Ok(()));
+    assert_eq!(rt; bench.sequencer.grab(s4), Ok(()));
     assert_eq!(rt; bench.sequencer.leading_lock(&bench.sequences), Some(s4));
     assert_eq!(rt; bench.settle(), Some(s4));
     assert_eq!(rt; bench.ask(How::Next), Ok(Asked::Waits));
     assert_eq!(rt; (bench.candidates(), bench.ready()), (0, None));
-    bench.sequencer.unlock(s4)?;
+    assert_eq!(rt; bench.sequencer.unlock(s4), Ok(()));
     assert_eq!(rt; bench.settle(), None);
     assert_eq!(rt; bench.choose(0), Some(s1));
     assert_eq!(rt; bench.settle(), Some(s2));
@@ -170,14 +167,14 @@ fn locks_and_grabs_keep_others_back(rt: HostRuntime) -> Result<(), Fail> {
 #[test]
 fn the_greatest_priority_goes_first(rt: HostRuntime) -> Result<(), Fail> {
     let mut bench = Bench::new(rt.alloc(), Mode::StrictFifo)?;
-    let s1 = bench.start(None)?;
-    let s2 = bench.start(None)?;
-    let s3 = bench.start(None)?;
-    bench.sequencer.request(s1, 10)?;
-    bench.sequencer.request(s2, 30)?;
-    bench.sequencer.request(s3, 30)?;
+    let s1 = bench.start(None).expect(&rt, "a sequence");
+    let s2 = bench.start(None).expect(&rt, "a sequence");
+    let s3 = bench.start(None).expect(&rt, "a sequence");
+    assert_eq!(rt; bench.sequencer.request(s1, 10), Ok(()));
+    assert_eq!(rt; bench.sequencer.request(s2, 30), Ok(()));
+    assert_eq!(rt; bench.sequencer.request(s3, 30), Ok(()));
     for want in [s2, s3, s1] {
-        assert_eq!(rt; bench.serve(0)?, want);
+        assert_eq!(rt; bench.serve(0), Some(want));
     }
     Ok(())
 }
@@ -186,14 +183,14 @@ fn the_greatest_priority_goes_first(rt: HostRuntime) -> Result<(), Fail> {
 fn weights_divide_the_words(rt: HostRuntime) -> Result<(), Fail> {
     for (word, want) in [(29, 2), (30, 3), (60, 1)] {
         let mut bench = Bench::new(rt.alloc(), Mode::Weighted)?;
-        let s1 = bench.start(None)?;
-        let s2 = bench.start(None)?;
-        let s3 = bench.start(None)?;
-        bench.sequencer.request(s1, 10)?;
-        bench.ask(How::Next)?;
+        let s1 = bench.start(None).expect(&rt, "a sequence");
+        let s2 = bench.start(None).expect(&rt, "a sequence");
+        let s3 = bench.start(None).expect(&rt, "a sequence");
+        assert_eq!(rt; bench.sequencer.request(s1, 10), Ok(()));
+        assert_eq!(rt; bench.ask(How::Next), Ok(Asked::Waits));
         assert_eq!(rt; bench.ready(), Some(false), "one candidate wants no word");
-        bench.sequencer.request(s2, 20)?;
-        bench.sequencer.request(s3, 30)?;
+        assert_eq!(rt; bench.sequencer.request(s2, 20), Ok(()));
+        assert_eq!(rt; bench.sequencer.request(s3, 30), Ok(()));
         assert_eq!(rt; bench.ready(), Some(true));
         assert_eq!(rt;
             bench.choose(word).map(SeqId::number),
@@ -217,11 +214,11 @@ fn each_mode_chooses_in_its_own_way(rt: HostRuntime) -> Result<(), Fail> {
     for (mode, ready, want) in cases {
         let mut bench = Bench::new(rt.alloc(), mode)?;
         for priority in [1, 5, 3, 5] {
-            let seq = bench.start(None)?;
-            bench.sequencer.request(seq, priority)?;
+            let seq = bench.start(None).expect(&rt, "a sequence");
+            assert_eq!(rt; bench.sequencer.request(seq, priority), Ok(()));
         }
         assert_eq!(rt; bench.ready(), None, "nobody asked");
-        bench.ask(How::Next)?;
+        assert_eq!(rt; bench.ask(How::Next), Ok(Asked::Waits));
         assert_eq!(rt; bench.ready(), ready, "{mode:?}");
         assert_eq!(rt; bench.choose(10).map(SeqId::number), Some(want), "{mode:?}");
     }
@@ -231,11 +228,11 @@ fn each_mode_chooses_in_its_own_way(rt: HostRuntime) -> Result<(), Fail> {
 #[test]
 fn strict_random_draws_among_the_greatest_alone(rt: HostRuntime) -> Result<(), Fail> {
     let mut bench = Bench::new(rt.alloc(), Mode::StrictRandom)?;
-    let low = bench.start(None)?;
-    let high = bench.start(None)?;
-    bench.sequencer.request(low, 10)?;
-    bench.sequencer.request(high, 30)?;
-    bench.ask(How::Next)?;
+    let low = bench.start(None).expect(&rt, "a sequence");
+    let high = bench.start(None).expect(&rt, "a sequence");
+    assert_eq!(rt; bench.sequencer.request(low, 10), Ok(()));
+    assert_eq!(rt; bench.sequencer.request(high, 30), Ok(()));
+    assert_eq!(rt; bench.ask(How::Next), Ok(Asked::Waits));
     assert_eq!(rt; bench.ready(), Some(false));
     assert_eq!(rt; bench.choose(0), Some(high));
     Ok(())
@@ -244,9 +241,9 @@ fn strict_random_draws_among_the_greatest_alone(rt: HostRuntime) -> Result<(), F
 #[test]
 fn a_try_is_answered_at_once(rt: HostRuntime) -> Result<(), Fail> {
     let mut bench = Bench::new(rt.alloc(), Mode::Fifo)?;
-    let seq = bench.start(None)?;
+    let seq = bench.start(None).expect(&rt, "a sequence");
     assert_eq!(rt; bench.ask(How::Try), Ok(Asked::Nothing));
-    bench.sequencer.request(seq, 100)?;
+    assert_eq!(rt; bench.sequencer.request(seq, 100), Ok(()));
     assert_eq!(rt; bench.ask(How::Try), Ok(Asked::Waits));
     assert_eq!(rt; bench.choose(0), Some(seq));
     assert!(rt; bench.sequencer.leave(seq), "its grant lapses");
@@ -257,10 +254,10 @@ fn a_try_is_answered_at_once(rt: HostRuntime) -> Result<(), Fail> {
 #[test]
 fn what_is_got_is_done_when_sent(rt: HostRuntime) -> Result<(), Fail> {
     let mut bench = Bench::new(rt.alloc(), Mode::Fifo)?;
-    let first = bench.start(None)?;
-    let second = bench.start(None)?;
-    bench.sequencer.request(first, 100)?;
-    bench.sequencer.request(second, 100)?;
+    let first = bench.start(None).expect(&rt, "a sequence");
+    let second = bench.start(None).expect(&rt, "a sequence");
+    assert_eq!(rt; bench.sequencer.request(first, 100), Ok(()));
+    assert_eq!(rt; bench.sequencer.request(second, 100), Ok(()));
     assert_eq!(rt; bench.ask(How::Get), Ok(Asked::Waits));
     assert_eq!(rt; bench.choose(0), Some(first));
     assert!(rt; !bench.sequencer.leave(first), "the driver waits again");
@@ -274,16 +271,16 @@ fn what_is_got_is_done_when_sent(rt: HostRuntime) -> Result<(), Fail> {
 #[test]
 fn an_item_in_hand_stays_until_it_is_done(rt: HostRuntime) -> Result<(), Fail> {
     let mut bench = Bench::new(rt.alloc(), Mode::Fifo)?;
-    let seq = bench.start(None)?;
-    bench.sequencer.request(seq, 100)?;
-    bench.ask(How::Next)?;
+    let seq = bench.start(None).expect(&rt, "a sequence");
+    assert_eq!(rt; bench.sequencer.request(seq, 100), Ok(()));
+    assert_eq!(rt; bench.ask(How::Next), Ok(Asked::Waits));
     assert_eq!(rt; bench.choose(0), Some(seq));
-    bench.sequencer.send(seq)?;
-    bench.sequencer.request(seq, 100)?;
+    assert_eq!(rt; bench.sequencer.send(seq), Ok(How::Next));
+    assert_eq!(rt; bench.sequencer.request(seq, 100), Ok(()));
     assert!(rt; !bench.sequencer.leave(seq));
     assert_eq!(rt; bench.sequencer.waiting(), 0);
     assert_eq!(rt; bench.done(), Ok(seq));
-    bench.ask(How::Next)?;
+    assert_eq!(rt; bench.ask(How::Next), Ok(Asked::Waits));
     bench.sequencer.end_ask();
     assert_eq!(rt; bench.ask(How::Next), Ok(Asked::Waits));
     Ok(())
@@ -292,9 +289,9 @@ fn an_item_in_hand_stays_until_it_is_done(rt: HostRuntime) -> Result<(), Fail> {
 #[test]
 fn a_request_is_granted_and_sent_at_once(rt: HostRuntime) -> Result<(), Fail> {
     let mut bench = Bench::new(rt.alloc(), Mode::Fifo)?;
-    let seq = bench.start(None)?;
-    bench.ask(How::Next)?;
-    bench.sequencer.request(seq, 100)?;
+    let seq = bench.start(None).expect(&rt, "a sequence");
+    assert_eq!(rt; bench.ask(How::Next), Ok(Asked::Waits));
+    assert_eq!(rt; bench.sequencer.request(seq, 100), Ok(()));
     assert_eq!(rt; bench.choose(0), Some(seq));
     assert_eq!(rt; bench.sequencer.send(seq), Ok(How::Next));
     assert_eq!(rt; bench.sequencer.send(seq), Err(SeqFault::NotGranted));
@@ -304,21 +301,21 @@ fn a_request_is_granted_and_sent_at_once(rt: HostRuntime) -> Result<(), Fail> {
 #[test]
 fn wrong_calls_are_refused(rt: HostRuntime) -> Result<(), Fail> {
     let mut bench = Bench::new(rt.alloc(), Mode::Fifo)?;
-    let seq = bench.start(None)?;
+    let seq = bench.start(None).expect(&rt, "a sequence");
     let stranger = NodeId::TOP;
     let refused = bench.sequencer.ask(&bench.sequences, stranger, How::Next);
     assert_eq!(rt; refused, Err(SeqFault::NoDriver));
     assert_eq!(rt; bench.sequencer.done(stranger), Err(SeqFault::NoDriver));
     assert_eq!(rt; bench.done(), Err(SeqFault::NothingOut));
-    bench.ask(How::Next)?;
+    assert_eq!(rt; bench.ask(How::Next), Ok(Asked::Waits));
     assert_eq!(rt; bench.ask(How::Next), Err(SeqFault::Twice));
     assert_eq!(rt; bench.sequencer.send(seq), Err(SeqFault::NotGranted));
     assert_eq!(rt; bench.sequencer.unlock(seq), Err(SeqFault::NotHeld));
-    bench.sequencer.request(seq, 100)?;
+    assert_eq!(rt; bench.sequencer.request(seq, 100), Ok(()));
     assert_eq!(rt; bench.sequencer.request(seq, 100), Err(SeqFault::Twice));
     assert_eq!(rt; bench.choose(0), Some(seq));
     assert_eq!(rt; bench.sequencer.request(seq, 100), Err(SeqFault::Twice));
-    bench.sequencer.lock(seq)?;
+    assert_eq!(rt; bench.sequencer.lock(seq), Ok(()));
     assert_eq!(rt; bench.sequencer.lock(seq), Err(SeqFault::Twice));
     assert_eq!(rt; bench.sequencer.grab(seq), Err(SeqFault::Twice));
     Ok(())
@@ -327,19 +324,19 @@ fn wrong_calls_are_refused(rt: HostRuntime) -> Result<(), Fail> {
 #[test]
 fn the_latest_grab_leads(rt: HostRuntime) -> Result<(), Fail> {
     let mut bench = Bench::new(rt.alloc(), Mode::Fifo)?;
-    let first = bench.start(None)?;
-    let second = bench.start(None)?;
-    let third = bench.start(None)?;
-    bench.sequencer.request(first, 100)?;
-    bench.sequencer.lock(third)?;
+    let first = bench.start(None).expect(&rt, "a sequence");
+    let second = bench.start(None).expect(&rt, "a sequence");
+    let third = bench.start(None).expect(&rt, "a sequence");
+    assert_eq!(rt; bench.sequencer.request(first, 100), Ok(()));
+    assert_eq!(rt; bench.sequencer.lock(third), Ok(()));
     assert_eq!(rt; bench.settle(), None, "a lock behind a request waits");
     assert_eq!(rt; bench.candidates(), 1, "and keeps nobody back");
-    bench.sequencer.grab(first)?;
-    bench.sequencer.grab(second)?;
+    assert_eq!(rt; bench.sequencer.grab(first), Ok(()));
+    assert_eq!(rt; bench.sequencer.grab(second), Ok(()));
     for (holder, others) in [(second, 3), (first, 2)] {
         assert_eq!(rt; bench.settle(), Some(holder));
         assert_eq!(rt; bench.sequencer.waiting(), others);
-        bench.sequencer.unlock(holder)?;
+        assert_eq!(rt; bench.sequencer.unlock(holder), Ok(()));
     }
     Ok(())
 }
@@ -347,17 +344,17 @@ fn the_latest_grab_leads(rt: HostRuntime) -> Result<(), Fail> {
 #[test]
 fn a_child_of_the_holder_is_not_blocked(rt: HostRuntime) -> Result<(), Fail> {
     let mut bench = Bench::new(rt.alloc(), Mode::Fifo)?;
-    let stranger = bench.start(None)?;
-    let holder = bench.start(None)?;
-    let child = bench.start(Some(holder))?;
-    bench.sequencer.request(stranger, 100)?;
-    bench.sequencer.grab(holder)?;
+    let stranger = bench.start(None).expect(&rt, "a sequence");
+    let holder = bench.start(None).expect(&rt, "a sequence");
+    let child = bench.start(Some(holder)).expect(&rt, "a sequence");
+    assert_eq!(rt; bench.sequencer.request(stranger, 100), Ok(()));
+    assert_eq!(rt; bench.sequencer.grab(holder), Ok(()));
     assert_eq!(rt; bench.settle(), Some(holder));
-    bench.sequencer.request(child, 100)?;
-    assert_eq!(rt; bench.serve(0)?, child);
-    bench.sequencer.lock(child)?;
+    assert_eq!(rt; bench.sequencer.request(child, 100), Ok(()));
+    assert_eq!(rt; bench.serve(0), Some(child));
+    assert_eq!(rt; bench.sequencer.lock(child), Ok(()));
     assert_eq!(rt; bench.settle(), Some(child), "before the blocked request");
-    bench.sequencer.request(holder, 100)?;
+    assert_eq!(rt; bench.sequencer.request(holder, 100), Ok(()));
     assert_eq!(rt; bench.candidates(), 0, "the child keeps its parent back");
     Ok(())
 }
@@ -365,21 +362,21 @@ fn a_child_of_the_holder_is_not_blocked(rt: HostRuntime) -> Result<(), Fail> {
 #[test]
 fn what_a_dead_holder_held_is_gone(rt: HostRuntime) -> Result<(), Fail> {
     let mut bench = Bench::new(rt.alloc(), Mode::Fifo)?;
-    let holder = bench.start(None)?;
-    let child = bench.start(Some(holder))?;
-    let stranger = bench.start(None)?;
+    let holder = bench.start(None).expect(&rt, "a sequence");
+    let child = bench.start(Some(holder)).expect(&rt, "a sequence");
+    let stranger = bench.start(None).expect(&rt, "a sequence");
     for _ in 0..2 {
-        bench.sequencer.lock(holder)?;
+        assert_eq!(rt; bench.sequencer.lock(holder), Ok(()));
         assert_eq!(rt; bench.settle(), Some(holder));
     }
-    bench.sequencer.unlock(holder)?;
-    bench.sequencer.request(stranger, 100)?;
-    bench.sequencer.request(child, 100)?;
+    assert_eq!(rt; bench.sequencer.unlock(holder), Ok(()));
+    assert_eq!(rt; bench.sequencer.request(stranger, 100), Ok(()));
+    assert_eq!(rt; bench.sequencer.request(child, 100), Ok(()));
     assert_eq!(rt; bench.candidates(), 1, "one of its two locks is left");
     bench.sequences.finish(holder);
     assert_eq!(rt; bench.sequences.is_live(holder), false);
     assert!(rt; !bench.sequencer.leave(holder));
-    assert_eq!(rt; bench.serve(0)?, stranger);
+    assert_eq!(rt; bench.serve(0), Some(stranger));
     assert_eq!(rt; bench.sequencer.unlock(holder), Err(SeqFault::NotHeld));
     Ok(())
 }
@@ -387,20 +384,20 @@ fn what_a_dead_holder_held_is_gone(rt: HostRuntime) -> Result<(), Fail> {
 #[test]
 fn with_a_phase_ends_what_the_dead_asked_for_and_hold(rt: HostRuntime) -> Result<(), Fail> {
     let mut bench = Bench::new(rt.alloc(), Mode::Fifo)?;
-    let dead = bench.start(None)?;
-    let live = bench.start(None)?;
-    bench.sequencer.lock(dead)?;
+    let dead = bench.start(None).expect(&rt, "a sequence");
+    let live = bench.start(None).expect(&rt, "a sequence");
+    assert_eq!(rt; bench.sequencer.lock(dead), Ok(()));
     assert_eq!(rt; bench.settle(), Some(dead));
-    bench.sequencer.request(dead, 100)?;
-    bench.sequencer.request(live, 100)?;
-    bench.ask(How::Next)?;
+    assert_eq!(rt; bench.sequencer.request(dead, 100), Ok(()));
+    assert_eq!(rt; bench.sequencer.request(live, 100), Ok(()));
+    assert_eq!(rt; bench.ask(How::Next), Ok(Asked::Waits));
     assert_eq!(rt; bench.choose(0), Some(dead));
     bench.sequences.finish(dead);
     bench.sequencer.end_phase(&bench.sequences);
     assert_eq!(rt; bench.sequencer.waiting(), 1);
     assert_eq!(rt;
-        bench.serve(0)?,
-        live,
+        bench.serve(0),
+        Some(live),
         "the driver was idle, and nobody holds the sequencer"
     );
     Ok(())

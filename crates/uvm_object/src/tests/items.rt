@@ -1,7 +1,7 @@
 //! The lines of what goes through ports.
 
-use super::{did, line_is, small_tree};
-use crate::{Act, Acts, Call, Entry, LoggedOutcome, LoggedPassage, Outcome, Passage, Who};
+use super::{copied_line_is, did_line_is, heard_line_is, line_is, nodes};
+use crate::{Act, Call, Entry, LoggedOutcome, LoggedPassage, Outcome, Passage, Who};
 use std::alloc::Global;
 use std::test::Fail;
 use uvm_glob::Name;
@@ -11,7 +11,6 @@ const ITEM: Item = Item([1, -2, 10, 0]);
 
 #[test]
 fn lines_of_acts_on_ports(rt: HostRuntime) -> Result<(), Fail> {
-    let (tree, test, _) = small_tree(rt.alloc())?;
     let (port, item) = (Name::new(b"req")?, ITEM);
     for (act, line) in [
         (
@@ -25,37 +24,39 @@ fn lines_of_acts_on_ports(rt: HostRuntime) -> Result<(), Fail> {
         (Act::Take { port }, "did uvm_test_top take req: done\n"),
         (Act::Peek { port }, "did uvm_test_top peek req: done\n"),
     ] {
-        // So has a copy.
-        let copied = did(rt.alloc(), test, LoggedOutcome::done(), act.copy()?)?;
-        assert!(rt; line_is(rt.alloc(), &tree, copied, line)?);
-        let entry = did(rt.alloc(), test, LoggedOutcome::done(), act)?;
-        assert!(rt; line_is(rt.alloc(), &tree, entry, line)?);
+        assert!(rt; copied_line_is(rt.alloc(), act, line)?, "{line}");
     }
     Ok(())
 }
 
 #[test]
 fn lines_of_tries_say_whether_they_succeed(rt: HostRuntime) -> Result<(), Fail> {
-    let (tree, test, _) = small_tree(rt.alloc())?;
     let (port, item) = (Name::new(b"req")?, ITEM);
     for (stored, line) in [
         (true, "did uvm_test_top try_put req [1,-2,10,0]: yes\n"),
         (false, "did uvm_test_top try_put req [1,-2,10,0]: no\n"),
     ] {
-        let outcome = LoggedOutcome::stored(stored);
-        let tried = did(rt.alloc(), test, outcome, Act::TryPut { port, item })?;
-        assert!(rt; line_is(rt.alloc(), &tree, tried, line)?);
+        let (outcome, act) = (LoggedOutcome::stored(stored), Act::TryPut { port, item });
+        assert!(rt; did_line_is(rt.alloc(), outcome, act, line)?, "{line}");
     }
     for (item, line) in [
         (Some(ITEM), "did uvm_test_top try_take req: yes\n"),
         (None, "did uvm_test_top try_take req: no\n"),
     ] {
-        let outcome = LoggedOutcome::taken(rt.alloc(), item)?;
-        assert!(rt; matches!(outcome.get(), Outcome::Taken(taken) if taken == item));
-        let tried = did(rt.alloc(), test, outcome, Act::TryTake { port })?;
-        assert!(rt; line_is(rt.alloc(), &tree, tried, line)?);
+        assert!(rt; try_take_line_is(rt.alloc(), port, item, line)?, "{line}");
     }
     Ok(())
+}
+
+fn try_take_line_is(
+    alloc: Global,
+    port: Name,
+    item: Option<Item>,
+    want: &str,
+) -> Result<bool, Fail> {
+    let outcome = LoggedOutcome::taken(alloc, item)?;
+    let is_kept = matches!(outcome.get(), Outcome::Taken(taken) if taken == item);
+    Ok(is_kept && did_line_is(alloc, outcome, Act::TryTake { port }, want)?)
 }
 
 #[test]
@@ -98,39 +99,33 @@ fn lines_of_what_is_told_of_ports(rt: HostRuntime) -> Result<(), Fail> {
             "heard uvm_test_top written bus [1,-2,10,0]: 0\n",
         ),
     ] {
-        assert!(rt; told_line_is(rt.alloc(), call, line)?);
+        assert!(rt; heard_line_is(rt.alloc(), call, line)?, "{line}");
     }
     Ok(())
 }
 
-fn told_line_is(alloc: Global, call: Call, line: &str) -> Result<bool, Fail> {
-    let (tree, test, _) = small_tree(alloc)?;
-    let heard = Entry::heard(alloc, Who::Node(test), call, None, Acts::new(alloc))?;
-    line_is(alloc, &tree, heard, line)
-}
-
 #[test]
 fn lines_of_what_came_to_pass(rt: HostRuntime) -> Result<(), Fail> {
-    let (tree, test, below) = small_tree(rt.alloc())?;
     for (kind, line) in [
         (MoveKind::Put, "passed uvm_test_top.a put uvm_test_top\n"),
         (MoveKind::Take, "passed uvm_test_top.a take uvm_test_top\n"),
         (MoveKind::Peek, "passed uvm_test_top.a peek uvm_test_top\n"),
     ] {
-        let what = Passage {
-            kind,
-            who: Who::Node(test),
-            port: Name::new(b"req")?,
-            item: ITEM,
-            request: 7,
-        };
-        let passage = LoggedPassage::new(rt.alloc(), what)?;
-        assert_eq!(rt; *passage.get(), what);
-        let passed = Entry::Passed {
-            fifo: below,
-            passage,
-        };
-        assert!(rt; line_is(rt.alloc(), &tree, passed, line)?);
+        assert!(rt; passed_line_is(rt.alloc(), kind, line)?, "{line}");
     }
     Ok(())
+}
+
+fn passed_line_is(alloc: Global, kind: MoveKind, want: &str) -> Result<bool, Fail> {
+    let (test, fifo) = nodes(alloc)?;
+    let what = Passage {
+        kind,
+        who: Who::Node(test),
+        port: Name::new(b"req")?,
+        item: ITEM,
+        request: 7,
+    };
+    let passage = LoggedPassage::new(alloc, what)?;
+    let is_kept = *passage.get() == what;
+    Ok(is_kept && line_is(alloc, &Entry::Passed { fifo, passage }, want)?)
 }

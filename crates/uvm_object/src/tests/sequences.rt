@@ -1,60 +1,49 @@
 //! The lines of sequences, their acts and calls, and of the driver's.
 
-use super::{did, line_is, small_tree};
-use crate::{
-    Act, Acts, Call, Entry, Grant, LoggedGrant, LoggedOutcome, Outcome, What, Who, line_of,
+use super::{
+    copied_line_is, did_line_is, done_line_is, heard_line_is, line_is, nodes, two_sequences,
 };
+use crate::{Act, Acts, Call, Entry, Grant, LoggedGrant, LoggedOutcome, Outcome, What, Who};
 use std::alloc::Global;
 use std::test::Fail;
 use uvm_glob::{Name, Path};
-use uvm_sequencer::{How, Mode, SeqId, Sequences};
+use uvm_sequencer::{How, Mode, SeqId};
 use uvm_tlm::Item;
-use uvm_tree::{NodeId, Tree};
+use uvm_tree::NodeId;
 
 const ITEM: Item = Item([1, 0, 10, 0]);
 
-// A sequence `a`, and `b` that it started, on the sequencer at a node.
-fn two_sequences(alloc: Global, home: NodeId) -> Result<(Sequences, SeqId, SeqId), Fail> {
-    let mut sequences = Sequences::new(alloc);
-    let parent = sequences.start(home, None, Name::new(b"a")?, 100)?;
-    let child = sequences.start(home, Some(parent), Name::new(b"b")?, 100)?;
-    Ok((sequences, parent, child))
-}
-
-fn line_with(
-    alloc: Global,
-    tree: &Tree,
-    sequences: &Sequences,
-    entry: &Entry,
-    want: &str,
-) -> Result<bool, Fail> {
-    let mut line = Vec::new(alloc);
-    line_of(entry, tree, sequences, &mut line)?;
-    Ok(line.as_slice() == want.as_bytes())
+// The numbers of the two sequences, and the node of their sequencer.
+fn numbers(alloc: Global) -> Result<(SeqId, SeqId, NodeId), Fail> {
+    let (_, home) = nodes(alloc)?;
+    let (_sequences, id, child) = two_sequences(alloc, home)?;
+    Ok((id, child, home))
 }
 
 #[test]
 fn a_sequence_is_shown_by_its_home_its_names_and_its_number(rt: HostRuntime) -> Result<(), Fail> {
-    let (tree, _, home) = small_tree(rt.alloc())?;
-    let (sequences, id, child) = two_sequences(rt.alloc(), home)?;
+    let (id, child, home) = numbers(rt.alloc())?;
     for (id, line) in [
         (id, "heard uvm_test_top.a@@a#1 body: 0\n"),
         (child, "heard uvm_test_top.a@@a.b#2 body: 0\n"),
     ] {
         let who = Who::Sequence { id, home };
-        let entry = Entry::heard(rt.alloc(), who, Call::Body, None, Acts::new(rt.alloc()))?;
-        assert!(rt; line_with(rt.alloc(), &tree, &sequences, &entry, line)?);
+        assert!(rt; body_line_is(rt.alloc(), who, line)?, "{line}");
     }
     Ok(())
 }
 
+fn body_line_is(alloc: Global, who: Who, want: &str) -> Result<bool, Fail> {
+    let heard = Entry::heard(alloc, who, Call::Body, None, Acts::new(alloc))?;
+    line_is(alloc, &heard, want)
+}
+
 #[test]
 fn lines_of_grants_and_locks(rt: HostRuntime) -> Result<(), Fail> {
-    let (tree, _, sequencer) = small_tree(rt.alloc())?;
-    let (sequences, id, child) = two_sequences(rt.alloc(), sequencer)?;
+    let (id, child, sequencer) = numbers(rt.alloc())?;
     let locked = Entry::Locked { sequencer, id };
     let line = "locked uvm_test_top.a uvm_test_top.a@@a#1\n";
-    assert!(rt; line_with(rt.alloc(), &tree, &sequences, &locked, line)?);
+    assert!(rt; line_is(rt.alloc(), &locked, line)?);
     for (word, line) in [
         (None, "granted uvm_test_top.a uvm_test_top.a@@a.b#2\n"),
         (
@@ -62,16 +51,27 @@ fn lines_of_grants_and_locks(rt: HostRuntime) -> Result<(), Fail> {
             "granted uvm_test_top.a uvm_test_top.a@@a.b#2 word 30\n",
         ),
     ] {
-        let grant = LoggedGrant::new(rt.alloc(), Grant { id: child, word })?;
-        let granted = Entry::Granted { sequencer, grant };
-        assert!(rt; line_with(rt.alloc(), &tree, &sequences, &granted, line)?);
+        let grant = Grant { id: child, word };
+        assert!(rt;
+            granted_line_is(rt.alloc(), sequencer, grant, line)?,
+            "{line}"
+        );
     }
     Ok(())
 }
 
+fn granted_line_is(
+    alloc: Global,
+    sequencer: NodeId,
+    grant: Grant,
+    want: &str,
+) -> Result<bool, Fail> {
+    let grant = LoggedGrant::new(alloc, grant)?;
+    line_is(alloc, &Entry::Granted { sequencer, grant }, want)
+}
+
 #[test]
 fn lines_of_acts_of_sequences(rt: HostRuntime) -> Result<(), Fail> {
-    let (tree, test, _) = small_tree(rt.alloc())?;
     for (act, line) in [
         (
             Act::Request { priority: None },
@@ -90,47 +90,35 @@ fn lines_of_acts_of_sequences(rt: HostRuntime) -> Result<(), Fail> {
         ),
         (Act::EndStep, "did uvm_test_top end_step: done\n"),
     ] {
-        // So has a copy.
-        let copied = did(rt.alloc(), test, LoggedOutcome::done(), act.copy()?)?;
-        assert!(rt; line_is(rt.alloc(), &tree, copied, line)?);
-        let entry = did(rt.alloc(), test, LoggedOutcome::done(), act)?;
-        assert!(rt; line_is(rt.alloc(), &tree, entry, line)?);
+        assert!(rt; copied_line_is(rt.alloc(), act, line)?, "{line}");
     }
     Ok(())
 }
 
 #[test]
 fn the_line_of_a_start_has_its_path_and_priority_as_given(rt: HostRuntime) -> Result<(), Fail> {
-    let (tree, test, home) = small_tree(rt.alloc())?;
-    let (_, id, _) = two_sequences(rt.alloc(), home)?;
-    for (on, priority, line) in [
-        (
-            Path::parse(rt.alloc(), b"a")?,
-            Some(200),
-            "did uvm_test_top start t s (a) 200: started 1\n",
-        ),
-        (
-            Path::top(rt.alloc()),
-            None,
-            "did uvm_test_top start t s () none: started 1\n",
-        ),
-    ] {
-        let (type_name, name) = (Name::new(b"t")?, Name::new(b"s")?);
-        let act = Act::Start {
-            type_name,
-            name,
-            on,
-            priority,
-        };
-        let copied = did(rt.alloc(), test, LoggedOutcome::started(id), act.copy()?)?;
-        assert!(rt; line_is(rt.alloc(), &tree, copied, line)?);
-    }
+    let line = "did uvm_test_top start t s (a) 200: started 1\n";
+    let on = Path::parse(rt.alloc(), b"a")?;
+    assert!(rt; start_line_is(rt.alloc(), on, Some(200), line)?);
+    let line = "did uvm_test_top start t s () none: started 1\n";
+    assert!(rt; start_line_is(rt.alloc(), Path::top(rt.alloc()), None, line)?);
     Ok(())
+}
+
+// Whether that is the line of the copy of a start.
+fn start_line_is(alloc: Global, on: Path, priority: Option<u16>, want: &str) -> Result<bool, Fail> {
+    let start = Act::Start {
+        type_name: Name::new(b"t")?,
+        name: Name::new(b"s")?,
+        on,
+        priority,
+    };
+    let (id, _, _) = numbers(alloc)?;
+    did_line_is(alloc, LoggedOutcome::started(id), start.copy()?, want)
 }
 
 #[test]
 fn lines_of_the_acts_of_a_driver(rt: HostRuntime) -> Result<(), Fail> {
-    let (tree, test, _) = small_tree(rt.alloc())?;
     let port = Name::new(b"sqp")?;
     for (how, outcome, line) in [
         (
@@ -154,8 +142,8 @@ fn lines_of_the_acts_of_a_driver(rt: HostRuntime) -> Result<(), Fail> {
             "did uvm_test_top ask sqp get: done\n",
         ),
     ] {
-        let entry = did(rt.alloc(), test, outcome, Act::Ask { port, how })?;
-        assert!(rt; line_is(rt.alloc(), &tree, entry, line)?);
+        let act = Act::Ask { port, how };
+        assert!(rt; did_line_is(rt.alloc(), outcome, act, line)?, "{line}");
     }
     for (response, line) in [
         (None, "did uvm_test_top item_done sqp none: done\n"),
@@ -165,33 +153,23 @@ fn lines_of_the_acts_of_a_driver(rt: HostRuntime) -> Result<(), Fail> {
         ),
     ] {
         let act = Act::ItemDone { port, response };
-        let entry = did(rt.alloc(), test, LoggedOutcome::done(), act)?;
-        assert!(rt; line_is(rt.alloc(), &tree, entry, line)?);
+        assert!(rt; done_line_is(rt.alloc(), act, line)?, "{line}");
     }
     Ok(())
 }
 
 #[test]
 fn the_line_of_the_last_step_says_that_it_finished(rt: HostRuntime) -> Result<(), Fail> {
-    let (tree, test, _) = small_tree(rt.alloc())?;
     let outcome = LoggedOutcome::finished();
     assert!(rt; matches!(outcome.get(), Outcome::Finished));
-    let entry = did(rt.alloc(), test, outcome, Act::EndStep)?;
-    assert!(rt;
-        line_is(
-            rt.alloc(),
-            &tree,
-            entry,
-            "did uvm_test_top end_step: finished\n"
-        )?
-    );
+    let line = "did uvm_test_top end_step: finished\n";
+    assert!(rt; did_line_is(rt.alloc(), outcome, Act::EndStep, line)?);
     Ok(())
 }
 
 #[test]
 fn lines_of_what_sequences_and_drivers_are_told(rt: HostRuntime) -> Result<(), Fail> {
-    let (tree, test, home) = small_tree(rt.alloc())?;
-    let (_, id, _) = two_sequences(rt.alloc(), home)?;
+    let (id, _, _) = numbers(rt.alloc())?;
     let (port, name) = (Name::new(b"sqp")?, Name::new(b"s")?);
     for (call, line) in [
         (
@@ -224,16 +202,13 @@ fn lines_of_what_sequences_and_drivers_are_told(rt: HostRuntime) -> Result<(), F
             "heard uvm_test_top finished s 1: 0\n",
         ),
     ] {
-        let acts = Acts::new(rt.alloc());
-        let entry = Entry::heard(rt.alloc(), Who::Node(test), call, None, acts)?;
-        assert!(rt; line_is(rt.alloc(), &tree, entry, line)?);
+        assert!(rt; heard_line_is(rt.alloc(), call, line)?, "{line}");
     }
     Ok(())
 }
 
 #[test]
 fn the_line_of_a_sequencer_has_its_mode(rt: HostRuntime) -> Result<(), Fail> {
-    let (tree, test, _) = small_tree(rt.alloc())?;
     let name = Name::new(b"q")?;
     for (mode, line) in [
         (Mode::Fifo, "did uvm_test_top add q sequencer FIFO: done\n"),
@@ -255,13 +230,10 @@ fn the_line_of_a_sequencer_has_its_mode(rt: HostRuntime) -> Result<(), Fail> {
         ),
     ] {
         let what = What::Sequencer { mode };
-        let entry = did(
-            rt.alloc(),
-            test,
-            LoggedOutcome::done(),
-            Act::Add { name, what },
-        )?;
-        assert!(rt; line_is(rt.alloc(), &tree, entry, line)?);
+        assert!(rt;
+            done_line_is(rt.alloc(), Act::Add { name, what }, line)?,
+            "{line}"
+        );
     }
     Ok(())
 }

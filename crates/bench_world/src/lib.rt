@@ -23,8 +23,6 @@ mod starting;
 mod stations;
 mod stepping;
 mod telling;
-#[cfg(test)]
-mod tests;
 mod worlds;
 mod writing;
 

@@ -3,7 +3,7 @@
 use crate::{NodeId, NodeKind, Tree, TreeFault};
 use std::alloc::Global;
 use std::test::Fail;
-use uvm_glob::{Direction, Name, Path};
+use uvm_glob::{Direction, Name, Path, PathFault};
 
 // The nodes t, t.b, t.a and t.a.x, added in this order.
 fn small(alloc: Global) -> Result<Tree, Fail> {
@@ -14,7 +14,7 @@ fn small(alloc: Global) -> Result<Tree, Fail> {
         ("t", "a", NodeKind::Component),
         ("t.a", "x", NodeKind::Port),
     ] {
-        let parent = node_at(alloc, &tree, parent)?;
+        let parent = node_at(alloc, &tree, parent).ok_or("a parent")?;
         tree.add(parent, Name::new(name.as_bytes())?, kind)?;
     }
     Ok(tree)
@@ -26,16 +26,16 @@ fn missing(alloc: Global) -> Result<NodeId, Fail> {
     Ok(larger.add(NodeId::TOP, Name::new(b"u")?, NodeKind::Fifo)?)
 }
 
-fn path_of(alloc: Global, text: &str) -> Result<Path, Fail> {
+fn path_of(alloc: Global, text: &str) -> Result<Path, PathFault> {
     if text.is_empty() {
         return Ok(Path::top(alloc));
     }
-    Ok(Path::parse(alloc, text.as_bytes())?)
+    Path::parse(alloc, text.as_bytes())
 }
 
-fn node_at(alloc: Global, tree: &Tree, text: &str) -> Result<NodeId, Fail> {
-    let path = path_of(alloc, text)?;
-    Ok(tree.find(&path).ok_or("a node")?)
+fn node_at(alloc: Global, tree: &Tree, text: &str) -> Option<NodeId> {
+    let path = path_of(alloc, text).ok()?;
+    tree.find(&path)
 }
 
 // The paths of the nodes that a walk comes to, with a space before each.
@@ -74,18 +74,25 @@ fn walks_come_to_each_node_in_order(rt: HostRuntime) -> Result<(), Fail> {
 #[test]
 fn path_order_lists_the_nodes_in_down(rt: HostRuntime) -> Result<(), Fail> {
     let tree = small(rt.alloc())?;
-    let mut paths = Vec::new(rt.alloc());
-    for id in tree.path_order(rt.alloc())?.iter() {
-        write_path(&tree, *id, &mut paths)?;
-    }
+    let paths = ordered(rt.alloc(), &tree)?;
     assert_eq!(rt; paths.as_slice(), b" t t.a t.a.x t.b".as_slice());
     Ok(())
 }
 
+// The paths of the nodes in path order, with a space before each.
+fn ordered(alloc: Global, tree: &Tree) -> Result<Vec<u8>, Fail> {
+    let order = tree.path_order(alloc)?;
+    let mut paths = Vec::new(alloc);
+    for id in &order {
+        write_path(tree, *id, &mut paths)?;
+    }
+    Ok(paths)
+}
+
 #[test]
 fn walks_do_not_begin_at_a_missing_node(rt: HostRuntime) -> Result<(), Fail> {
-    let tree = small(rt.alloc())?;
     let missing = missing(rt.alloc())?;
+    let tree = small(rt.alloc())?;
     assert_eq!(rt; tree.next_down(Some(missing)), None);
     assert_eq!(rt; tree.next_up(Some(missing)), None);
     // The top is first in Down, and last in Up.
@@ -97,8 +104,8 @@ fn walks_do_not_begin_at_a_missing_node(rt: HostRuntime) -> Result<(), Fail> {
 #[test]
 fn a_parent_comes_before_its_child_in_down_alone(rt: HostRuntime) -> Result<(), Fail> {
     let tree = small(rt.alloc())?;
-    let a = node_at(rt.alloc(), &tree, "t.a")?;
-    let x = node_at(rt.alloc(), &tree, "t.a.x")?;
+    let a = node_at(rt.alloc(), &tree, "t.a").expect(&rt, "a node");
+    let x = node_at(rt.alloc(), &tree, "t.a.x").expect(&rt, "a node");
     assert!(rt; tree.is_before(Direction::Down, a, x));
     assert!(rt; !tree.is_before(Direction::Down, x, a));
     assert!(rt; tree.is_before(Direction::Up, x, a));
@@ -108,6 +115,7 @@ fn a_parent_comes_before_its_child_in_down_alone(rt: HostRuntime) -> Result<(), 
 
 #[test]
 fn children_come_in_the_order_of_their_names(rt: HostRuntime) -> Result<(), Fail> {
+    let missing = missing(rt.alloc())?;
     let tree = small(rt.alloc())?;
     for (parent, want) in [
         ("", b" t".as_slice()),
@@ -115,15 +123,21 @@ fn children_come_in_the_order_of_their_names(rt: HostRuntime) -> Result<(), Fail
         ("t.a", b" t.a.x"),
         ("t.b", b""),
     ] {
-        let mut paths = Vec::new(rt.alloc());
-        for child in tree.children(node_at(rt.alloc(), &tree, parent)?) {
-            write_path(&tree, child, &mut paths)?;
-        }
+        let parent_id = node_at(rt.alloc(), &tree, parent).expect(&rt, "a node");
+        let paths = children(rt.alloc(), &tree, parent_id)?;
         assert_eq!(rt; paths.as_slice(), want, "children of '{parent}'");
     }
-    let missing = missing(rt.alloc())?;
     assert_eq!(rt; tree.children(missing).next(), None);
     Ok(())
+}
+
+// The paths of the children of a node, with a space before each.
+fn children(alloc: Global, tree: &Tree, parent: NodeId) -> Result<Vec<u8>, Fail> {
+    let mut paths = Vec::new(alloc);
+    for child in tree.children(parent) {
+        write_path(tree, child, &mut paths)?;
+    }
+    Ok(paths)
 }
 
 #[test]
@@ -136,28 +150,26 @@ fn nodes_show_what_they_are(rt: HostRuntime) -> Result<(), Fail> {
         ("t.a.x", NodeKind::Port, Some("t.a")),
         ("t.b", NodeKind::Sequencer, Some("t")),
     ] {
-        let id = node_at(rt.alloc(), &tree, path)?;
-        let parent = match parent {
-            Some(parent) => Some(node_at(rt.alloc(), &tree, parent)?),
-            None => None,
-        };
+        let id = node_at(rt.alloc(), &tree, path).expect(&rt, "a node");
+        let parent = parent.and_then(|text| node_at(rt.alloc(), &tree, text));
         assert_eq!(rt; tree.parent(id), parent, "'{path}'");
         assert_eq!(rt; tree.kind(id), Some(kind), "'{path}'");
-        let path_made = path_of(rt.alloc(), path)?;
+        let path_made = path_of(rt.alloc(), path).expect(&rt, "a path");
         assert!(rt; tree.path(id) == Some(&path_made), "'{path}'");
     }
-    let child = node_at(rt.alloc(), &tree, "t.b")?;
-    let test = node_at(rt.alloc(), &tree, "t")?;
-    assert_eq!(rt; tree.under(child), Some((test, Name::new(b"b")?)));
+    let child = node_at(rt.alloc(), &tree, "t.b").expect(&rt, "a node");
+    let test = node_at(rt.alloc(), &tree, "t").expect(&rt, "a node");
+    let name = Name::new(b"b").expect(&rt, "a name");
+    assert_eq!(rt; tree.under(child), Some((test, name)));
     Ok(())
 }
 
 #[test]
 fn missing_nodes_have_nothing(rt: HostRuntime) -> Result<(), Fail> {
-    let tree = small(rt.alloc())?;
     let missing = missing(rt.alloc())?;
-    assert_eq!(rt; tree.find(&path_of(rt.alloc(), "u")?), None);
-    assert_eq!(rt; node_at(rt.alloc(), &tree, "")?, NodeId::TOP);
+    let tree = small(rt.alloc())?;
+    assert_eq!(rt; node_at(rt.alloc(), &tree, "u"), None);
+    assert_eq!(rt; node_at(rt.alloc(), &tree, ""), Some(NodeId::TOP));
     assert_eq!(rt; tree.kind(missing), None);
     assert_eq!(rt; tree.parent(missing), None);
     assert_eq!(rt; tree.under(missing), None);
@@ -167,16 +179,16 @@ fn missing_nodes_have_nothing(rt: HostRuntime) -> Result<(), Fail> {
 
 #[test]
 fn adding_gives_the_first_fault(rt: HostRuntime) -> Result<(), Fail> {
-    let mut tree = small(rt.alloc())?;
-    let t = node_at(rt.alloc(), &tree, "t")?;
     let missing = missing(rt.alloc())?;
+    let mut tree = small(rt.alloc())?;
+    let t = node_at(rt.alloc(), &tree, "t").expect(&rt, "a node");
     for (parent, name, want) in [
         (t, "a", Some(TreeFault::NameTaken)),
         (missing, "a", Some(TreeFault::NoParent)),
         (NodeId::TOP, "a", None),
         (NodeId::TOP, "a", Some(TreeFault::NameTaken)),
     ] {
-        let name = Name::new(name.as_bytes())?;
+        let name = Name::new(name.as_bytes()).expect(&rt, "a name");
         assert_eq!(rt; tree.fault(parent, &name), want, "{name} under {parent:?}");
         let added = tree.add(parent, name, NodeKind::Imp);
         assert_eq!(rt; added.err(), want, "{name} under {parent:?}");
@@ -199,27 +211,35 @@ fn a_path_of_33_names_is_too_deep(rt: HostRuntime) -> Result<(), Fail> {
 
 #[test]
 fn the_node_4097_is_one_too_many(rt: HostRuntime) -> Result<(), Fail> {
-    let mut tree = Tree::new(rt.alloc());
-    for number in 0..Tree::MAX_NODES {
-        let text = format!(in rt.alloc(); "n{number}")?;
-        tree.add(NodeId::TOP, Name::new(text.as_bytes())?, NodeKind::Export)?;
-    }
-    let added = tree.add(NodeId::TOP, Name::new(b"n")?, NodeKind::Export);
+    let (new, taken) = (Name::new(b"n")?, Name::new(b"n4095")?);
+    let mut tree = full(rt.alloc())?;
+    let added = tree.add(NodeId::TOP, new, NodeKind::Export);
     assert_eq!(rt; added, Err(TreeFault::Full));
-    let added = tree.add(NodeId::TOP, Name::new(b"n4095")?, NodeKind::Export);
+    let added = tree.add(NodeId::TOP, taken, NodeKind::Export);
     assert_eq!(rt; added, Err(TreeFault::NameTaken));
     Ok(())
 }
 
+// A tree of as many nodes as there may be, n0 and so on.
+fn full(alloc: Global) -> Result<Tree, Fail> {
+    let mut tree = Tree::new(alloc);
+    for number in 0..Tree::MAX_NODES {
+        let text = format!(in alloc; "n{number}")?;
+        tree.add(NodeId::TOP, Name::new(text.as_bytes())?, NodeKind::Export)?;
+    }
+    Ok(tree)
+}
+
 #[test]
 fn a_node_is_added_where_there_is_room(rt: HostRuntime) -> Result<(), Fail> {
-    let mut tree = small(rt.alloc())?;
-    let t = node_at(rt.alloc(), &tree, "t")?;
     let missing = missing(rt.alloc())?;
-    tree.reserve(missing)?;
-    tree.reserve(t)?;
-    let added = tree.add(t, Name::new(b"c")?, NodeKind::Fifo);
-    assert_eq!(rt; added, Ok(node_at(rt.alloc(), &tree, "t.c")?));
+    let mut tree = small(rt.alloc())?;
+    let t = node_at(rt.alloc(), &tree, "t").expect(&rt, "a node");
+    assert_eq!(rt; tree.reserve(missing), Ok(()));
+    assert_eq!(rt; tree.reserve(t), Ok(()));
+    let name = Name::new(b"c").expect(&rt, "a name");
+    let added = tree.add(t, name, NodeKind::Fifo);
+    assert_eq!(rt; added.ok(), node_at(rt.alloc(), &tree, "t.c"));
     Ok(())
 }
 

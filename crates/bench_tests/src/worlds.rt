@@ -1,11 +1,11 @@
-//! The first entries of a small run.
+//! A world before its first entry.
 
 ghost use Rattle.std.specs.Prelude.{◌≡◌, true, IfOk};
 ghost use Rattle.bench_world.specs.Sequencings.{IsMaking};
 
-use crate::World;
 use bench_history::Stage;
 use bench_script::read;
+use bench_world::World;
 use std::alloc::{AllocError, Global};
 use std::test::Fail;
 use uvm_glob::{Name, PathFault};

@@ -37,7 +37,7 @@ use uvm_report::Reports;
 use uvm_tree::NodeId;
 
 /// What a call of `next` came to.
-#[derive(Clone, Copy, Debug, PartialEq, Eq)]
+#[derive(Clone, Copy, PartialEq, Eq)]
 pub enum Turn {
     /// An object is needed; `need` says which.
     Need,
@@ -60,7 +60,7 @@ pub enum Turn {
 }
 
 /// A call that somebody was asked to answer, and has not answered yet. It was due for a cause, or is a phase's.
-#[derive(Debug, Drop)]
+#[derive(Drop)]
 pub(crate) struct Question {
     who: Who,
     call: Call,
@@ -79,7 +79,7 @@ impl Question {
 }
 
 /// How a machine is.
-#[derive(Clone, Copy, Debug, PartialEq, Eq)]
+#[derive(Clone, Copy, PartialEq, Eq)]
 pub enum Health {
     /// It goes on.
     Good,

@@ -4,8 +4,6 @@
 mod choices;
 mod cores;
 mod faults;
-#[cfg(test)]
-mod tests;
 
 pub use bench_history::Need;
 pub use cores::{Core, Health, Turn};

@@ -6,7 +6,7 @@ use uvm_phase::Phase;
 use uvm_tree::NodeId;
 
 /// A port, and the FIFO that is reached through it (IEEE 1800.2-2020, Clause 12).
-#[derive(Clone, Copy, Debug, PartialEq, Eq)]
+#[derive(Clone, Copy, PartialEq, Eq)]
 pub struct Gate {
     /// The node of the port.
     pub port: NodeId,
@@ -15,7 +15,7 @@ pub struct Gate {
 }
 
 /// Who asked for a put, a take or a peek, and how.
-#[derive(Clone, Copy, Debug, PartialEq, Eq)]
+#[derive(Clone, Copy, PartialEq, Eq)]
 pub struct Asker {
     /// The place of the entry of the act that asked.
     pub place: u64,
@@ -28,7 +28,7 @@ pub struct Asker {
 }
 
 /// Who drives a sequencer: who asked last for an item there, and through which port of its own (IEEE 1800.2-2020, Clause 15).
-#[derive(Clone, Copy, Debug, PartialEq, Eq)]
+#[derive(Clone, Copy, PartialEq, Eq)]
 pub struct DriverPort {
     /// Who asked.
     pub who: Who,

@@ -4,7 +4,7 @@ use uvm_factory::Kind;
 use uvm_glob::{Name, Path};
 
 /// An object that is needed: its kind, the type that the factory makes, and the path by which the factory knows it.
-#[derive(Debug, Drop)]
+#[derive(Drop)]
 pub struct Need {
     /// Whether it is a component or a sequence.
     pub kind: Kind,

@@ -3,7 +3,7 @@
 use uvm_phase::Phase;
 
 /// Where a run stands.
-#[derive(Clone, Copy, Debug, PartialEq, Eq)]
+#[derive(Clone, Copy, PartialEq, Eq)]
 pub enum Stage {
     /// No phase was begun.
     Before,

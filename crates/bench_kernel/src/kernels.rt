@@ -46,7 +46,7 @@ pub enum Step<O> {
 }
 
 /// Why an object is not taken.
-#[derive(Clone, Copy, Debug, PartialEq, Eq)]
+#[derive(Clone, Copy, PartialEq, Eq)]
 pub enum Misfit {
     /// It is of another type than the one that is needed.
     WrongType,

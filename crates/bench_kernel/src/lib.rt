@@ -6,7 +6,5 @@ pub mod laws;
 mod seating;
 mod seats;
 mod sequence_seats;
-#[cfg(test)]
-mod tests;
 
 pub use kernels::{Kernel, Misfit, Step, Unfit};

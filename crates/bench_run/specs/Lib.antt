@@ -4,3 +4,4 @@ pub mod Words
 pub mod Lives
 pub mod Running
 pub mod Laws
+pub mod Given

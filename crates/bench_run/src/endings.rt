@@ -6,7 +6,7 @@ ghost use Rattle.bench_run.specs.Endings.{is_clean};
 use uvm_object::Reason;
 
 /// How a run is over.
-#[derive(Clone, Copy, Debug, PartialEq, Eq)]
+#[derive(Clone, Copy, PartialEq, Eq)]
 pub struct Ending {
     /// Why it is over.
     pub reason: Reason,

@@ -16,8 +16,6 @@ mod endings;
 mod faults;
 pub mod laws;
 mod running;
-#[cfg(test)]
-mod tests;
 
 pub use endings::Ending;
 pub use faults::RunFault;

@@ -1,5 +1,5 @@
 -- The script that a TOML tree stands for, or its first fault.
-use Rattle.std.specs.Prelude.{◌≤◌, IsTrue, ℕ, ℤ, pos, negsuc, ◌==◌, List, [], ◌∷◌, Option, Some, None, Result, Ok, Err, ok_or, slice_get, codes, nat_lt, not, length, if◌then◌else◌}
+use Rattle.std.specs.Prelude.{◌≤◌, IsTrue, ℕ, ℤ, pos, negsuc, ◌==◌, List, [], ◌∷◌, ◌++◌, Option, Some, None, Result, Ok, Err, ok_or, slice_get, codes, nat_lt, not, length, if◌then◌else◌}
 use Rattle.std.specs.Str.{is_utf8}
 use Rattle.toml.specs.Parse.{parse_document}
 use Rattle.toml.specs.Data.{Data, Members}
@@ -39,19 +39,20 @@ abbrev pub test_among : Types → Option (List ℕ) → Result (Option ℕ) Scri
 test_among types None = Ok None
 test_among types (Some name) = and_then (ok_or (type_named types name) UnknownType) (λ place. component_at place (slice_get types place))
 
--- what stands before the arrays: the test's name and the two limits
-abbrev pub head_in : Members → Result Head ScriptFault
-head_in root =
+-- what stands before the arrays, in a tree that has some other keys beside the script's: the test's name and the two limits
+abbrev pub head_in : List (List ℕ) → Members → Result Head ScriptFault
+head_in others root =
     and_then (required (codes "version") version_in root) (λ _.
-    and_then (only_keys root_keys root) (λ _.
+    and_then (only_keys (others ++ root_keys) root) (λ _.
     and_then (optional (codes "test") None (some_of name_in) root) (λ test.
     and_then (optional (codes "time_limit") most_time (number_in most_time) root) (λ time_limit.
     and_then (optional (codes "quit_limit") 0 (number_in most_quit_limit) root) (λ quit_limit.
     Ok (record { test = test; time_limit = time_limit; quit_limit = quit_limit }))))))
 
-unfoldable pub script_of : Members → Result ScriptValue ScriptFault
-script_of root =
-    and_then (head_in root) (λ head.
+-- the script that a tree stands for which has some other keys beside, or its first fault
+unfoldable pub script_beside : List (List ℕ) → Members → Result ScriptValue ScriptFault
+script_beside others root =
+    and_then (head_in others root) (λ head.
     and_then (types_in root) (λ types.
     and_then (overrides_in types root) (λ overrides.
     and_then (settings_in root) (λ settings.
@@ -73,18 +74,22 @@ script_of root =
       probes = probes;
     }))))))))))
 
--- the script of a document that `toml` took, or refused
-abbrev pub script_in : Option Members → Result ScriptValue ScriptFault
-script_in None = Err NotToml
-script_in (Some root) = script_of root
-
 -- the bytes are a text, and not too many
 abbrev pub IsReadable : List ℕ → Type 0
 IsReadable bytes = (length bytes ≤ most_script_bytes) × IsTrue (is_utf8 bytes)
 
--- the script that the bytes of a file stand for
-abbrev pub script_of_bytes : List ℕ → Result ScriptValue ScriptFault
-script_of_bytes bytes =
+-- the tree of a document that `toml` took, or refused
+abbrev pub tree_in : Option Members → Result Members ScriptFault
+tree_in None = Err NotToml
+tree_in (Some root) = Ok root
+
+-- the tree that the bytes of a file stand for, by the grammar of `toml`
+abbrev pub tree_of_bytes : List ℕ → Result Members ScriptFault
+tree_of_bytes bytes =
     if nat_lt most_script_bytes (length bytes) then Err TooLong
     else if not (is_utf8 bytes) then Err NotText
-    else script_in (parse_document bytes)
+    else tree_in (parse_document bytes)
+
+-- the script that the bytes of a file stand for
+abbrev pub script_of_bytes : List ℕ → Result ScriptValue ScriptFault
+script_of_bytes bytes = and_then (tree_of_bytes bytes) (script_beside [])

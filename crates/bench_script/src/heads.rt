@@ -1,6 +1,6 @@
 //! What stands before the arrays of a script.
 
-ghost use Rattle.std.specs.Prelude.{◌≡◌, ◌≤◌, IfOk};
+ghost use Rattle.std.specs.Prelude.{◌≡◌, ◌≤◌, IfOk, map};
 ghost use Rattle.toml.specs.View.{view, table_view};
 ghost use Rattle.bench_script.specs.Limits.{most_time, most_quit_limit};
 ghost use Rattle.bench_script.specs.Documents.{version_in, head_in};
@@ -38,13 +38,13 @@ pub(crate) struct Head {
     pub(crate) quit_limit: u64,
 }
 
-pub(crate) fn read_head(root: &Table) -> Result<Head, ScriptFault>
-    ensures head { result ≡ head_in (table_view root.now) }
+pub(crate) fn read_head(root: &Table, others: &[&str]) -> Result<Head, ScriptFault>
+    ensures head { result ≡ head_in (map (λ key. key.now) others.now) (table_view root.now) }
     ensures time_limit { IfOk result (λ head. head.time_limit ≤ most_time) }
     ensures quit_limit { IfOk result (λ head. head.quit_limit ≤ most_quit_limit) }
 {
     version(required(root, "version")?)?;
-    only_keys(root, &ROOT_KEYS)?;
+    only_keys(root, &ROOT_KEYS, others)?;
     let test = match member(root, "test") {
         Some(value) => Some(name(value)?),
         None => None,

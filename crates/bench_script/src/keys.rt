@@ -1,6 +1,6 @@
 //! The keys of a table.
 
-ghost use Rattle.std.specs.Prelude.{◌≡◌, ◌≤◌, Some, None, MatchResult, IfOk, option_map, map, length, string_bytes};
+ghost use Rattle.std.specs.Prelude.{◌≡◌, ◌≤◌, ◌++◌, ◌||◌, Some, None, MatchResult, IfOk, option_map, map, length, string_bytes};
 ghost use Rattle.std.specs.List.{list_any, list_all};
 ghost use Rattle.std.specs.BTreeMap.{keys};
 ghost use Rattle.toml.specs.Data.{get_member, as_table};
@@ -26,20 +26,29 @@ pub(crate) fn required<'a>(table: &'a Table, key: &str) -> Result<&'a Value, Scr
     member(table, key).ok_or(ScriptFault::Missing)
 }
 
-pub(crate) fn only_keys(table: &Table, listed: &[&str]) -> Result<(), ScriptFault>
-    ensures { result ≡ only_keys (map (λ key. key.now) listed.now) (table_view table.now) }
+// Each key of a table is listed, or is one of some others.
+pub(crate) fn only_keys(table: &Table, listed: &[&str], others: &[&str]) -> Result<(), ScriptFault>
+    ensures { result ≡ only_keys (map (λ key. key.now) others.now ++ map (λ key. key.now) listed.now) (table_view table.now) }
 {
-    if are_listed(table, listed) {
+    if are_listed(table, listed, others) {
         Ok(())
     } else {
         Err(ScriptFault::UnknownKey)
     }
 }
 
-fn are_listed(table: &Table, listed: &[&str]) -> bool
-    ensures { result ≡ list_all (λ key. list_any (λ other. is_same_text (string_bytes key) other.now) listed.now) (keys table.now) }
+fn are_listed(table: &Table, listed: &[&str], others: &[&str]) -> bool
+    ensures { result ≡ list_all (λ key. list_any (λ other. is_same_text (string_bytes key) other.now) others.now || list_any (λ other. is_same_text (string_bytes key) other.now) listed.now) (keys table.now) }
 {
-    table.keys().all(|key| is_listed(key.as_str(), listed))
+    table
+        .keys()
+        .all(|key| is_listed_or(key.as_str(), others, listed))
+}
+
+fn is_listed_or(key: &str, others: &[&str], listed: &[&str]) -> bool
+    ensures { result ≡ (list_any (λ other. is_same_text key.now other.now) others.now || list_any (λ other. is_same_text key.now other.now) listed.now) }
+{
+    is_listed(key, others) || is_listed(key, listed)
 }
 
 pub(crate) fn is_listed(key: &str, listed: &[&str]) -> bool
@@ -55,7 +64,7 @@ pub(crate) fn table<'a>(element: &'a Value, listed: &[&str]) -> Result<&'a Table
         (λ fault. table_in (map (λ key. key.now) listed.now) (view element.now) ≡ Err fault) }
 {
     let table = element.as_table().ok_or(ScriptFault::WrongKind)?;
-    only_keys(table, listed)?;
+    only_keys(table, listed, &[])?;
     Ok(table)
 }
 

@@ -15,9 +15,6 @@ mod type_tables;
 mod values;
 
 pub use faults::ScriptFault;
-pub use reading::read;
+pub use reading::{read, read_document, read_table};
 pub use report_settings::{ActionSetting, SeverityChange, VerbositySetting};
 pub use scripts::{Probe, Script, Setting};
-
-#[cfg(test)]
-mod tests;

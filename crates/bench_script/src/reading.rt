@@ -1,11 +1,11 @@
 //! Reads a script.
 
-ghost use Rattle.std.specs.Prelude.{◌≡◌, IfOk, MatchResult};
+ghost use Rattle.std.specs.Prelude.{◌≡◌, ◌≢◌, Ok, Err, IfOk, MatchResult, map};
 ghost use Rattle.toml.specs.View.{table_view};
 ghost use Rattle.toml.specs.Parse.{parse_document};
 ghost use Rattle.bench_script.specs.Reading.{IsReading};
 ghost use Rattle.bench_script.specs.Sound.{IsComponentAt};
-ghost use Rattle.bench_script.specs.Documents.{IsReadable, script_of, script_in, script_of_bytes, test_among};
+ghost use Rattle.bench_script.specs.Documents.{IsReadable, script_beside, script_of_bytes, test_among, tree_in, tree_of_bytes};
 
 use crate::faults::ScriptFault;
 use crate::heads::read_head;
@@ -29,30 +29,48 @@ pub fn read(alloc: Global, bytes: &[u8]) -> Result<Script, ScriptFault>
     ensures reading { IsReading (script_of_bytes bytes.now) result }
     ensures readable { MatchResult result (λ _. IsReadable bytes.now) (λ fault. fault ≡ ScriptFault.Memory → IsReadable bytes.now) }
 {
+    let root = read_document(alloc, bytes)?;
+    read_table(alloc, &root, &[])
+}
+
+/// Reads a document, of which a script may be a part. The fault is `TooLong` past 1,048,576 bytes, `NotText` for bytes that are not
+/// UTF-8, and `NotToml` where `toml` refuses the text; `Memory` is answered where a growth was refused, and nothing grows before
+/// the bytes are known to be a text that is not too long.
+pub fn read_document(alloc: Global, bytes: &[u8]) -> Result<Table, ScriptFault>
+    ensures reading { MatchResult result
+        (λ root. tree_of_bytes bytes.now ≡ Ok (table_view root))
+        (λ fault. fault ≢ ScriptFault.Memory → tree_of_bytes bytes.now ≡ Err fault) }
+    ensures readable { MatchResult result (λ _. IsReadable bytes.now) (λ fault. fault ≡ ScriptFault.Memory → IsReadable bytes.now) }
+{
     if bytes.len() > MAX_LEN {
         return Err(ScriptFault::TooLong);
     }
     let Ok(text) = str::from_utf8(bytes) else {
         return Err(ScriptFault::NotText);
     };
-    read_text(alloc, text)
+    parse(alloc, text)
 }
 
-fn read_text(alloc: Global, text: &str) -> Result<Script, ScriptFault>
-    ensures { IsReading (script_in (parse_document text.now)) result }
+fn parse(alloc: Global, text: &str) -> Result<Table, ScriptFault>
+    ensures { MatchResult result
+        (λ root. tree_in (parse_document text.now) ≡ Ok (table_view root))
+        (λ fault. fault ≢ ScriptFault.Memory → tree_in (parse_document text.now) ≡ Err fault) }
 {
     match toml::table_from_str(alloc, text) {
-        Ok(root) => read_tree(alloc, &root),
+        Ok(root) => Ok(root),
         Err(error) if error.is_memory() => Err(ScriptFault::Memory),
         Err(_) => Err(ScriptFault::NotToml),
     }
 }
 
-#[tactic(auto, unfolding(crate::specs::Documents::script_of))]
-fn read_tree(alloc: Global, root: &Table) -> Result<Script, ScriptFault>
-    ensures { IsReading (script_of (table_view root.now)) result }
+/// Reads a script from the tree of a document that may have some other keys beside the script's. The fault is the first of those of the
+/// keys in their order, `UnknownKey` for one that is neither the script's nor among the others; `Memory` is answered where a growth
+/// was refused.
+#[tactic(auto, unfolding(crate::specs::Documents::script_beside))]
+pub fn read_table(alloc: Global, root: &Table, others: &[&str]) -> Result<Script, ScriptFault>
+    ensures { IsReading (script_beside (map (λ key. key.now) others.now) (table_view root.now)) result }
 {
-    let head = read_head(root)?;
+    let head = read_head(root, others)?;
     let types = read_types(alloc, root)?;
     let overrides = read_overrides(alloc, &types, root)?;
     let settings = read_settings(alloc, root)?;

@@ -7,7 +7,7 @@ use uvm_glob::{Glob, Name};
 use uvm_report::{Actions, Severity, Which};
 
 /// The level of verbosity of reports at the paths that the glob matches (IEEE 1800.2-2020, Clause 6).
-#[derive(Debug, Drop)]
+#[derive(Drop)]
 pub struct VerbositySetting {
     /// The paths at which it holds.
     pub scope: Glob,
@@ -18,7 +18,7 @@ pub struct VerbositySetting {
 }
 
 /// What is done with reports at the paths that the glob matches (IEEE 1800.2-2020, Clause 6).
-#[derive(Debug, Drop)]
+#[derive(Drop)]
 pub struct ActionSetting {
     /// The paths at which it holds.
     pub scope: Glob,
@@ -29,7 +29,7 @@ pub struct ActionSetting {
 }
 
 /// Another severity for reports at the paths that the glob matches (IEEE 1800.2-2020, Clause 6).
-#[derive(Debug, Drop)]
+#[derive(Drop)]
 pub struct SeverityChange {
     /// The paths at which it holds.
     pub scope: Glob,

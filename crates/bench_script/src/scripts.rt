@@ -12,7 +12,7 @@ use uvm_factory::{Kind, Override, TypeId};
 use uvm_glob::{Glob, Name, Path};
 
 /// A question to the factory: which type is made for a type at a path.
-#[derive(Debug, Drop)]
+#[derive(Drop)]
 pub struct Probe {
     /// The type that is asked for, one of the script's.
     pub type_id: TypeId,
@@ -33,7 +33,7 @@ impl Probe {
 }
 
 /// A setting of the configuration: the value of a field at the paths that the glob matches (IEEE 1800.2-2020, Annex C).
-#[derive(Debug, Drop)]
+#[derive(Drop)]
 pub struct Setting {
     /// The paths at which it holds.
     pub scope: Glob,

@@ -18,7 +18,7 @@ use uvm_sequencer::{Asked, How, Mode, SeqFault, SeqId, Sequencer, Sequences};
 use uvm_tree::NodeId;
 
 /// A port, and the sequencer that is reached through it.
-#[derive(Clone, Copy, Debug)]
+#[derive(Clone, Copy)]
 pub(crate) struct Reached {
     pub(crate) port: NodeId,
     pub(crate) sequencer: NodeId,

@@ -21,7 +21,7 @@ use uvm_object::{Fatal, Who};
 use uvm_tree::{NodeId, Tree, TreeFault};
 
 /// Why nothing is created.
-#[derive(Clone, Copy, Debug, PartialEq, Eq)]
+#[derive(Clone, Copy, PartialEq, Eq)]
 pub(crate) enum Uncreated {
     /// The act is refused.
     Refused(Fatal),

@@ -26,7 +26,7 @@ use uvm_tlm::Wiring;
 use uvm_tree::{NodeId, Tree};
 
 /// A node that holds an object, and whether it had its call in the running phase.
-#[derive(Clone, Copy, Debug)]
+#[derive(Clone, Copy)]
 pub(crate) struct Component {
     pub(crate) node: NodeId,
     pub(crate) called: bool,
@@ -42,7 +42,7 @@ impl Component {
 }
 
 /// A sequence that was started, by whom, and in which phase.
-#[derive(Clone, Copy, Debug)]
+#[derive(Clone, Copy)]
 pub(crate) struct Beginning {
     pub(crate) who: Who,
     pub(crate) starter: Who,
@@ -50,7 +50,7 @@ pub(crate) struct Beginning {
 }
 
 /// How far the last answer is done.
-#[derive(Debug, Drop)]
+#[derive(Drop)]
 pub(crate) struct LastAnswer {
     // Who gave it.
     pub(crate) speaker: Who,

@@ -8,7 +8,7 @@ use std::alloc::{AllocError, Global};
 use uvm_glob::Name;
 
 /// What the words of the command line ask for.
-#[derive(Clone, Copy, Debug)]
+#[derive(Clone, Copy)]
 pub enum Job<'a> {
     /// `debug FILE`: read the script in `file`, and print the answers.
     Debug {
@@ -25,7 +25,7 @@ pub enum Job<'a> {
 }
 
 /// Why the words of the command line name no job.
-#[derive(Debug, Drop)]
+#[derive(Drop)]
 pub enum JobFault {
     /// The words ask for help, which is this text.
     Help(String),

@@ -3,8 +3,6 @@
 
 mod commands;
 mod jobs;
-#[cfg(test)]
-mod tests;
 mod texts;
 
 pub use commands::job;

@@ -1,4 +1,3 @@
 pub mod Answering
 pub mod ReadLemmas
-pub mod Given
 pub mod Determined

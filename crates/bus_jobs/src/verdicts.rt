@@ -11,7 +11,7 @@ use std::alloc::AllocError;
 use std::io;
 
 /// How a run of the program ended.
-#[derive(Clone, Copy, Debug, PartialEq, Eq)]
+#[derive(Clone, Copy, PartialEq, Eq)]
 pub enum Verdict {
     /// All that was asked for was done.
     Clean,
@@ -24,7 +24,7 @@ pub enum Verdict {
 }
 
 /// Why the program could not do what was asked for.
-#[derive(Clone, Copy, Debug, PartialEq, Eq)]
+#[derive(Clone, Copy, PartialEq, Eq)]
 pub enum Breakage {
     /// An allocation was refused.
     Memory,
@@ -34,6 +34,20 @@ pub enum Breakage {
     Output,
     /// The file could not be opened, or not be read to its end.
     Unread,
+}
+
+impl Breakage {
+    /// Tells what broke off, in a few words.
+    pub fn message(self) -> &'static str
+        ensures { result.now ≡ message_of self }
+    {
+        match self {
+            Breakage::Memory => "memory",
+            Breakage::LogFull => "log full",
+            Breakage::Output => "output fault",
+            Breakage::Unread => "cannot read the file",
+        }
+    }
 }
 
 impl From<AllocError> for Verdict {
@@ -86,19 +100,8 @@ pub fn write_line<W: io::Write>(verdict: &Verdict, err: &mut W) -> io::Result<()
         Verdict::Clean | Verdict::Faulty => Ok(()),
         Verdict::Refused(fault) => writeln!(err, "bus_bench: {fault}"),
         Verdict::Broken(breakage) => {
-            let message = message(*breakage);
+            let message = breakage.message();
             writeln!(err, "bus_bench: {message}")
         }
-    }
-}
-
-fn message(breakage: Breakage) -> &'static str
-    ensures { result.now ≡ message_of breakage }
-{
-    match breakage {
-        Breakage::Memory => "memory",
-        Breakage::LogFull => "log full",
-        Breakage::Output => "output fault",
-        Breakage::Unread => "cannot read the file",
     }
 }

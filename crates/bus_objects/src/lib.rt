@@ -24,8 +24,6 @@ mod seq_smoke;
 mod sleeper;
 mod slow_driver;
 mod spinner;
-#[cfg(test)]
-mod tests;
 mod texts;
 mod words;
 

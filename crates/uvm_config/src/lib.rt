@@ -6,8 +6,6 @@ mod faults;
 mod fields;
 pub mod laws;
 mod resources;
-#[cfg(test)]
-mod tests;
 
 pub use database::Settings;
 pub use faults::ConfigFault;

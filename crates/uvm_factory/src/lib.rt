@@ -6,8 +6,6 @@ mod faults;
 pub mod laws;
 mod overrides;
 mod standing;
-#[cfg(test)]
-mod tests;
 mod types;
 
 pub use factories::Factory;

@@ -8,7 +8,7 @@ use std::alloc::AllocError;
 use uvm_glob::Glob;
 
 /// An override of a type by another (IEEE 1800.2-2020, Clause 8).
-#[derive(Debug, Drop)]
+#[derive(Drop)]
 pub enum Override {
     /// An instance override: it holds at the paths that the glob matches.
     Instance {
@@ -31,7 +31,7 @@ pub enum Override {
 }
 
 /// What a type is replaced by at a path.
-#[derive(Clone, Copy, Debug, PartialEq, Eq)]
+#[derive(Clone, Copy, PartialEq, Eq)]
 pub enum OverrideStep {
     /// By this type, in an instance override.
     ByInstance(TypeId),

@@ -5,7 +5,7 @@ ghost use Rattle.std.specs.Prelude.{◌≡◌};
 use std::marker::Model;
 
 /// What objects of a type are. A type is overridden by types of its own kind alone.
-#[derive(Clone, Copy, Debug, PartialEq, Eq)]
+#[derive(Clone, Copy, PartialEq, Eq)]
 pub enum Kind {
     /// Components, which stand in the tree of a testbench.
     Component,
@@ -15,7 +15,7 @@ pub enum Kind {
 
 /// A type of a factory: its place in the order of registration, from 0. A factory gives these numbers; one of another
 /// factory stands for the type at the same place.
-#[derive(Clone, Copy, Debug, PartialEq, Eq, Hash)]
+#[derive(Clone, Copy, PartialEq, Eq, Hash)]
 pub struct TypeId {
     place: u16,
 }

@@ -16,7 +16,7 @@ use std::marker::Model;
 
 /// A glob: bytes of 0x21 to 0x7E without `/`. `*` stands for zero or more characters, `+` for one or more, `?` for
 /// exactly one, and every other character for itself, `.` and `[` among them. Contracts see its bytes.
-#[derive(Debug, Drop)]
+#[derive(Drop)]
 pub struct Glob {
     text: Vec<u8>,
 }

@@ -9,8 +9,6 @@ mod names;
 mod orders;
 mod paths;
 mod rooms;
-#[cfg(test)]
-mod tests;
 mod texts;
 
 pub use faults::PathFault;

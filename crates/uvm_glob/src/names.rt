@@ -135,12 +135,6 @@ impl fmt::Display for Name {
     }
 }
 
-impl fmt::Debug for Name {
-    fn fmt<W: fmt::Write>(&self, f: &mut fmt::Formatter<W>) -> fmt::Result {
-        write!(f, "\"{self}\"")
-    }
-}
-
 // The bytes, and zeros after them.
 fn padded(bytes: &[u8]) -> [u8; Name::MAX_LEN]
     requires { length bytes.now ≤ most_name_bytes }

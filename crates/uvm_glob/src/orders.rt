@@ -8,7 +8,7 @@ ghost use Rattle.uvm_glob.specs.Paths.{names_of};
 use std::cmp::Ordering;
 
 /// The way in which a tree of paths is gone through, and so an order of paths. In both they go name by name in byte order.
-#[derive(Clone, Copy, Debug, PartialEq, Eq)]
+#[derive(Clone, Copy, PartialEq, Eq)]
 pub enum Direction {
     /// Parents before their children, and so the top first: the order of a top-down phase (IEEE 1800.2-2020, Clause 9), and
     /// that of `Ord`.

@@ -26,7 +26,7 @@ use std::marker::Model;
 ///
 /// Paths are ordered by `Direction::Down`: name by name in byte order, and a parent before its children. `cmp_in` has both
 /// directions.
-#[derive(Debug, Drop)]
+#[derive(Drop)]
 pub struct Path {
     pub(crate) text: Vec<u8>,
 }

@@ -1,6 +1,6 @@
 //! The lines of acts.
 
-ghost use Rattle.std.specs.Prelude.{◌≡◌, ◌++◌, ◌∷◌, OnOk};
+ghost use Rattle.std.specs.Prelude.{◌≡◌, ◌++◌, ◌∷◌, IfOk, OnOk};
 ghost use Rattle.std.specs.Fmt.{decimal};
 ghost use Rattle.uvm_object.specs.declared.acts.Act.TheVariants as act;
 ghost use Rattle.uvm_object.specs.Lines.{act_text, actions_text, id_text, what_text, which_text};
@@ -9,9 +9,18 @@ use crate::acts::{Act, What};
 use crate::item_lines::{kind_text, push_named, push_named_item};
 use crate::lines::{push_integer, push_number, push_ticks, push_two};
 use crate::sequence_lines::{mode_text, push_sequencing};
-use std::alloc::AllocError;
+use std::alloc::{AllocError, Global};
 use uvm_glob::{Glob, Name, Path};
 use uvm_report::{Actions, Report, Severity, Which};
+
+/// Gives the text of an act, as it stands in the line of its entry, without its outcome.
+pub fn act_text(alloc: Global, act: &Act) -> Result<Vec<u8>, AllocError>
+    ensures { IfOk result (λ text. text.items ≡ act_text act.now) }
+{
+    let mut text = Vec::new(alloc);
+    push_act(act, &mut text)?;
+    Ok(text)
+}
 
 pub(crate) fn push_act(act: &Act, line: &mut Vec<u8>) -> Result<(), AllocError>
     ensures { OnOk result (line.new.items ≡ line.old.items ++ act_text act.now) }

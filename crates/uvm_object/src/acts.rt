@@ -17,7 +17,7 @@ use uvm_tlm::{Item, PortKind};
 use uvm_tree::NodeId;
 
 /// Who is called, and performs what it answers.
-#[derive(Clone, Copy, Debug, PartialEq, Eq)]
+#[derive(Clone, Copy, PartialEq, Eq)]
 pub enum Who {
     /// The component at a node.
     Node(NodeId),
@@ -50,7 +50,7 @@ impl Who {
 }
 
 /// A call to an object.
-#[derive(Clone, Copy, Debug, PartialEq, Eq)]
+#[derive(Clone, Copy, PartialEq, Eq)]
 pub enum Call {
     /// Its turn in a phase (IEEE 1800.2-2020, Clause 9).
     Phase(Phase),
@@ -139,7 +139,7 @@ pub enum Call {
 }
 
 /// What a component adds below itself.
-#[derive(Clone, Copy, Debug, PartialEq, Eq)]
+#[derive(Clone, Copy, PartialEq, Eq)]
 pub enum What {
     /// A sequencer (Clause 15).
     Sequencer {
@@ -166,7 +166,7 @@ pub enum What {
 }
 
 /// What an object asks for in its answer to a call. Globs and paths are taken under the path of the performer.
-#[derive(Debug, Drop)]
+#[derive(Drop)]
 pub enum Act {
     /// Create a component of a type as a child, by the factory (Clause 8).
     Create {
@@ -458,7 +458,7 @@ impl Act {
 
 /// An act of an answer. The entry that says what became of it shares it, so that performing an act copies none. Contracts see
 /// the act.
-#[derive(Debug, Drop)]
+#[derive(Drop)]
 pub struct Deed {
     act: Rc<Act>,
 }
@@ -499,7 +499,7 @@ impl Deed {
 }
 
 // Most answers have one act, for which no list is made.
-#[derive(Debug, Drop)]
+#[derive(Drop)]
 enum Deeds {
     /// No act.
     None,
@@ -510,7 +510,7 @@ enum Deeds {
 }
 
 /// The acts of one answer, in order. Contracts see the list of them.
-#[derive(Debug, Drop)]
+#[derive(Drop)]
 pub struct Acts {
     alloc: Global,
     deeds: Deeds,

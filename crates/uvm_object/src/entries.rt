@@ -16,7 +16,7 @@ use uvm_tlm::{Item, MoveKind};
 use uvm_tree::NodeId;
 
 /// What became of an act.
-#[derive(Clone, Copy, Debug)]
+#[derive(Clone, Copy)]
 pub enum Outcome {
     /// It was performed.
     Done,
@@ -39,7 +39,7 @@ pub enum Outcome {
 }
 
 /// Why a run is over.
-#[derive(Clone, Copy, Debug, PartialEq, Eq)]
+#[derive(Clone, Copy, PartialEq, Eq)]
 pub enum Reason {
     /// All phases were run.
     Finished,
@@ -54,7 +54,7 @@ pub enum Reason {
 }
 
 // What an entry of a call holds beside who was called.
-#[derive(Debug, Drop)]
+#[derive(Drop)]
 struct Exchange {
     call: Call,
     cause: Option<Cause>,
@@ -62,7 +62,7 @@ struct Exchange {
 }
 
 /// The call of an entry. Contracts see the call.
-#[derive(Debug, Drop)]
+#[derive(Drop)]
 pub struct LoggedCall {
     exchange: Rc<Exchange>,
 }
@@ -85,7 +85,7 @@ impl LoggedCall {
 }
 
 /// The cause of the call of an entry. Contracts see the cause.
-#[derive(Debug, Drop)]
+#[derive(Drop)]
 pub struct LoggedCause {
     exchange: Rc<Exchange>,
 }
@@ -109,7 +109,7 @@ impl LoggedCause {
 }
 
 /// The acts of the answer of an entry. Contracts see the list of them.
-#[derive(Debug, Drop)]
+#[derive(Drop)]
 pub struct LoggedActs {
     exchange: Rc<Exchange>,
 }
@@ -133,7 +133,7 @@ impl LoggedActs {
 }
 
 // An outcome of two words: a name stands behind a pointer, and a value that was not found is a variant of its own.
-#[derive(Debug, Drop)]
+#[derive(Drop)]
 enum CompactOutcome {
     /// It was performed.
     Done,
@@ -160,7 +160,7 @@ enum CompactOutcome {
 }
 
 /// The outcome of an entry. Contracts see the outcome.
-#[derive(Debug, Drop)]
+#[derive(Drop)]
 pub struct LoggedOutcome {
     compact: CompactOutcome,
 }
@@ -283,7 +283,7 @@ impl LoggedOutcome {
 }
 
 /// How a put, a take or a peek that was asked for came to pass.
-#[derive(Clone, Copy, Debug, PartialEq, Eq)]
+#[derive(Clone, Copy, PartialEq, Eq)]
 pub struct Passage {
     /// What passed: an item went in or out, or was shown.
     pub kind: MoveKind,
@@ -298,7 +298,7 @@ pub struct Passage {
 }
 
 /// The passage of an entry. Contracts see the passage.
-#[derive(Debug, Drop)]
+#[derive(Drop)]
 pub struct LoggedPassage {
     passage: Box<Passage>,
 }
@@ -330,7 +330,7 @@ impl LoggedPassage {
 }
 
 /// How a sequence was granted.
-#[derive(Clone, Copy, Debug, PartialEq, Eq)]
+#[derive(Clone, Copy, PartialEq, Eq)]
 pub struct Grant {
     /// The sequence.
     pub id: SeqId,
@@ -339,7 +339,7 @@ pub struct Grant {
 }
 
 /// The grant of an entry. Contracts see the grant.
-#[derive(Debug, Drop)]
+#[derive(Drop)]
 pub struct LoggedGrant {
     grant: Box<Grant>,
 }
@@ -371,7 +371,7 @@ impl LoggedGrant {
 }
 
 /// An entry of the log. Its place is the number of the entries before it.
-#[derive(Debug, Drop)]
+#[derive(Drop)]
 pub enum Entry {
     /// A phase begins.
     Begin(Phase),

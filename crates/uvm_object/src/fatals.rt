@@ -8,7 +8,7 @@ use uvm_glob::Name;
 use uvm_report::{Report, Severity, Text};
 
 /// A fatal report of the kernel: why it refuses an act, or gives up.
-#[derive(Clone, Copy, Debug, PartialEq, Eq)]
+#[derive(Clone, Copy, PartialEq, Eq)]
 pub enum Fatal {
     /// ILLACT: the act is for another kind of object.
     NotOpen,

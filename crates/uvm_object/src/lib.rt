@@ -10,16 +10,15 @@ mod lines;
 mod logs;
 mod objects;
 mod sequence_lines;
-#[cfg(test)]
-mod tests;
 
+pub use act_lines::act_text;
 pub use acts::{Act, Acts, ActsIter, Call, Deed, What, Who};
 pub use entries::{
     Entry, Grant, LoggedActs, LoggedCall, LoggedCause, LoggedGrant, LoggedOutcome, LoggedPassage,
     Outcome, Passage, Reason,
 };
 pub use fatals::Fatal;
-pub use lines::{line_of, shown_path};
+pub use lines::{call_text, line_of, shown_path};
 pub use logs::{Log, LogFault};
 pub use objects::UvmObject;
 pub use sequence_lines::source_of;

@@ -1,6 +1,6 @@
 //! The lines of entries.
 
-ghost use Rattle.std.specs.Prelude.{◌≡◌, ◌++◌, ◌∷◌, [], OnOk, OnErr};
+ghost use Rattle.std.specs.Prelude.{◌≡◌, ◌++◌, ◌∷◌, [], IfOk, OnOk, OnErr};
 ghost use Rattle.std.specs.Fmt.{decimal, signed_decimal};
 ghost use Rattle.uvm_object.specs.declared.entries.Entry.TheVariants.{Passed};
 ghost use Rattle.uvm_object.specs.declared.acts.Call.TheVariants as call;
@@ -12,7 +12,7 @@ use crate::acts::{Call, Who};
 use crate::entries::{Entry, Outcome, Passage, Reason};
 use crate::item_lines::{answer_text, move_text, push_named, push_named_item, push_some_item};
 use crate::sequence_lines::{push_finished, push_granted, push_locked, push_next_item, push_who};
-use std::alloc::AllocError;
+use std::alloc::{AllocError, Global};
 use uvm_glob::Name;
 use uvm_sequencer::Sequences;
 use uvm_tlm::Item;
@@ -138,6 +138,15 @@ pub fn shown_path(node: NodeId, tree: &Tree) -> &[u8]
         Some(path) if path.depth() > 0 => path.as_bytes(),
         _ => b"uvm_top",
     }
+}
+
+/// Gives the text of a call, as it stands in the line of its entry, without the number of the acts that answer it.
+pub fn call_text(alloc: Global, call: &Call) -> Result<Vec<u8>, AllocError>
+    ensures { IfOk result (λ text. text.items ≡ call_text call.now) }
+{
+    let mut text = Vec::new(alloc);
+    push_call(call, &mut text)?;
+    Ok(text)
 }
 
 fn push_call(call: &Call, line: &mut Vec<u8>) -> Result<(), AllocError>

@@ -5,8 +5,6 @@ mod faults;
 pub mod laws;
 mod nodes;
 mod objections;
-#[cfg(test)]
-mod tests;
 mod walks;
 
 pub use faults::BelowZero;

@@ -16,7 +16,7 @@ use std::marker::Model;
 use uvm_tree::NodeId;
 
 /// A drain that began: whose, and when it is due.
-#[derive(Clone, Copy, Debug, PartialEq, Eq)]
+#[derive(Clone, Copy, PartialEq, Eq)]
 pub struct Due {
     /// The node that holds its count back.
     pub node: NodeId,

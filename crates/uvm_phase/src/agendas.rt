@@ -11,7 +11,7 @@ use std::collections::VecDeque;
 use std::marker::Model;
 
 /// What caused a call.
-#[derive(Clone, Copy, Debug, PartialEq, Eq)]
+#[derive(Clone, Copy, PartialEq, Eq)]
 pub struct Cause {
     /// The place of an entry of a log, from 0.
     pub place: u64,
@@ -20,7 +20,7 @@ pub struct Cause {
 }
 
 /// A call that is due.
-#[derive(Debug, Drop)]
+#[derive(Drop)]
 pub struct Due<O, N> {
     /// When it is due, in ticks of simulated time.
     pub time: u64,

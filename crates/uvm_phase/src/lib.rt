@@ -4,8 +4,6 @@
 mod agendas;
 pub mod laws;
 mod phases;
-#[cfg(test)]
-mod tests;
 
 pub use agendas::{Agenda, Cause, Due};
 pub use phases::{Phase, Schedule};

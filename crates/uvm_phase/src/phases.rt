@@ -4,7 +4,7 @@ ghost use Rattle.std.specs.Prelude.{◌≡◌, Some};
 ghost use Rattle.uvm_phase.specs.Phases.{phase_number, phase_after, is_top_down, is_task, phase_name};
 
 /// A phase, in the order in which they run (IEEE 1800.2-2020, Clause 9). `Run` alone takes simulated time.
-#[derive(Clone, Copy, Debug, PartialEq, Eq)]
+#[derive(Clone, Copy, PartialEq, Eq)]
 pub enum Phase {
     /// Components are made and configured.
     Build,
@@ -68,7 +68,7 @@ impl Phase {
 }
 
 /// The order of the phases, from build to final (IEEE 1800.2-2020, Clause 9).
-#[derive(Clone, Copy, Debug)]
+#[derive(Clone, Copy)]
 pub struct Schedule;
 
 impl Schedule {

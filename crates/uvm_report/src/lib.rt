@@ -9,8 +9,6 @@ mod reports;
 mod settings;
 mod severities;
 mod tallies;
-#[cfg(test)]
-mod tests;
 mod texts;
 
 pub use faults::TextFault;

@@ -10,7 +10,7 @@ use std::alloc::AllocError;
 use uvm_glob::Name;
 
 /// A report (IEEE 1800.2-2020, Clause 6).
-#[derive(Debug, Drop)]
+#[derive(Drop)]
 pub struct Report {
     /// How severe it is, as it is issued.
     pub severity: Severity,
@@ -23,7 +23,7 @@ pub struct Report {
 }
 
 /// What becomes of a report.
-#[derive(Clone, Copy, Debug, PartialEq, Eq)]
+#[derive(Clone, Copy, PartialEq, Eq)]
 pub enum Fate {
     /// Its verbosity is above the level.
     Dropped,

@@ -12,7 +12,7 @@ use uvm_glob::{Glob, Name, Path};
 /// Which reports a setting is for. Of the settings that are for a report, those of a severity with an id go before those of an
 /// id, these before those of a severity, and these before those of all; within each of these four classes the last that was set
 /// prevails (IEEE 1800.2-2020, Clause 6).
-#[derive(Clone, Copy, Debug, PartialEq, Eq)]
+#[derive(Clone, Copy, PartialEq, Eq)]
 pub enum Which {
     /// All reports.
     All,

@@ -6,7 +6,7 @@ ghost use Rattle.uvm_report.specs.Severities.{severity_name, same_severity, defa
 use std::fmt;
 
 /// How severe a report is (IEEE 1800.2-2020, Clause 6), from the least to the most.
-#[derive(Clone, Copy, Debug, PartialEq, Eq)]
+#[derive(Clone, Copy, PartialEq, Eq)]
 pub enum Severity {
     /// Something to know. Reports of this severity alone have a verbosity.
     Info,
@@ -19,7 +19,7 @@ pub enum Severity {
 }
 
 /// What is done with a report: a set of actions (IEEE 1800.2-2020, Clause 6).
-#[derive(Clone, Copy, Debug, PartialEq, Eq)]
+#[derive(Clone, Copy, PartialEq, Eq)]
 pub struct Actions {
     /// Its line is displayed.
     pub display: bool,

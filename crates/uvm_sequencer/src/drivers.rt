@@ -6,7 +6,7 @@ ghost use Rattle.uvm_sequencer.specs.Drivers.{is_idle, wait_of, grant_of, hand_o
 use crate::starts::SeqId;
 
 /// How a driver asks for an item.
-#[derive(Clone, Copy, Debug, PartialEq, Eq)]
+#[derive(Clone, Copy, PartialEq, Eq)]
 pub enum How {
     /// It waits for one (the standard's `get_next_item`).
     Next,
@@ -17,7 +17,7 @@ pub enum How {
 }
 
 /// What comes of asking.
-#[derive(Clone, Copy, Debug, PartialEq, Eq)]
+#[derive(Clone, Copy, PartialEq, Eq)]
 pub enum Asked {
     /// There was no candidate for a `Try`, which has its answer.
     Nothing,
@@ -26,7 +26,7 @@ pub enum Asked {
 }
 
 /// Where the driver of a sequencer stands.
-#[derive(Debug, Drop)]
+#[derive(Drop)]
 pub enum Driver {
     /// It has not asked, or has its answer.
     Idle,

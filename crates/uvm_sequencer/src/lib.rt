@@ -10,8 +10,6 @@ mod requests;
 mod scans;
 mod sequencers;
 mod starts;
-#[cfg(test)]
-mod tests;
 
 pub use drivers::{Asked, Driver, How};
 pub use faults::SeqFault;

@@ -5,7 +5,7 @@ ghost use Rattle.uvm_sequencer.specs.Choices.{is_strict, is_random};
 
 /// How a sequencer chooses among the candidates (the standard's arbitration modes). A priority is a number of at least 1, and
 /// the greater goes first. A random mode wants a word wherever at least two remain to choose from.
-#[derive(Clone, Copy, Debug, PartialEq, Eq)]
+#[derive(Clone, Copy, PartialEq, Eq)]
 pub enum Mode {
     /// The first of the queue, whatever its priority.
     Fifo,

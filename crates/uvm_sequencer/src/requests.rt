@@ -9,7 +9,7 @@ use crate::starts::{SeqId, Sequences};
 use std::alloc::AllocError;
 
 /// What a sequence wants.
-#[derive(Clone, Copy, Debug, PartialEq, Eq)]
+#[derive(Clone, Copy, PartialEq, Eq)]
 pub enum Want {
     /// To send an item, with a priority of at least 1.
     Item(u16),
@@ -18,7 +18,7 @@ pub enum Want {
 }
 
 /// What a sequence waits for.
-#[derive(Clone, Copy, Debug, PartialEq, Eq)]
+#[derive(Clone, Copy, PartialEq, Eq)]
 pub struct Request {
     /// The sequence.
     pub seq: SeqId,

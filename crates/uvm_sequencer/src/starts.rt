@@ -12,7 +12,7 @@ use uvm_tree::NodeId;
 
 /// A sequence: its number, from 1, in the order in which sequences were started. `Sequences::start` gives these numbers; one
 /// of another list of sequences stands for the sequence of that number.
-#[derive(Clone, Copy, Debug, PartialEq, Eq, Hash)]
+#[derive(Clone, Copy, PartialEq, Eq, Hash)]
 pub struct SeqId {
     number: u64,
 }
@@ -37,7 +37,7 @@ impl SeqId {
 }
 
 /// Where a live sequence stands (the standard's `pre_start`, `body` and `post_start`).
-#[derive(Clone, Copy, Debug, PartialEq, Eq)]
+#[derive(Clone, Copy, PartialEq, Eq)]
 pub enum SeqStep {
     /// Before its body.
     PreStart,

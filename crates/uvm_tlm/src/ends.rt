@@ -4,7 +4,7 @@ ghost use Rattle.std.specs.Prelude.{◌≡◌};
 ghost use Rattle.uvm_tlm.specs.Ends.{accepts, agrees, is_port, is_target, port_kind};
 
 /// What a port or an export passes on (IEEE 1800.2-2020, 12.2).
-#[derive(Clone, Copy, Debug, PartialEq, Eq)]
+#[derive(Clone, Copy, PartialEq, Eq)]
 pub enum PortKind {
     /// Items that are put into a FIFO.
     Put,
@@ -17,7 +17,7 @@ pub enum PortKind {
 }
 
 /// What stands at an end of a connection.
-#[derive(Clone, Copy, Debug, PartialEq, Eq)]
+#[derive(Clone, Copy, PartialEq, Eq)]
 pub enum End {
     /// A port, which asks what it is connected to.
     Port(PortKind),

@@ -11,7 +11,7 @@ use std::marker::Model;
 use uvm_tree::NodeId;
 
 /// Who waits.
-#[derive(Clone, Copy, Debug, PartialEq, Eq)]
+#[derive(Clone, Copy, PartialEq, Eq)]
 pub struct Owner {
     /// The node of the port that was asked through.
     pub node: NodeId,
@@ -20,7 +20,7 @@ pub struct Owner {
 }
 
 /// What a move does.
-#[derive(Clone, Copy, Debug, PartialEq, Eq)]
+#[derive(Clone, Copy, PartialEq, Eq)]
 pub enum MoveKind {
     /// An item goes in.
     Put,
@@ -31,7 +31,7 @@ pub enum MoveKind {
 }
 
 /// A move, which ends the wait of a put, a take or a peek.
-#[derive(Clone, Copy, Debug, PartialEq, Eq)]
+#[derive(Clone, Copy, PartialEq, Eq)]
 pub struct Move {
     /// What it does.
     pub kind: MoveKind,
@@ -42,7 +42,7 @@ pub struct Move {
 }
 
 /// A put that waits for room.
-#[derive(Clone, Copy, Debug, PartialEq, Eq)]
+#[derive(Clone, Copy, PartialEq, Eq)]
 pub struct WaitingPut {
     /// Who waits.
     pub owner: Owner,
@@ -51,7 +51,7 @@ pub struct WaitingPut {
 }
 
 /// A take or a peek that waits for an item.
-#[derive(Clone, Copy, Debug, PartialEq, Eq)]
+#[derive(Clone, Copy, PartialEq, Eq)]
 pub struct WaitingTake {
     /// Who waits.
     pub owner: Owner,

@@ -1,5 +1,5 @@
 //! What passes through ports and FIFOs.
 
 /// An item, a transaction of four words.
-#[derive(Clone, Copy, Debug, PartialEq, Eq)]
+#[derive(Clone, Copy, PartialEq, Eq)]
 pub struct Item(pub [i64; 4]);

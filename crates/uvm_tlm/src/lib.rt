@@ -8,8 +8,6 @@ mod graphs;
 mod items;
 pub mod laws;
 mod node_lists;
-#[cfg(test)]
-mod tests;
 mod wirings;
 
 pub use ends::{End, PortKind};

@@ -17,7 +17,7 @@ use std::marker::Model;
 use uvm_tree::NodeId;
 
 /// A connection (the standard's `connect`).
-#[derive(Clone, Copy, Debug, PartialEq, Eq)]
+#[derive(Clone, Copy, PartialEq, Eq)]
 pub struct Connection {
     /// The port or export that asks.
     pub from: NodeId,

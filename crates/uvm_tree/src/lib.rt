@@ -7,8 +7,6 @@ mod faults;
 pub mod laws;
 mod nodes;
 mod orders;
-#[cfg(test)]
-mod tests;
 mod trees;
 
 pub use children::Children;

@@ -7,7 +7,7 @@ use std::marker::Model;
 use uvm_glob::{Name, Path};
 
 /// What stands at a node.
-#[derive(Clone, Copy, Debug, PartialEq, Eq)]
+#[derive(Clone, Copy, PartialEq, Eq)]
 pub enum NodeKind {
     /// A component; the top is one.
     Component,
@@ -25,7 +25,7 @@ pub enum NodeKind {
 
 /// A node of a tree: 0 for the top, then by the order in which nodes were added. A tree gives these numbers; one of another
 /// tree stands for the node of that number.
-#[derive(Clone, Copy, Debug, PartialEq, Eq, Hash)]
+#[derive(Clone, Copy, PartialEq, Eq, Hash)]
 pub struct NodeId {
     number: u16,
 }
@@ -58,7 +58,7 @@ impl NodeId {
 }
 
 /// A node of a tree.
-#[derive(Debug, Drop)]
+#[derive(Drop)]
 pub struct Node {
     /// Its parent, and its name under it; the top alone has none.
     pub under: Option<(NodeId, Name)>,

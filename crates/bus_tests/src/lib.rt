@@ -1,0 +1,28 @@
+//! Tests of the crates of the bus bench by their public calls, and of scripts that are no text of a few lines. They stand apart from
+//! these, since a crate with tests is proved twice.
+#![tactic(auto)]
+
+#[cfg(test)]
+mod bus_runs;
+#[cfg(test)]
+mod calls;
+#[cfg(test)]
+mod commands;
+#[cfg(test)]
+mod debugging;
+#[cfg(test)]
+mod example;
+#[cfg(test)]
+mod files;
+#[cfg(test)]
+mod memories;
+#[cfg(test)]
+mod objects;
+#[cfg(test)]
+mod runs;
+#[cfg(test)]
+mod scripts;
+#[cfg(test)]
+mod texts;
+#[cfg(test)]
+mod verdicts;

@@ -1,0 +1,53 @@
+//! Scripts that are no text of a few lines: bytes that are no text, a text of the greatest length, and long arrays.
+
+use bench_script::{ScriptFault, read};
+use std::alloc::{AllocError, Global};
+
+// The fault of a script of so many spaces with some bytes behind them; `Memory` where there is none for it.
+fn fault_behind_spaces(alloc: Global, spaces: usize, bytes: &[u8]) -> Option<ScriptFault> {
+    match vec![in alloc; b' '; spaces] {
+        Ok(mut script) => match script.extend_from_slice(bytes) {
+            Ok(()) => read(alloc, script.as_slice()).err(),
+            Err(_) => Some(ScriptFault::Memory),
+        },
+        Err(_) => Some(ScriptFault::Memory),
+    }
+}
+
+#[test]
+fn faults_before_the_keys(rt: HostRuntime) {
+    let alloc = rt.alloc();
+    let longest = 1_048_576;
+    assert!(rt; fault_behind_spaces(alloc, longest, b"") == Some(ScriptFault::Missing));
+    assert!(rt; fault_behind_spaces(alloc, longest, b" ") == Some(ScriptFault::TooLong));
+    assert!(rt; fault_behind_spaces(alloc, longest, b" \xff") == Some(ScriptFault::TooLong));
+    assert!(rt; fault_behind_spaces(alloc, 0, b"version = \xff") == Some(ScriptFault::NotText));
+}
+
+// The fault of a script with so many elements of an array, of which none is a table; `Memory` where there is none for it.
+fn fault_of_elements(alloc: Global, key: &str, count: usize) -> Option<ScriptFault> {
+    let mut text = Vec::new(alloc);
+    match push_elements(key, count, &mut text) {
+        Ok(()) => read(alloc, text.as_slice()).err(),
+        Err(_) => Some(ScriptFault::Memory),
+    }
+}
+
+fn push_elements(key: &str, count: usize, text: &mut Vec<u8>) -> Result<(), AllocError> {
+    text.extend_from_slice(b"version = 1\n")?;
+    text.extend_from_slice(key.as_bytes())?;
+    text.extend_from_slice(b" = [")?;
+    for _ in 0..count {
+        text.extend_from_slice(b"1,")?;
+    }
+    text.extend_from_slice(b"]")
+}
+
+#[test]
+fn types_and_settings_are_counted_before_they_are_read(rt: HostRuntime) {
+    let alloc = rt.alloc();
+    assert!(rt; fault_of_elements(alloc, "type", 1024) == Some(ScriptFault::WrongKind));
+    assert!(rt; fault_of_elements(alloc, "type", 1025) == Some(ScriptFault::OutOfRange));
+    assert!(rt; fault_of_elements(alloc, "set", 65_536) == Some(ScriptFault::WrongKind));
+    assert!(rt; fault_of_elements(alloc, "set", 65_537) == Some(ScriptFault::OutOfRange));
+}

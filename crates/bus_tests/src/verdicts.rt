@@ -1,0 +1,61 @@
+//! The exit status of a verdict, and the line that tells its fault.
+
+use bench_script::ScriptFault;
+use bus_jobs::{Breakage, Verdict, tell};
+use std::alloc::Global;
+use std::io;
+use std::io::{ErrorKind, Write};
+
+// A writer that takes so many writes and fails at the next.
+#[derive(Drop)]
+pub(crate) struct Failing {
+    pub(crate) left: usize,
+}
+
+impl Write for Failing {
+    fn write(&mut self, buf: &[u8]) -> io::Result<usize> {
+        if self.left == 0 {
+            return Err(io::Error::from(ErrorKind::Other));
+        }
+        self.left -= 1;
+        Ok(buf.len())
+    }
+
+    fn flush(&mut self) -> io::Result<()> {
+        Ok(())
+    }
+}
+
+/// Whether a verdict is told by this status and this line, and by the same status where no line can be written.
+pub(crate) fn is_told(alloc: Global, verdict: Verdict, status: u8, line: &str) -> bool {
+    let mut err = Vec::new(alloc);
+    tell(&verdict, &mut err) == status
+        && err.as_slice() == line.as_bytes()
+        && tell(&verdict, &mut Failing { left: 0 }) == status
+}
+
+#[test]
+fn verdicts_are_told(rt: HostRuntime) {
+    let alloc = rt.alloc();
+    let not_toml = Verdict::Refused(ScriptFault::NotToml);
+    assert!(rt; is_told(alloc, Verdict::Clean, 0, ""));
+    assert!(rt; is_told(alloc, Verdict::Faulty, 1, ""));
+    assert!(rt; is_told(alloc, not_toml, 2, "bus_bench: script fault 2 NotToml\n"));
+    let no_memory = Verdict::Refused(ScriptFault::Memory);
+    assert!(rt; is_told(alloc, no_memory, 2, "bus_bench: script fault 11 Memory\n"));
+}
+
+#[test]
+fn breakages_are_told(rt: HostRuntime) {
+    for (breakage, line) in [
+        (Breakage::Memory, "bus_bench: memory\n"),
+        (Breakage::LogFull, "bus_bench: log full\n"),
+        (Breakage::Output, "bus_bench: output fault\n"),
+        (Breakage::Unread, "bus_bench: cannot read the file\n"),
+    ] {
+        assert!(rt;
+            is_told(rt.alloc(), Verdict::Broken(breakage), 3, line),
+            "of {line}"
+        );
+    }
+}

@@ -1,0 +1,16 @@
+//! The program `script_bench`: `run FILE..` runs documents, each a script with the answers of its objects.
+#![tactic(auto)]
+
+mod commands;
+mod program;
+
+use std::io::BufWriter;
+use std::process::ExitCode;
+
+fn main(rt: HostRuntime) -> ExitCode {
+    let mut err = rt.stderr();
+    ExitCode::from(match BufWriter::new(rt.alloc(), rt.stdout()) {
+        Ok(mut out) => program::run(&rt, &mut out, &mut err),
+        Err(_) => program::BROKEN,
+    })
+}

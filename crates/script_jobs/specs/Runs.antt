@@ -1,0 +1,101 @@
+-- What the run of a document does.
+use Rattle.std.specs.Prelude.{◌≡◌, ◌≢◌, ◌⊎◌, ℕ, Bool, true, false, List, [], ◌∷◌, Option, Some, None, Result, Ok, Err, codes}
+use Rattle.std.specs.Io.KnownBytes.{Keeps}
+use Rattle.toml.specs.Data.{Data, Members, as_table, get_member}
+use Rattle.rand_core.specs.Stream.{Stream}
+use Rattle.bench_script.specs.declared.faults.ScriptFault.{ScriptFault}
+use Rattle.bench_script.specs.declared.faults.ScriptFault.TheVariants as faults
+use Rattle.bench_script.specs.Reading.{and_then}
+use Rattle.bench_script.specs.Documents.{script_beside, tree_of_bytes}
+use Rattle.bench_script.specs.Scripts.{ScriptValue}
+use Rattle.bench_run.specs.Endings.{is_clean}
+use Rattle.bench_run.specs.Running.{IsRun}
+use Rattle.bench_run.specs.declared.endings.Ending.{Ending}
+use Rattle.bench_run.specs.declared.faults.RunFault.{RunFault}
+use Rattle.bus_jobs.specs.Runs.{tested, with_test}
+use Rattle.bus_jobs.specs.Verdicts.{breakage_of}
+use Rattle.bus_jobs.specs.declared.verdicts.Breakage.TheVariants as broke
+use Rattle.scripted_objects.specs.Tables.{AreTypesOf}
+use Rattle.scripted_objects.specs.declared.answers.TypeRules.{TypeRules}
+use Rattle.script_jobs.specs.Objects.{IsObjectFor, name_of, says_of, view_of}
+use Rattle.script_jobs.specs.declared.objects.BenchObject.{BenchObject}
+use Rattle.script_jobs.specs.declared.verdicts.Refusal.TheVariants.{Script, NoTable, UnknownType, Answers}
+use Rattle.script_jobs.specs.declared.verdicts.Verdict.{Verdict}
+use Rattle.script_jobs.specs.declared.verdicts.Verdict.TheVariants.{Clean, Faulty, Refused, Broken}
+
+-- the script that is run, or its first fault: that of the tree, its answers aside, with the test that is asked for in place of its own
+abbrev pub script_to_run : Members → Option (List ℕ) → Result ScriptValue ScriptFault
+script_to_run root test = and_then (and_then (script_beside (codes "answers" ∷ []) root) (with_test test)) tested
+
+-- what stands at the key of the answers are the rules of these types
+abbrev pub HoldsAnswers : Option Data → List TypeRules → Type 0
+HoldsAnswers None types = types ≡ []
+HoldsAnswers (Some answers) types = (table : Members) × (as_table answers ≡ Some table) × AreTypesOf table types
+
+-- why the answers of a document are refused
+abbrev pub IsNoTable : Option Data → Type 0
+IsNoTable None = ⊥
+IsNoTable (Some answers) = as_table answers ≡ None
+
+abbrev pub IsAnswersFault : Option Data → Verdict → Type 0
+IsAnswersFault answers Clean = ⊥
+IsAnswersFault answers Faulty = ⊥
+IsAnswersFault answers (Refused (Script fault)) = ⊥
+IsAnswersFault answers (Refused NoTable) = IsNoTable answers
+IsAnswersFault answers (Refused (UnknownType type_name)) = Unit {0}
+IsAnswersFault answers (Refused (Answers text)) = Unit {0}
+IsAnswersFault answers (Broken broke.Memory) = Unit {0}
+IsAnswersFault answers (Broken broke.LogFull) = ⊥
+IsAnswersFault answers (Broken broke.Output) = ⊥
+IsAnswersFault answers (Broken broke.Unread) = ⊥
+
+-- for the name of a type a document gives a new object of it
+abbrev pub GivesNamed : List TypeRules → List ℕ → Option BenchObject → Type 0
+GivesNamed types type_name None = ⊥
+GivesNamed types type_name (Some object) = IsObjectFor types type_name object
+
+-- a run on the words of a generator, over the objects of a document
+abbrev pub IsScriptRun : List TypeRules → Stream → ScriptValue → Bool → Option (List ℕ) → Option (List ℕ) → Result Ending RunFault → Type 0
+IsScriptRun types words script trace old new result = (left : Stream) × IsRun view_of name_of says_of (GivesNamed types) words left script trace old new result
+
+-- the script of a tree, with the rules of its types
+pub record HasBench (root : Members) (test : Option (List ℕ)) (script : ScriptValue) (types : List TypeRules) : Type 0 where
+  pub asked : script_to_run root test ≡ Ok script
+  pub answers : HoldsAnswers (get_member (codes "answers") root) types
+
+-- a run of the script of a tree, which ended so
+pub record RanTo (root : Members) (test : Option (List ℕ)) (words : Stream) (trace : Bool) (old new : Option (List ℕ)) (result : Result Ending RunFault) : Type 0 where
+  pub script : ScriptValue
+  pub types : List TypeRules
+  pub bench : HasBench root test script types
+  pub run : IsScriptRun types words script trace old new result
+
+-- the answers of a tree are refused, whose script has no fault
+pub record IsRefused (root : Members) (test : Option (List ℕ)) (old new : Option (List ℕ)) (verdict : Verdict) : Type 0 where
+  pub script : ScriptValue
+  pub asked : script_to_run root test ≡ Ok script
+  pub fault : IsAnswersFault (get_member (codes "answers") root) verdict
+  pub keeps : Keeps old new
+
+-- what the verdict says of the tree and of the bytes that the writer holds before and after
+abbrev pub IsTreeRun : Members → Option (List ℕ) → Stream → Bool → Option (List ℕ) → Option (List ℕ) → Verdict → Type 0
+IsTreeRun root test words trace old new Clean = (ending : Ending) × (is_clean ending ≡ true) × RanTo root test words trace old new (Ok ending)
+IsTreeRun root test words trace old new Faulty = (ending : Ending) × (is_clean ending ≡ false) × RanTo root test words trace old new (Ok ending)
+IsTreeRun root test words trace old new (Refused (Script fault)) = (script_to_run root test ≡ Err fault) × (fault ≢ faults.Memory) × Keeps old new
+IsTreeRun root test words trace old new (Refused refusal) = IsRefused root test old new (Refused refusal)
+IsTreeRun root test words trace old new (Broken breakage) =
+    ((breakage ≡ broke.Memory) × Keeps old new) ⊎ ((fault : RunFault) × (breakage ≡ breakage_of fault) × RanTo root test words trace old new (Err fault))
+
+-- the verdict on a script's fault
+abbrev pub refused_by : ScriptFault → Verdict
+refused_by faults.Memory = Broken broke.Memory
+refused_by fault = Refused (Script fault)
+
+-- the bytes are no document, or memory was refused, and nothing was written
+abbrev pub IsUnread : Result Members ScriptFault → Option (List ℕ) → Option (List ℕ) → Verdict → Type 0
+IsUnread parsed old new verdict = (((fault : ScriptFault) × (parsed ≡ Err fault) × (verdict ≡ Refused (Script fault))) ⊎ (verdict ≡ Broken broke.Memory)) × Keeps old new
+
+-- what the verdict says of the bytes of a document, and of those that the writer holds before and after
+abbrev pub IsBenchRun : List ℕ → Option (List ℕ) → Stream → Bool → Option (List ℕ) → Option (List ℕ) → Verdict → Type 0
+IsBenchRun bytes test words trace old new verdict =
+    ((root : Members) × (tree_of_bytes bytes ≡ Ok root) × IsTreeRun root test words trace old new verdict) ⊎ IsUnread (tree_of_bytes bytes) old new verdict

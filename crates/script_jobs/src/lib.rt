@@ -1,0 +1,11 @@
+//! The job of `script_bench`: the run of a document that holds a script, and the answers of its objects.
+#![tactic(auto)]
+
+mod answers;
+mod objects;
+mod runs;
+mod verdicts;
+
+pub use objects::BenchObject;
+pub use runs::run_bench;
+pub use verdicts::{Refusal, Verdict};

@@ -1,0 +1,63 @@
+//! The objects of a run.
+
+ghost use Rattle.std.specs.Prelude.{IfOk};
+ghost use Rattle.script_jobs.specs.Objects.{IsObjectFor};
+
+use bus_objects::BusObject;
+use scripted_objects::{Answers, Scripted};
+use std::alloc::{AllocError, Global};
+use uvm_glob::Name;
+use uvm_object::{Acts, Call, UvmObject};
+
+/// An object of a run: one whose answers are data, or one of the bus bench.
+#[derive(Drop)]
+pub enum BenchObject<'a> {
+    /// Its answers are data.
+    Scripted(Scripted<'a>),
+    /// It is one of the bus bench.
+    Bus(BusObject),
+}
+
+impl<'a> BenchObject<'a> {
+    /// Makes the object of a type: where it has answers one that gives these, else that of the bus bench, if it has the type, and else one
+    /// that answers each call with no acts.
+    pub fn of_type(
+        alloc: Global,
+        answers: &'a Answers,
+        type_name: &Name,
+    ) -> Result<BenchObject<'a>, AllocError>
+        ensures { IfOk result (IsObjectFor answers.now.types.items type_name.now) }
+    {
+        if let Some(rules) = answers.of_type(type_name) {
+            return Ok(BenchObject::Scripted(Scripted::new(alloc, type_name, rules)?));
+        }
+        match BusObject::of_type(alloc, type_name) {
+            Some(object) => Ok(BenchObject::Bus(object)),
+            None => Ok(BenchObject::Scripted(Scripted::new(alloc, type_name, &[])?)),
+        }
+    }
+}
+
+impl UvmObject for BenchObject<'_> {
+    ghost use Rattle.script_jobs.specs.Objects.{name_of, says_of, view_of};
+
+    ghost view = { view_of };
+
+    ghost name = { name_of };
+
+    ghost says = { says_of };
+
+    fn type_name(&self) -> &Name {
+        match self {
+            BenchObject::Scripted(scripted) => scripted.type_name(),
+            BenchObject::Bus(object) => object.type_name(),
+        }
+    }
+
+    fn hear(&mut self, alloc: Global, call: &Call) -> Result<Acts, AllocError> {
+        match self {
+            BenchObject::Scripted(scripted) => scripted.hear(alloc, call),
+            BenchObject::Bus(object) => object.hear(alloc, call),
+        }
+    }
+}

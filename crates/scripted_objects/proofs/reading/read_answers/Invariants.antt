@@ -1,0 +1,10 @@
+use Rattle.std.proofs.Common.{◌≡◌, ◌++◌, List, String}
+use Rattle.std.specs.declared.alloc.Global.{Global}
+use Rattle.toml.specs.declared.value.Value.{Value}
+use Rattle.scripted_objects.proofs.Types.{AreOf}
+use Rattle.scripted_objects.proofs.reading.read_answers.Given as goal
+
+-- the types so far are those of the entries before the ones that are left
+abbrev pub invariant-loop-type_name : goal.invariant-loop-type_name
+invariant-loop-type_name l =
+    (done : List (String Global × Value)) × (done ++ l.type_name-iterator ≡ l.table.entries) × AreOf done l.types.items

@@ -1,0 +1,115 @@
+//! The act that a line is.
+
+use crate::faults::AnswerFault;
+use crate::items::{item, port_kind};
+use crate::report_acts::report_act;
+use crate::sequence_acts::{mode, sequence_act};
+use crate::words::Words;
+use std::alloc::Global;
+use uvm_object::{Act, What};
+
+// The act that a line is, by its first word. What stands behind the act is not looked at.
+pub(crate) fn act_of(alloc: Global, line: &str) -> Result<Act, AnswerFault> {
+    let mut words = Words::of(line);
+    match words.word()? {
+        "create" => Ok(Act::Create {
+            type_name: words.name()?,
+            name: words.name()?,
+        }),
+        "add" => Ok(Act::Add {
+            name: words.name()?,
+            what: what(&mut words)?,
+        }),
+        "set" => Ok(Act::Set {
+            glob: words.glob(alloc)?,
+            field: words.name()?,
+            value: words.integer()?,
+        }),
+        "get" => Ok(Act::Get {
+            field: words.name()?,
+        }),
+        "override" => override_act(alloc, &mut words),
+        "connect" => Ok(Act::Connect {
+            from: words.path(alloc)?,
+            to: words.path(alloc)?,
+        }),
+        "raise" => Ok(Act::RaiseObjection {
+            count: words.small()?,
+        }),
+        "drop" => Ok(Act::DropObjection {
+            count: words.small()?,
+        }),
+        "set_drain" => Ok(Act::SetDrain {
+            ticks: words.number()?,
+        }),
+        "wait" => Ok(Act::Wait {
+            ticks: words.number()?,
+            tag: words.tag()?,
+        }),
+        "put" => Ok(Act::Put {
+            port: words.name()?,
+            item: item(&mut words)?,
+        }),
+        "try_put" => Ok(Act::TryPut {
+            port: words.name()?,
+            item: item(&mut words)?,
+        }),
+        "write" => Ok(Act::Write {
+            port: words.name()?,
+            item: item(&mut words)?,
+        }),
+        "take" => Ok(Act::Take {
+            port: words.name()?,
+        }),
+        "try_take" => Ok(Act::TryTake {
+            port: words.name()?,
+        }),
+        "peek" => Ok(Act::Peek {
+            port: words.name()?,
+        }),
+        "report" | "verbosity" | "actions" | "severity" => report_act(alloc, line),
+        _ => sequence_act(alloc, line),
+    }
+}
+
+fn what(words: &mut Words<'_>) -> Result<What, AnswerFault> {
+    match words.word()? {
+        "sequencer" => Ok(What::Sequencer { mode: mode(words)? }),
+        "fifo" => Ok(What::Fifo {
+            size: words.small()?,
+        }),
+        "port" => Ok(What::Port {
+            kind: port_kind(words)?,
+        }),
+        "export" => Ok(What::Export {
+            kind: port_kind(words)?,
+        }),
+        "imp" => Ok(What::Imp),
+        _ => Err(AnswerFault::NoAct),
+    }
+}
+
+fn override_act(alloc: Global, words: &mut Words<'_>) -> Result<Act, AnswerFault> {
+    let original = words.name()?;
+    let new = words.name()?;
+    if words.is_done() {
+        return Ok(Act::OverrideType {
+            original,
+            new,
+            replace: false,
+        });
+    }
+    match words.word()? {
+        "replace" => Ok(Act::OverrideType {
+            original,
+            new,
+            replace: true,
+        }),
+        "at" => Ok(Act::OverrideInst {
+            original,
+            new,
+            glob: words.glob(alloc)?,
+        }),
+        _ => Err(AnswerFault::NoAct),
+    }
+}

@@ -1,0 +1,31 @@
+//! Objects whose answers are data: what an object of a type answers to each call stands in a TOML document, in the words of the
+//! transcript of a run.
+//!
+//! ```toml
+//! [answers.t]
+//! build = ["create c b", "create c a", "add f fifo 1"]
+//! "next_item sqp *" = ["put req *"]
+//! grant = [["send [1,0,10,0]"], ["send [0,0,0,0]"]]
+//! ```
+#![tactic(auto)]
+
+mod acts;
+mod answers;
+mod faults;
+mod items;
+pub mod laws;
+mod objects;
+mod patterns;
+mod reading;
+mod replies;
+mod report_acts;
+mod rules;
+mod sequence_acts;
+mod words;
+
+pub use answers::{Answers, TypeRules};
+pub use faults::{AnswerFault, FaultyAnswer};
+pub use objects::Scripted;
+pub use reading::read_answers;
+pub use replies::Reply;
+pub use rules::Rule;

@@ -1,0 +1,94 @@
+//! The object whose answers are data.
+
+ghost use Rattle.std.specs.Prelude.{◌≡◌, ◌<◌, length, map, option_map, replicate, IfOk, IfSome};
+ghost use Rattle.scripted_objects.specs.Acts.{act_with};
+ghost use Rattle.scripted_objects.specs.Rules.{found_from};
+
+use crate::patterns::item_in;
+use crate::replies::Reply;
+use crate::rules::Rule;
+use std::alloc::{AllocError, Global};
+use uvm_glob::Name;
+use uvm_object::{Acts, Call, UvmObject, call_text};
+use uvm_tlm::Item;
+
+/// An object whose answers are data. It answers a call by the first of its rules that has an answer to it, and with no acts where
+/// none has. It shows how many answers each of its rules has given.
+#[derive(Drop)]
+pub struct Scripted<'a> {
+    type_name: Name,
+    rules: &'a [Rule],
+    // How often each rule has answered, where that counts.
+    used: Vec<usize>,
+}
+
+impl<'a> Scripted<'a> {
+    /// A new object of a type, with the rules of the type. It has answered nothing.
+    pub fn new(
+        alloc: Global,
+        type_name: &Name,
+        rules: &'a [Rule],
+    ) -> Result<Scripted<'a>, AllocError>
+        ensures rules { IfOk result (λ scripted. scripted.rules.now ≡ rules.now) }
+        ensures name { IfOk result (λ scripted. scripted.type_name ≡ type_name.now) }
+        ensures used { IfOk result (λ scripted. scripted.used.items ≡ replicate (length rules.now) 0) }
+    {
+        Ok(Scripted {
+            type_name: *type_name,
+            rules,
+            used: vec![in alloc; 0; rules.len()]?,
+        })
+    }
+
+    // The first rule that has an answer to a call, and that answer.
+    fn answer(&self, line: &[u8], has_item: bool) -> Option<(usize, &'a [Reply])>
+        ensures found { option_map (λ found. (found.0, found.1.now)) result ≡ found_from 0 self.now.rules.now self.now.used.items line.now has_item }
+        ensures place { IfSome result (λ found. found.0 < length self.now.used.items) }
+    {
+        for (place, rule) in self.rules.iter().enumerate() {
+            let used = *self.used.get(place)?;
+            if let Some(answer) = rule.answer(line, used, has_item) {
+                return Some((place, answer));
+            }
+        }
+        None
+    }
+}
+
+impl UvmObject for Scripted<'_> {
+    ghost use Rattle.scripted_objects.specs.Scripted.{ScriptedSays};
+
+    ghost view = { λ scripted. scripted.used.items };
+
+    ghost name = { λ scripted. scripted.type_name };
+
+    ghost says = { λ scripted. ScriptedSays scripted.rules.now };
+
+    fn type_name(&self) -> &Name {
+        &self.type_name
+    }
+
+    fn hear(&mut self, alloc: Global, call: &Call) -> Result<Acts, AllocError> {
+        let line = call_text(alloc, call)?;
+        let item = item_in(call);
+        match self.answer(line.as_slice(), item.is_some()) {
+            Some((place, answer)) => {
+                let acts = acts_of(alloc, answer, item)?;
+                self.used[place] = self.used[place].saturating_add(1);
+                Ok(acts)
+            }
+            None => Ok(Acts::new(alloc)),
+        }
+    }
+}
+
+// The acts of an answer, with the item that was heard.
+fn acts_of(alloc: Global, answer: &[Reply], item: Option<Item>) -> Result<Acts, AllocError>
+    ensures { IfOk result (λ acts. acts ≡ map (act_with item) answer.now) }
+{
+    let mut acts = Acts::new(alloc);
+    for reply in answer {
+        acts.push(reply.act_with(item)?)?;
+    }
+    Ok(acts)
+}

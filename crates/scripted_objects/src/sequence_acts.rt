@@ -1,0 +1,61 @@
+//! The acts that have to do with sequences.
+
+use crate::faults::AnswerFault;
+use crate::items::{item, some_item};
+use crate::words::Words;
+use std::alloc::Global;
+use uvm_object::Act;
+use uvm_sequencer::{How, Mode};
+
+// The act of a sequence, or of its driver, that a line is.
+pub(crate) fn sequence_act(alloc: Global, line: &str) -> Result<Act, AnswerFault> {
+    let mut words = Words::of(line);
+    match words.word()? {
+        "ask" => Ok(Act::Ask {
+            port: words.name()?,
+            how: how(&mut words)?,
+        }),
+        "item_done" => Ok(Act::ItemDone {
+            port: words.name()?,
+            response: some_item(&mut words)?,
+        }),
+        "start" => Ok(Act::Start {
+            type_name: words.name()?,
+            name: words.name()?,
+            on: words.path(alloc)?,
+            priority: words.priority()?,
+        }),
+        "request" => Ok(Act::Request {
+            priority: words.priority()?,
+        }),
+        "lock" => Ok(Act::Lock),
+        "grab" => Ok(Act::Grab),
+        "unlock" => Ok(Act::Unlock),
+        "send" => Ok(Act::Send {
+            item: item(&mut words)?,
+        }),
+        "end_step" => Ok(Act::EndStep),
+        _ => Err(AnswerFault::NoAct),
+    }
+}
+
+// The next word is the mode of a sequencer.
+pub(crate) fn mode(words: &mut Words<'_>) -> Result<Mode, AnswerFault> {
+    match words.word()? {
+        "FIFO" => Ok(Mode::Fifo),
+        "WEIGHTED" => Ok(Mode::Weighted),
+        "RANDOM" => Ok(Mode::Random),
+        "STRICT_FIFO" => Ok(Mode::StrictFifo),
+        "STRICT_RANDOM" => Ok(Mode::StrictRandom),
+        _ => Err(AnswerFault::NoAct),
+    }
+}
+
+fn how(words: &mut Words<'_>) -> Result<How, AnswerFault> {
+    match words.word()? {
+        "next" => Ok(How::Next),
+        "try" => Ok(How::Try),
+        "get" => Ok(How::Get),
+        _ => Err(AnswerFault::NoAct),
+    }
+}

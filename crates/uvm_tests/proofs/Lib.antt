@@ -1,0 +1,12 @@
+mod Shown
+mod EntryLines
+mod CallLines
+mod ActLines
+mod ItemLines
+mod FatalReports
+mod FifoMoves
+mod Wirings
+mod SequencerGrants
+mod SequenceSteps
+mod ReportFates
+mod ReportTexts

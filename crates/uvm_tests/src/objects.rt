@@ -1,0 +1,268 @@
+//! Runs of the calls on acts, entries, outcomes and logs where there is memory.
+
+mod lines;
+
+use std::alloc::{AllocError, Global};
+use std::mem::size_of;
+use std::test::Fail;
+use uvm_glob::Name;
+use uvm_object::{
+    Act, Acts, Call, Deed, Entry, Fatal, Grant, Log, LogFault, LoggedGrant, LoggedOutcome,
+    LoggedPassage, Outcome, Passage, Who,
+};
+use uvm_phase::{Cause, Phase};
+use uvm_report::{Report, Severity};
+use uvm_sequencer::{SeqId, Sequences};
+use uvm_tlm::{Item, MoveKind};
+use uvm_tree::NodeId;
+
+const ITEM: Item = Item([1, -2, 10, 0]);
+
+fn override_type(name: Name, replace: bool) -> Act {
+    Act::OverrideType {
+        original: name,
+        new: name,
+        replace,
+    }
+}
+
+fn is_replaced(act: Option<&Act>) -> Option<bool> {
+    match act {
+        Some(Act::OverrideType { replace, .. }) => Some(*replace),
+        _ => None,
+    }
+}
+
+// Overrides of a type, of which the first replaces and the others are copies of one that does not.
+fn push_overrides(acts: &mut Acts, name: Name) -> Result<(), AllocError> {
+    acts.push(override_type(name, true))?;
+    push_copy(acts, &override_type(name, false))?;
+    push_copy(acts, &override_type(name, false))
+}
+
+fn push_copy(acts: &mut Acts, act: &Act) -> Result<(), AllocError> {
+    acts.push(act.copy()?)
+}
+
+#[test]
+fn acts_stand_in_order(rt: HostRuntime) -> Result<(), Fail> {
+    let name = Name::new(b"x")?;
+    let mut acts = Acts::new(rt.alloc());
+    assert!(rt; stand_in_order(&mut acts, name)?);
+    Ok(())
+}
+
+fn stand_in_order(acts: &mut Acts, name: Name) -> Result<bool, AllocError> {
+    let were_none = acts.is_empty();
+    push_overrides(acts, name)?;
+    Ok(were_none && !acts.is_empty() && acts.len() == 3 && are_told(acts) && are_gone_over(acts))
+}
+
+fn are_told(acts: &Acts) -> bool {
+    is_replaced(acts.get(0)) == Some(true)
+        && is_replaced(acts.get(1)) == Some(false)
+        && acts.get(3).is_none()
+}
+
+fn are_gone_over(acts: &Acts) -> bool {
+    let mut seen = [None; 3];
+    for (slot, act) in seen.iter_mut().zip(acts) {
+        *slot = is_replaced(Some(act));
+    }
+    acts.iter().len() == 3 && seen == [Some(true), Some(false), Some(false)]
+}
+
+#[test]
+fn an_act_is_shared(rt: HostRuntime) -> Result<(), Fail> {
+    let deed = Deed::new(rt.alloc(), override_type(Name::new(b"x")?, true))?;
+    assert!(rt; is_shared(&deed)?);
+    Ok(())
+}
+
+fn is_shared(deed: &Deed) -> Result<bool, AllocError> {
+    let shared = deed.share()?;
+    Ok(is_replaced(Some(deed.act())) == Some(true) && is_replaced(Some(shared.act())) == Some(true))
+}
+
+fn ended(entry: Option<&Entry>) -> Option<Phase> {
+    match entry {
+        Some(Entry::End(phase)) => Some(*phase),
+        _ => None,
+    }
+}
+
+#[test]
+fn a_log_keeps_entries_up_to_its_limit(rt: HostRuntime) {
+    let mut log = Log::new(rt.alloc(), 2);
+    assert!(rt; log.is_empty());
+    assert!(rt; is_filled(&mut log));
+    assert!(rt; is_gone_over(&log));
+}
+
+fn is_filled(log: &mut Log) -> bool {
+    log.reserve().is_ok()
+        && log.push(Entry::End(Phase::Build)).is_ok()
+        && log.push(Entry::End(Phase::Connect)).is_ok()
+        && log.is_full()
+        && log.push(Entry::End(Phase::Run)) == Err(LogFault::Full)
+}
+
+fn is_gone_over(log: &Log) -> bool {
+    let mut seen = [None; 2];
+    for (slot, entry) in seen.iter_mut().zip(log) {
+        *slot = ended(Some(entry));
+    }
+    seen == [Some(Phase::Build), Some(Phase::Connect)]
+        && log.len() == 2
+        && ended(log.get(0)) == Some(Phase::Build)
+        && ended(log.last()) == Some(Phase::Connect)
+        && log.get(2).is_none()
+}
+
+#[test]
+fn a_fatal_report_is_that_of_its_id_and_text(rt: HostRuntime) -> Result<(), Fail> {
+    let id = Name::new(b"CLDEXT")?;
+    let report = Fatal::ChildTaken.report(rt.alloc())?;
+    assert!(rt; is_of(&report, id));
+    Ok(())
+}
+
+fn is_of(report: &Report, id: Name) -> bool {
+    report.severity == Severity::Fatal
+        && report.id == id
+        && report.text.as_bytes() == b"child name taken".as_slice()
+        && report.verbosity == 0
+}
+
+#[test]
+fn a_fatal_has_its_id_and_its_text(rt: HostRuntime) {
+    let fatal = Fatal::NoSequencer;
+    assert!(rt; (fatal.id(), fatal.text()) == ("NOSQR", "no such sequencer"));
+}
+
+const CAUSE: Cause = Cause {
+    place: 9,
+    number: 2,
+};
+
+#[test]
+fn an_entry_tells_what_it_holds(rt: HostRuntime) -> Result<(), Fail> {
+    let call = Call::Phase(Phase::Run);
+    let acts = three_acts(rt.alloc())?;
+    let heard = Entry::heard(rt.alloc(), Who::Node(NodeId::TOP), call, Some(CAUSE), acts)?;
+    assert!(rt; holds(&heard, &call, CAUSE, 3));
+    Ok(())
+}
+
+fn three_acts(alloc: Global) -> Result<Acts, Fail> {
+    let name = Name::new(b"x")?;
+    let mut acts = Acts::new(alloc);
+    push_overrides(&mut acts, name)?;
+    Ok(acts)
+}
+
+fn holds(entry: &Entry, call: &Call, cause: Cause, count: usize) -> bool {
+    match entry {
+        Entry::Heard {
+            call: asked,
+            cause: why,
+            acts,
+            ..
+        } => *asked.get() == *call && why.get() == Some(cause) && acts.get().len() == count,
+        _ => false,
+    }
+}
+
+fn word(outcome: LoggedOutcome) -> &'static str {
+    word_for(outcome.get())
+}
+
+fn word_for(outcome: Outcome) -> &'static str {
+    match outcome {
+        Outcome::Done => "done",
+        Outcome::Made(_) => "made",
+        Outcome::Started(_) => "started",
+        Outcome::Value(None) => "no value",
+        Outcome::Value(Some(_)) => "value",
+        Outcome::Stored(_) => "stored",
+        Outcome::Taken(_) => "taken",
+        Outcome::Waits(_) => "waits",
+        Outcome::Finished => "finished",
+        Outcome::Refused(_) => "refused",
+    }
+}
+
+#[test]
+fn what_was_made_and_started_is_told(rt: HostRuntime) -> Result<(), Fail> {
+    let (name, id) = (Name::new(b"f")?, first_sequence(rt.alloc())?);
+    let room = Box::new(rt.alloc(), name)?;
+    assert!(rt; word(LoggedOutcome::made(room, name)) == "made");
+    assert!(rt; word(LoggedOutcome::started(id)) == "started");
+    Ok(())
+}
+
+#[test]
+fn what_was_taken_is_told(rt: HostRuntime) -> Result<(), Fail> {
+    for item in [Some(ITEM), None] {
+        assert!(rt; is_taken(rt.alloc(), item)?);
+    }
+    Ok(())
+}
+
+fn is_taken(alloc: Global, item: Option<Item>) -> Result<bool, AllocError> {
+    let outcome = LoggedOutcome::taken(alloc, item)?;
+    Ok(matches!(outcome.get(), Outcome::Taken(taken) if taken == item))
+}
+
+#[test]
+fn outcomes_without_memory_are_told(rt: HostRuntime) {
+    assert!(rt; word(LoggedOutcome::done()) == "done");
+    assert!(rt; word(LoggedOutcome::value(None)) == "no value");
+    assert!(rt; word(LoggedOutcome::value(Some(-1))) == "value");
+    assert!(rt; word(LoggedOutcome::stored(true)) == "stored");
+    assert!(rt; word(LoggedOutcome::waits(true)) == "waits");
+    assert!(rt; word(LoggedOutcome::finished()) == "finished");
+    assert!(rt; word(LoggedOutcome::refused(Fatal::NoObject)) == "refused");
+}
+
+#[test]
+fn passages_and_grants_are_kept(rt: HostRuntime) -> Result<(), Fail> {
+    let (port, id) = (Name::new(b"req")?, first_sequence(rt.alloc())?);
+    assert!(rt; is_passage_kept(rt.alloc(), port)?);
+    assert!(rt; is_grant_kept(rt.alloc(), id)?);
+    Ok(())
+}
+
+fn is_passage_kept(alloc: Global, port: Name) -> Result<bool, AllocError> {
+    let passage = Passage {
+        kind: MoveKind::Take,
+        who: Who::Node(NodeId::TOP),
+        port,
+        item: ITEM,
+        request: 7,
+    };
+    Ok(*LoggedPassage::new(alloc, passage)?.get() == passage)
+}
+
+fn is_grant_kept(alloc: Global, id: SeqId) -> Result<bool, AllocError> {
+    let grant = Grant { id, word: Some(30) };
+    Ok(*LoggedGrant::new(alloc, grant)?.get() == grant)
+}
+
+fn first_sequence(alloc: Global) -> Result<SeqId, Fail> {
+    let name = Name::new(b"a")?;
+    Ok(Sequences::new(alloc).start(NodeId::TOP, None, name, 100)?)
+}
+
+#[test]
+fn somebody_stands_at_a_node(rt: HostRuntime) {
+    let who = Who::Node(NodeId::TOP);
+    assert!(rt; who.copy() == who);
+    assert!(rt; who.node() == NodeId::TOP);
+}
+
+#[test]
+fn entries_are_small(rt: HostRuntime) {
+    let size = size_of::<Entry>();
+    assert!(rt; size <= 56, "{size} bytes");
+}

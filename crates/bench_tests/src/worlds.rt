@@ -1,42 +1,48 @@
 //! A world before its first entry.
 
-ghost use Rattle.std.specs.Prelude.{◌≡◌, true, IfOk};
+ghost use Rattle.std.specs.Prelude.{◌≡◌, true, IfSome, IsSome};
 ghost use Rattle.bench_world.specs.Sequencings.{IsMaking};
 
 use bench_history::Stage;
-use bench_script::read;
+use bench_script::{Script, read};
 use bench_world::World;
-use std::alloc::{AllocError, Global};
-use std::test::Fail;
-use uvm_glob::{Name, PathFault};
+use std::alloc::Global;
+use uvm_glob::Name;
 use uvm_object::{Act, Fatal};
 use uvm_phase::Phase;
 use uvm_tree::NodeId;
 
 const SCRIPT: &[u8] = b"version = 1\ntest = \"t\"\n[[type]]\nname = \"t\"\nkind = \"component\"\n";
 
-// The type and the name of what an act creates.
-fn created(act: Option<&Act>) -> Option<(Name, Name)> {
-    match act {
-        Some(Act::Create { type_name, name }) => Some((*type_name, *name)),
-        _ => None,
+#[test]
+fn a_new_world_is_to_create_the_test(rt: HostRuntime) {
+    assert!(rt; begins(rt.alloc()));
+}
+
+fn begins(alloc: Global) -> bool {
+    match read(alloc, SCRIPT) {
+        Ok(script) if script.test().is_some() => world_begins(alloc, script),
+        _ => false,
     }
 }
 
-// A world before its first entry.
-fn new_world(alloc: Global) -> Result<World, Fail>
-    ensures { IfOk result (λ world. world.sound ≡ true) }
+// No other function holds a world.
+fn world_begins(alloc: Global, script: Script) -> bool
+    requires { IsSome script.test }
 {
-    let script = read(alloc, SCRIPT)?;
-    script.test().ok_or("no test")?;
-    Ok(World::new(alloc, script)?)
+    match World::new(alloc, script) {
+        Ok(world) => is_right(&world),
+        Err(_) => false,
+    }
 }
 
-// What a world is to do first.
-fn next_creation(world: &World) -> Option<(Name, Name)>
+fn is_right(world: &World) -> bool
     requires { world.now.sound ≡ true }
 {
-    created(world.next_act())
+    is_new(world)
+        && lends_services(world)
+        && creates_the_test(world)
+        && refuses_unknown_types(world)
 }
 
 // Whether nothing has happened, and one act of the top is left.
@@ -56,57 +62,62 @@ fn is_new(world: &World) -> bool
         && world.next_call(Phase::Build).is_none()
 }
 
-// Whether the factory has the type of a name, and the other services begin with nothing.
-fn lends_services(world: &World, type_name: &Name) -> bool
+// Whether the factory has the type of the test, and the other services begin with nothing.
+fn lends_services(world: &World) -> bool
     requires { world.now.sound ≡ true }
 {
-    world.factory().find(type_name).is_some()
-        && !world.settings().is_full()
+    match Name::new(b"t") {
+        Ok(test) => world.factory().find(&test).is_some() && begins_with_nothing(world),
+        Err(_) => false,
+    }
+}
+
+fn begins_with_nothing(world: &World) -> bool
+    requires { world.now.sound ≡ true }
+{
+    !world.settings().is_full()
         && world.agenda().first().is_none()
         && world.reports().quit_count() == 0
 }
 
-#[test]
-fn a_new_world_is_to_create_the_test(rt: HostRuntime) -> Result<(), Fail> {
-    let expected = (Name::new(b"t")?, Name::new(b"uvm_test_top")?);
-    let world = new_world(rt.alloc())?;
-    let right = is_new(&world) && next_creation(&world) == Some(expected);
-    assert!(rt; right);
-    Ok(())
+// Whether the test is to be created next.
+fn creates_the_test(world: &World) -> bool
+    requires { world.now.sound ≡ true }
+{
+    match world.next_act() {
+        Some(Act::Create { type_name, name }) => {
+            type_name.as_bytes() == b"t".as_slice() && name.as_bytes() == b"uvm_test_top".as_slice()
+        }
+        _ => false,
+    }
 }
 
-#[test]
-fn a_new_world_lends_its_services(rt: HostRuntime) -> Result<(), Fail> {
-    let type_name = Name::new(b"t")?;
-    let world = new_world(rt.alloc())?;
-    let right = lends_services(&world, &type_name);
-    assert!(rt; right);
-    Ok(())
+// Whether the test may be created, and a component of an unknown type not.
+fn refuses_unknown_types(world: &World) -> bool
+    requires { world.now.sound ≡ true }
+{
+    match (creation(b"t"), creation(b"u")) {
+        (Some(known), Some(unknown)) => {
+            is_refused(world, &known, None) && is_refused(world, &unknown, Some(Fatal::InvalidType))
+        }
+        _ => false,
+    }
 }
 
-#[test]
-fn a_creation_of_an_unknown_type_would_be_refused(rt: HostRuntime) -> Result<(), Fail> {
-    let name = Name::new(b"uvm_test_top")?;
-    let (known, unknown) = (create(b"t", name)?, create(b"u", name)?);
-    let world = new_world(rt.alloc())?;
-    let refusals = (refusal_of(&world, &known), refusal_of(&world, &unknown));
-    assert!(rt; refusals == (Ok(None), Ok(Some(Fatal::InvalidType))));
-    Ok(())
-}
-
-// Why a creation by the top would be refused.
-fn refusal_of(world: &World, act: &Act) -> Result<Option<Fatal>, AllocError>
+// Whether a creation by the top would be refused so, or not at all.
+fn is_refused(world: &World, act: &Act, why: Option<Fatal>) -> bool
     requires sound { world.now.sound ≡ true }
     requires makes { IsMaking act.now }
 {
     let top = world.speaker();
-    world.refusal(&top, act)
+    world.refusal(&top, act) == Ok(why)
 }
 
-// The creation of a component of a type.
-fn create(type_name: &[u8], name: Name) -> Result<Act, PathFault>
-    ensures { IfOk result IsMaking }
+// The creation of the test, with a type.
+fn creation(type_name: &[u8]) -> Option<Act>
+    ensures { IfSome result IsMaking }
 {
-    let type_name = Name::new(type_name)?;
-    Ok(Act::Create { type_name, name })
+    let type_name = Name::new(type_name).ok()?;
+    let name = Name::new(b"uvm_test_top").ok()?;
+    Some(Act::Create { type_name, name })
 }

@@ -1,10 +1,7 @@
-//! Runs of the bus bench from its script, byte by byte. The expected texts are worked out by hand from the rules, and by a machine of
+//! Runs of the bus bench in which the words of a seed decide. The expected texts are worked out by hand from the rules, and by a machine of
 //! another make.
 
 mod crowd;
-mod faulty;
-mod pair;
-mod plain;
 
 use crate::texts::joined;
 use bus_jobs::{Verdict, run_bench};
@@ -35,20 +32,6 @@ type = [
 ]
 "#;
 
-// A memory that flips bits, and a driver that takes its time.
-const FAULTY: &str = r#"
-override = [
-  { orig = "bus_mem", new = "bus_mem_bad" },
-  { orig = "bus_driver", new = "slow_driver", at = "uvm_test_top.env.agent.*" },
-]
-set = [{ scope = "*", field = "waits", value = 1 }]
-"#;
-
-// A pair of sequences in place of one.
-const PAIR: &str = r#"
-override = [{ orig = "seq_smoke", new = "seq_pair", at = "uvm_test_top.env.agent.sqr.seq" }]
-"#;
-
 // Two pairs in a pair: four sequences that compete for one driver, and none of them locks. The mode stands behind this.
 const CROWD: &str = r#"
 override = [
@@ -60,49 +43,21 @@ override = [
 set = [{ scope = "*", field = "arb", value = "#;
 
 // Whether a run of the bus script with these lines behind it comes to a verdict and writes a text.
-fn comes_to(
-    alloc: Global,
-    more: &str,
-    seed: u64,
-    trace: bool,
-    verdict: Verdict,
-    text: &str,
-) -> bool {
+fn comes_to(alloc: Global, more: &str, seed: u64, verdict: Verdict, text: &str) -> bool {
     let mut out = Vec::new(alloc);
     match joined(alloc, &[BUS, more]) {
         Ok(script) => {
-            run_bench(alloc, script.as_bytes(), seed, None, trace, &mut out) == verdict
+            run_bench(alloc, script.as_bytes(), seed, None, false, &mut out) == verdict
                 && out.as_slice() == text.as_bytes()
         }
         Err(_) => false,
     }
 }
 
-#[test]
-fn bus_writes_and_reads_back(rt: HostRuntime) {
-    let alloc = rt.alloc();
-    assert!(rt; comes_to(alloc, "", 1, false, Verdict::Clean, plain::TEXT));
-    assert!(rt; comes_to(alloc, "", 1, true, Verdict::Clean, plain::TRACE));
-}
-
-#[test]
-fn faulty_memory_is_found_by_the_scoreboard(rt: HostRuntime) {
-    let alloc = rt.alloc();
-    assert!(rt; comes_to(alloc, FAULTY, 1, false, Verdict::Faulty, faulty::TEXT));
-    assert!(rt; comes_to(alloc, FAULTY, 1, true, Verdict::Faulty, faulty::TRACE));
-}
-
-#[test]
-fn pair_of_sequences_shares_the_driver(rt: HostRuntime) {
-    let alloc = rt.alloc();
-    assert!(rt; comes_to(alloc, PAIR, 1, false, Verdict::Clean, pair::TEXT));
-    assert!(rt; comes_to(alloc, PAIR, 1, true, Verdict::Clean, pair::TRACE));
-}
-
 // Whether a clean run of the crowd in a mode writes a text.
-fn crowd_writes(alloc: Global, mode: &str, seed: u64, trace: bool, text: &str) -> bool {
+fn crowd_writes(alloc: Global, mode: &str, seed: u64, text: &str) -> bool {
     match joined(alloc, &[CROWD, mode, " }]\n"]) {
-        Ok(more) => comes_to(alloc, more.as_str(), seed, trace, Verdict::Clean, text),
+        Ok(more) => comes_to(alloc, more.as_str(), seed, Verdict::Clean, text),
         Err(_) => false,
     }
 }
@@ -110,25 +65,16 @@ fn crowd_writes(alloc: Global, mode: &str, seed: u64, trace: bool, text: &str) -
 #[test]
 fn words_of_the_seed_decide_grants(rt: HostRuntime) {
     let alloc = rt.alloc();
-    assert!(rt; crowd_writes(alloc, "1", 1, false, crowd::WEIGHTED_TEXT));
-    assert!(rt; crowd_writes(alloc, "2", 1, false, crowd::RANDOM_TEXT));
-    assert!(rt; crowd_writes(alloc, "4", 1, false, crowd::STRICT_RANDOM_TEXT));
-    assert!(rt; crowd_writes(alloc, "1", 1, true, crowd::WEIGHTED_TRACE));
+    assert!(rt; crowd_writes(alloc, "1", 1, crowd::WEIGHTED_TEXT));
+    assert!(rt; crowd_writes(alloc, "2", 1, crowd::RANDOM_TEXT));
+    assert!(rt; crowd_writes(alloc, "4", 1, crowd::STRICT_RANDOM_TEXT));
 }
 
 #[test]
 fn words_of_another_seed_decide_otherwise(rt: HostRuntime) {
     let alloc = rt.alloc();
     let seed = u64::MAX;
-    assert!(rt; crowd_writes(alloc, "1", seed, false, crowd::WEIGHTED_OF_ANOTHER_SEED));
-    assert!(rt; crowd_writes(alloc, "2", seed, false, crowd::RANDOM_OF_ANOTHER_SEED));
-    assert!(rt;
-        crowd_writes(
-            alloc,
-            "4",
-            seed,
-            false,
-            crowd::STRICT_RANDOM_OF_ANOTHER_SEED
-        )
-    );
+    assert!(rt; crowd_writes(alloc, "1", seed, crowd::WEIGHTED_OF_ANOTHER_SEED));
+    assert!(rt; crowd_writes(alloc, "2", seed, crowd::RANDOM_OF_ANOTHER_SEED));
+    assert!(rt; crowd_writes(alloc, "4", seed, crowd::STRICT_RANDOM_OF_ANOTHER_SEED));
 }

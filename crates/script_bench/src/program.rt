@@ -1,16 +1,17 @@
 //! What the program does, on any runtime and with any writers.
 
 use crate::commands::{Options, command, options_of};
+use bench_script::ScriptFault;
 use bus_jobs::{Breakage, read_file};
 use clap::error::ErrorKind;
 use clap::{ArgMatches, Error};
-use script_jobs::{Refusal, Verdict, run_bench};
+use script_jobs::{Verdict, run_bench};
 use std::alloc::Global;
 use std::env;
 use std::fs::File;
 use std::io::Write;
 use std::rt::{Env, Files};
-use uvm_glob::Name;
+use uvm_glob::{Name, PathFault};
 
 /// The exit status where words or a file are refused.
 const REFUSED: u8 = 2;
@@ -68,8 +69,11 @@ fn refuse<O: Write, E: Write>(error: &Error, out: &mut O, err: &mut E) -> u8 {
     }
 }
 
+// Tells what broke, of no file.
 fn broken<E: Write>(breakage: Breakage, err: &mut E) -> u8 {
-    tell(&Verdict::Broken(breakage), err)
+    let message = breakage.message();
+    let _ = writeln!(err, "script_bench: {message}");
+    BROKEN
 }
 
 fn obey<R: Files + AllocGlobal, O: Write, E: Write>(
@@ -81,9 +85,9 @@ fn obey<R: Files + AllocGlobal, O: Write, E: Write>(
     let Some(("run", run)) = matches.subcommand() else {
         return REFUSED;
     };
-    let test = match test_of(run) {
-        Ok(test) => test,
-        Err(verdict) => return tell(&verdict, err),
+    let Ok(test) = test_of(run) else {
+        let _ = writeln!(err, "script_bench: {}", ScriptFault::BadName);
+        return REFUSED;
     };
     let options = options_of(run);
     match run.get_strs("file") {
@@ -93,13 +97,10 @@ fn obey<R: Files + AllocGlobal, O: Write, E: Write>(
 }
 
 // The test that is asked for, if one is.
-fn test_of(run: &ArgMatches<'_>) -> Result<Option<Name>, Verdict> {
-    let Some(text) = run.get_str("test") else {
-        return Ok(None);
-    };
-    match Name::new(text.as_bytes()) {
-        Ok(name) => Ok(Some(name)),
-        Err(_) => Err(Verdict::Refused(Refusal::Script(bench_script::ScriptFault::BadName))),
+fn test_of(run: &ArgMatches<'_>) -> Result<Option<Name>, PathFault> {
+    match run.get_str("test") {
+        Some(text) => Ok(Some(Name::new(text.as_bytes())?)),
+        None => Ok(None),
     }
 }
 
@@ -140,33 +141,27 @@ fn run_file<R: Files + AllocGlobal, O: Write, E: Write>(
     out: &mut O,
     err: &mut E,
 ) -> u8 {
-    let Ok(mut file) = File::open(rt, file) else {
-        return broken(Breakage::Unread, err);
+    let verdict = match bytes_of(rt, file) {
+        Ok(bytes) => {
+            let (seed, trace) = (options.seed, options.trace);
+            run_bench(rt.alloc(), bytes.as_slice(), seed, test, trace, out)
+        }
+        Err(breakage) => Verdict::Broken(breakage),
     };
-    let Ok(bytes) = read_file(rt.alloc(), &mut file) else {
-        return broken(Breakage::Unread, err);
-    };
-    report(rt.alloc(), bytes.as_slice(), options, test, out, err)
-}
-
-// Runs the document in some bytes, and flushes what was written.
-fn report<O: Write, E: Write>(
-    alloc: Global,
-    bytes: &[u8],
-    options: &Options,
-    test: Option<&Name>,
-    out: &mut O,
-    err: &mut E,
-) -> u8 {
-    let verdict = run_bench(alloc, bytes, options.seed, test, options.trace, out);
     if out.flush().is_err() {
         return broken(Breakage::Output, err);
     }
-    tell(&verdict, err)
+    let _ = verdict.write_line(file, err);
+    verdict.status()
 }
 
-// Writes the line of a verdict, and answers its status.
-fn tell<E: Write>(verdict: &Verdict, err: &mut E) -> u8 {
-    let _ = verdict.write_line(err);
-    verdict.status()
+fn bytes_of<R: Files + AllocGlobal>(rt: &R, file: &str) -> Result<Vec<u8>, Breakage> {
+    let Ok(mut file) = File::open(rt, file) else {
+        return Err(Breakage::Unread);
+    };
+    match read_file(rt.alloc(), &mut file) {
+        Ok(bytes) => Ok(bytes),
+        Err(bus_jobs::Verdict::Broken(breakage)) => Err(breakage),
+        Err(_) => Err(Breakage::Unread),
+    }
 }

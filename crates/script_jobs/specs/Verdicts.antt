@@ -1,5 +1,9 @@
--- How a run of a document ends.
-use Rattle.std.specs.Prelude.{ℕ}
+-- How a run of a document ends, and what is told of it.
+use Rattle.std.specs.Prelude.{ℕ, List, [], ◌∷◌, ◌++◌, codes, string_bytes}
+use Rattle.bench_script.specs.FaultTexts.{fault_text}
+use Rattle.bus_jobs.specs.Verdicts.{message_of}
+use Rattle.script_jobs.specs.declared.verdicts.Refusal.{Refusal}
+use Rattle.script_jobs.specs.declared.verdicts.Refusal.TheVariants.{Script, NoTable, UnknownType, Answers}
 use Rattle.script_jobs.specs.declared.verdicts.Verdict.{Verdict}
 use Rattle.script_jobs.specs.declared.verdicts.Verdict.TheVariants.{Clean, Faulty, Refused, Broken}
 
@@ -9,3 +13,21 @@ status_of Clean = 0
 status_of Faulty = 1
 status_of (Refused refusal) = 2
 status_of (Broken breakage) = 3
+
+-- what is told of a document that is refused
+abbrev pub refusal_text : Refusal → List ℕ
+refusal_text (Script fault) = fault_text fault
+refusal_text NoTable = codes "answers: no table"
+refusal_text (UnknownType type_name) = codes "answers." ++ type_name ++ codes ": no type of the script"
+refusal_text (Answers text) = string_bytes text
+
+-- a line on standard error about a file, with its newline (10)
+abbrev pub error_line : List ℕ → List ℕ → List ℕ
+error_line file message = codes "script_bench: " ++ file ++ codes ": " ++ message ++ 10 ∷ []
+
+-- what is written to standard error: the line of the fault, if there is one
+abbrev pub fault_line : List ℕ → Verdict → List ℕ
+fault_line file Clean = []
+fault_line file Faulty = []
+fault_line file (Refused refusal) = error_line file (refusal_text refusal)
+fault_line file (Broken breakage) = error_line file (message_of breakage)

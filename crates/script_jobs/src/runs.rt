@@ -3,6 +3,7 @@
 ghost use Rattle.std.specs.Prelude.{◌≡◌, ◌≢◌, IfErr, IfOk, IsSome, MatchResult, Ok, Err, if◌then◌else◌, option_copied};
 ghost use Rattle.toml.specs.View.{table_view};
 ghost use Rattle.bench_run.specs.Endings.{is_clean};
+ghost use Rattle.bench_script.specs.Documents.{IsReadable};
 ghost use Rattle.bus_jobs.specs.Runs.{words_of_seed};
 ghost use Rattle.script_jobs.specs.Runs.{GivesNamed, IsBenchRun, IsScriptRun, IsTreeRun, refused_by, script_to_run};
 
@@ -27,7 +28,8 @@ use uvm_glob::Name;
 ///
 /// The verdict is `Clean` where the run finished and neither an ERROR nor a FATAL was counted, `Faulty` where it ended otherwise,
 /// and `Refused`, with nothing written, where the bytes, their answers aside, are no script or have no such test, and then where
-/// the answers are at fault. It is `Broken` where the log is full, memory was refused, or a write failed.
+/// the answers are at fault. It is `Broken` where the log is full, memory was refused, which it is not for bytes that are no text or too
+/// many, or a write failed.
 pub fn run_bench<W: io::Write>(
     alloc: Global,
     bytes: &[u8],
@@ -36,7 +38,8 @@ pub fn run_bench<W: io::Write>(
     trace: bool,
     out: &mut W,
 ) -> Verdict
-    ensures { IsBenchRun bytes.now (option_copied test.entry) (words_of_seed seed) trace (W.contents out.old) (W.contents out.new) result }
+    ensures run { IsBenchRun bytes.now (option_copied test.entry) (words_of_seed seed) trace (W.contents out.old) (W.contents out.new) result }
+    ensures memory { result ≡ Verdict.Broken Breakage.Memory → IsReadable bytes.now }
 {
     match read_document(alloc, bytes) {
         Ok(root) => run_tree(alloc, &root, seed, test, trace, out),

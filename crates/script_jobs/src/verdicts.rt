@@ -1,7 +1,8 @@
 //! How a run of a document ends.
 
-ghost use Rattle.std.specs.Prelude.{◌≡◌};
-ghost use Rattle.script_jobs.specs.Verdicts.{status_of};
+ghost use Rattle.std.specs.Prelude.{◌≡◌, OnOk};
+ghost use Rattle.std.specs.Io.KnownBytes.{Appends, Keeps};
+ghost use Rattle.script_jobs.specs.Verdicts.{fault_line, status_of};
 ghost use Rattle.script_jobs.specs.declared.verdicts.Verdict.TheVariants.{Broken as broken};
 ghost use Rattle.bus_jobs.specs.declared.verdicts.Breakage.TheVariants.{Memory as memory};
 
@@ -46,6 +47,11 @@ impl From<AllocError> for Verdict {
 }
 
 impl fmt::Display for Refusal {
+    ghost use Rattle.std.specs.Prelude.{Some};
+    ghost use Rattle.script_jobs.specs.Verdicts.{refusal_text};
+
+    ghost output = { λ refusal. Some (refusal_text refusal) };
+
     fn fmt<W: fmt::Write>(&self, f: &mut fmt::Formatter<W>) -> fmt::Result {
         match self {
             Refusal::Script(fault) => write!(f, "{fault}"),
@@ -69,15 +75,19 @@ impl Verdict {
         }
     }
 
-    /// Writes the line that says what the fault is, or nothing where there is none. The error is the writer's, which may then have taken
-    /// a part of the line.
-    pub fn write_line<W: io::Write>(&self, err: &mut W) -> io::Result<()> {
+    /// Writes the line that says what the fault of a file is, or nothing where there is none. The error is the writer's, which may then have
+    /// taken a part of the line.
+    pub fn write_line<W: io::Write>(&self, file: &str, err: &mut W) -> io::Result<()>
+        ensures clean { self.now ≡ Verdict.Clean → Keeps (W.contents err.old) (W.contents err.new) }
+        ensures faulty { self.now ≡ Verdict.Faulty → Keeps (W.contents err.old) (W.contents err.new) }
+        ensures line { OnOk result (Appends (W.contents err.old) (W.contents err.new) (fault_line file.now self.now)) }
+    {
         match self {
             Verdict::Clean | Verdict::Faulty => Ok(()),
-            Verdict::Refused(refusal) => writeln!(err, "script_bench: {refusal}"),
+            Verdict::Refused(refusal) => writeln!(err, "script_bench: {file}: {refusal}"),
             Verdict::Broken(breakage) => {
                 let message = breakage.message();
-                writeln!(err, "script_bench: {message}")
+                writeln!(err, "script_bench: {file}: {message}")
             }
         }
     }

@@ -1,5 +1,5 @@
 -- An object whose answers are data gives one answer.
-use Rattle.std.proofs.Common.{◌≡◌, ℕ, refl, List, [], map, Option, Some, None, is_some}
+use Rattle.std.proofs.Common.{◌≡◌, ℕ, refl, List, [], map, Option, Some, None, is_some, slice_get}
 use Rattle.uvm_tlm.specs.declared.items.Item.{Item}
 use Rattle.uvm_object.specs.Lines.{call_text}
 use Rattle.uvm_object.specs.Objects.{View}
@@ -7,7 +7,7 @@ use Rattle.uvm_object.specs.declared.acts.Act.{Act}
 use Rattle.scripted_objects.specs.Acts.{act_with}
 use Rattle.scripted_objects.specs.Laws.{AnswersAreFunctions}
 use Rattle.scripted_objects.specs.Patterns.{item_in}
-use Rattle.scripted_objects.specs.Rules.{found_from}
+use Rattle.scripted_objects.specs.Rules.{answers_to}
 use Rattle.scripted_objects.specs.Scripted.{IsAnswer, one_more}
 use Rattle.scripted_objects.specs.declared.replies.Reply.{Reply}
 
@@ -18,4 +18,4 @@ said-by item before None = (([], before), (refl, refl), λ acts after is. is)
 said-by item before (Some found) = ((map (act_with item) found.1, one_more before found.0), (refl, refl), λ acts after is. is)
 
 pub answers_are_functions : AnswersAreFunctions
-answers_are_functions rules before call = said-by (item_in call) before (found_from 0 rules before (call_text call) (is_some (item_in call)))
+answers_are_functions rules before call = said-by (item_in call) before (slice_get (answers_to rules before (call_text call) (is_some (item_in call))) 0)

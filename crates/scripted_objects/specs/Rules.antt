@@ -1,6 +1,6 @@
 -- What a rule answers.
-use Rattle.std.specs.Prelude.{ℕ, suc, Bool, List, [], ◌∷◌, ◌||◌, not, Option, Some, None, slice_get, Vec, nat_eq, if◌then◌else◌, bytes_eq}
-use Rattle.std.specs.List.{list_any, starts_with}
+use Rattle.std.specs.Prelude.{ℕ, Bool, List, ◌||◌, not, Option, Some, None, slice_get, Vec, nat_eq, option_map, if◌then◌else◌, bytes_eq}
+use Rattle.std.specs.List.{enumerate_from, filter_map, list_any, starts_with, zip}
 use Rattle.std.specs.declared.alloc.Global.{Global}
 use Rattle.scripted_objects.specs.declared.replies.Reply.{Reply}
 use Rattle.scripted_objects.specs.declared.rules.Rule.{Rule}
@@ -22,13 +22,10 @@ given has_item (Some replies) = if has_item || not (needs_item replies.items) th
 abbrev pub answer_of : Rule → List ℕ → ℕ → Bool → Option (List Reply)
 answer_of rule line used has_item = if is_for rule line then given has_item (slice_get rule.answers.items (if rule.once then used else 0)) else None
 
--- the first rule that has an answer, by its place, and that answer
-abbrev pub found_here : Option (List Reply) → ℕ → Option (ℕ × List Reply) → Option (ℕ × List Reply)
-found_here None place later = later
-found_here (Some replies) place later = Some (place, replies)
+-- the answer of a rule at its place, which has answered so often
+abbrev pub answer_at : List ℕ → Bool → ℕ × (Rule × ℕ) → Option (ℕ × List Reply)
+answer_at line has_item at = option_map (λ replies. (at.0, replies)) (answer_of at.1.0 line at.1.1 has_item)
 
-abbrev pub found_from : ℕ → List Rule → List ℕ → List ℕ → Bool → Option (ℕ × List Reply)
-found_from place [] counts line has_item = None
-found_from place (rule ∷ rules) [] line has_item = None
-found_from place (rule ∷ rules) (used ∷ counts) line has_item =
-    found_here (answer_of rule line used has_item) place (found_from (suc place) rules counts line has_item)
+-- the answers that rules have to the call with this line, each with the place of its rule
+abbrev pub answers_to : List Rule → List ℕ → List ℕ → Bool → List (ℕ × List Reply)
+answers_to rules counts line has_item = filter_map (answer_at line has_item) (enumerate_from 0 (zip rules counts))

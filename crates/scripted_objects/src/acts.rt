@@ -33,6 +33,17 @@ pub(crate) fn act_of(alloc: Global, line: &str) -> Result<Act, AnswerFault> {
             from: words.path(alloc)?,
             to: words.path(alloc)?,
         }),
+        "raise" | "drop" | "set_drain" | "wait" => time_act(line),
+        "put" | "try_put" | "write" | "take" | "try_take" | "peek" => port_act(line),
+        "report" | "verbosity" | "actions" | "severity" => report_act(alloc, line),
+        _ => sequence_act(alloc, line),
+    }
+}
+
+// An act of objections and of time, or the fault of a line that is none.
+fn time_act(line: &str) -> Result<Act, AnswerFault> {
+    let mut words = Words::of(line);
+    match words.word()? {
         "raise" => Ok(Act::RaiseObjection {
             count: words.small()?,
         }),
@@ -46,6 +57,14 @@ pub(crate) fn act_of(alloc: Global, line: &str) -> Result<Act, AnswerFault> {
             ticks: words.number()?,
             tag: words.tag()?,
         }),
+        _ => Err(AnswerFault::NoAct),
+    }
+}
+
+// An act of a port, or the fault of a line that is none.
+fn port_act(line: &str) -> Result<Act, AnswerFault> {
+    let mut words = Words::of(line);
+    match words.word()? {
         "put" => Ok(Act::Put {
             port: words.name()?,
             item: item(&mut words)?,
@@ -67,8 +86,7 @@ pub(crate) fn act_of(alloc: Global, line: &str) -> Result<Act, AnswerFault> {
         "peek" => Ok(Act::Peek {
             port: words.name()?,
         }),
-        "report" | "verbosity" | "actions" | "severity" => report_act(alloc, line),
-        _ => sequence_act(alloc, line),
+        _ => Err(AnswerFault::NoAct),
     }
 }
 

@@ -1,8 +1,8 @@
 //! The object whose answers are data.
 
-ghost use Rattle.std.specs.Prelude.{◌≡◌, ◌<◌, length, map, option_map, replicate, IfOk, IfSome};
+ghost use Rattle.std.specs.Prelude.{◌≡◌, ◌<◌, length, map, option_map, replicate, slice_get, IfOk, IfSome};
 ghost use Rattle.scripted_objects.specs.Acts.{act_with};
-ghost use Rattle.scripted_objects.specs.Rules.{found_from};
+ghost use Rattle.scripted_objects.specs.Rules.{answers_to};
 
 use crate::patterns::item_in;
 use crate::replies::Reply;
@@ -42,7 +42,7 @@ impl<'a> Scripted<'a> {
 
     // The first rule that has an answer to a call, and that answer.
     fn answer(&self, line: &[u8], has_item: bool) -> Option<(usize, &'a [Reply])>
-        ensures found { option_map (λ found. (found.0, found.1.now)) result ≡ found_from 0 self.now.rules.now self.now.used.items line.now has_item }
+        ensures found { option_map (λ found. (found.0, found.1.now)) result ≡ slice_get (answers_to self.now.rules.now self.now.used.items line.now has_item) 0 }
         ensures place { IfSome result (λ found. found.0 < length self.now.used.items) }
     {
         for (place, rule) in self.rules.iter().enumerate() {

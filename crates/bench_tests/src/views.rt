@@ -1,0 +1,208 @@
+//! What a machine tells while it runs.
+
+use crate::benches::{Look, shows};
+use crate::plays::{push, supply};
+use bench_core::Core;
+use bench_kernel::{Kernel, Step};
+use rand_pcg::Pcg32;
+use std::alloc::{AllocError, Global};
+use uvm_factory::Kind;
+use uvm_glob::{Name, Path};
+use uvm_object::UvmObject;
+use uvm_phase::Phase;
+use uvm_tree::NodeId;
+
+const SCRIPT: &[u8] =
+    b"version = 1\ntest = \"t\"\ntype = [{ name = \"t\", kind = \"component\" }, { name = \"c\", kind = \"component\" }]
+set = [{ scope = \"*\", field = \"f\", value = 7 }]\n";
+
+#[test]
+fn need_is_told_until_it_is_met_and_then_the_phase_and_the_nodes(rt: HostRuntime) {
+    assert!(rt; shows(rt.alloc(), SCRIPT, Look::Begin));
+}
+
+// The test puts an item for its child `mem`, and takes the one that `mem` puts two ticks later.
+const MEMORY: &[u8] = b"version = 1
+test = \"t\"
+type = [{ name = \"t\", kind = \"component\" }, { name = \"c\", kind = \"component\" }]
+[answers.t]
+build = [\"create c mem\", \"add reqf fifo 1\", \"add rspf fifo 1\", \"add req port put\", \"add rsp port get\"]
+connect = [\"connect (req) (reqf)\", \"connect (mem.req) (reqf)\", \"connect (rsp) (rspf)\", \"connect (mem.rsp) (rspf)\"]
+run = [\"raise 1\", \"put req [1,0,10,0]\"]
+\"stored req\" = [\"take rsp\"]
+\"taken rsp *\" = [\"drop 1\"]
+[answers.c]
+build = [\"add req port get\", \"add rsp port put\"]
+run = [\"take req\"]
+\"taken req *\" = [\"wait 2 1\"]
+\"wake 1\" = [\"put rsp [1,0,10,0]\"]
+\"stored rsp\" = [\"take req\"]
+";
+
+#[test]
+fn waits_at_a_fifo_are_counted_until_the_phase_ends(rt: HostRuntime) {
+    assert!(rt;
+        shows(
+            rt.alloc(),
+            MEMORY,
+            Look::Waits(b"uvm_test_top.reqf", "121010")
+        )
+    );
+    assert!(rt;
+        shows(
+            rt.alloc(),
+            MEMORY,
+            Look::Waits(b"uvm_test_top.rspf", "1210")
+        )
+    );
+}
+
+#[test]
+fn nobody_waits_where_no_fifo_stands(rt: HostRuntime) {
+    assert!(rt; shows(rt.alloc(), MEMORY, Look::Waits(b"uvm_test_top.req", "")));
+}
+
+// Three sequences send one item each. All three wait before the driver asks, and each grant ends a wait.
+const PRIORITIES: &[u8] = b"version = 1
+test = \"t\"
+type = [{ name = \"t\", kind = \"component\" }, { name = \"q\", kind = \"sequence\" }]
+[answers.t]
+build = [\"add sqr sequencer STRICT_FIFO\", \"add sqp port seq\"]
+connect = [\"connect (sqp) (sqr)\"]
+run = [\"raise 3\", \"start q a (sqr) 10\", \"start q b (sqr) 30\", \"start q c (sqr) 30\", \"wait 1 1\"]
+\"wake 1\" = [\"ask sqp next\"]
+\"next_item sqp *\" = [\"item_done sqp none\", \"ask sqp next\"]
+\"finished *\" = [\"drop 1\"]
+[answers.q]
+pre_start = [\"request none\"]
+grant = [\"send [1,0,10,0]\"]
+\"item_done *\" = [\"end_step\", \"end_step\", \"end_step\"]
+";
+
+#[test]
+fn waits_at_a_sequencer_are_counted(rt: HostRuntime) {
+    assert!(rt;
+        shows(
+            rt.alloc(),
+            PRIORITIES,
+            Look::Waits(b"uvm_test_top.sqr", "123210")
+        )
+    );
+}
+
+/// Runs to the end, and writes how many wait at a path each time that it changes.
+pub(crate) fn write_waits<O: UvmObject, F: Fn(&Name) -> Result<Option<O>, AllocError>>(
+    alloc: Global,
+    kernel: &mut Kernel<O>,
+    path: &[u8],
+    make: &F,
+    digits: &mut Vec<u8>,
+) -> Option<()>
+    requires { F.IsAlwaysCallable make.now }
+{
+    let path = Path::parse(alloc, path).ok()?;
+    let mut last: &[u8] = b"0";
+    for _ in 0..200 {
+        if !goes_on(kernel, make) {
+            return if kernel.core().is_over() {
+                Some(())
+            } else {
+                None
+            };
+        }
+        let digit = waiting_at(kernel.core(), &path);
+        if digit != last {
+            push(digits, digit)?;
+            last = digit;
+        }
+    }
+    None
+}
+
+// Makes an entry, or hears that a sequence has ended: whether it does.
+fn goes_on<O: UvmObject, F: Fn(&Name) -> Result<Option<O>, AllocError>>(
+    kernel: &mut Kernel<O>,
+    make: &F,
+) -> bool
+    requires { F.IsAlwaysCallable make.now }
+{
+    let mut words = Pcg32::new(42, 54);
+    match kernel.step(&mut words) {
+        Ok(Step::Moved | Step::Back { .. }) => true,
+        Ok(Step::Need) => supply(kernel, make).is_some(),
+        Ok(Step::Over) | Err(_) => false,
+    }
+}
+
+// How many wait at a path, as a digit.
+fn waiting_at(core: &Core, path: &Path) -> &'static [u8] {
+    let count = match core.find(path) {
+        Some(node) => core.waiting(node),
+        None => 0,
+    };
+    match count {
+        0 => b"0",
+        1 => b"1",
+        2 => b"2",
+        3 => b"3",
+        _ => b"+",
+    }
+}
+
+/// Whether the test is needed, and needed again, and then made and begun to build.
+pub(crate) fn begins<O: UvmObject, F: Fn(&Name) -> Result<Option<O>, AllocError>>(
+    alloc: Global,
+    kernel: &mut Kernel<O>,
+    make: &F,
+) -> bool
+    requires { F.IsAlwaysCallable make.now }
+{
+    match (Path::parse(alloc, b"uvm_test_top"), Name::new(b"f")) {
+        (Ok(test), Ok(field)) => {
+            needs(kernel, &test)
+                && needs(kernel, &test)
+                && goes_on(kernel, make)
+                && goes_on(kernel, make)
+                && builds(kernel.core(), &test, &field)
+        }
+        _ => false,
+    }
+}
+
+// Whether the component at a path is needed, and nothing has happened.
+fn needs<O: UvmObject>(kernel: &mut Kernel<O>, path: &Path) -> bool {
+    let mut words = Pcg32::new(42, 54);
+    let asks = matches!(kernel.step(&mut words), Ok(Step::Need));
+    asks && is_needed(kernel.core(), path)
+}
+
+fn is_needed(core: &Core, path: &Path) -> bool {
+    match core.need() {
+        Some(need) => {
+            need.kind == Kind::Component
+                && need.path == *path
+                && core.find(path).is_none()
+                && core.phase().is_none()
+        }
+        None => false,
+    }
+}
+
+// Whether the test builds, and a field has the value of the script.
+fn builds(core: &Core, test: &Path, field: &Name) -> bool {
+    core.phase() == Some(Phase::Build)
+        && stands_at(core, test)
+        && !core.is_over()
+        && core.config(test, field) == Some(7)
+        && core.total(NodeId::TOP) == Some(0)
+        && core.now() == 0
+        && core.log().len() == 2
+}
+
+// Whether the node at a path has that path.
+fn stands_at(core: &Core, path: &Path) -> bool {
+    match core.find(path) {
+        Some(node) => core.path(node) == Some(path),
+        None => false,
+    }
+}

@@ -4,6 +4,7 @@
 mod choices;
 mod cores;
 mod faults;
+pub mod laws;
 
 pub use bench_history::Need;
 pub use cores::{Core, Health, Turn};

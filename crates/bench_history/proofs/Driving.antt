@@ -121,10 +121,10 @@ found-mode history None home e = cc
 found-mode history (Some at) home e = sequencer-mode history at home (node_at (nodes_of history) at) refl e
 
 -- each sequence was started on one
-abbrev HasHome : List Entry → Beginning → Type 0
+abbrev pub HasHome : List Entry → Beginning → Type 0
 HasHome history beginning = IsSome (mode_at history beginning.start.home)
 
-begun-mode : (history : List Entry) (home : ℕ) (found : Option Beginning) (id : ℕ) → numbered (begun_of history) id ≡ found → All (HasHome history) (begun_of history) → option_map (λ beginning. beginning.start.home) found ≡ Some home → IsSome (mode_at history home)
+pub begun-mode : (history : List Entry) (home : ℕ) (found : Option Beginning) (id : ℕ) → numbered (begun_of history) id ≡ found → All (HasHome history) (begun_of history) → option_map (λ beginning. beginning.start.home) found ≡ Some home → IsSome (mode_at history home)
 begun-mode history home None id is all e = cc
 begun-mode history home (Some beginning) id is all e =
     let same : beginning.start.home ≡ home = cc in

@@ -230,7 +230,7 @@ granted-served before node at id other s known e = tested (node == at) refl e
     tested false is e = known e
 
 -- a lock that is granted leads, and an item goes to who is chosen
-lock-alone : (node id : ℕ) (next : Next) → Allows next (Locked node id) → next ≡ Exactly (Locked node id)
+pub lock-alone : (node id : ℕ) (next : Next) → Allows next (Locked node id) → next ≡ Exactly (Locked node id)
 lock-alone node id (Exactly entry) allows = rw allows refl
 lock-alone node id (Answer performer call cause) allows = let other = allows.1 in cc
 lock-alone node id (Need need made performer act) (inl e) = cc

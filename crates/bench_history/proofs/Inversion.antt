@@ -35,14 +35,26 @@ use Rattle.bench_history.specs.Cases.{Next, Exactly, Answer, Need, Grant, Nothin
 use Rattle.bench_history.specs.Next.{first_next, next_of}
 use Rattle.bench_history.specs.Laws.{IsDue, IsDrainDue}
 
--- what the machine writes by itself, outside a phase's course: neither a mark, nor an answer, nor an act. Time stays within its limit, what
+-- time passes to the event that is due first, and not beyond its limit
+pub record IsPassing (script : ScriptValue) (history : List Entry) (time : ℕ) : Type 0 where
+  pub within : time ≤ script.time_limit
+  pub event : Event
+  pub first : first_due history ≡ Some event
+  pub time_is : event.time ≡ time
+
+-- the phase that runs is at its end: it takes no time, or no objection stands
+pub record IsEnding (history : List Entry) (phase : Phase) : Type 0 where
+  pub runs : stage_of history ≡ During phase
+  pub quiet : is_task phase && stands (objections_of history) ≡ false
+
+-- what the machine writes by itself, outside a phase's course: neither a mark, nor an answer, nor an act. Time passes to what is due, what
 -- passes is next to pass, and a drain that ends is due
 abbrev pub IsOwn : ScriptValue → List Entry → Entry → Type 0
 IsOwn script history (Begin phase) = ⊥
 IsOwn script history (End phase) = ⊥
 IsOwn script history (Heard performer call cause acts) = ⊥
 IsOwn script history (Did performer outcome act) = ⊥
-IsOwn script history (Time time) = time ≤ script.time_limit
+IsOwn script history (Time time) = IsPassing script history time
 IsOwn script history (Granted sequencer grant) = ⊥
 IsOwn script history (Locked sequencer id) = next_locked history ≡ Some (sequencer, id)
 IsOwn script history (Passed fifo passage) = next_passed history ≡ Some (fifo, passage)
@@ -71,7 +83,7 @@ pub data Case (script : ScriptValue) (history : List Entry) (next : Next) : Type
   -- or it is somebody's turn in the phase that runs
   ByTurn : (phase : Phase) (node : ℕ) → next_call phase history ≡ Some node → next ≡ Answer (who.Node node) (call.Phase phase) None → Case script history next
   -- or that phase ends
-  ByEnd : (phase : Phase) → stage_of history ≡ During phase → next ≡ Exactly (End phase) → Case script history next
+  ByEnd : (phase : Phase) → IsEnding history phase → next ≡ Exactly (End phase) → Case script history next
   -- or a phase begins
   ByBegin : (phase : Phase) → phase_to_begin (stage_of history) ≡ Some phase → next ≡ Exactly (Begin phase) → Case script history next
 
@@ -88,24 +100,24 @@ case-begin script history next (Some phase) is e = ByBegin phase is e
 case-begin script history next None is e = ByOwn (Over reason.Finished) tt e
 
 -- where time would pass
-case-limit : (script : ScriptValue) (history : List Entry) (next : Next) (event : Event) (late : Bool) → nat_lt script.time_limit event.time ≡ late → next ≡ Exactly (if late then Note Timeout 0 else Time event.time) → Case script history next
-case-limit script history next event true is e = ByOwn (Note Timeout 0) tt e
-case-limit script history next event false is e = ByOwn (Time event.time) (grind (arith, nat_tests)) e
+case-limit : (script : ScriptValue) (history : List Entry) (next : Next) (event : Event) (late : Bool) → first_due history ≡ Some event → nat_lt script.time_limit event.time ≡ late → next ≡ Exactly (if late then Note Timeout 0 else Time event.time) → Case script history next
+case-limit script history next event true first is e = ByOwn (Note Timeout 0) tt e
+case-limit script history next event false first is e = ByOwn (Time event.time) (record { within = grind (arith, nat_tests); event = event; first = first; time_is = refl }) e
 
-case-time : (script : ScriptValue) (history : List Entry) (next : Next) (first : Option Event) → next ≡ Exactly (time_passes script.time_limit first) → Case script history next
-case-time script history next None e = ByOwn (Note Stall 0) tt e
-case-time script history next (Some event) e = case-limit script history next event (nat_lt script.time_limit event.time) refl e
+case-time : (script : ScriptValue) (history : List Entry) (next : Next) (first : Option Event) → first_due history ≡ first → next ≡ Exactly (time_passes script.time_limit first) → Case script history next
+case-time script history next None is e = ByOwn (Note Stall 0) tt e
+case-time script history next (Some event) is e = case-limit script history next event (nat_lt script.time_limit event.time) is refl e
 
 -- where no port is unsound
-case-ended : (script : ScriptValue) (history : List Entry) (next : Next) (phase : Phase) (standing : Bool) → stage_of history ≡ During phase → next ≡ Exactly (if standing then time_passes script.time_limit (first_due history) else End phase) → Case script history next
-case-ended script history next phase true runs e = case-time script history next (first_due history) e
-case-ended script history next phase false runs e = ByEnd phase runs e
+case-ended : (script : ScriptValue) (history : List Entry) (next : Next) (phase : Phase) (standing : Bool) → stage_of history ≡ During phase → is_task phase && stands (objections_of history) ≡ standing → next ≡ Exactly (if standing then time_passes script.time_limit (first_due history) else End phase) → Case script history next
+case-ended script history next phase true runs is e = case-time script history next (first_due history) refl e
+case-ended script history next phase false runs is e = ByEnd phase (record { runs = runs; quiet = is }) e
 
 -- where each component had its call
 case-check : (script : ScriptValue) (history : List Entry) (next : Next) (phase : Phase) (connects : Bool) (port : Option (ℕ × Fatal)) → stage_of history ≡ During phase → next ≡ first_next ((if connects then option_map (λ port. Exactly (Note port.1 port.0)) port else None) ∷ phase_end script history (Some phase) ∷ phase_begin (phase_to_begin (stage_of history)) ∷ finish ∷ []) → Case script history next
 case-check script history next phase true (Some port) runs e = ByOwn (Note port.1 port.0) tt e
-case-check script history next phase true None runs e = case-ended script history next phase (is_task phase && stands (objections_of history)) runs e
-case-check script history next phase false port runs e = case-ended script history next phase (is_task phase && stands (objections_of history)) runs e
+case-check script history next phase true None runs e = case-ended script history next phase (is_task phase && stands (objections_of history)) runs refl e
+case-check script history next phase false port runs e = case-ended script history next phase (is_task phase && stands (objections_of history)) runs refl e
 
 case-turn : (script : ScriptValue) (history : List Entry) (next : Next) (phase : Phase) (turn : Option ℕ) → stage_of history ≡ During phase → next_call phase history ≡ turn → next ≡ first_next (option_map (λ node. Answer (who.Node node) (call.Phase phase) None) turn ∷ port_check history (Some phase) ∷ phase_end script history (Some phase) ∷ phase_begin (phase_to_begin (stage_of history)) ∷ finish ∷ []) → Case script history next
 case-turn script history next phase (Some node) runs is e = ByTurn phase node is e

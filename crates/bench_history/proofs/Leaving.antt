@@ -255,7 +255,7 @@ started-there (beginning ∷ older) id home e = tested (id == length (beginning 
         rw (number, ← place) (Contains-push (all_begun older) (who.Sequence (length (beginning ∷ older)) beginning.start.home))
     tested false is at earlier = Contains-append_left (all_begun older) _ (who.Sequence id home) (earlier at)
 
-filter-has : {X : Type 0} (p : X → Bool) (xs : List X) (x : X) → p x ≡ true → Contains xs x → Contains (filter p xs) x
+pub filter-has : {X : Type 0} (p : X → Bool) (xs : List X) (x : X) → p x ≡ true → Contains xs x → Contains (filter p xs) x
 filter-has p [] x passes has = absurd (omega (arith, has.1))
 filter-has p (y ∷ ys) x passes (zero, low, at) = let first : p y ≡ true = rw at passes in rw first (zero, omega arith, at)
 filter-has p (y ∷ ys) x passes (suc k, low, at) = behind (p y) (filter-has p ys x passes (k, omega (arith, low), at))

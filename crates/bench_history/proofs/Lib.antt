@@ -19,3 +19,13 @@ mod Driving
 mod Reported
 mod Timed
 mod Wired
+mod Olders
+mod Quiet
+mod Waking
+mod Timely
+mod Caused
+mod Forward
+mod Holding
+mod Arbitrating
+mod Sending
+mod Requesting

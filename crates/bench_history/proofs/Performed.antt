@@ -161,7 +161,7 @@ end-case script history phase next is (ByNeed act need made left upshot e) = cc
 end-case script history phase next is (ByDeed act outcome left plain comes e) = cc
 end-case script history phase next is (ByDue event call now is_call e) = cc
 end-case script history phase next is (ByTurn other node turn e) = cc
-end-case script history phase next is (ByEnd other runs e) = let same : other ≡ phase = cc in subst (λ (p : Phase). stage_of history ≡ During p) same runs
+end-case script history phase next is (ByEnd other runs e) = let same : other ≡ phase = cc in subst (λ (p : Phase). stage_of history ≡ During p) same runs.runs
 end-case script history phase next is (ByBegin other may e) = cc
 end-case script history phase next is (ByGrant sequencer word served e) = cc
 

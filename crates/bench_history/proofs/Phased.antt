@@ -60,7 +60,7 @@ end-case script history phase next is (ByNeed act need made left upshot e) = cc
 end-case script history phase next is (ByDeed act outcome left plain comes e) = cc
 end-case script history phase next is (ByDue event call now is_call e) = cc
 end-case script history phase next is (ByTurn running node turn e) = cc
-end-case script history phase next is (ByEnd running runs e) = let same : running ≡ phase = cc in rw (← same) runs
+end-case script history phase next is (ByEnd running runs e) = let same : running ≡ phase = cc in rw (← same) runs.runs
 end-case script history phase next is (ByBegin begins may e) = cc
 end-case script history phase next is (ByGrant sequencer drawn served e) = cc
 

@@ -31,13 +31,13 @@ use Rattle.bench_history.proofs.Needed.{needed}
 use Rattle.bench_history.proofs.Grown.{IsPlain, exact-plain, made_objects_are_new}
 
 -- where no child is refused nothing is wrong with it
-no-fault : (fault : Option TreeFault) → fatal_of fault ≡ None → fault ≡ None
+pub no-fault : (fault : Option TreeFault) → fatal_of fault ≡ None → fault ≡ None
 no-fault None e = refl
 no-fault (Some NameTaken) e = cc
 no-fault (Some fault) e = cc
 
 -- an object that is made is a child that is not refused
-made-free :
+pub made-free :
     (script : ScriptValue) (history : List Entry) (performer : Who) (type_name : List ℕ) (act : Act) (next : Next) → next_of script history ≡ next → Allows next (Did performer (Made type_name) act)
     → child_refusal (nodes_of history) (node_of performer) (created_name act) ≡ None
 made-free script history performer type_name act (Exactly entry) is allows =
@@ -128,6 +128,9 @@ added-free history performer name what (Need need made other deed) adds (inr e) 
 added-free history performer name what (Grant sequencer drawn chosen) adds allows = let e : Did performer Done (Add name what) ≡ Granted sequencer allows.0 = allows.3 in cc
 added-free history performer name what Nothing adds allows = absurd allows
 
+pub added-next : (script : ScriptValue) (before : List Entry) (performer : Who) (name : List ℕ) (what : What) → IsNext script before (Did performer Done (Add name what)) → child_refusal (nodes_of before) (node_of performer) name ≡ None
+added-next script before performer name what next = added-free before performer name what (next_of script before) (adds-case script before (next_of script before) refl (case-of script before)) next
+
 module _ (grow : NodesGrow) where
   -- so that one more entry leaves a tree
   tree-did : (script : ScriptValue) (before : List Entry) (performer : Who) (outcome : Outcome) (act : Act) → IsNext script before (Did performer outcome act) → AreNodes (nodes_of before) → AreNodes (nodes_after (nodes_of before) performer outcome act)
@@ -136,7 +139,7 @@ module _ (grow : NodesGrow) where
       (no-fault (add_fault (nodes_of before) (node_of performer) (created_name act)) (made-free script before performer type_name act (next_of script before) refl next))
   tree-did script before performer Done (Add name what) next are =
       grow.added (nodes_of before) (node_of performer) name (kind_of what) are
-      (no-fault (add_fault (nodes_of before) (node_of performer) name) (added-free before performer name what (next_of script before) (adds-case script before (next_of script before) refl (case-of script before)) next))
+      (no-fault (add_fault (nodes_of before) (node_of performer) name) (added-next script before performer name what next))
   tree-did script before performer outcome act next are = are
 
   tree-more : (script : ScriptValue) (before : List Entry) (entry : Entry) → IsNext script before entry → AreNodes (nodes_of before) → AreNodes (nodes_of (entry ∷ before))

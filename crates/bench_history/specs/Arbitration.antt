@@ -4,6 +4,7 @@ use Rattle.std.specs.Prelude.{ℕ, Bool, true, false, not, ◌&&◌, ◌==◌, n
 use Rattle.std.specs.List.{list_any}
 use Rattle.std.specs.Option.{option_map_or}
 use Rattle.uvm_glob.specs.Lists.{first_given}
+use Rattle.uvm_phase.specs.declared.phases.Phase.{Phase}
 use Rattle.uvm_sequencer.specs.declared.modes.Mode.{Mode}
 use Rattle.uvm_sequencer.specs.declared.drivers.How.{How}
 use Rattle.uvm_sequencer.specs.declared.drivers.Driver.{Driver}
@@ -27,7 +28,7 @@ use Rattle.uvm_object.specs.declared.entries.Outcome.TheVariants.{Done, Waits, F
 use Rattle.uvm_object.specs.declared.entries.Entry.{Entry}
 use Rattle.uvm_object.specs.declared.entries.Entry.TheVariants.{Did, Locked, Granted, End}
 use Rattle.bench_history.specs.declared.askers.DriverPort.{DriverPort}
-use Rattle.bench_history.specs.History.{nodes_of}
+use Rattle.bench_history.specs.History.{acting_in, nodes_of}
 use Rattle.uvm_tlm.specs.Fifos.{waiting_count}
 use Rattle.bench_history.specs.Passing.{station_at}
 use Rattle.bench_history.specs.Ports.{port_below}
@@ -186,6 +187,16 @@ abbrev pub driver_asker : List Entry → ℕ → Option DriverPort
 driver_asker [] node = None
 driver_asker (Did performer outcome act ∷ before) node = asker_by before node performer (driver_move outcome act) (driver_asker before node)
 driver_asker (entry ∷ before) node = driver_asker before node
+
+-- and in which phase
+abbrev pub phase_by : List Entry → ℕ → Who → Option DriverMove → Option Phase → Option Phase
+phase_by before node performer (Some (Awaits port how)) phase = if leads_there node (sequencer_below before performer port) then acting_in before else phase
+phase_by before node performer move phase = phase
+
+abbrev pub asked_in : List Entry → ℕ → Option Phase
+asked_in [] node = None
+asked_in (Did performer outcome act ∷ before) node = phase_by before node performer (driver_move outcome act) (asked_in before node)
+asked_in (entry ∷ before) node = asked_in before node
 
 -- a sequencer, as the service has it. No port is named: a driver asks through a sound one, and of the ports that lead to a sequencer one alone is sound
 abbrev pub sequencer_with : List Entry → ℕ → Mode → SequencerValue

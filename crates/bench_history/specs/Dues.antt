@@ -37,7 +37,7 @@ use Rattle.bench_history.specs.declared.askers.DriverPort.{DriverPort}
 use Rattle.bench_history.specs.declared.owners.Owner.{Owner}
 use Rattle.bench_history.specs.declared.owners.Owner.TheVariants.{Object, Drain}
 use Rattle.bench_history.specs.Owners.{Event, is_drain_of}
-use Rattle.bench_history.specs.History.{stage_of, now_of, running, nodes_of, ended_of}
+use Rattle.bench_history.specs.History.{acting_in, stage_of, now_of, running, nodes_of, ended_of}
 use Rattle.bench_history.specs.Objections.{objections_of}
 use Rattle.bench_history.specs.Sequences.{Beginning, begun_of, finished_of, next_step, sequence_in, sequences_of, start_by}
 use Rattle.bench_history.specs.Ports.{imps_below}
@@ -165,18 +165,26 @@ moves_drains Done (RaiseObjection count) = true
 moves_drains Done (DropObjection count) = true
 moves_drains outcome act = false
 
--- all events that were caused, without the drains that have ended; the place of an entry is the number of those before it
+-- some events with those that an entry causes before them, and without the drains that it ends. The place of an entry is the number of those before it
+abbrev pub with_events_from : Entry → List Entry → List Event → List Event
+with_events_from (Did performer outcome act) before caused =
+    calls_numbered (acting_in before) (now_of before) (length before) 0 (calls_told before performer outcome act)
+    ++ (calls_from outcome act performer (acting_in before) (now_of before) (length before)
+    ++ (if moves_drains outcome act then with_drains_of (Did performer outcome act) before caused else caused))
+with_events_from (Passed fifo passage) before caused = due_from (Some (told_of passage.kind passage)) passage.who (running (stage_of before)) (now_of before) (caused_at (length before)) ++ caused
+with_events_from (Locked node id) before caused = due_from (Some call.Held) (who.Sequence id node) (running (stage_of before)) (now_of before) (caused_at (length before)) ++ caused
+with_events_from (Granted node grant) before caused = due_from (Some call.Grant) (who.Sequence grant.id node) (running (stage_of before)) (now_of before) (caused_at (length before)) ++ caused
+with_events_from (Drained node cause) before caused = with_drains_of (Drained node cause) before caused
+with_events_from entry before caused = caused
+
+-- the events that an entry causes
+abbrev pub events_from : Entry → List Entry → List Event
+events_from entry before = with_events_from entry before []
+
+-- all events that were caused, without the drains that have ended
 abbrev pub caused_of : List Entry → List Event
 caused_of [] = []
-caused_of (Did performer outcome act ∷ before) =
-    calls_numbered (running (stage_of before)) (now_of before) (length before) 0 (calls_told before performer outcome act)
-    ++ (calls_from outcome act performer (running (stage_of before)) (now_of before) (length before)
-    ++ (if moves_drains outcome act then with_drains_of (Did performer outcome act) before (caused_of before) else caused_of before))
-caused_of (Passed fifo passage ∷ before) = due_from (Some (told_of passage.kind passage)) passage.who (running (stage_of before)) (now_of before) (caused_at (length before)) ++ caused_of before
-caused_of (Locked node id ∷ before) = due_from (Some call.Held) (who.Sequence id node) (running (stage_of before)) (now_of before) (caused_at (length before)) ++ caused_of before
-caused_of (Granted node grant ∷ before) = due_from (Some call.Grant) (who.Sequence grant.id node) (running (stage_of before)) (now_of before) (caused_at (length before)) ++ caused_of before
-caused_of (Drained node cause ∷ before) = with_drains_of (Drained node cause) before (caused_of before)
-caused_of (entry ∷ before) = caused_of before
+caused_of (entry ∷ before) = with_events_from entry before (caused_of before)
 
 abbrev pub heard_in : Entry → List Cause
 heard_in (Heard hearer call (Some cause) acts) = cause ∷ []

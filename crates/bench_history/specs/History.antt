@@ -51,6 +51,10 @@ abbrev pub running : Stage → Option Phase
 running (During phase) = Some phase
 running stage = None
 
+-- the phase of an act that is performed next, and so of what it asks for, starts or causes: the one that runs
+abbrev pub acting_in : List Entry → Option Phase
+acting_in history = running (stage_of history)
+
 -- the name of the object that an act creates; no other act creates one
 abbrev pub created_name : Act → List ℕ
 created_name (Create type_name name) = name

@@ -20,3 +20,4 @@ pub mod Upshots
 pub mod Cases
 pub mod Next
 pub mod Laws
+pub mod LegalLogs

@@ -25,7 +25,7 @@ use Rattle.uvm_object.specs.declared.entries.Entry.{Entry}
 use Rattle.uvm_object.specs.declared.entries.Entry.TheVariants.{Did, Passed}
 use Rattle.bench_history.specs.declared.askers.Asker.{Asker}
 use Rattle.bench_history.specs.declared.askers.Gate.{Gate}
-use Rattle.bench_history.specs.History.{stage_of, running, nodes_of, ended_of}
+use Rattle.bench_history.specs.History.{acting_in, nodes_of, ended_of}
 use Rattle.bench_history.specs.Wires.{wiring_of}
 use Rattle.bench_history.specs.Ports.{fifo_size, gate_below, fifos_below}
 
@@ -63,7 +63,7 @@ request_by fifo performer place wished (Some phase) None = None
 request_by fifo performer place wished None gate = None
 
 abbrev pub request_at : {Wish : Type 0} → List Entry → ℕ → Who → PortKind → List ℕ × Wish → Option (Request Wish)
-request_at before fifo performer kind wished = request_by fifo performer (length before) wished (running (stage_of before)) (gate_below before performer kind wished.0)
+request_at before fifo performer kind wished = request_by fifo performer (length before) wished (acting_in before) (gate_below before performer kind wished.0)
 
 -- the puts that were asked for at a FIFO, the earliest first
 abbrev pub puts_asked : List Entry → ℕ → List (Request Item)

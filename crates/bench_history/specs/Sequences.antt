@@ -22,7 +22,7 @@ use Rattle.uvm_object.specs.declared.entries.Outcome.TheVariants.{Done, Started,
 use Rattle.uvm_object.specs.declared.entries.Entry.{Entry}
 use Rattle.uvm_object.specs.declared.entries.Entry.TheVariants.{Did, End}
 use Rattle.bench_history.specs.Limits.{usual_priority}
-use Rattle.bench_history.specs.History.{stage_of, running, nodes_of, ended_of}
+use Rattle.bench_history.specs.History.{acting_in, nodes_of, ended_of}
 use Rattle.bench_history.specs.Wires.{node_below}
 
 -- the sequence that somebody is, which starts its children
@@ -86,7 +86,7 @@ begun_after nodes phase begun performer outcome act = begun
 -- all sequences that were started, the newest first: each by an accepted act
 abbrev pub begun_of : List Entry → List Beginning
 begun_of [] = []
-begun_of (Did performer outcome act ∷ before) = begun_after (nodes_of before) (running (stage_of before)) (begun_of before) performer outcome act
+begun_of (Did performer outcome act ∷ before) = begun_after (nodes_of before) (acting_in before) (begun_of before) performer outcome act
 begun_of (entry ∷ before) = begun_of before
 
 abbrev pub sequences_of : List Entry → List Start

@@ -4,6 +4,7 @@
 
 mod askers;
 pub mod laws;
+pub mod legal_logs;
 mod needs;
 mod owners;
 mod stages;

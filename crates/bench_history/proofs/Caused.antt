@@ -1,0 +1,173 @@
+-- What is due was caused: the entry at the place of its cause causes it.
+use Rattle.std.proofs.Common.{◌≡◌, ℕ, suc, Bool, true, false, not, List, [], ◌∷◌, ◌++◌, length, Option, Some, None, refl, sym, ap, subst, ◌∙◌, arith, length-append, if◌then◌else◌}
+use Rattle.std.specs.List.{All, Contains, flat_map}
+use Rattle.std.proofs.lemmas.List.Elements.{All-nil, All-cons, All-head, All-tail, All-append, All-filter, All-weaker, All-contains, All-contains_itself}
+use Rattle.uvm_phase.specs.declared.phases.Phase.{Phase}
+use Rattle.uvm_phase.specs.declared.agendas.Cause.{Cause}
+use Rattle.uvm_objection.specs.declared.objections.Due as drain
+use Rattle.uvm_objection.specs.Nodes as objection
+use Rattle.uvm_objection.specs.Totals.{drains_begun, drains_ended}
+use Rattle.uvm_objection.specs.Laws.{BegunDrainsAreHeld, NodesGrow, PlacesStay, SettledGoByTotals}
+use Rattle.uvm_object.specs.declared.acts.Who.{Who}
+use Rattle.uvm_object.specs.declared.acts.Who.TheVariants as who
+use Rattle.uvm_object.specs.declared.acts.Call.{Call}
+use Rattle.uvm_object.specs.declared.acts.Call.TheVariants as call
+use Rattle.uvm_object.specs.declared.acts.Act.{Act}
+use Rattle.uvm_object.specs.declared.entries.Entry.{Entry}
+use Rattle.uvm_object.specs.declared.entries.Entry.TheVariants.{Heard, Did, Locked, Granted, Passed, Drained}
+use Rattle.bench_script.specs.Scripts.{ScriptValue}
+use Rattle.bench_history.specs.declared.owners.Owner.{Owner}
+use Rattle.bench_history.specs.declared.owners.Owner.TheVariants.{Object, Drain}
+use Rattle.bench_history.specs.Owners.{Event, is_drain_of}
+use Rattle.bench_history.specs.History.{acting_in, now_of, running, stage_of}
+use Rattle.bench_history.specs.Objections.{objections_of}
+use Rattle.bench_history.specs.Dues.{calls_from, calls_numbered, calls_told, caused_at, caused_of, drain_from, due_after, due_from, event_in, events_from, moves_drains, told_by, told_of, with_drains, with_drains_of, with_events_from}
+use Rattle.bench_history.specs.Next.{next_of, IsLegal}
+use Rattle.bench_history.specs.LegalLogs.{IsAtCause, IsCaused, call_time}
+use Rattle.bench_history.proofs.Grown.{plain-next}
+use Rattle.bench_history.proofs.Olders.{older-each}
+use Rattle.bench_history.proofs.Performed.{due_calls_go_in_order}
+use Rattle.bench_history.proofs.Timely.{IsCallTime, call-times, first-caused, heard-alone}
+
+-- what an entry adds, and what was there, are all that there is after it
+module _ (P : Event → Type 0) where
+  all-left : (xs ys : List Event) → All P (xs ++ ys) → All P xs
+  all-left [] ys all = All-nil P
+  all-left (x ∷ xs) ys all = All-cons P x xs (All-head P x (xs ++ ys) all) (all-left xs ys (All-tail P x (xs ++ ys) all))
+
+  all-right : (xs ys : List Event) → All P (xs ++ ys) → All P ys
+  all-right [] ys all = all
+  all-right (x ∷ xs) ys all = all-right xs ys (All-tail P x (xs ++ ys) all)
+
+  both-drains : (phase : Option Phase) (cause : Cause) (earlier nodes : List objection.Node) (caused : List Event) → All P (with_drains phase cause earlier nodes []) → All P caused → All P (with_drains phase cause earlier nodes caused)
+  both-drains phase cause earlier nodes caused new old =
+      let begun = flat_map (drain_from phase cause) (drains_begun earlier nodes) in
+      All-append P begun _ (all-left begun [] new) (All-filter (λ (event : Event). not (is_drain_of (drains_ended earlier nodes) event.owner)) P caused old)
+
+  both-moved : (moves : Bool) (entry : Entry) (before : List Entry) (caused : List Event) → All P (if moves then with_drains_of entry before [] else []) → All P caused → All P (if moves then with_drains_of entry before caused else caused)
+  both-moved true entry before caused new old = both-drains (running (stage_of before)) (caused_at (length before)) (objections_of before) (objections_of (entry ∷ before)) caused new old
+  both-moved false entry before caused new old = old
+
+  both-all : (entry : Entry) (before : List Entry) (caused : List Event) → All P (events_from entry before) → All P caused → All P (with_events_from entry before caused)
+  both-all (Did performer outcome act) before caused new old =
+      let told = calls_numbered (acting_in before) (now_of before) (length before) 0 (calls_told before performer outcome act) in
+      let from = calls_from outcome act performer (acting_in before) (now_of before) (length before) in
+      let rest = all-right told _ new in
+      All-append P told _ (all-left told _ new) (All-append P from _ (all-left from _ rest) (both-moved (moves_drains outcome act) (Did performer outcome act) before caused (all-right from _ rest) old))
+  both-all (Passed fifo passage) before caused new old =
+      let told = due_from (Some (told_of passage.kind passage)) passage.who (running (stage_of before)) (now_of before) (caused_at (length before)) in
+      All-append P told caused (all-left told [] new) old
+  both-all (Locked node id) before caused new old =
+      let told = due_from (Some call.Held) (who.Sequence id node) (running (stage_of before)) (now_of before) (caused_at (length before)) in
+      All-append P told caused (all-left told [] new) old
+  both-all (Granted node grant) before caused new old =
+      let told = due_from (Some call.Grant) (who.Sequence grant.id node) (running (stage_of before)) (now_of before) (caused_at (length before)) in
+      All-append P told caused (all-left told [] new) old
+  both-all (Drained node cause) before caused new old = both-drains (running (stage_of before)) (caused_at (length before)) (objections_of before) (objections_of (Drained node cause ∷ before)) caused new old
+  both-all entry before caused new old = old
+
+-- what an entry causes has its place
+abbrev IsPlaced : ℕ → Event → Type 0
+IsPlaced place event = event.cause.place ≡ place
+
+event-placed : (phase : Option Phase) (time place number : ℕ) (owner : Owner) (notice : Option Call) → All (IsPlaced place) (event_in phase time (record { place = place; number = number }) owner notice)
+event-placed None time place number owner notice = All-nil (IsPlaced place)
+event-placed (Some phase) time place number owner notice = All-cons (IsPlaced place) _ [] refl (All-nil (IsPlaced place))
+
+due-placed : (notice : Option Call) (performer : Who) (phase : Option Phase) (time place : ℕ) → All (IsPlaced place) (due_from notice performer phase time (caused_at place))
+due-placed None performer phase time place = All-nil (IsPlaced place)
+due-placed (Some call) performer phase time place = event-placed phase time place 0 (Object performer) (Some call)
+
+numbered-placed : (phase : Option Phase) (time place number : ℕ) (calls : List (Who × Call)) → All (IsPlaced place) (calls_numbered phase time place number calls)
+numbered-placed phase time place number [] = All-nil (IsPlaced place)
+numbered-placed phase time place number (told ∷ calls) = All-append (IsPlaced place) (calls_numbered phase time place (suc number) calls) _ (numbered-placed phase time place (suc number) calls) (event-placed phase time place number (Object told.0) (Some told.1))
+
+begun-placed : (phase : Option Phase) (place : ℕ) (begun : List drain.Due) → All (IsPlaced place) (flat_map (drain_from phase (caused_at place)) begun)
+begun-placed phase place [] = All-nil (IsPlaced place)
+begun-placed phase place (one ∷ begun) = All-append (IsPlaced place) (drain_from phase (caused_at place) one) _ (event-placed phase one.at place 0 (Drain one.node) None) (begun-placed phase place begun)
+
+drains-placed : (entry : Entry) (before : List Entry) → All (IsPlaced (length before)) (with_drains_of entry before [])
+drains-placed entry before =
+    let begun = flat_map (drain_from (running (stage_of before)) (caused_at (length before))) (drains_begun (objections_of before) (objections_of (entry ∷ before))) in
+    All-append (IsPlaced (length before)) begun [] (begun-placed (running (stage_of before)) (length before) (drains_begun (objections_of before) (objections_of (entry ∷ before)))) (All-nil (IsPlaced (length before)))
+
+moved-placed : (moves : Bool) (entry : Entry) (before : List Entry) → All (IsPlaced (length before)) (if moves then with_drains_of entry before [] else [])
+moved-placed true entry before = drains-placed entry before
+moved-placed false entry before = All-nil (IsPlaced (length before))
+
+placed-all : (entry : Entry) (before : List Entry) → All (IsPlaced (length before)) (events_from entry before)
+placed-all (Did performer outcome act) before =
+    let P = IsPlaced (length before) in
+    All-append P (calls_numbered (acting_in before) (now_of before) (length before) 0 (calls_told before performer outcome act)) _ (numbered-placed (acting_in before) (now_of before) (length before) 0 (calls_told before performer outcome act))
+    (All-append P (calls_from outcome act performer (acting_in before) (now_of before) (length before)) _ (due-placed (told_by outcome act) performer (acting_in before) (due_after (now_of before) act) (length before))
+    (moved-placed (moves_drains outcome act) (Did performer outcome act) before))
+placed-all (Passed fifo passage) before = All-append (IsPlaced (length before)) _ [] (due-placed (Some (told_of passage.kind passage)) passage.who (running (stage_of before)) (now_of before) (length before)) (All-nil (IsPlaced (length before)))
+placed-all (Locked node id) before = All-append (IsPlaced (length before)) _ [] (due-placed (Some call.Held) (who.Sequence id node) (running (stage_of before)) (now_of before) (length before)) (All-nil (IsPlaced (length before)))
+placed-all (Granted node grant) before = All-append (IsPlaced (length before)) _ [] (due-placed (Some call.Grant) (who.Sequence grant.id node) (running (stage_of before)) (now_of before) (length before)) (All-nil (IsPlaced (length before)))
+placed-all (Drained node cause) before = drains-placed (Drained node cause) before
+placed-all entry before = All-nil (IsPlaced (length before))
+
+-- the entry at the place of its cause causes an event
+record HasCause (history : List Entry) (event : Event) : Type 0 where
+  entry : Entry
+  before : List Entry
+  at : IsAtCause history event.cause entry before
+  among : Contains (events_from entry before) event
+
+cause-later : (new : Entry) (history : List Entry) (event : Event) → HasCause history event → HasCause (new ∷ history) event
+cause-later new history event h = record { entry = h.entry; before = h.before; at = record { later = new ∷ h.at.later; splits = ap (λ log. new ∷ log) h.at.splits; place = h.at.place }; among = h.among }
+
+cause-newest : (entry : Entry) (before : List Entry) (event : Event) → Contains (events_from entry before) event → HasCause (entry ∷ before) event
+cause-newest entry before event among =
+    let placed = All-contains (IsPlaced (length before)) (events_from entry before) event (placed-all entry before) among in
+    record { entry = entry; before = before; at = record { later = []; splits = refl; place = sym placed }; among = among }
+
+causes-of : (history : List Entry) → All (HasCause history) (caused_of history)
+causes-of [] = All-nil (HasCause [])
+causes-of (entry ∷ before) =
+    both-all (HasCause (entry ∷ before)) entry before (caused_of before)
+    (All-weaker (Contains (events_from entry before)) (HasCause (entry ∷ before)) (cause-newest entry before) (events_from entry before) (All-contains_itself (events_from entry before)))
+    (All-weaker (HasCause before) (HasCause (entry ∷ before)) (cause-later entry before) (caused_of before) (causes-of before))
+
+-- one entry stands at a place
+same-place : (later other : List Entry) (one two : Entry) (before past : List Entry) → later ++ one ∷ before ≡ other ++ two ∷ past → length before ≡ length past → one ∷ before ≡ two ∷ past
+same-place [] [] one two before past is long = is
+same-place [] (x ∷ other) one two before past is long =
+    let rest : before ≡ other ++ two ∷ past = cc in
+    let more = ap (λ (log : List Entry). length log) rest ∙ length-append other (two ∷ past) in
+    absurd (omega (arith, more, long))
+same-place (x ∷ later) [] one two before past is long =
+    let rest : later ++ one ∷ before ≡ past = cc in
+    let more = sym (ap (λ (log : List Entry). length log) rest) ∙ length-append later (one ∷ before) in
+    absurd (omega (arith, more, long))
+same-place (x ∷ later) (y ∷ other) one two before past is long = let rest : later ++ one ∷ before ≡ other ++ two ∷ past = cc in same-place later other one two before past rest long
+
+abbrev time_from : List Entry → ℕ
+time_from [] = 0
+time_from (entry ∷ before) = call_time entry (now_of before)
+
+at-same : (history : List Entry) (cause : Cause) (time : ℕ) (entry : Entry) (before : List Entry) → IsAtCause history cause entry before → IsCallTime history cause time → time ≡ call_time entry (now_of before)
+at-same history cause time entry before at timed =
+    let log : entry ∷ before ≡ timed.entry ∷ timed.before = same-place at.later timed.at.later entry timed.entry before timed.before (sym at.splits ∙ timed.at.splits) (at.place ∙ sym timed.at.place) in
+    timed.time_is ∙ sym (ap time_from log)
+
+-- each call with a cause is heard at its time, as that entry causes it
+pub calls_on_time :
+    SettledGoByTotals → BegunDrainsAreHeld → PlacesStay → NodesGrow → (script : ScriptValue) (later before : List Entry) (hearer : Who) (call : Call) (cause : Cause) (acts : List Act) → IsLegal script (later ++ Heard hearer call (Some cause) acts ∷ before)
+    → IsCaused before hearer call cause (now_of before)
+calls_on_time goes held_are stay grow script later before hearer call cause acts legal =
+    let each = older-each script later (Heard hearer call (Some cause) acts ∷ before) legal.each in
+    let due = due_calls_go_in_order script before hearer call cause (heard-alone hearer call (Some cause) acts (next_of script before) (plain-next script before) each.0) in
+    let has = first-caused (HasCause before) before due.event (causes-of before) due.first in
+    let at : IsAtCause before cause has.entry has.before = subst (λ (one : Cause). IsAtCause before one has.entry has.before) due.cause_is has.at in
+    record {
+      entry = has.entry;
+      before = has.before;
+      at = at;
+      event = due.event;
+      among = has.among;
+      cause_is = due.cause_is;
+      hearer_is = due.hearer_is;
+      call_is = due.notice_is;
+      time_is = at-same before cause (now_of before) has.entry has.before at (call-times goes held_are stay grow script later before hearer call cause acts legal);
+    }

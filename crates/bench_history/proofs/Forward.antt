@@ -1,0 +1,180 @@
+-- Time never goes back.
+use Rattle.std.proofs.Common.{◌≡◌, ◌≤◌, ℕ, suc, Bool, true, false, not, ◌&&◌, ◌||◌, List, [], ◌∷◌, ◌++◌, length, filter, Option, Some, None, refl, sym, ap, subst, ◌∙◌, arith, if◌then◌else◌}
+use Rattle.std.specs.List.{All, flat_map, list_any}
+use Rattle.std.proofs.lemmas.List.Elements.{All-nil, All-cons, All-head, All-tail, All-append, All-filter, All-weaker}
+use Rattle.std.proofs.lemmas.List.Folds.{list_any-append}
+use Rattle.uvm_phase.specs.declared.phases.Phase.{Phase}
+use Rattle.uvm_phase.specs.declared.agendas.Cause.{Cause}
+use Rattle.uvm_phase.specs.Dues.{in_order, same_cause}
+use Rattle.uvm_phase.specs.Phases.{same_phase}
+use Rattle.uvm_objection.specs.declared.objections.Due as drain
+use Rattle.uvm_objection.specs.Nodes as objection
+use Rattle.uvm_objection.specs.Nodes.{raised, dropped, released}
+use Rattle.uvm_objection.specs.Totals.{drains_begun, drains_ended, settled, total}
+use Rattle.uvm_objection.specs.Laws.{AreNodes, BegunDrainsAreHeld, NodesGrow, PlacesStay, SettledGoByTotals}
+use Rattle.uvm_object.specs.Acts.{node_of}
+use Rattle.uvm_object.specs.Objects.{same_who}
+use Rattle.uvm_object.specs.declared.acts.Who.{Who}
+use Rattle.uvm_object.specs.declared.acts.Who.TheVariants as who
+use Rattle.uvm_object.specs.declared.acts.Call.{Call}
+use Rattle.uvm_object.specs.declared.acts.Call.TheVariants as call
+use Rattle.uvm_object.specs.declared.acts.Act.{Act}
+use Rattle.uvm_object.specs.declared.acts.Act.TheVariants.{Wait, RaiseObjection, DropObjection}
+use Rattle.uvm_object.specs.declared.entries.Outcome.{Outcome}
+use Rattle.uvm_object.specs.declared.entries.Outcome.TheVariants.{Done}
+use Rattle.uvm_object.specs.declared.entries.Entry.{Entry}
+use Rattle.uvm_object.specs.declared.entries.Entry.TheVariants.{Time, Did, Drained, Granted, Locked, Passed}
+use Rattle.bench_script.specs.Scripts.{ScriptValue}
+use Rattle.bench_history.specs.declared.owners.Owner.{Owner}
+use Rattle.bench_history.specs.declared.owners.Owner.TheVariants.{Object, Drain}
+use Rattle.bench_history.specs.Owners.{Event, is_drain_of}
+use Rattle.bench_history.specs.History.{ended_in, ended_of, now_of, running, stage_of}
+use Rattle.bench_history.specs.Sequences.{finished_in, finished_of}
+use Rattle.bench_history.specs.Objections.{objections_of}
+use Rattle.bench_history.specs.Dues.{calls_from, calls_numbered, calls_told, caused_at, caused_of, drain_from, due_after, due_events, due_from, event_in, heard_in, heard_of, is_of_one, is_open, moves_drains, told_by, told_of, with_drains}
+use Rattle.bench_history.specs.Next.{IsNext, EachIsNext}
+use Rattle.bench_history.specs.LegalLogs.{OnTime}
+use Rattle.bench_history.proofs.Caused.{calls_on_time}
+use Rattle.bench_history.proofs.Olders.{older-each}
+use Rattle.bench_history.proofs.Quiet.{objections-are}
+use Rattle.bench_history.proofs.Timed.{time-next}
+use Rattle.bench_history.proofs.Timely.{IsChanged, begun-ahead, drains_on_time, dropped-is, first-of-all, order-all, passes-over, raised-is, released-is, wakes_on_time}
+
+-- what was open after an entry was open before it
+abbrev open_at : List Entry → Event → Bool
+open_at history event = is_open (heard_of history) (ended_of history) (finished_of history) event
+
+none-more : {X : Type 0} (p : X → Bool) (xs ys : List X) → not (list_any p (xs ++ ys)) ≡ true → not (list_any p ys) ≡ true
+none-more p xs ys e = by (list_any p xs) (list_any p ys) (ap not (sym (list_any-append p xs ys)) ∙ e)
+  where
+    by : (a b : Bool) → not (a || b) ≡ true → not b ≡ true
+    by true b e = cc
+    by false b e = e
+
+none-of : (more finished : List Who) (owner : Owner) → not (is_of_one (more ++ finished) owner) ≡ true → not (is_of_one finished owner) ≡ true
+none-of more finished (Object (who.Sequence id home)) e = none-more (same_who (who.Sequence id home)) more finished e
+none-of more finished (Object (who.Node node)) e = refl
+none-of more finished (Drain node) e = refl
+
+all-three : (a b c d e f : Bool) → (a ≡ true → d ≡ true) → (b ≡ true → e ≡ true) → (c ≡ true → f ≡ true) → (a && b && c) ≡ true → (d && e && f) ≡ true
+all-three true true true d e f one two three is = let x = one refl in let y = two refl in let z = three refl in rw (x, y, z) refl
+all-three true true false d e f one two three is = cc
+all-three true false c d e f one two three is = cc
+all-three false b c d e f one two three is = cc
+
+was-open : (entry : Entry) (before : List Entry) (event : Event) → open_at (entry ∷ before) event ≡ true → open_at before event ≡ true
+was-open entry before event is =
+    all-three (not (list_any (same_cause event.cause) (heard_of (entry ∷ before)))) (not (list_any (same_phase event.phase) (ended_of (entry ∷ before)))) (not (is_of_one (finished_of (entry ∷ before)) event.owner)) _ _ _
+    (none-more (same_cause event.cause) (heard_in entry) (heard_of before)) (none-more (same_phase event.phase) (ended_in entry) (ended_of before)) (none-of (finished_in entry) (finished_of before) event.owner) is
+
+-- whatever is due is due now or later
+abbrev IsAhead : ℕ → Event → Type 0
+IsAhead now event = now ≤ event.time
+
+abbrev IsOpenAhead : List Entry → Event → Type 0
+IsOpenAhead history event = open_at history event ≡ true → now_of history ≤ event.time
+
+new-ahead : (history : List Entry) (events : List Event) → All (IsAhead (now_of history)) events → All (IsOpenAhead history) events
+new-ahead history events all = All-weaker (IsAhead (now_of history)) (IsOpenAhead history) (λ event ahead is. ahead) events all
+
+old-ahead : (entry : Entry) (before : List Entry) (events : List Event) → now_of (entry ∷ before) ≡ now_of before → All (IsOpenAhead before) events → All (IsOpenAhead (entry ∷ before)) events
+old-ahead entry before events same all = All-weaker (IsOpenAhead before) (IsOpenAhead (entry ∷ before)) (λ event ahead is. rw same (ahead (was-open entry before event is))) events all
+
+event-ahead : (now : ℕ) (phase : Option Phase) (time : ℕ) (cause : Cause) (owner : Owner) (notice : Option Call) → now ≤ time → All (IsAhead now) (event_in phase time cause owner notice)
+event-ahead now None time cause owner notice low = All-nil (IsAhead now)
+event-ahead now (Some phase) time cause owner notice low = All-cons (IsAhead now) _ [] low (All-nil (IsAhead now))
+
+due-ahead : (now : ℕ) (notice : Option Call) (performer : Who) (phase : Option Phase) (time : ℕ) (cause : Cause) → now ≤ time → All (IsAhead now) (due_from notice performer phase time cause)
+due-ahead now None performer phase time cause low = All-nil (IsAhead now)
+due-ahead now (Some call) performer phase time cause low = event-ahead now phase time cause (Object performer) (Some call) low
+
+numbered-ahead : (now : ℕ) (phase : Option Phase) (place number : ℕ) (calls : List (Who × Call)) → All (IsAhead now) (calls_numbered phase now place number calls)
+numbered-ahead now phase place number [] = All-nil (IsAhead now)
+numbered-ahead now phase place number (told ∷ calls) =
+    All-append (IsAhead now) (calls_numbered phase now place (suc number) calls) _ (numbered-ahead now phase place (suc number) calls) (event-ahead now phase now (record { place = place; number = number }) (Object told.0) (Some told.1) (omega arith))
+
+later-than : (now : ℕ) (act : Act) → now ≤ due_after now act
+later-than now (Wait ticks tag) = omega arith
+later-than now act = omega arith
+
+drains-ahead : (history : List Entry) (now : ℕ) (phase : Option Phase) (cause : Cause) (begun : List drain.Due) → All (λ (one : drain.Due). now ≤ one.at) begun → All (IsAhead now) (flat_map (drain_from phase cause) begun)
+drains-ahead history now phase cause [] all = All-nil (IsAhead now)
+drains-ahead history now phase cause (first ∷ begun) all =
+    All-append (IsAhead now) (drain_from phase cause first) (flat_map (drain_from phase cause) begun) (event-ahead now phase first.at cause (Drain first.node) None (All-head (λ (one : drain.Due). now ≤ one.at) first begun all))
+    (drains-ahead history now phase cause begun (All-tail (λ (one : drain.Due). now ≤ one.at) first begun all))
+
+one-ahead : (entry : Entry) (before : List Entry) (told : Call) (hearer : Who) → now_of (entry ∷ before) ≡ now_of before → All (IsOpenAhead before) (caused_of before)
+    → All (IsOpenAhead (entry ∷ before)) (due_from (Some told) hearer (running (stage_of before)) (now_of before) (caused_at (length before)) ++ caused_of before)
+one-ahead entry before told hearer same all =
+    All-append (IsOpenAhead (entry ∷ before)) (due_from (Some told) hearer (running (stage_of before)) (now_of before) (caused_at (length before))) (caused_of before)
+    (new-ahead (entry ∷ before) _ (rw same (due-ahead (now_of before) (Some told) hearer (running (stage_of before)) (now_of before) (caused_at (length before)) (omega arith)))) (old-ahead entry before (caused_of before) same all)
+
+unfiltered : (P : Event → Type 0) (p : Event → Bool) (events : List Event) → All P (filter p events) → All (λ event. p event ≡ true → P event) events
+unfiltered P p [] all = All-nil _
+unfiltered P p (event ∷ events) all = tested (p event) refl all (unfiltered P p events)
+  where
+    tested : (b : Bool) → p event ≡ b → All P (if b then event ∷ filter p events else filter p events) → (All P (filter p events) → All (λ event. p event ≡ true → P event) events) → All (λ event. p event ≡ true → P event) (event ∷ events)
+    tested true is all more = All-cons (λ event. p event ≡ true → P event) event events (λ passes. All-head P event (filter p events) all) (more (All-tail P event (filter p events) all))
+    tested false is all more = All-cons (λ event. p event ≡ true → P event) event events (λ passes. cc) (more all)
+
+module _ (goes : SettledGoByTotals) (held_are : BegunDrainsAreHeld) where
+  with-ahead :
+      (entry : Entry) (before : List Entry) (changed : List objection.Node) → now_of (entry ∷ before) ≡ now_of before → IsChanged (objections_of before) changed → objections_of (entry ∷ before) ≡ settled (now_of before) (total (objections_of before)) changed
+      → AreNodes (objections_of (entry ∷ before)) → All (IsOpenAhead before) (caused_of before)
+      → All (IsOpenAhead (entry ∷ before)) (with_drains (running (stage_of before)) (caused_at (length before)) (objections_of before) (objections_of (entry ∷ before)) (caused_of before))
+  with-ahead entry before changed same by is are all =
+      let earlier = objections_of before in
+      let after = objections_of (entry ∷ before) in
+      All-append (IsOpenAhead (entry ∷ before)) (flat_map (drain_from (running (stage_of before)) (caused_at (length before))) (drains_begun earlier after)) _
+      (new-ahead (entry ∷ before) _ (rw same (drains-ahead before (now_of before) (running (stage_of before)) (caused_at (length before)) (drains_begun earlier after) (begun-ahead goes held_are entry before changed by is are))))
+      (All-filter (λ (event : Event). not (is_drain_of (drains_ended earlier after) event.owner)) (IsOpenAhead (entry ∷ before)) (caused_of before) (old-ahead entry before (caused_of before) same all))
+
+  moved-ahead :
+      (before : List Entry) (performer : Who) (outcome : Outcome) (act : Act) → AreNodes (objections_of (Did performer outcome act ∷ before)) → All (IsOpenAhead before) (caused_of before)
+      → All (IsOpenAhead (Did performer outcome act ∷ before)) (if moves_drains outcome act then with_drains (running (stage_of before)) (caused_at (length before)) (objections_of before) (objections_of (Did performer outcome act ∷ before)) (caused_of before) else caused_of before)
+  moved-ahead before performer Done (RaiseObjection count) are all = with-ahead (Did performer Done (RaiseObjection count)) before (raised (node_of performer) count (objections_of before)) refl (raised-is (node_of performer) count (objections_of before)) refl are all
+  moved-ahead before performer Done (DropObjection count) are all = with-ahead (Did performer Done (DropObjection count)) before (dropped (node_of performer) count (objections_of before)) refl (dropped-is (node_of performer) count (objections_of before)) refl are all
+  moved-ahead before performer outcome act are all = old-ahead (Did performer outcome act) before (caused_of before) refl all
+
+  ahead-more : (script : ScriptValue) (before : List Entry) (entry : Entry) → IsNext script before entry → AreNodes (objections_of (entry ∷ before)) → All (IsOpenAhead before) (caused_of before) → All (IsOpenAhead (entry ∷ before)) (caused_of (entry ∷ before))
+  ahead-more script before (Did performer outcome act) next are all =
+      let entry = Did performer outcome act in
+      All-append (IsOpenAhead (entry ∷ before)) (calls_numbered (running (stage_of before)) (now_of before) (length before) 0 (calls_told before performer outcome act)) _
+      (new-ahead (entry ∷ before) _ (numbered-ahead (now_of before) (running (stage_of before)) (length before) 0 (calls_told before performer outcome act)))
+      (All-append (IsOpenAhead (entry ∷ before)) (calls_from outcome act performer (running (stage_of before)) (now_of before) (length before)) _
+      (new-ahead (entry ∷ before) _ (due-ahead (now_of before) (told_by outcome act) performer (running (stage_of before)) (due_after (now_of before) act) (caused_at (length before)) (later-than (now_of before) act)))
+      (moved-ahead before performer outcome act are all))
+  ahead-more script before (Passed fifo passage) next are all = one-ahead (Passed fifo passage) before (told_of passage.kind passage) passage.who refl all
+  ahead-more script before (Locked node id) next are all = one-ahead (Locked node id) before call.Held (who.Sequence id node) refl all
+  ahead-more script before (Granted node grant) next are all = one-ahead (Granted node grant) before call.Grant (who.Sequence grant.id node) refl all
+  ahead-more script before (Drained node cause) next are all = with-ahead (Drained node cause) before (released node (objections_of before)) refl (released-is node (objections_of before)) refl are all
+  ahead-more script before (Time time) next are all = unfiltered (λ event. time ≤ event.time) (open_at before) (caused_of before) (passes-over script before time (time-next script before time next))
+  ahead-more script before entry next are all = old-ahead entry before (caused_of before) refl all
+
+  ahead-of : PlacesStay → NodesGrow → (script : ScriptValue) (history : List Entry) → EachIsNext script history → All (IsOpenAhead history) (caused_of history)
+  ahead-of stay grow script [] each = All-nil _
+  ahead-of stay grow script (entry ∷ before) each = ahead-more script before entry each.0 (objections-are stay grow script (entry ∷ before) each).are_nodes (ahead-of stay grow script before each.1)
+
+  opened : (P : Event → Type 0) (p : Event → Bool) (events : List Event) → All (λ event. p event ≡ true → P event) events → All P (filter p events)
+  opened P p [] all = All-nil P
+  opened P p (event ∷ events) all = tested (p event) refl (opened P p events (All-tail (λ event. p event ≡ true → P event) event events all))
+    where
+      tested : (b : Bool) → p event ≡ b → All P (filter p events) → All P (if b then event ∷ filter p events else filter p events)
+      tested true is rest = All-cons P event (filter p events) (All-head (λ event. p event ≡ true → P event) event events all is) rest
+      tested false is rest = rest
+
+  pub goes-forward : PlacesStay → NodesGrow → (script : ScriptValue) (before : List Entry) (time : ℕ) → EachIsNext script before → IsNext script before (Time time) → now_of before ≤ time
+  goes-forward stay grow script before time each next =
+      let p = time-next script before time next in
+      let due = opened (λ (event : Event). now_of before ≤ event.time) (open_at before) (caused_of before) (ahead-of stay grow script before each) in
+      let first = first-of-all (λ (event : Event). now_of before ≤ event.time) (in_order (due_events before)) p.event (order-all (λ (event : Event). now_of before ≤ event.time) (due_events before) due) p.first in
+      subst (λ (n : ℕ). now_of before ≤ n) p.time_is first
+
+  pub on_time : PlacesStay → NodesGrow → OnTime
+  on_time stay grow = record {
+    calls = calls_on_time goes held_are stay grow;
+    wakes = wakes_on_time;
+    drains = drains_on_time goes held_are stay grow;
+    passes = λ script later before time legal. let each = older-each script later (Time time ∷ before) legal.each in passes-over script before time (time-next script before time each.0);
+    forward = λ script later before time legal. let each = older-each script later (Time time ∷ before) legal.each in goes-forward stay grow script before time each.1 each.0;
+  }

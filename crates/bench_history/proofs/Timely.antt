@@ -1,0 +1,385 @@
+-- What is due happens at its time.
+use Rattle.std.proofs.Common.{◌++◌, ◌≡◌, ◌≤◌, ◌<◌, ◌+◌, ◌-◌, ℕ, suc, nat_lt, Bool, true, false, not, ◌&&◌, ◌||◌, ◌==◌, List, [], ◌∷◌, length, filter, find, map, Option, Some, None, refl, sym, ap, subst, ◌∙◌, inl, inr, arith, if◌then◌else◌}
+use Rattle.std.specs.List.{All, flat_map, slice_get}
+use Rattle.std.specs.Option.{option_map_or}
+use Rattle.std.proofs.lemmas.Bool.Decides.{nat_tests}
+use Rattle.std.proofs.lemmas.List.Elements.{All-nil, All-cons, All-head, All-tail, All-append, All-filter, All-weaker}
+use Rattle.uvm_phase.specs.declared.phases.Phase.{Phase}
+use Rattle.uvm_phase.specs.declared.agendas.Cause.{Cause}
+use Rattle.uvm_phase.specs.Dues.{in_order, insert_due, is_due_before}
+use Rattle.uvm_objection.specs.declared.objections.Due as drain
+use Rattle.uvm_objection.specs.Nodes as objection
+use Rattle.uvm_objection.specs.Nodes.{changed_at, held_of, drain_of, due_of, raised, dropped, released}
+use Rattle.uvm_objection.specs.Totals.{begins, drains_begun, drains_ended, held_after, settled, total}
+use Rattle.uvm_objection.specs.Totals as totals
+use Rattle.uvm_objection.specs.Laws.{AreNodes, BegunDrainsAreHeld, IsHeldUntilDue, NodesGrow, PlacesStay, SettledGoByTotals}
+use Rattle.uvm_object.specs.Acts.{node_of}
+use Rattle.uvm_object.specs.declared.acts.Who.{Who}
+use Rattle.uvm_object.specs.declared.acts.Call.{Call}
+use Rattle.uvm_object.specs.declared.acts.Call.TheVariants as call
+use Rattle.uvm_object.specs.declared.acts.Who.TheVariants as who
+use Rattle.uvm_object.specs.declared.acts.Act.{Act}
+use Rattle.uvm_object.specs.declared.acts.Act.TheVariants.{Wait, RaiseObjection, DropObjection}
+use Rattle.uvm_object.specs.declared.entries.Outcome.{Outcome}
+use Rattle.uvm_object.specs.declared.entries.Outcome.TheVariants.{Done, Waits}
+use Rattle.uvm_object.specs.declared.entries.Entry.{Entry}
+use Rattle.uvm_object.specs.declared.entries.Entry.TheVariants.{Heard, Did, Locked, Granted, Passed, Drained}
+use Rattle.bench_script.specs.Scripts.{ScriptValue}
+use Rattle.bench_history.specs.declared.owners.Owner.{Owner}
+use Rattle.bench_history.specs.declared.owners.Owner.TheVariants.{Object, Drain}
+use Rattle.bench_history.specs.Owners.{Event, is_drain_of, who_of}
+use Rattle.bench_history.specs.History.{ended_of, now_of, running, stage_of}
+use Rattle.bench_history.specs.Sequences.{finished_of}
+use Rattle.bench_history.specs.Objections.{objections_of}
+use Rattle.bench_history.specs.Dues.{told_by, told_of, calls_told, calls_numbered, due_after, due_from, due_events, calls_from, moves_drains, caused_at, caused_of, drain_from, event_in, with_drains, first_due, heard_of, is_open}
+use Rattle.bench_history.specs.Cases.{Next, Exactly, Answer, Need, Grant, Nothing}
+use Rattle.bench_history.specs.Next.{next_of, Allows, EachIsNext, IsLegal}
+use Rattle.bench_history.specs.LegalLogs.{IsWakeTime, IsAtCause, IsDrainTime, call_time}
+use Rattle.bench_history.proofs.Expected.{both-hold}
+use Rattle.bench_history.proofs.Grown.{IsPlain, IsPlainNext, plain-next}
+use Rattle.bench_history.proofs.Inversion.{IsPassing}
+use Rattle.bench_history.proofs.Olders.{older-each}
+use Rattle.bench_history.proofs.Performed.{due_calls_go_in_order, drains_go_in_order}
+use Rattle.bench_history.proofs.Quiet.{objections-are}
+use Rattle.bench_history.proofs.Waking.{IsWoken, woken-of}
+
+-- at this time the call of a cause is due
+pub record IsCallTime (history : List Entry) (cause : Cause) (time : ℕ) : Type 0 where
+  pub entry : Entry
+  pub before : List Entry
+  pub at : IsAtCause history cause entry before
+  pub time_is : time ≡ call_time entry (now_of before)
+
+-- an event is due at the time that its cause gave it
+abbrev IsTimedBy : List Entry → Phase → Cause → ℕ → Owner → Option Call → Type 0
+IsTimedBy history phase cause time owner (Some call) = IsCallTime history cause time
+IsTimedBy history phase cause time (Drain node) None = IsDrainTime history phase node cause time
+IsTimedBy history phase cause time (Object who) None = ⊥
+
+abbrev IsTimed : List Entry → Event → Type 0
+IsTimed history event = IsTimedBy history event.phase event.cause event.time event.owner event.notice
+
+-- and so it stays
+at-later : (new : Entry) (history : List Entry) (cause : Cause) (entry : Entry) (before : List Entry) → IsAtCause history cause entry before → IsAtCause (new ∷ history) cause entry before
+at-later new history cause entry before at = record { later = new ∷ at.later; splits = ap (λ log. new ∷ log) at.splits; place = at.place }
+
+timed-later : (new : Entry) (history : List Entry) (phase : Phase) (cause : Cause) (time : ℕ) (owner : Owner) (notice : Option Call) → IsTimedBy history phase cause time owner notice → IsTimedBy (new ∷ history) phase cause time owner notice
+timed-later new history phase cause time owner (Some call) t = record { entry = t.entry; before = t.before; at = at-later new history cause t.entry t.before t.at; time_is = t.time_is }
+timed-later new history phase cause time (Drain node) None t = record { entry = t.entry; before = t.before; at = at-later new history cause t.entry t.before t.at; none_held = t.none_held; holds = t.holds; time_is = t.time_is }
+timed-later new history phase cause time (Object who) None t = absurd t
+
+all-later : (new : Entry) (history : List Entry) (events : List Event) → All (IsTimed history) events → All (IsTimed (new ∷ history)) events
+all-later new history events all = All-weaker (IsTimed history) (IsTimed (new ∷ history)) (λ event. timed-later new history event.phase event.cause event.time event.owner event.notice) events all
+
+-- what the newest entry causes
+at-newest : (entry : Entry) (before : List Entry) (number : ℕ) → IsAtCause (entry ∷ before) (record { place = length before; number = number }) entry before
+at-newest entry before number = record { later = []; splits = refl; place = refl }
+
+call-newest : (entry : Entry) (before : List Entry) (number time : ℕ) → time ≡ call_time entry (now_of before) → IsCallTime (entry ∷ before) (record { place = length before; number = number }) time
+call-newest entry before number time is = record { entry = entry; before = before; at = at-newest entry before number; time_is = is }
+
+event-timed : (history : List Entry) (phase : Option Phase) (time : ℕ) (cause : Cause) (owner : Owner) (notice : Option Call) → ((one : Phase) → IsTimedBy history one cause time owner notice) → All (IsTimed history) (event_in phase time cause owner notice)
+event-timed history None time cause owner notice t = All-nil (IsTimed history)
+event-timed history (Some phase) time cause owner notice t = All-cons (IsTimed history) _ [] (t phase) (All-nil (IsTimed history))
+
+due-timed : (history : List Entry) (notice : Option Call) (performer : Who) (phase : Option Phase) (time : ℕ) (cause : Cause) → ((call : Call) → notice ≡ Some call → IsCallTime history cause time) → All (IsTimed history) (due_from notice performer phase time cause)
+due-timed history None performer phase time cause t = All-nil (IsTimed history)
+due-timed history (Some call) performer phase time cause t = event-timed history phase time cause (Object performer) (Some call) (λ one. t call refl)
+
+numbered-timed :
+    (entry : Entry) (before : List Entry) (phase : Option Phase) (number : ℕ) (calls : List (Who × Call)) → now_of before ≡ call_time entry (now_of before)
+    → All (IsTimed (entry ∷ before)) (calls_numbered phase (now_of before) (length before) number calls)
+numbered-timed entry before phase number [] is = All-nil _
+numbered-timed entry before phase number (told ∷ calls) is =
+    All-append (IsTimed (entry ∷ before)) (calls_numbered phase (now_of before) (length before) (suc number) calls) _ (numbered-timed entry before phase (suc number) calls is)
+    (event-timed (entry ∷ before) phase (now_of before) (record { place = length before; number = number }) (Object told.0) (Some told.1) (λ one. call-newest entry before number (now_of before) is))
+
+told-timed : (before : List Entry) (performer : Who) (outcome : Outcome) (act : Act) → All (IsTimed (Did performer outcome act ∷ before)) (calls_numbered (running (stage_of before)) (now_of before) (length before) 0 (calls_told before performer outcome act))
+told-timed before performer Done (Wait ticks tag) = All-nil _
+told-timed before performer outcome act = numbered-timed (Did performer outcome act) before (running (stage_of before)) 0 (calls_told before performer outcome act) refl
+
+due-time : (performer : Who) (outcome : Outcome) (act : Act) (now : ℕ) (call : Call) → told_by outcome act ≡ Some call → due_after now act ≡ call_time (Did performer outcome act) now
+due-time performer Done (Wait ticks tag) now call e = refl
+due-time performer (Waits true) (Wait ticks tag) now call e = cc
+due-time performer (Waits false) (Wait ticks tag) now call e = cc
+due-time performer outcome (Wait ticks tag) now call e = cc
+due-time performer outcome act now call e = refl
+
+from-timed : (before : List Entry) (performer : Who) (outcome : Outcome) (act : Act) → All (IsTimed (Did performer outcome act ∷ before)) (calls_from outcome act performer (running (stage_of before)) (now_of before) (length before))
+from-timed before performer outcome act =
+    due-timed (Did performer outcome act ∷ before) (told_by outcome act) performer (running (stage_of before)) (due_after (now_of before) act) (caused_at (length before))
+    (λ call e. call-newest (Did performer outcome act) before 0 (due_after (now_of before) act) (due-time performer outcome act (now_of before) call e))
+
+-- a drain that begins is due once its drain time is over
+begins-due : (time before after drain due held : ℕ) → held ≡ 0 → 0 < held_after before after drain held → totals.due_after time before after drain due ≡ time + drain
+begins-due time before after drain due held none holds = by (nat_lt 0 after) (begins before after drain) holds
+  where
+    by : (stands begun : Bool) → 0 < (if stands then 0 else (if begun then before else held)) → (if begun then time + drain else due) ≡ time + drain
+    by true begun holds = absurd (omega (arith, holds))
+    by false true holds = refl
+    by false false holds = absurd (omega (arith, none, holds))
+
+-- a change of one node keeps what it does not change, and what was nothing
+module _ (f : objection.Node → ℕ) (node at : ℕ) (change : objection.Node → objection.Node) (stays : (e : objection.Node) → (change e).node ≡ e.node) where
+  abbrev found_of : List objection.Node → ℕ
+  found_of nodes = option_map_or f (find (λ e. e.node == node) nodes) 0
+
+  found-same : ((e : objection.Node) → f (change e) ≡ f e) → (nodes : List objection.Node) → found_of (changed_at at change nodes) ≡ found_of nodes
+  found-same same [] = refl
+  found-same same (e ∷ nodes) = tested (at == e.node) (e.node == node) refl (found-same same nodes)
+    where
+      tested : (here found : Bool) → (e.node == node) ≡ found → found_of (changed_at at change nodes) ≡ found_of nodes → found_of ((if here then change e else e) ∷ changed_at at change nodes) ≡ found_of (e ∷ nodes)
+      tested true true is rest = let at : ((change e).node == node) ≡ true = rw (stays e) is in rw (at, is) (same e)
+      tested true false is rest = let at : ((change e).node == node) ≡ false = rw (stays e) is in rw (at, is) rest
+      tested false true is rest = rw is refl
+      tested false false is rest = rw is rest
+
+  found-none : ((e : objection.Node) → f e ≡ 0 → f (change e) ≡ 0) → (nodes : List objection.Node) → found_of nodes ≡ 0 → found_of (changed_at at change nodes) ≡ 0
+  found-none none [] nothing = refl
+  found-none none (e ∷ nodes) nothing = tested (at == e.node) (e.node == node) refl nothing (found-none none nodes)
+    where
+      tested : (here found : Bool) → (e.node == node) ≡ found → option_map_or f (if found then Some e else find (λ e. e.node == node) nodes) 0 ≡ 0 → (found_of nodes ≡ 0 → found_of (changed_at at change nodes) ≡ 0)
+          → found_of ((if here then change e else e) ∷ changed_at at change nodes) ≡ 0
+      tested true true is nothing rest = let at : ((change e).node == node) ≡ true = rw (stays e) is in rw at (none e nothing)
+      tested true false is nothing rest = let at : ((change e).node == node) ≡ false = rw (stays e) is in rw at (rest nothing)
+      tested false true is nothing rest = rw is nothing
+      tested false false is nothing rest = rw is (rest nothing)
+
+-- what a change leaves of a node that holds nothing
+pub record IsChanged (nodes changed : List objection.Node) : Type 0 where
+  pub drains : (node : ℕ) → drain_of node changed ≡ drain_of node nodes
+  pub none : (node : ℕ) → held_of node nodes ≡ 0 → held_of node changed ≡ 0
+
+pub raised-is : (at count : ℕ) (nodes : List objection.Node) → IsChanged nodes (raised at count nodes)
+raised-is at count nodes = record {
+  drains = λ node. found-same (λ e. e.drain) node at (λ e. record e { source = e.source + count }) (λ e. refl) (λ e. refl) nodes;
+  none = λ node. found-none (λ e. e.held) node at (λ e. record e { source = e.source + count }) (λ e. refl) (λ e nothing. nothing) nodes;
+}
+
+pub dropped-is : (at count : ℕ) (nodes : List objection.Node) → IsChanged nodes (dropped at count nodes)
+dropped-is at count nodes = record {
+  drains = λ node. found-same (λ e. e.drain) node at (λ e. record e { source = e.source - count }) (λ e. refl) (λ e. refl) nodes;
+  none = λ node. found-none (λ e. e.held) node at (λ e. record e { source = e.source - count }) (λ e. refl) (λ e nothing. nothing) nodes;
+}
+
+pub released-is : (at : ℕ) (nodes : List objection.Node) → IsChanged nodes (released at nodes)
+released-is at nodes = record {
+  drains = λ node. found-same (λ e. e.drain) node at (λ e. record e { held = 0 }) (λ e. refl) (λ e. refl) nodes;
+  none = λ node. found-none (λ e. e.held) node at (λ e. record e { held = 0 }) (λ e. refl) (λ e nothing. refl) nodes;
+}
+
+module _ (goes : SettledGoByTotals) (held_are : BegunDrainsAreHeld) where
+  -- each drain that began held nothing before
+  begun-none : (earlier : List objection.Node) (nodes : List objection.Node) → All (λ (begun : drain.Due). held_of begun.node earlier ≡ 0) (drains_begun earlier nodes)
+  begun-none earlier [] = All-nil _
+  begun-none earlier (e ∷ nodes) = tested (held_of e.node earlier == 0) (nat_lt 0 e.held) refl (begun-none earlier nodes)
+    where
+      tested :
+          (none holds : Bool) → (held_of e.node earlier == 0) ≡ none → All (λ (begun : drain.Due). held_of begun.node earlier ≡ 0) (drains_begun earlier nodes)
+          → All (λ (begun : drain.Due). held_of begun.node earlier ≡ 0) (map (λ (e : objection.Node). record { node = e.node; at = e.due }) (if none && holds then e ∷ filter (λ (e : objection.Node). (held_of e.node earlier == 0) && nat_lt 0 e.held) nodes else filter (λ (e : objection.Node). (held_of e.node earlier == 0) && nat_lt 0 e.held) nodes))
+      tested true true is rest = All-cons (λ (begun : drain.Due). held_of begun.node earlier ≡ 0) _ _ (grind (arith, nat_tests, is)) rest
+      tested true false is rest = rest
+      tested false holds is rest = rest
+
+  abbrev IsBegun : Entry → List Entry → drain.Due → Type 0
+  IsBegun entry before begun = (phase : Phase) → IsDrainTime (entry ∷ before) phase begun.node (caused_at (length before)) begun.at
+
+  begun-at :
+      (entry : Entry) (before : List Entry) (changed : List objection.Node) → IsChanged (objections_of before) changed → objections_of (entry ∷ before) ≡ settled (now_of before) (total (objections_of before)) changed
+      → (begun : drain.Due) → IsHeldUntilDue (objections_of (entry ∷ before)) begun → held_of begun.node (objections_of before) ≡ 0 → begun.at ≡ now_of before + drain_of begun.node (objections_of before)
+  begun-at entry before changed by is begun h none =
+      let g = goes (now_of before) (total (objections_of before)) changed begun.node in
+      let held_is = rw is at h.held in
+      let due_is = rw is at h.due in
+      let holds = rw g.held at held_is in
+      let due = begins-due (now_of before) (total (objections_of before) begun.node) (total (settled (now_of before) (total (objections_of before)) changed) begun.node) (drain_of begun.node changed) (due_of begun.node changed) (held_of begun.node changed) (by.none begun.node none) holds in
+      sym due_is ∙ g.due ∙ due ∙ ap (λ (n : ℕ). now_of before + n) (by.drains begun.node)
+
+  begun-each :
+      (entry : Entry) (before : List Entry) (P : drain.Due → Type 0) → ((begun : drain.Due) → IsHeldUntilDue (objections_of (entry ∷ before)) begun → held_of begun.node (objections_of before) ≡ 0 → P begun)
+      → AreNodes (objections_of (entry ∷ before)) → All P (drains_begun (objections_of before) (objections_of (entry ∷ before)))
+  begun-each entry before P one are =
+      both-hold (IsHeldUntilDue (objections_of (entry ∷ before))) (λ (begun : drain.Due). held_of begun.node (objections_of before) ≡ 0) P (drains_begun (objections_of before) (objections_of (entry ∷ before)))
+      one (held_are (objections_of before) (objections_of (entry ∷ before)) are) (begun-none (objections_of before) (objections_of (entry ∷ before)))
+
+  begun-timed :
+      (entry : Entry) (before : List Entry) (changed : List objection.Node) → IsChanged (objections_of before) changed → objections_of (entry ∷ before) ≡ settled (now_of before) (total (objections_of before)) changed
+      → AreNodes (objections_of (entry ∷ before)) → All (IsBegun entry before) (drains_begun (objections_of before) (objections_of (entry ∷ before)))
+  begun-timed entry before changed by is are =
+      begun-each entry before (IsBegun entry before)
+      (λ begun h none phase. record { entry = entry; before = before; at = at-newest entry before 0; none_held = none; holds = h.held; time_is = begun-at entry before changed by is begun h none }) are
+
+  -- so it is due no earlier than now
+  pub begun-ahead :
+      (entry : Entry) (before : List Entry) (changed : List objection.Node) → IsChanged (objections_of before) changed → objections_of (entry ∷ before) ≡ settled (now_of before) (total (objections_of before)) changed
+      → AreNodes (objections_of (entry ∷ before)) → All (λ (begun : drain.Due). now_of before ≤ begun.at) (drains_begun (objections_of before) (objections_of (entry ∷ before)))
+  begun-ahead entry before changed by is are =
+      begun-each entry before (λ (begun : drain.Due). now_of before ≤ begun.at) (λ begun h none. let at = begun-at entry before changed by is begun h none in omega (arith, at)) are
+
+  abbrev IsDrainedBy : List Entry → Cause → drain.Due → Type 0
+  IsDrainedBy history cause begun = (one : Phase) → IsDrainTime history one begun.node cause begun.at
+
+  drains-timed : (history : List Entry) (phase : Option Phase) (cause : Cause) (begun : List drain.Due) → All (IsDrainedBy history cause) begun → All (IsTimed history) (flat_map (drain_from phase cause) begun)
+  drains-timed history phase cause [] all = All-nil _
+  drains-timed history phase cause (first ∷ begun) all =
+      All-append (IsTimed history) (drain_from phase cause first) (flat_map (drain_from phase cause) begun) (event-timed history phase first.at cause (Drain first.node) None (All-head (IsDrainedBy history cause) first begun all))
+      (drains-timed history phase cause begun (All-tail (IsDrainedBy history cause) first begun all))
+
+  with-timed :
+      (entry : Entry) (before : List Entry) (changed : List objection.Node) → IsChanged (objections_of before) changed → objections_of (entry ∷ before) ≡ settled (now_of before) (total (objections_of before)) changed → AreNodes (objections_of (entry ∷ before))
+      → All (IsTimed before) (caused_of before) → All (IsTimed (entry ∷ before)) (with_drains (running (stage_of before)) (caused_at (length before)) (objections_of before) (objections_of (entry ∷ before)) (caused_of before))
+  with-timed entry before changed by is are all =
+      let earlier = objections_of before in
+      let after = objections_of (entry ∷ before) in
+      All-append (IsTimed (entry ∷ before)) (flat_map (drain_from (running (stage_of before)) (caused_at (length before))) (drains_begun earlier after)) _
+      (drains-timed (entry ∷ before) (running (stage_of before)) (caused_at (length before)) (drains_begun earlier after) (begun-timed entry before changed by is are))
+      (All-filter (λ (event : Event). not (is_drain_of (drains_ended earlier after) event.owner)) (IsTimed (entry ∷ before)) (caused_of before) (all-later entry before (caused_of before) all))
+
+  moved-timed :
+      (before : List Entry) (performer : Who) (outcome : Outcome) (act : Act) → AreNodes (objections_of (Did performer outcome act ∷ before)) → All (IsTimed before) (caused_of before)
+      → All (IsTimed (Did performer outcome act ∷ before)) (if moves_drains outcome act then with_drains (running (stage_of before)) (caused_at (length before)) (objections_of before) (objections_of (Did performer outcome act ∷ before)) (caused_of before) else caused_of before)
+  moved-timed before performer Done (RaiseObjection count) are all = with-timed (Did performer Done (RaiseObjection count)) before (raised (node_of performer) count (objections_of before)) (raised-is (node_of performer) count (objections_of before)) refl are all
+  moved-timed before performer Done (DropObjection count) are all = with-timed (Did performer Done (DropObjection count)) before (dropped (node_of performer) count (objections_of before)) (dropped-is (node_of performer) count (objections_of before)) refl are all
+  moved-timed before performer outcome act are all = all-later (Did performer outcome act) before (caused_of before) all
+
+  -- each entry keeps it so
+  timed-more : (entry : Entry) (before : List Entry) → AreNodes (objections_of (entry ∷ before)) → All (IsTimed before) (caused_of before) → All (IsTimed (entry ∷ before)) (caused_of (entry ∷ before))
+  timed-more (Did performer outcome act) before are all =
+      All-append (IsTimed (Did performer outcome act ∷ before)) (calls_numbered (running (stage_of before)) (now_of before) (length before) 0 (calls_told before performer outcome act)) _ (told-timed before performer outcome act)
+      (All-append (IsTimed (Did performer outcome act ∷ before)) (calls_from outcome act performer (running (stage_of before)) (now_of before) (length before)) _ (from-timed before performer outcome act) (moved-timed before performer outcome act are all))
+  timed-more (Passed fifo passage) before are all =
+      All-append (IsTimed (Passed fifo passage ∷ before)) (due_from (Some (told_of passage.kind passage)) passage.who (running (stage_of before)) (now_of before) (caused_at (length before))) (caused_of before)
+      (due-timed (Passed fifo passage ∷ before) (Some (told_of passage.kind passage)) passage.who (running (stage_of before)) (now_of before) (caused_at (length before)) (λ call e. call-newest (Passed fifo passage) before 0 (now_of before) refl)) (all-later (Passed fifo passage) before (caused_of before) all)
+  timed-more (Locked node id) before are all =
+      All-append (IsTimed (Locked node id ∷ before)) (due_from (Some call.Held) (who.Sequence id node) (running (stage_of before)) (now_of before) (caused_at (length before))) (caused_of before)
+      (due-timed (Locked node id ∷ before) (Some call.Held) (who.Sequence id node) (running (stage_of before)) (now_of before) (caused_at (length before)) (λ call e. call-newest (Locked node id) before 0 (now_of before) refl)) (all-later (Locked node id) before (caused_of before) all)
+  timed-more (Granted node grant) before are all =
+      All-append (IsTimed (Granted node grant ∷ before)) (due_from (Some call.Grant) (who.Sequence grant.id node) (running (stage_of before)) (now_of before) (caused_at (length before))) (caused_of before)
+      (due-timed (Granted node grant ∷ before) (Some call.Grant) (who.Sequence grant.id node) (running (stage_of before)) (now_of before) (caused_at (length before)) (λ call e. call-newest (Granted node grant) before 0 (now_of before) refl)) (all-later (Granted node grant) before (caused_of before) all)
+  timed-more (Drained node cause) before are all = with-timed (Drained node cause) before (released node (objections_of before)) (released-is node (objections_of before)) refl are all
+  timed-more entry before are all = all-later entry before (caused_of before) all
+
+  timed-of : PlacesStay → NodesGrow → (script : ScriptValue) (history : List Entry) → EachIsNext script history → All (IsTimed history) (caused_of history)
+  timed-of stay grow script [] each = All-nil _
+  timed-of stay grow script (entry ∷ before) each = timed-more entry before (objections-are stay grow script (entry ∷ before) each).are_nodes (timed-of stay grow script before each.1)
+
+-- the first that is due is due no later than any
+before-or-at : (a b : ℕ) (less same : Bool) (rest : Bool) → nat_lt a b ≡ less → (a == b) ≡ same → (less || (same && rest)) ≡ true → a ≤ b
+before-or-at a b true same rest is at e = grind (arith, nat_tests, is)
+before-or-at a b false true rest is at e = grind (arith, nat_tests, at)
+before-or-at a b false false rest is at e = cc
+
+not-less : (a b : ℕ) (less rest : Bool) → nat_lt a b ≡ less → (less || rest) ≡ false → b ≤ a
+not-less a b true rest is e = cc
+not-less a b false rest is e = grind (arith, nat_tests, is)
+
+is-no-later : (a b : Event) → is_due_before a b ≡ true → a.time ≤ b.time
+unfolding is_due_before
+is-no-later a b e = before-or-at a.time b.time _ _ _ refl refl e
+
+is-no-earlier : (a b : Event) → is_due_before a b ≡ false → b.time ≤ a.time
+unfolding is_due_before
+is-no-earlier a b e = not-less a.time b.time _ _ refl e
+
+abbrev IsFrom : Event → Event → Type 0
+IsFrom first event = first.time ≤ event.time
+
+abbrev IsLeast : List Event → List Event → Type 0
+IsLeast [] events = events ≡ []
+IsLeast (first ∷ others) events = All (IsFrom first) events
+
+least-more : (event : Event) (sorted events : List Event) → IsLeast sorted events → IsLeast (insert_due event sorted) (event ∷ events)
+least-more event [] events none = rw none (All-cons (IsFrom event) event [] (omega arith) (All-nil (IsFrom event)))
+least-more event (first ∷ others) events least = tested (is_due_before event first) refl
+  where
+    tested : (b : Bool) → is_due_before event first ≡ b → IsLeast (if b then event ∷ first ∷ others else first ∷ insert_due event others) (event ∷ events)
+    tested true is =
+        let low = is-no-later event first is in
+        All-cons (IsFrom event) event events (omega arith) (All-weaker (IsFrom first) (IsFrom event) (λ other from. omega (arith, low, from)) events least)
+    tested false is = All-cons (IsFrom first) event events (is-no-earlier event first is) least
+
+least-of : (events : List Event) → IsLeast (in_order events) events
+least-of [] = refl
+least-of (event ∷ events) = least-more event (in_order events) events (least-of events)
+
+first-least : (sorted events : List Event) (first : Event) → IsLeast sorted events → slice_get sorted 0 ≡ Some first → All (IsFrom first) events
+first-least [] events first least is = cc
+first-least (event ∷ others) events first least is = let same : event ≡ first = cc in subst (λ (one : Event). All (IsFrom one) events) same least
+
+pub passes-over : (script : ScriptValue) (before : List Entry) (time : ℕ) → IsPassing script before time → All (λ event. time ≤ event.time) (due_events before)
+passes-over script before time p = subst (λ (n : ℕ). All (λ (event : Event). n ≤ event.time) (due_events before)) p.time_is (first-least (in_order (due_events before)) (due_events before) p.event (least-of (due_events before)) p.first)
+
+-- what happens is one of those that were caused
+module _ (P : Event → Type 0) where
+  insert-all : (event : Event) (sorted : List Event) → P event → All P sorted → All P (insert_due event sorted)
+  insert-all event [] holds all = All-cons P event [] holds (All-nil P)
+  insert-all event (other ∷ others) holds all = tested (is_due_before event other) (insert-all event others holds (All-tail P other others all))
+    where
+      tested : (b : Bool) → All P (insert_due event others) → All P (if b then event ∷ other ∷ others else other ∷ insert_due event others)
+      tested true rest = All-cons P event (other ∷ others) holds all
+      tested false rest = All-cons P other (insert_due event others) (All-head P other others all) rest
+
+  pub order-all : (events : List Event) → All P events → All P (in_order events)
+  order-all [] all = All-nil P
+  order-all (event ∷ events) all = insert-all event (in_order events) (All-head P event events all) (order-all events (All-tail P event events all))
+
+  pub first-of-all : (sorted : List Event) (first : Event) → All P sorted → slice_get sorted 0 ≡ Some first → P first
+  first-of-all [] first all is = cc
+  first-of-all (event ∷ others) first all is = let same : event ≡ first = cc in subst P same (All-head P event others all)
+
+  pub first-caused : (history : List Entry) (first : Event) → All P (caused_of history) → first_due history ≡ Some first → P first
+  first-caused history first all is = first-of-all (in_order (due_events history)) first (order-all (due_events history) (All-filter (is_open (heard_of history) (ended_of history) (finished_of history)) P (caused_of history) all)) is
+
+pub heard-alone : (hearer : Who) (call : Call) (cause : Option Cause) (acts : List Act) (next : Next) → IsPlainNext next → Allows next (Heard hearer call cause acts) → next ≡ Answer hearer call cause
+heard-alone hearer call cause acts (Exactly entry) plain allows = absurd (subst IsPlain (sym allows) plain)
+heard-alone hearer call cause acts (Answer other asked why) plain allows = let same : Heard hearer call cause acts ≡ Heard other asked why allows.0 = allows.1 in cc
+heard-alone hearer call cause acts (Need need made other act) plain (inl is) = cc
+heard-alone hearer call cause acts (Need need made other act) plain (inr declined) = cc
+heard-alone hearer call cause acts (Grant sequencer drawn chosen) plain allows = let e : Heard hearer call cause acts ≡ Granted sequencer allows.0 = allows.3 in cc
+heard-alone hearer call cause acts Nothing plain allows = absurd allows
+
+drained-alone : (node : ℕ) (cause : Cause) (next : Next) → Allows next (Drained node cause) → next ≡ Exactly (Drained node cause)
+drained-alone node cause (Exactly entry) allows = rw allows refl
+drained-alone node cause (Answer hearer call why) allows = let e : Drained node cause ≡ Heard hearer call why allows.0 = allows.1 in cc
+drained-alone node cause (Need need made performer act) (inl e) = cc
+drained-alone node cause (Need need made performer act) (inr declined) = cc
+drained-alone node cause (Grant sequencer drawn chosen) allows = let e : Drained node cause ≡ Granted sequencer allows.0 = allows.3 in cc
+drained-alone node cause Nothing allows = absurd allows
+
+call-timed : (history : List Entry) (cause : Cause) (call : Call) (time : ℕ) (event : Event) → IsTimed history event → event.notice ≡ Some call → event.cause ≡ cause → event.time ≡ time → IsCallTime history cause time
+call-timed history cause call time event t notice at now = rw (← at, ← now) (subst (IsTimedBy history event.phase event.cause event.time event.owner) notice t)
+
+drain-timed : (history : List Entry) (node : ℕ) (cause : Cause) (time : ℕ) (event : Event) (owner : Owner) → IsTimed history event → event.owner ≡ owner → event.notice ≡ None → event.cause ≡ cause → event.time ≡ time → node_of (who_of owner) ≡ node → IsDrainTime history event.phase node cause time
+drain-timed history node cause time event owner t owner_is notice at now stands = by owner (subst (λ (o : Owner). IsTimedBy history event.phase event.cause event.time o None) owner_is (subst (IsTimedBy history event.phase event.cause event.time event.owner) notice t)) stands
+  where
+    by : (one : Owner) → IsTimedBy history event.phase event.cause event.time one None → node_of (who_of one) ≡ node → IsDrainTime history event.phase node cause time
+    by (Object who) t stands = absurd t
+    by (Drain other) t stands = rw (← at, ← now, ← stands) t
+
+-- each call with a cause is heard at its time
+pub call-times :
+    SettledGoByTotals → BegunDrainsAreHeld → PlacesStay → NodesGrow → (script : ScriptValue) (later before : List Entry) (hearer : Who) (call : Call) (cause : Cause) (acts : List Act) → IsLegal script (later ++ Heard hearer call (Some cause) acts ∷ before)
+    → IsCallTime before cause (now_of before)
+call-times goes held_are stay grow script later before hearer call cause acts legal =
+    let each = older-each script later (Heard hearer call (Some cause) acts ∷ before) legal.each in
+    let due = due_calls_go_in_order script before hearer call cause (heard-alone hearer call (Some cause) acts (next_of script before) (plain-next script before) each.0) in
+    call-timed before cause call (now_of before) due.event (first-caused (IsTimed before) before due.event (timed-of goes held_are stay grow script before each.1) due.first) due.notice_is due.cause_is due.time
+
+pub wakes_on_time : (script : ScriptValue) (later before : List Entry) (hearer : Who) (tag : ℕ) (cause : Cause) (acts : List Act) → IsLegal script (later ++ Heard hearer (call.Wake tag) (Some cause) acts ∷ before) → IsWakeTime before hearer tag cause (now_of before)
+wakes_on_time script later before hearer tag cause acts legal =
+    let each = older-each script later (Heard hearer (call.Wake tag) (Some cause) acts ∷ before) legal.each in
+    let due = due_calls_go_in_order script before hearer (call.Wake tag) cause (heard-alone hearer (call.Wake tag) (Some cause) acts (next_of script before) (plain-next script before) each.0) in
+    rw (← due.cause_is, ← due.time) (first-caused (IsWoken before) before due.event (woken-of before) due.first hearer tag due.hearer_is due.notice_is)
+
+-- and each drain ends at its time
+pub drains_on_time :
+    SettledGoByTotals → BegunDrainsAreHeld → PlacesStay → NodesGrow → (script : ScriptValue) (later before : List Entry) (node : ℕ) (cause : Cause) → IsLegal script (later ++ Drained node cause ∷ before)
+    → (phase : Phase) × IsDrainTime before phase node cause (now_of before)
+drains_on_time goes held_are stay grow script later before node cause legal =
+    let each = older-each script later (Drained node cause ∷ before) legal.each in
+    let d = drains_go_in_order script before node cause (drained-alone node cause (next_of script before) each.0) in
+    let due = d.due in (
+      due.event.phase,
+      drain-timed before node cause (now_of before) due.event due.event.owner (first-caused (IsTimed before) before due.event (timed-of goes held_are stay grow script before each.1) due.first) refl due.notice_is due.cause_is due.time
+          (ap node_of due.hearer_is ∙ d.stands),
+    )

@@ -1,12 +1,12 @@
 //! What every legal log means, for whoever takes a legal log for granted. The functions do nothing that shows; their contracts are the
-//! laws, for all scripts (`bench_history/specs/LegalLogs.antt`, which is read alone).
+//! laws, for all scripts (`bench_history/specs/LegalLogs.antt`; docs/LAWS.md says which other words they rest on).
 
 ghost use Rattle.bench_history.specs.LegalLogs.{FifoOrder, LockExcludes, OneItemOut, OnTime, QuietEnd, StrictPriority};
 
 use bench_history::legal_logs;
 
-/// Says that from the grant of a lock or a grab to its release whatever a sequencer grants goes to the holder or a descendant of it, and that
-/// of any two holders one is the other or its ancestor (IEEE 1800.2-2020, Clause 15).
+/// Says that from the grant of a lock or a grab to its release, or the end of its sequence, whatever a sequencer grants goes to the holder or a
+/// descendant of it, and that of any two holders one is the other or its ancestor (IEEE 1800.2-2020, Clause 15).
 pub fn lock_excludes()
     ensures { LockExcludes }
 {
@@ -30,17 +30,17 @@ pub fn strict_priority()
     legal_logs::strict_priority();
 }
 
-/// Says that no item is lost or doubled (IEEE 1800.2-2020, Clause 15): who sends one was granted it; before the next is sent the driver is
-/// done with one that it keeps in hand, or the phase has ended in which it asked; and of all that were sent each was done, or ended with a
-/// phase, or is in hand.
+/// Says that one item is out at a time (IEEE 1800.2-2020, Clause 15): who sends one was granted it; before the next is sent the driver is
+/// done with one that it keeps in hand, or the phase has ended in which it asked; and as many were sent as went to a `get`, were done, ended
+/// with a phase, or are in hand. That the driver hears of an item is not said here.
 pub fn one_item_out()
     ensures { OneItemOut }
 {
     legal_logs::one_item_out();
 }
 
-/// Says that each call that an entry causes is heard, and each drain ends, at exactly the time that its cause gave it, and that time passes
-/// over nothing that is due.
+/// Says that a call with a cause that is heard, and a drain that ends, does so at exactly the time that its cause gave it, and that time passes
+/// over nothing that is due. What is due when its phase or its sequence ends is never heard.
 pub fn on_time()
     ensures { OnTime }
 {

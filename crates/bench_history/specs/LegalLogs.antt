@@ -182,7 +182,8 @@ pub record IsDrainTime (history : List Entry) (phase : Phase) (node : ℕ) (caus
   pub holds : 0 < held_of node (objections_in phase (entry ∷ before))
   pub time_is : time ≡ now_of before + drain_of node (objections_in phase before)
 
--- each call with a cause is heard, and each drain ends, at exactly the time that its cause gave it; and time passes over nothing that is due, and never goes back
+-- a call with a cause that is heard, and a drain that ends, does so at exactly the time that its cause gave it; and time passes over nothing that is due, and never
+-- goes back. (What is due when its phase or its sequence ends is never heard, and no longer due.)
 pub record OnTime : Type 0 where
   pub calls : (script : ScriptValue) (later before : List Entry) (hearer : Who) (call : Call) (cause : Cause) (acts : List Act) → IsLegal script (later ++ Heard hearer call (Some cause) acts ∷ before) → IsCaused before hearer call cause (now_of before)
   pub wakes : (script : ScriptValue) (later before : List Entry) (hearer : Who) (tag : ℕ) (cause : Cause) (acts : List Act) → IsLegal script (later ++ Heard hearer (call.Wake tag) (Some cause) acts ∷ before) → IsWakeTime before hearer tag cause (now_of before)
@@ -292,7 +293,7 @@ ended_at (End phase ∷ before) node = (if takes_out before node (End phase) the
 ended_at (entry ∷ before) node = ended_at before node
 
 -- who sends an item was granted it. Between two that are sent at a sequencer, of which the driver keeps the first, that one is taken out of its hand; and of all
--- that were sent each went to a `get`, or the driver was done with it, or it ended with a phase, or it is the one in hand: none is lost, and none is doubled
+-- sends as many as there are went to a `get`, or the driver was done with them, or they ended with a phase, or one is in hand. (That the driver hears is not said.)
 pub record OneItemOut : Type 0 where
   pub granted : (script : ScriptValue) (later before : List Entry) (node id : ℕ) (performer : Who) (item : Item) → IsLegal script (later ++ Did performer Done (Send item) ∷ before) → sequence_on node performer ≡ Some id
       → IsSome (grant_of id (driver_state before node))

@@ -47,8 +47,8 @@ pub fn quiet_end()
     objections::total_is_sum();
 }
 
-/// Each call with a cause is heard, and each drain ends, at exactly the time that its cause gave it; and time passes over nothing that is
-/// due.
+/// A call with a cause that is heard, and a drain that ends, does so at exactly the time that its cause gave it; and time passes over
+/// nothing that is due.
 pub fn on_time()
     ensures { OnTime }
 {
@@ -58,8 +58,8 @@ pub fn on_time()
     objections::nodes_grow();
 }
 
-/// From the grant of a lock to its release whatever a sequencer grants goes to the holder or a descendant of it, and of any two holders
-/// one is the other or its ancestor (IEEE 1800.2-2020, Clause 15).
+/// From the grant of a lock to its release, or the end of its sequence, whatever a sequencer grants goes to the holder or a descendant of
+/// it, and of any two holders one is the other or its ancestor (IEEE 1800.2-2020, Clause 15).
 pub fn lock_excludes()
     ensures { LockExcludes }
 {
@@ -68,8 +68,8 @@ pub fn lock_excludes()
     sequencers::holders_stay_nested();
 }
 
-/// Each item that is sent was granted; the driver is done with one that it keeps, or its phase ends, before the next is sent; and none is
-/// lost.
+/// Each item that is sent was granted; the driver is done with one that it keeps, or its phase ends, before the next is sent; and as many
+/// were sent as went to a `get`, were done, ended with a phase, or are in hand.
 pub fn one_item_out()
     ensures { OneItemOut }
 {

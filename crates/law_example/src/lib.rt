@@ -8,8 +8,8 @@ use bench_core::laws;
 use bench_script::Script;
 use uvm_object::Log;
 
-/// Says of a log that is legal for a script: while a `seq_burst` holds a sequencer, each item that is granted there goes to it or a
-/// descendant of it (IEEE 1800.2-2020, Clause 15). It does nothing: whoever needs the fact calls it. Of the log of a machine `Core::log`
+/// Says of a log that is legal for a script: while a sequence that was started as a `seq_burst` holds a sequencer, each item that is granted
+/// there goes to it or a descendant of it (IEEE 1800.2-2020, Clause 15). It does nothing: whoever needs the fact calls it. Of the log of a machine `Core::log`
 /// says that it is legal, of that of a kernel `Kernel::log`.
 pub fn burst_is_alone(script: &Script, log: &Log)
     ensures { IsLegal script.now log.now.entries → BurstIsAlone log.now.entries }

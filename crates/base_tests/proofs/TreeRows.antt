@@ -1,5 +1,5 @@
 -- What the nodes t, t.b, t.a and t.a.x are, how walks go through them, why a node is not added to them, and what is told of each fault.
-use Rattle.std.proofs.Common.{◌≡◌, ℕ, List, [], ◌∷◌, ◌++◌, Some, None, refl}
+use Rattle.std.proofs.Common.{◌≡◌, ℕ, zero, suc, List, [], ◌∷◌, ◌++◌, Some, None, refl}
 use Rattle.std.specs.Prelude.{codes, true, false, Option, map, replicate}
 use Rattle.uvm_glob.specs.Orders.{PathOrder, down_cmp, up_cmp}
 use Rattle.uvm_glob.specs.Paths.{path_fault, path_text, names_of}
@@ -10,7 +10,7 @@ use Rattle.uvm_tree.specs.declared.faults.TreeFault.TheVariants.{NoParent, NameT
 use Rattle.uvm_tree.specs.Faults.{fault_text}
 use Rattle.uvm_tree.specs.Nodes.{top, child, node_at, number_at, parent_of, under_at, add_fault}
 use Rattle.uvm_tree.specs.Cursors.{is_before, least, nodes_after}
-use Rattle.uvm_tree.specs.Children.{is_named_before, children_left}
+use Rattle.uvm_tree.specs.Children.{all_children, is_named_before, without}
 use Rattle.uvm_tree.specs.Sorted.{path_order}
 
 -- the nodes with one more
@@ -77,20 +77,24 @@ parent-comes-before-its-child-in-down-alone = refl
 nodes-are-found-at-their-paths : map (λ text. number_at small (names_of text)) (codes "" ∷ codes "t" ∷ codes "t.a" ∷ codes "t.a.x" ∷ codes "u" ∷ []) ≡ Some 0 ∷ Some t ∷ Some a ∷ Some x ∷ None ∷ []
 nodes-are-found-at-their-paths = refl
 
--- the child that comes after the last one given, if one was
-abbrev next_child : ℕ → Option ℕ → Option ℕ
-next_child parent last = least (is_named_before small) (children_left (record { nodes = small; parent = parent; last = last }))
+-- the child that comes next of some, and those that come one after another, at most as many as a number
+abbrev next_of : List ℕ → Option ℕ
+next_of left = least (is_named_before small) left
 
-children-come-in-the-order-of-their-names : map (next_child t) (None ∷ Some a ∷ Some b ∷ []) ≡ Some a ∷ Some b ∷ None ∷ []
+abbrev children_from : ℕ → List ℕ → List (Option ℕ)
+children_from zero left = []
+children_from (suc n) left = next_of left ∷ children_from n (without (next_of left) left)
+
+children-come-in-the-order-of-their-names : children_from 3 (all_children small t).left ≡ Some a ∷ Some b ∷ None ∷ []
 children-come-in-the-order-of-their-names = refl
 
-top-has-one-child : map (next_child 0) (None ∷ Some t ∷ []) ≡ Some t ∷ None ∷ []
+top-has-one-child : children_from 2 (all_children small 0).left ≡ Some t ∷ None ∷ []
 top-has-one-child = refl
 
-node-a-has-one-child : map (next_child a) (None ∷ Some x ∷ []) ≡ Some x ∷ None ∷ []
+node-a-has-one-child : children_from 2 (all_children small a).left ≡ Some x ∷ None ∷ []
 node-a-has-one-child = refl
 
-leaf-and-missing-node-have-no-child : next_child b None ∷ next_child 5 None ∷ [] ≡ None ∷ None ∷ []
+leaf-and-missing-node-have-no-child : next_of (all_children small b).left ∷ next_of (all_children small 5).left ∷ [] ≡ None ∷ None ∷ []
 leaf-and-missing-node-have-no-child = refl
 
 -- faults

@@ -111,20 +111,35 @@ fn a_refusal_for_memory_changes_no_type_and_no_step(rt: HostRuntime) -> Result<(
     override_again(&rt, rt.alloc(), &mut factory)
 }
 
-// Registers and overrides more types than the maps have room for at first, and looks at each where memory was refused.
+// Registers and overrides more types than the maps have room for at first, and looks at each: what was accepted is there, and
+// where memory was refused nothing has changed.
 fn override_again<R: Abort>(rt: &R, alloc: Global, factory: &mut Factory) -> Result<(), Fail> {
     for place in 0..12 {
         let name = numbered(alloc, usize::from(place))?;
-        if factory.register(name, Kind::Component) == Err(FactoryFault::Memory) {
-            assert!(rt; factory.find(&name) == None);
+        let registered = factory.register(name, Kind::Component);
+        assert!(rt; factory.find(&name) == registered.ok());
+        if registered.is_err() {
             let _ = factory.register(name, Kind::Component)?;
         }
-        let scope = Glob::new(alloc, b"*")?;
-        let overridden = factory.override_inst(TypeId::new(place), TypeId::new(0), scope);
-        let told = told(alloc, factory, TypeId::new(place), b"x")?;
-        assert!(rt; overridden.is_ok() == (told.1 == Some(ByInstance(TypeId::new(0)))));
+        assert!(rt; factory.find(&name) == Some(TypeId::new(place)));
+        assert!(rt; is_overridden_or_unchanged(alloc, factory, TypeId::new(place))?);
     }
     Ok(())
+}
+
+// Overrides a type everywhere by the first of all.
+fn is_overridden_or_unchanged(
+    alloc: Global,
+    factory: &mut Factory,
+    type_id: TypeId,
+) -> Result<bool, Fail> {
+    let scope = Glob::new(alloc, b"*")?;
+    let given = factory.override_inst(type_id, TypeId::new(0), scope);
+    let step = told(alloc, factory, type_id, b"x")?.1;
+    Ok(match given {
+        Ok(()) => step == Some(ByInstance(TypeId::new(0))),
+        Err(fault) => fault == FactoryFault::Memory && step == None,
+    })
 }
 
 #[test]

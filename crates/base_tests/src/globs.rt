@@ -167,7 +167,7 @@ fn stands_above(parent: &Path, child: &Path) -> bool {
         && parent.partial_cmp(child) == Some(Ordering::Less)
         && parent.cmp_in(Direction::Down, child) == Ordering::Less
         && child.cmp_in(Direction::Up, parent) == Ordering::Less
-        && parent.up_cmp(child) == Ordering::Greater
+        && parent.cmp_in(Direction::Up, child) == Ordering::Greater
         && parent < child
         && parent != child
 }

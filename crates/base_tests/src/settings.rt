@@ -74,8 +74,8 @@ fn a_refusal_for_memory_changes_no_answer(rt: HostRuntime) -> Result<(), Fail> {
     keep_answers(&rt, rt.alloc(), &mut settings)
 }
 
-// Sets more fields than the map of the fields has room for at first, each twice, and looks at the answer where memory was
-// refused: it is that before.
+// Sets more fields than the map of the fields has room for at first, each twice, and looks at the answer: it is the value that
+// was set, or that before where memory was refused.
 fn keep_answers<R: Abort>(rt: &R, alloc: Global, settings: &mut Settings) -> Result<(), Fail> {
     let path = Path::parse(alloc, b"uvm_test_top")?;
     for place in 0..24 {
@@ -95,7 +95,11 @@ fn is_set_or_unchanged(alloc: Global, settings: &mut Settings, path: &Path, plac
         return true;
     };
     let given = settings.set(1, true, scope, field, i64::from(place));
-    given != Err(ConfigFault::Memory) || settings.get(path, &field) == before
+    let answer = settings.get(path, &field);
+    match given {
+        Ok(()) => answer == Some(i64::from(place)),
+        Err(fault) => fault == ConfigFault::Memory && answer == before,
+    }
 }
 
 #[test]

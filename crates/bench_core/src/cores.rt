@@ -278,13 +278,13 @@ impl Core {
         self.world.config(path, field)
     }
 
-    /// The count of objections that stands at a node and below it, with what is held back below it (10.5). None where there is no
-    /// such node, or once memory was refused.
-    pub fn total(&self, node: NodeId) -> Option<u64>
-        ensures { result ≡ (if is_sound self.now.health && nat_lt node (length (nodes_of self.now.history)) then Some (total (objections_of self.now.history) node) else None) }
+    /// The count of objections that stands at a node and below it, with what is held back below it (10.5). 0 where there is no
+    /// such node, and once memory was refused.
+    pub fn total(&self, node: NodeId) -> u64
+        ensures { result ≡ (if is_sound self.now.health && nat_lt node (length (nodes_of self.now.history)) then total (objections_of self.now.history) node else 0) }
     {
         if !self.is_sound() {
-            return None;
+            return 0;
         }
         self.world.total(node)
     }

@@ -55,7 +55,7 @@ not-built : (built : Bool) → fault_if built CreatedAfterBuild ≡ None → bui
 not-built true e = cc
 not-built false e = refl
 
--- what is created is created in build
+-- what is created is created before the end of build
 building-of : (creation : Creation) → creation_refusal creation ≡ None → creation.built ≡ false
 unfolding creation_refusal
 building-of creation e = not-built creation.built (first-not (fault_if creation.built CreatedAfterBuild) _ e)

@@ -1,4 +1,4 @@
--- What is told of each fault.
+-- What a program tells of each fault.
 use Rattle.std.specs.Prelude.{ℕ, List, codes}
 use Rattle.bench_script.specs.declared.faults.ScriptFault.{ScriptFault}
 use Rattle.bench_script.specs.declared.faults.ScriptFault.TheVariants.{NotText, NotToml, UnknownKey, Missing, WrongKind, OutOfRange, BadName, UnknownType, Version, TooLong, Memory}

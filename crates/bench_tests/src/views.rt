@@ -194,7 +194,7 @@ fn builds(core: &Core, test: &Path, field: &Name) -> bool {
         && stands_at(core, test)
         && !core.is_over()
         && core.config(test, field) == Some(7)
-        && core.total(NodeId::TOP) == Some(0)
+        && core.total(NodeId::TOP) == 0
         && core.now() == 0
         && core.log().len() == 2
 }

@@ -1,5 +1,5 @@
 -- Connections, with one more entry.
-use Rattle.std.proofs.Common.{◌≡◌, ◌<◌, ◌&&◌, ℕ, suc, Bool, true, false, List, [], ◌∷◌, ◌++◌, length, All, Option, Some, None, is_none, unwrap_or, refl, ap, sym, ◌∙◌, arith, length-append, ◌==◌, zero, nat_eq, ◌+◌, ◌-◌, ◌≤◌, Contains, IsPermutation}
+use Rattle.std.proofs.Common.{◌≡◌, ◌<◌, ◌&&◌, ◌||◌, ℕ, suc, Bool, true, false, List, [], ◌∷◌, ◌++◌, length, map, All, Option, Some, None, is_none, unwrap_or, refl, ap, sym, ◌∙◌, arith, length-append, ◌==◌, zero, nat_eq, ◌+◌, ◌-◌, ◌≤◌, Contains, IsPermutation}
 use Rattle.std.proofs.lemmas.Bool.Decides.{nat_tests}
 use Rattle.std.proofs.lemmas.List.Elements.{All-cons, All-head, All-tail, All-weaker, All-contains}
 use Rattle.std.proofs.lemmas.List.{get_or_default}
@@ -14,8 +14,7 @@ use Rattle.uvm_tree.specs.Sorted.{path_order, AreInPathOrder}
 use Rattle.uvm_tlm.specs.declared.ends.End.{End}
 use Rattle.uvm_glob.specs.Faults.{fault_if}
 use Rattle.uvm_tlm.specs.declared.faults.WireFault.TheVariants.{Late}
-use Rattle.uvm_tlm.specs.declared.wirings.Connection.{Connection}
-use Rattle.uvm_tlm.specs.Wirings.{WiringValue, with_end, end_at, is_closed, late_fault, IsPathOrder}
+use Rattle.uvm_tlm.specs.Wirings.{WiringValue, connections_among, with_end, end_at, is_closed, is_connected, late_fault, IsPathOrder}
 use Rattle.uvm_object.specs.declared.acts.Who.{Who}
 use Rattle.uvm_object.specs.declared.acts.Act.{Act}
 use Rattle.uvm_object.specs.declared.entries.Outcome.{Outcome}
@@ -89,7 +88,12 @@ connecting-grown {nodes} {wiring} {old} node open_ c =
 -- two ends are connected
 pub connecting-both :
     {nodes : List Node} {wiring old : WiringValue} (new : WiringValue) (from to : Option ℕ) → IsConnecting nodes wiring old → new ≡ with_both from to old → IsConnecting nodes (with_both from to wiring) new
-connecting-both new (Some from) (Some to) c is = rw is (record { ends = c.ends; connections = ap (λ (cs : List Connection). record { from = from; to = to } ∷ cs) c.connections; order = c.order; within = c.within })
+connecting-both new (Some from) (Some to) c is = rw is (record {
+  ends = c.ends;
+  connections = λ j. connections_among (λ a b. ((a == from) && (b == to)) || is_connected (c.connections j) a b) (map (λ e. e.0) (c.ends j));
+  order = c.order;
+  within = c.within;
+})
 connecting-both new (Some from) None c is = rw is c
 connecting-both new None to c is = rw is c
 

@@ -1,6 +1,6 @@
 //! The world.
 
-ghost use Rattle.std.specs.Prelude.{◌≡◌, ℕ, [], IfOk, true, false, IsSome, None, Some, length, nat_le, nat_lt, if◌then◌else◌};
+ghost use Rattle.std.specs.Prelude.{◌≡◌, ℕ, [], IfOk, true, false, IsSome, None, length, nat_le, nat_lt, if◌then◌else◌};
 ghost use Rattle.bench_script.specs.Factories.{IsFactoryOf};
 ghost use Rattle.bench_history.specs.Limits.{log_limit};
 ghost use Rattle.bench_history.specs.History.{opening, stage_of, running, now_of, nodes_of, overrides_of};
@@ -296,16 +296,16 @@ impl World {
         }
     }
 
-    /// What is raised at a node and below it, with what is held back below it (10.5). None where there is no such node. For a
-    /// sound world.
-    pub fn total(&self, node: NodeId) -> Option<u64>
+    /// What is raised at a node and below it, with what is held back below it (10.5); 0 where there is no such node. For a sound
+    /// world.
+    pub fn total(&self, node: NodeId) -> u64
         requires { self.now.sound ≡ true }
-        ensures { result ≡ (if nat_lt node (length (nodes_of self.now.history)) then Some (total (objections_of self.now.history) node) else None) }
+        ensures { result ≡ (if nat_lt node (length (nodes_of self.now.history)) then total (objections_of self.now.history) node else 0) }
     {
         if self.services.tree.path(node).is_none() {
-            return None;
+            return 0;
         }
-        Some(self.services.objection.total(node))
+        self.services.objection.total(node)
     }
 
     /// Whether an objection stands: something is raised at the top or below, or held back (10.5). For a sound world.

@@ -98,7 +98,10 @@ pub fn write_line<W: io::Write>(verdict: &Verdict, err: &mut W) -> io::Result<()
 {
     match verdict {
         Verdict::Clean | Verdict::Faulty => Ok(()),
-        Verdict::Refused(fault) => writeln!(err, "bus_bench: {fault}"),
+        Verdict::Refused(fault) => {
+            let label = fault.label();
+            writeln!(err, "bus_bench: {label}")
+        }
         Verdict::Broken(breakage) => {
             let message = breakage.message();
             writeln!(err, "bus_bench: {message}")

@@ -1,7 +1,9 @@
-//! Scripts that are no text of a few lines: bytes that are no text, a text of the greatest length, and long arrays.
+//! Scripts that are no text of a few lines: bytes that are no text, a text of the greatest length, and long arrays; and the words for a
+//! person of a fault.
 
 use bench_script::{ScriptFault, read};
 use std::alloc::{AllocError, Global};
+use std::test::Fail;
 
 // The fault of a script of so many spaces with some bytes behind them; `Memory` where there is none for it.
 fn fault_behind_spaces(alloc: Global, spaces: usize, bytes: &[u8]) -> Option<ScriptFault> {
@@ -12,6 +14,15 @@ fn fault_behind_spaces(alloc: Global, spaces: usize, bytes: &[u8]) -> Option<Scr
         },
         Err(_) => Some(ScriptFault::Memory),
     }
+}
+
+// What a person reads of a fault, of which no clause speaks.
+#[test]
+fn a_fault_has_words_for_a_person(rt: HostRuntime) -> Result<(), Fail> {
+    let (not_toml, memory) = (ScriptFault::NotToml, ScriptFault::Memory);
+    let told = format!(in rt.alloc(); "{not_toml}, {memory}")?;
+    assert!(rt; told.as_str() == "the text is not TOML, out of memory");
+    Ok(())
 }
 
 #[test]

@@ -86,7 +86,7 @@ fn obey<R: Files + AllocGlobal, O: Write, E: Write>(
         return REFUSED;
     };
     let Ok(test) = test_of(run) else {
-        let _ = writeln!(err, "script_bench: {}", ScriptFault::BadName);
+        let _ = writeln!(err, "script_bench: {}", ScriptFault::BadName.label());
         return REFUSED;
     };
     let options = options_of(run);

@@ -54,7 +54,7 @@ impl fmt::Display for Refusal {
 
     fn fmt<W: fmt::Write>(&self, f: &mut fmt::Formatter<W>) -> fmt::Result {
         match self {
-            Refusal::Script(fault) => write!(f, "{fault}"),
+            Refusal::Script(fault) => f.write_str(fault.label()),
             Refusal::NoTable => f.write_str("answers: no table"),
             Refusal::UnknownType(name) => write!(f, "answers.{name}: no type of the script"),
             Refusal::Answers(text) => write!(f, "{text}"),

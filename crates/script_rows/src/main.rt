@@ -54,7 +54,7 @@ fn tell_read<R: Print + AllocGlobal>(
 ) -> io::Result<()> {
     match script {
         Ok(script) => tell_script(rt, &script),
-        Err(fault) => rt.println(fault),
+        Err(fault) => rt.println(fault.label()),
     }
 }
 

@@ -115,10 +115,9 @@ impl Path {
     pub fn cmp_in(&self, direction: Direction, other: &Path) -> Ordering
         ensures { result ≡ order_of direction self.now other.now }
     {
-        let (mine, other) = (self.text.as_slice(), other.text.as_slice());
         match direction {
-            Direction::Down => down_cmp(mine, other),
-            Direction::Up => up_cmp(mine, other),
+            Direction::Down => self.cmp(other),
+            Direction::Up => self.up_cmp(other),
         }
     }
 
@@ -126,7 +125,7 @@ impl Path {
     pub fn up_cmp(&self, other: &Path) -> Ordering
         ensures { result ≡ up_cmp self.now other.now }
     {
-        self.cmp_in(Direction::Up, other)
+        up_cmp(self.text.as_slice(), other.text.as_slice())
     }
 
     /// An equal path. The error is want of memory.

@@ -1,5 +1,5 @@
 -- What contracts see of a log.
-use Rattle.std.specs.Prelude.{ℕ, List, codes}
+use Rattle.std.specs.Prelude.{ℕ, ◌+◌, List, length, codes}
 use Rattle.uvm_object.specs.declared.entries.Entry.{Entry}
 use Rattle.uvm_object.specs.declared.logs.LogFault.{LogFault}
 use Rattle.uvm_object.specs.declared.logs.LogFault.TheVariants.{Full, Memory}
@@ -9,6 +9,10 @@ pub record LogValue : Type 0 where
   pub entries : List Entry
   pub limit : ℕ
   pub spare : ℕ
+
+-- how many entries fit before memory is taken
+abbrev pub capacity_of : LogValue → ℕ
+capacity_of log = length log.entries + log.spare
 
 -- what is told of each fault
 abbrev pub fault_text : LogFault → List ℕ

@@ -3,6 +3,7 @@
 ghost use Rattle.std.specs.Prelude.{◌≡◌, ◌≢◌, ◌==◌, ◌↔◌, ◌∷◌, ◌<◌, ◌≤◌, [], length, reverse, nat_le, slice_get, Err, IsOk, OnOk, OnErr, option_copied};
 ghost use Rattle.std.specs.Slice.Iter.{iter_rest};
 ghost use Rattle.uvm_glob.specs.Lists.{newest};
+ghost use Rattle.uvm_object.specs.Logs.{capacity_of};
 
 use crate::entries::Entry;
 use std::alloc::{AllocError, AllocFailed, Global};
@@ -87,13 +88,15 @@ impl Log {
         self.entries.reserve(1)
     }
 
-    /// Adds an entry: `Full` where the limit is reached, else `Memory` where there is no room for it and none can be had.
+    /// Adds an entry: `Full` where the limit is reached, else `Memory` where there is no room for it and none can be had. No room is
+    /// given up, also where the entry is refused.
     pub fn push(&mut self, entry: Entry) -> Result<(), LogFault>
         ensures ok { OnOk result (self.new.entries ≡ entry ∷ self.old.entries) }
         ensures full { (result ≡ Err LogFault.Full) ↔ (self.old.limit ≤ length self.old.entries) }
         ensures room { 0 < self.old.spare → result ≢ Err LogFault.Memory }
         ensures err { OnErr result (self.new.entries ≡ self.old.entries) }
         ensures limit { self.new.limit ≡ self.old.limit }
+        ensures capacity { capacity_of self.old ≤ capacity_of self.new }
     {
         if self.is_full() {
             return Err(LogFault::Full);

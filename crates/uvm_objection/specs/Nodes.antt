@@ -1,5 +1,5 @@
 -- The nodes of a tree with what is raised at each, in the order in which they were added: a parent stands before its children.
-use Rattle.std.specs.Prelude.{ℕ, Bool, ◌==◌, ◌+◌, ◌-◌, List, map, find, Option, Some, None, if◌then◌else◌}
+use Rattle.std.specs.Prelude.{ℕ, Bool, ◌==◌, ◌+◌, ◌-◌, List, length, map, find, Option, Some, None, if◌then◌else◌}
 use Rattle.std.specs.List.{list_any}
 use Rattle.std.specs.Option.{option_map_or}
 
@@ -17,6 +17,10 @@ pub record Node : Type 0 where
 pub record ObjectionValue : Type 0 where
   pub nodes : List Node
   pub spare : ℕ
+
+-- how many nodes fit before memory is taken
+abbrev pub capacity_of : ObjectionValue → ℕ
+capacity_of objection = length objection.nodes + objection.spare
 
 -- the top, and a node that is added under a parent
 abbrev pub top : Node

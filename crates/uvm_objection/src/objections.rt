@@ -4,7 +4,7 @@ ghost use Rattle.std.specs.Prelude.{◌≡◌, ◌+◌, ◌<◌, ◌≤◌, ◌^
 ghost use Rattle.std.specs.Option.{option_to_list};
 ghost use Rattle.uvm_objection.specs.Changes.{nodes_changed, IsWithin, IsTimely, IsSteady, TellsOf};
 ghost use Rattle.uvm_objection.specs.Kept.{node_of};
-ghost use Rattle.uvm_objection.specs.Nodes.{top, new_node, is_known, source_of, held_of, due_of, raised, dropped, released, with_drain};
+ghost use Rattle.uvm_objection.specs.Nodes.{capacity_of, top, new_node, is_known, source_of, held_of, due_of, raised, dropped, released, with_drain};
 ghost use Rattle.uvm_objection.specs.Totals.{total, settled, drains_begun, drains_ended};
 ghost use Rattle.uvm_objection.specs.Laws.{AreNodes};
 
@@ -73,13 +73,14 @@ impl Objection {
     }
 
     /// Adds a node that is not known, under a parent that is: nothing was raised at it, and its drain time is 0. Its error is
-    /// want of memory, which adds nothing, and does not come where there is room.
+    /// want of memory, which adds nothing, and does not come where there is room. No room is given up, also where it fails.
     pub fn add(&mut self, node: NodeId, parent: NodeId) -> Result<(), AllocError>
         requires unknown { is_known node self.old.nodes ≡ false }
         requires parent { IsTrue (is_known parent self.old.nodes) }
         ensures ok { OnOk result (self.new.nodes ≡ self.old.nodes ++ new_node node parent ∷ []) }
         ensures err { OnErr result (self.new.nodes ≡ self.old.nodes) }
         ensures room { 0 < self.old.spare → IsOk result }
+        ensures capacity { capacity_of self.old ≤ capacity_of self.new }
     {
         self.entries.push(Entry::new(node, Some(parent)))?;
         Ok(())

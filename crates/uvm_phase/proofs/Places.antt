@@ -1,45 +1,40 @@
 -- Where a call stands that is added to a list in the order in which its calls come due.
-use Rattle.std.proofs.Common.{◌≡◌, ◌<◌, ℕ, zero, suc, Bool, true, false, List, [], ◌∷◌, ◌++◌, length, take, drop, filter, get_or, All, Bor, Option, Some, None, IfSome, option_copied, if◌then◌else◌, refl, sym, ap, ◌∙◌, subst, arith}
+use Rattle.std.proofs.Common.{◌≡◌, ℕ, zero, suc, Bool, true, false, not, List, [], ◌∷◌, drop, filter, get_or, All, Bor, Option, Some, None, IfSome, option_copied, if◌then◌else◌, refl, sym, ap, arith}
 use Rattle.std.specs.List.{insert, slice_get}
-use Rattle.std.proofs.lemmas.List.{take-append-drop}
-use Rattle.std.proofs.lemmas.List.Elements.{All-nil, All-cons, All-head, All-tail, All-get_or, All-filter}
+use Rattle.std.specs.List.Sorted.{IsPartitionedBy, IsPartitionPoint}
+use Rattle.std.proofs.lemmas.List.Elements.{All-cons, All-get_or, All-filter}
 use Rattle.uvm_phase.specs.declared.agendas.Due.{Due}
 use Rattle.uvm_phase.specs.Dues.{is_due_before, insert_due, IsInOrder}
 use Rattle.uvm_phase.proofs.Before.{before_others, not_before_self}
-use Rattle.uvm_phase.proofs.Ordered.{After, NotBefore, Ordered, AllPairs-from_behind, behind_from_AllPairs, Ordered-insert_due, insert_due-first}
-
--- one that does not come after a given one
-abbrev pub NotAfter : {O N : Type 0} → Due O N → Due O N → Type 0
-NotAfter due other = is_due_before due other ≡ false
-
--- behind those that do not come after it, and in front of those that do
-place-between : {O N : Type 0} (due : Due O N) (front behind : List (Due O N)) → All (NotAfter due) front → All (After due) behind → front ++ due ∷ behind ≡ insert_due due (front ++ behind)
-place-between due [] behind front_is behind_is = sym (insert_due-first due behind behind_is)
-place-between due (other ∷ front) behind front_is behind_is =
-    let here : is_due_before due other ≡ false = All-head (NotAfter due) other front front_is in
-    rw here (ap (λ l. other ∷ l) (place-between due front behind (All-tail (NotAfter due) other front front_is) behind_is))
-
-pub place-is : {O N : Type 0} (due : Due O N) (dues : List (Due O N)) (place : ℕ) → All (NotAfter due) (take place dues) → All (After due) (drop place dues) → insert dues place due ≡ insert_due due dues
-place-is due dues place front behind = place-between due (take place dues) (drop place dues) front behind ∙ ap (insert_due due) (take-append-drop place dues)
+use Rattle.uvm_phase.proofs.Ordered.{NotBefore, Ordered, AllPairs-from_behind, behind_from_AllPairs, Ordered-insert_due, insert_due-first}
 
 -- what does not come after one does not come after any behind it
 not-after-step : {O N : Type 0} (due other last : Due O N) (b : Bool) → is_due_before due other ≡ b → is_due_before last other ≡ false → is_due_before due last ≡ false → is_due_before due other ≡ false
 not-after-step due other last true first behind none = absurd (let bad : is_due_before due last ≡ true = before_others due other last first behind in cc)
 not-after-step due other last false first behind none = first
 
-pub not-after : {O N : Type 0} (due d : Due O N) (dues : List (Due O N)) (place : ℕ) → Ordered dues → place < length dues → is_due_before due (get_or dues place d) ≡ false → All (NotAfter due) (take (suc place) dues)
-not-after due d [] place ordered within none = absurd (omega arith)
-not-after due d (other ∷ others) zero ordered within none = All-cons (NotAfter due) other [] none (All-nil (NotAfter due))
-not-after due d (other ∷ others) (suc place) ordered within none =
-    let last : is_due_before (get_or others place d) other ≡ false = All-get_or (NotBefore other) others place d (omega arith) ordered.0 in
-    All-cons (NotAfter due) other (take (suc place) others) (not-after-step due other (get_or others place d) (is_due_before due other) refl last none)
-    (not-after due d others place ordered.1 (omega arith) none)
+-- whether one does not come after a given one
+abbrev pub is_not_after : {O N : Type 0} → Due O N → Due O N → Bool
+is_not_after due other = not (is_due_before due other)
 
--- one more that comes after it
-pub after-more : {O N : Type 0} (due d : Due O N) (dues : List (Due O N)) (place : ℕ) → place < length dues → is_due_before due (get_or dues place d) ≡ true → All (After due) (drop (suc place) dues) → All (After due) (drop place dues)
-after-more due d [] place within first rest = absurd (omega arith)
-after-more due d (other ∷ others) zero within first rest = All-cons (After due) other others first rest
-after-more due d (other ∷ others) (suc place) within first rest = after-more due d others place (omega arith) first rest
+not-true : (b : Bool) → not b ≡ true → b ≡ false
+not-true true is = absurd cc
+not-true false is = refl
+
+not-false : (b : Bool) → not b ≡ false → b ≡ true
+not-false true is = refl
+not-false false is = absurd cc
+
+-- in an order those that do not come after one stand in front of those that do
+parts : {O N : Type 0} (due : Due O N) (dues : List (Due O N)) → Ordered dues → IsPartitionedBy (is_not_after due) dues
+parts due [] ordered i j d le within none = absurd (omega arith)
+parts due (other ∷ others) ordered zero zero d le within none = none
+parts due (other ∷ others) ordered zero (suc j) d le within none =
+    let behind : is_due_before (get_or others j d) other ≡ false = All-get_or (NotBefore other) others j d (omega arith) ordered.0 in
+    let first : is_due_before due other ≡ false = not-after-step due other (get_or others j d) (is_due_before due other) refl behind (not-true (is_due_before due (get_or others j d)) none) in
+    ap not first
+parts due (other ∷ others) ordered (suc i) zero d le within none = absurd (omega arith)
+parts due (other ∷ others) ordered (suc i) (suc j) d le within none = parts due others ordered.1 i j d (omega arith) (omega arith) none
 
 -- where it is in order
 pub ordered : {O N : Type 0} (dues : List (Due O N)) → IsInOrder dues → Ordered dues
@@ -81,8 +76,15 @@ pub least_read : {O N : Type 0} (dues : List (Due O N)) (read : Option (Bor (Due
 least_read dues None each is = tt
 least_read dues (Some due) each is = least_is dues due.now (ordered dues each) is
 
--- behind the last that does not come after it
-pub stands-behind : {O N : Type 0} (due d : Due O N) (dues : List (Due O N)) (before place : ℕ) → place ≡ suc before → IsInOrder dues → before < length dues → is_due_before due (get_or dues before d) ≡ false → All (After due) (drop place dues)
-    → insert dues place due ≡ insert_due due dues
-stands-behind due d dues before place is each within none after =
-    place-is due dues place (subst (λ n. All (NotAfter due) (take n dues)) (sym is) (not-after due d dues before (ordered dues each) within none)) after
+pub is_partitioned : {O N : Type 0} (due : Due O N) (dues : List (Due O N)) → IsInOrder dues → IsPartitionedBy (is_not_after due) dues
+is_partitioned due dues each = parts due dues (ordered dues each)
+
+-- it stands where the two parts meet
+pub stands-between : {O N : Type 0} (due : Due O N) (dues : List (Due O N)) (place : ℕ) → IsPartitionPoint (λ other. is_not_after due other ≡ true) (λ other. is_not_after due other ≡ false) dues place → insert dues place due ≡ insert_due due dues
+stands-between due [] zero point = refl
+stands-between due [] (suc place) point = refl
+stands-between due (other ∷ others) zero point =
+    sym (insert_due-first due (other ∷ others) (λ k d within. not-false (is_due_before due (get_or (other ∷ others) k d)) (point.1 k d (omega arith) within)))
+stands-between due (other ∷ others) (suc place) point =
+    let here : is_due_before due other ≡ false = not-true (is_due_before due other) (point.0 0 other (omega arith) (omega arith)) in
+    rw here (ap (λ l. other ∷ l) (stands-between due others place (λ k d low high. point.0 (suc k) d (omega arith) (omega arith), λ k d low high. point.1 (suc k) d (omega arith) (omega arith))))

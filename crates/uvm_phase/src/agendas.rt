@@ -50,8 +50,9 @@ impl<O, N> Due<O, N> {
 
 /// The calls that are due while a phase runs (IEEE 1800.2-2020, Clause 9). They come due by time, at one time by the place of the cause, then
 /// by its number, and where these are equal in the order in which they were added. Contracts see them in this order, and
-/// beside them for how many more there is room. To add one takes the time of a look at those that come after it, to take the
-/// first a constant time, and to take out those of a phase or of an owner that of a look at all.
+/// beside them for how many more there is room. To add one takes few looks, as in a binary search, and moves those in front of it
+/// or those behind it, to take the first takes a constant time, and to take out those of a phase or of an owner that of a look at
+/// all.
 #[derive(Drop)]
 pub struct Agenda<O, N> {
     // In the order in which they come due.
@@ -118,10 +119,11 @@ impl<O: Drop, N: Drop> Agenda<O, N> {
         Ok(())
     }
 
-    /// The call that comes due first, if one is due. Takes no memory.
+    /// The call that comes due first, if one is due; the others follow in order. Takes no memory.
     pub fn first(&self) -> Option<&Due<O, N>>
         ensures value { option_copied result ≡ slice_get self.now.dues 0 }
         ensures least { IfSome result (λ due. All (λ other. is_due_before other due.now ≡ false) self.now.dues) }
+        ensures order { IsInOrder self.now.dues }
     {
         self.dues.front()
     }
@@ -143,9 +145,10 @@ impl<O: Drop, N: Drop> Agenda<O, N> {
         take_out_phase(&mut self.dues, phase);
     }
 
-    /// How many calls are due.
+    /// How many calls are due. None comes due before one that stands in front of it.
     pub fn len(&self) -> usize
-        ensures { result ≡ length self.now.dues }
+        ensures count { result ≡ length self.now.dues }
+        ensures order { IsInOrder self.now.dues }
     {
         self.dues.len()
     }
@@ -174,14 +177,7 @@ fn place_of<O, N>(dues: &VecDeque<Due<O, N>>, due: &Due<O, N>) -> usize
     ensures within { result ≤ deque_len dues.now }
     ensures place { insert dues.now.items result due.now ≡ insert_due due.now dues.now.items }
 {
-    let mut place = dues.len();
-    while place > 0 {
-        if !due.is_due_before(&dues[place - 1]) {
-            return place;
-        }
-        place -= 1;
-    }
-    place
+    dues.partition_point(|other| !due.is_due_before(other))
 }
 
 fn take_out_phase<O: Drop, N: Drop>(dues: &mut VecDeque<Due<O, N>>, phase: Phase)

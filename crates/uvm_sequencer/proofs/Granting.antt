@@ -11,10 +11,10 @@ use Rattle.uvm_sequencer.specs.declared.requests.Request.{Request}
 use Rattle.uvm_sequencer.specs.declared.requests.Want.{Want}
 use Rattle.uvm_sequencer.specs.declared.requests.Want.TheVariants.{Item, Lock}
 use Rattle.uvm_sequencer.specs.Sequences.{Start, is_under}
-use Rattle.uvm_sequencer.specs.Queues.{is_blocked, is_candidate, is_item, is_item_of, is_lock_of, leading, lock_in, lock_request, priority_of}
+use Rattle.uvm_sequencer.specs.Queues.{AreSingle, is_blocked, is_candidate, is_item, is_item_of, is_lock_of, leading, lock_in, lock_request, priority_of}
 use Rattle.uvm_sequencer.specs.Choices.{choice, contenders, drawn, first_over, is_greatest, is_strict}
 use Rattle.uvm_sequencer.specs.Sequencers.{SequencerValue, candidates_at, choice_at, granted, lock_at, locked}
-use Rattle.uvm_sequencer.specs.Laws.{AreSingle, EachGrantEndsAWait, IsFree, LockExcludes}
+use Rattle.uvm_sequencer.specs.Laws.{EachGrantEndsAWait, IsFree, LockExcludes}
 use Rattle.uvm_sequencer.proofs.Singles.{one-fewer}
 use Rattle.uvm_sequencer.proofs.Waiting.{leading-waits}
 
@@ -151,7 +151,7 @@ module _ (started : List Start) (s : SequencerValue) where
       subst (λ n. length (granted n s).queue + 1 ≡ length s.queue) told
       (one-fewer (is_item_of r.seq) s.queue (any-contains (is_item_of r.seq) s.queue r (chosen-waits started s word r e) own) one.0)
 
-  item-ends : (word : Option ℕ) (seq : ℕ) → AreSingle s.queue → choice_at started s word ≡ Some seq → length (granted seq s).queue + 1 ≡ length s.queue
+  pub item-ends : (word : Option ℕ) (seq : ℕ) → AreSingle s.queue → choice_at started s word ≡ Some seq → length (granted seq s).queue + 1 ≡ length s.queue
   item-ends word seq single is = item_by word seq (choice s.mode (candidates_at started s) word) single refl is
 
 pub each_grant_ends_a_wait : EachGrantEndsAWait

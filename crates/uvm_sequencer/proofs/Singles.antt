@@ -8,9 +8,9 @@ use Rattle.uvm_glob.specs.Faults.{fault_if}
 use Rattle.uvm_sequencer.specs.declared.requests.Request.{Request}
 use Rattle.uvm_sequencer.specs.declared.faults.SeqFault.TheVariants.{Twice}
 use Rattle.uvm_sequencer.specs.Drivers.{grant_of}
-use Rattle.uvm_sequencer.specs.Queues.{is_item_of, is_lock_of, is_of, item_request, lock_request}
+use Rattle.uvm_sequencer.specs.Queues.{AreSingle, is_item_of, is_lock_of, is_of, item_request, lock_request}
 use Rattle.uvm_sequencer.specs.Sequencers.{is_live_at}
-use Rattle.uvm_sequencer.specs.Laws.{AreSingle, WaitsStaySingle}
+use Rattle.uvm_sequencer.specs.Laws.{WaitsStaySingle}
 
 -- no more pass a test of what is left
 few_more : (p q : Request → Bool) (x : Request) (xs : List Request) (a b : Bool) → q x ≡ a → p x ≡ b → length (filter p (filter q xs)) ≤ length (filter p xs)
@@ -24,7 +24,7 @@ few : (p q : Request → Bool) (xs : List Request) → length (filter p (filter 
 few p q [] = omega arith
 few p q (x ∷ xs) = few_more p q x xs (q x) (p x) refl refl (few p q xs)
 
-single-left : (keep : Request → Bool) (queue : List Request) → AreSingle queue → AreSingle (filter keep queue)
+pub single-left : (keep : Request → Bool) (queue : List Request) → AreSingle queue → AreSingle (filter keep queue)
 single-left keep queue single seq =
     let items = few (is_item_of seq) keep queue in
     let locks = few (is_lock_of seq) keep queue in
@@ -83,7 +83,7 @@ single-item queue seq priority fresh single n =
       added (is_lock_of n) (item_request seq priority) queue (λ own. absurd (nobody (seq == n) own)) one.1,
     )
 
-single-lock : (queue : List Request) (seq : ℕ) → list_any (is_lock_of seq) queue ≡ false → AreSingle queue → AreSingle (lock_request seq ∷ queue)
+pub single-lock : (queue : List Request) (seq : ℕ) → list_any (is_lock_of seq) queue ≡ false → AreSingle queue → AreSingle (lock_request seq ∷ queue)
 single-lock queue seq fresh single n =
     let one = single n in (
       added (is_item_of n) (lock_request seq) queue (λ own. absurd (nobody (seq == n) own)) one.0,
@@ -97,11 +97,20 @@ single-last queue x single n =
     let locks = size-last (is_lock_of n) x queue in
     (omega (arith, items, one.0), omega (arith, locks, one.1))
 
+pub single-none : AreSingle []
+single-none seq = (omega arith, omega arith)
+
+pub single-item-last : (queue : List Request) (seq priority : ℕ) → list_any (is_item_of seq) queue ≡ false → AreSingle queue → AreSingle (queue ++ item_request seq priority ∷ [])
+single-item-last queue seq priority fresh single = single-last queue (item_request seq priority) (single-item queue seq priority fresh single)
+
+pub single-lock-last : (queue : List Request) (seq : ℕ) → list_any (is_lock_of seq) queue ≡ false → AreSingle queue → AreSingle (queue ++ lock_request seq ∷ [])
+single-lock-last queue seq fresh single = single-last queue (lock_request seq) (single-lock queue seq fresh single)
+
 pub waits_stay_single : WaitsStaySingle
 waits_stay_single = record {
-  begins = λ mode seq. (omega arith, omega arith);
-  requests = λ s seq priority single free. single-last s.queue (item_request seq priority) (single-item s.queue seq priority (first_false (list_any (is_item_of seq) s.queue) (is_some (grant_of seq s.driver)) free) single);
-  locks = λ s seq single free. single-last s.queue (lock_request seq) (single-lock s.queue seq (free_of (list_any (is_lock_of seq) s.queue) free) single);
+  begins = λ mode. single-none;
+  requests = λ s seq priority single free. single-item-last s.queue seq priority (first_false (list_any (is_item_of seq) s.queue) (is_some (grant_of seq s.driver)) free) single;
+  locks = λ s seq single free. single-lock-last s.queue seq (free_of (list_any (is_lock_of seq) s.queue) free) single;
   grabs = λ s seq single free. single-lock s.queue seq (free_of (list_any (is_lock_of seq) s.queue) free) single;
   lock_grants = λ s seq single. single-left (λ request. not (is_lock_of seq request)) s.queue single;
   item_grants = λ s seq single. single-left (λ request. not (is_item_of seq request)) s.queue single;

@@ -8,7 +8,7 @@ use Rattle.uvm_sequencer.specs.declared.requests.Request.{Request}
 use Rattle.uvm_sequencer.specs.declared.starts.SeqStep.{SeqStep}
 use Rattle.uvm_sequencer.specs.Choices.{choice, first_over, is_strict}
 use Rattle.uvm_sequencer.specs.Drivers.{grant_of, hand_of, wait_of}
-use Rattle.uvm_sequencer.specs.Queues.{is_candidate, is_item, is_item_of, is_lock_of, lock_request, priority_of}
+use Rattle.uvm_sequencer.specs.Queues.{AreSingle, is_candidate, is_item, lock_request, priority_of}
 use Rattle.uvm_sequencer.specs.Sequences.{Start, SequencesValue, IsSequences, AreStarted, ancestors_of, is_under, numbered, parent_of, step_at, with_step}
 use Rattle.uvm_sequencer.specs.Sequencers.{SequencerValue, after_leave, after_phase, ask_fault, candidates_at, choice_at, granted, lock_at, lock_fault, locked, new_sequencer, request_fault, unlocked, with_grab, with_item, with_lock}
 
@@ -95,11 +95,7 @@ pub record StartsChangeNothing : Type 0 where
   pub locks : (start : Start) (started : List Start) (s : SequencerValue) → IsTrue (are_known started s.queue) → lock_at (start ∷ started) s ≡ lock_at started s
   pub items : (start : Start) (started : List Start) (s : SequencerValue) → IsTrue (are_known started s.queue) → candidates_at (start ∷ started) s ≡ candidates_at started s
 
--- a sequence waits for one item and for one lock at most
-abbrev pub AreSingle : List Request → Type 0
-AreSingle queue = (seq : ℕ) → (length (filter (is_item_of seq) queue) ≤ 1) × (length (filter (is_lock_of seq) queue) ≤ 1)
-
--- that is so at first, and stays so, whatever is asked for, granted or taken out
+-- that a sequence waits for one item and for one lock at most is so at first, and stays so, whatever is asked for, granted or taken out
 pub record WaitsStaySingle : Type 0 where
   pub begins : (mode : Mode) → AreSingle (new_sequencer mode).queue
   pub requests : (s : SequencerValue) (seq priority : ℕ) → AreSingle s.queue → request_fault s seq ≡ None → AreSingle (with_item seq priority s).queue

@@ -1,6 +1,6 @@
 -- What sequences ask of a sequencer, in the order of its queue: grabs first, the latest foremost, then the others as they came. And
 -- who holds the sequencer, in the order of granting.
-use Rattle.std.specs.Prelude.{ℕ, Bool, true, false, ◌==◌, ◌&&◌, not, List, [], ◌∷◌, filter, find, Option, Some, None, option_and_then, if◌then◌else◌}
+use Rattle.std.specs.Prelude.{ℕ, Bool, true, false, ◌≤◌, ◌==◌, ◌&&◌, not, List, [], ◌∷◌, length, filter, find, Option, Some, None, option_and_then, if◌then◌else◌}
 use Rattle.std.specs.List.{list_any}
 use Rattle.uvm_sequencer.specs.declared.requests.Request.{Request}
 use Rattle.uvm_sequencer.specs.declared.requests.Want.{Want}
@@ -38,6 +38,10 @@ is_item_of seq request = is_of seq request && is_item request
 
 abbrev pub is_lock_of : ℕ → Request → Bool
 is_lock_of seq request = is_of seq request && not (is_item request)
+
+-- a sequence waits for one item and for one lock at most
+abbrev pub AreSingle : List Request → Type 0
+AreSingle queue = (seq : ℕ) → (length (filter (is_item_of seq) queue) ≤ 1) × (length (filter (is_lock_of seq) queue) ≤ 1)
 
 -- a queue without what a sequence asked for: anything, an item, a lock
 abbrev pub without : ℕ → List Request → List Request

@@ -1,6 +1,6 @@
 -- The sequences that were started, the newest first: on which sequencer, by whom, at which step, live or not. A sequence has the
 -- number of its start, so that the oldest has number 1.
-use Rattle.std.specs.Prelude.{◌≡◌, ℕ, Bool, ◌==◌, ◌||◌, ◌<◌, List, [], ◌∷◌, length, reverse, Option, Some, None, option_map, option_and_then, if◌then◌else◌}
+use Rattle.std.specs.Prelude.{◌≡◌, ℕ, Bool, ◌==◌, ◌||◌, ◌+◌, ◌<◌, List, [], ◌∷◌, length, reverse, Option, Some, None, option_map, option_and_then, if◌then◌else◌}
 use Rattle.std.specs.List.{filter_map, list_any}
 use Rattle.std.specs.Option.{option_map_or, ForSome}
 use Rattle.uvm_sequencer.specs.declared.starts.SeqStep.{SeqStep}
@@ -18,6 +18,10 @@ pub record SequencesValue : Type 0 where
   pub started : List Start
   pub steps : List (Option SeqStep)
   pub spare : ℕ
+
+-- how many sequences fit before memory is taken
+abbrev pub capacity_of : SequencesValue → ℕ
+capacity_of s = length s.started + s.spare
 
 -- the one of a number
 abbrev pub numbered : {X : Type 0} → List X → ℕ → Option X

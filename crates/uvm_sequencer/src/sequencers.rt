@@ -1,11 +1,11 @@
 //! The sequencer.
 
-ghost use Rattle.std.specs.Prelude.{◌≡◌, ◌<◌, None, Some, OnOk, OnErr, IfOk, IfErr, IfSome, IfNone, IsSome, is_some, nat_lt, filter, length, vec_capacity};
+ghost use Rattle.std.specs.Prelude.{◌≡◌, ◌+◌, ◌<◌, None, Some, OnOk, OnErr, OnSome, IfOk, IfErr, IfSome, IfNone, IsSome, is_some, nat_lt, filter, length, vec_capacity};
 ghost use Rattle.uvm_glob.specs.Faults.{unless};
 ghost use Rattle.uvm_sequencer.specs.Contending.{without_place};
 ghost use Rattle.uvm_sequencer.specs.Drivers.{grant_of, is_try};
 ghost use Rattle.uvm_sequencer.specs.Faults.{or_fault, refusal};
-ghost use Rattle.uvm_sequencer.specs.Queues.{all_released, is_held, released};
+ghost use Rattle.uvm_sequencer.specs.Queues.{AreSingle, all_released, is_held, released};
 ghost use Rattle.uvm_sequencer.specs.Sequencers.{after_ask, after_leave, after_phase, after_send, answer, ask_fault, candidates_at, choice_at, done_by, granted, is_driver, is_live_at, lock_at, lock_fault, locked, new_sequencer, ready_at, request_fault, unlocked, unlocked_by, with_grab, with_idle, with_item, with_lock, with_port};
 
 use crate::choices::Choices;
@@ -24,7 +24,8 @@ use uvm_tree::NodeId;
 
 /// A sequencer (IEEE 1800.2-2020, Clause 15): which sequence may send an item to the driver next. Sequences request to send,
 /// lock and grab; the driver asks, the sequencer grants, the granted sequence sends, and the driver is done. A sequence that
-/// holds the sequencer blocks all others but those under it; several hold it only where each stands under the one before.
+/// holds the sequencer blocks all others but those under it; several hold it only where each stands under the one before. A
+/// sequence waits for one item and for one lock at most.
 ///
 /// Contracts see how it chooses, the port that drives it, where the driver stands, what was asked for in the order of the queue,
 /// and the holders in the order of granting. A grab stands before all others in the queue, a lock and an item request behind
@@ -107,7 +108,6 @@ impl Sequencer {
     }
 
     /// Asks to hold the sequencer, as `lock`, but before all that was asked for (the standard's `grab`).
-    #[tactic(auto, using(crate::proofs::Waiting::locks_few))]
     pub fn grab(&mut self, seq: SeqId) -> Result<(), SeqFault>
         ensures ok { OnOk result (lock_fault self.old seq ≡ None) }
         ensures after { OnOk result (self.new ≡ with_grab seq self.old) }
@@ -231,11 +231,12 @@ impl Sequencer {
     }
 
     /// Grants the lock that leads, and answers whose it is; none where no lock leads. What leads is the first in the queue of a
-    /// sequence that is not blocked.
+    /// sequence that is not blocked. A grant ends one wait.
     pub fn settle(&mut self, sequences: &Sequences) -> Option<SeqId>
         ensures value { result ≡ lock_at sequences.now.started self.old }
         ensures some { IfSome result (λ seq. self.new ≡ locked seq self.old) }
         ensures none { IfNone result (self.new ≡ self.old) }
+        ensures fewer { OnSome result (length self.new.queue + 1 ≡ length self.old.queue) }
     {
         let seq = self.leading_lock(sequences)?;
         take_lock(&mut self.queue, seq);
@@ -252,9 +253,10 @@ impl Sequencer {
         scans::leading_lock(sequences, self.holders.as_slice(), self.queue.as_slice())
     }
 
-    /// How many item requests and locks wait.
+    /// How many item requests and locks wait: of each sequence one item request and one lock at most.
     pub fn waiting(&self) -> usize
-        ensures { result ≡ length self.now.queue }
+        ensures count { result ≡ length self.now.queue }
+        ensures single { AreSingle self.now.queue }
     {
         self.queue.len()
     }
@@ -278,11 +280,12 @@ impl Sequencer {
     }
 
     /// Grants an item request, and answers whose it is. The driver waits, there is a candidate, and a word is given exactly where
-    /// one decides, as `ready` tells.
+    /// one decides, as `ready` tells. The grant ends one wait.
     pub fn choose(&mut self, sequences: &Sequences, word: Option<u64>) -> SeqId
         requires { ready_at sequences.now.started self.old ≡ Some (is_some word) }
         ensures value { Some result ≡ choice_at sequences.now.started self.old word }
         ensures after { self.new ≡ granted result self.old }
+        ensures fewer { length self.new.queue + 1 ≡ length self.old.queue }
     {
         let Some(how) = self.driver.wait() else {
             unreachable!()
@@ -358,11 +361,5 @@ fn last_place(holders: &[SeqId], seq: SeqId) -> Option<usize>
     ensures within { IfSome result (λ place. place < length holders.now) }
     ensures rest { released seq holders.now ≡ without_place holders.now result }
 {
-    let mut last = None;
-    for (place, holder) in holders.iter().enumerate() {
-        if *holder == seq {
-            last = Some(place);
-        }
-    }
-    last
+    holders.iter().rposition(|holder| *holder == seq)
 }

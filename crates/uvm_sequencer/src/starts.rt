@@ -2,7 +2,7 @@
 
 ghost use Rattle.std.specs.Prelude.{◌≡◌, ◌+◌, ◌<◌, ◌≤◌, ◌∷◌, ◌++◌, [], length, None, Some, OnOk, OnErr, IfOk, IfSome, IsOk, IsSome, is_some, option_map, vec_len, vec_capacity};
 ghost use Rattle.std.specs.Option.{option_copied, option_and_then, option_to_list, ForSome};
-ghost use Rattle.uvm_sequencer.specs.Sequences.{name_at, names_of, numbered, parent_of, step_at, step_after, with_step, stepped, finished, is_under, IsSequences};
+ghost use Rattle.uvm_sequencer.specs.Sequences.{capacity_of, name_at, names_of, numbered, parent_of, step_at, step_after, with_step, stepped, finished, is_under, IsSequences};
 ghost use Rattle.uvm_sequencer.specs.Kept.{place_in, start_of, starts_of, steps_of};
 
 use std::alloc::{AllocError, Global};
@@ -120,7 +120,7 @@ impl Sequences {
 
     /// Starts a sequence on a sequencer, its home, with a priority of at least 1 (the standard's `start`): it stands before its
     /// body. The parent, if one is given, was started here, and may have ended. Its error is want of memory, which starts
-    /// nothing, and does not come where there is room.
+    /// nothing, and does not come where there is room. No room is given up, also where it fails.
     pub fn start(
         &mut self,
         home: NodeId,
@@ -135,6 +135,7 @@ impl Sequences {
         ensures steps { OnOk result (self.new.steps ≡ Some SeqStep.PreStart ∷ self.old.steps) }
         ensures unchanged { OnErr result ((self.new.started ≡ self.old.started) × (self.new.steps ≡ self.old.steps)) }
         ensures room { 0 < self.old.spare → IsOk result }
+        ensures capacity { capacity_of self.old ≤ capacity_of self.new }
     {
         self.sequences.push(Sequence {
             home,

@@ -1,6 +1,11 @@
 -- What ports reach over connections, what is wrong with them, and what may be connected.
 use Rattle.std.proofs.Common.{◌≡◌, ℕ, List, [], ◌∷◌, Some, None, refl}
-use Rattle.std.specs.Prelude.{Option, codes}
+use Rattle.std.specs.Prelude.{◌++◌, Option, codes, map}
+use Rattle.uvm_tree.specs.declared.nodes.Node.{Node}
+use Rattle.uvm_tree.specs.declared.nodes.NodeKind.{NodeKind}
+use Rattle.uvm_tree.specs.declared.nodes.NodeKind.TheVariants as node
+use Rattle.uvm_tree.specs.Nodes.{child, path_at, top}
+use Rattle.uvm_tree.specs.Sorted.{path_order}
 use Rattle.uvm_tlm.specs.declared.ends.End.{End}
 use Rattle.uvm_tlm.specs.declared.ends.End.TheVariants.{Port, Export, Imp, Fifo, Sequencer}
 use Rattle.uvm_tlm.specs.declared.ends.PortKind.TheVariants.{Put, Get, Analysis, Seq}
@@ -13,28 +18,50 @@ use Rattle.uvm_tlm.specs.Wirings.{WiringValue, new_wiring, with_end, with_connec
 abbrev closed : List ℕ → WiringValue → WiringValue
 closed order w = record w { order = Some order }
 
--- in path order the imps are 1 and 2, and the port is 3, which is connected to 2, to 1 and again to 2
+-- a tree in the order in which its nodes were added: `b` is 1, `b.i` is 2, `a` is 3, `a.i` is 4, and `p` is 5
 
+abbrev grown : List Node → ℕ → List ℕ → NodeKind → List Node
+grown nodes parent name kind = nodes ++ child nodes parent name kind ∷ []
+
+abbrev placed : List Node
+placed = grown (grown (grown (grown (grown (top ∷ []) 0 (codes "b") node.Component) 1 (codes "i") node.Imp) 0 (codes "a") node.Component) 3 (codes "i") node.Imp) 0 (codes "p") node.Port
+
+-- the port `p` and the two imps
+abbrev unwritten : WiringValue
+unwritten = with_end 2 Imp (with_end 4 Imp (with_end 5 (Port Analysis) new_wiring))
+
+-- the port `p` is connected to the imp `b.i`, to the imp `a.i`, and again to `b.i`
 abbrev written : WiringValue
-written = with_connection 3 2 (with_connection 3 1 (with_connection 3 2 (with_end 1 Imp (with_end 2 Imp (with_end 3 (Port Analysis) new_wiring)))))
+written = with_connection 5 2 (with_connection 5 4 (with_connection 5 2 unwritten))
 
-no-target-is-found-before-the-close : targets_of written 3 ≡ []
+a-connection-that-is-made-again-changes-nothing : with_connection 5 4 written ≡ written
+a-connection-that-is-made-again-changes-nothing = refl
+
+connections-do-not-show-which-was-made-first : with_connection 5 2 (with_connection 5 4 unwritten) ≡ with_connection 5 4 (with_connection 5 2 unwritten)
+connections-do-not-show-which-was-made-first = refl
+
+no-target-is-found-before-the-close : targets_of written 5 ≡ []
 unfolding targets_of targets_in reaches leads
 no-target-is-found-before-the-close = refl
 
 abbrev written_closed : WiringValue
-written_closed = closed (1 ∷ 2 ∷ 3 ∷ []) written
+unfolding path_order
+written_closed = closed (path_order placed) written
 
-targets-stand-in-path-order-each-once : targets_of written_closed 3 ≡ 1 ∷ 2 ∷ []
-unfolding targets_of targets_in reaches leads
+-- the paths of the targets of a node
+abbrev target_paths : ℕ → List (List (List ℕ))
+target_paths from = map (path_at placed) (targets_of written_closed from)
+
+targets-stand-in-path-order-each-once : target_paths 5 ≡ (codes "a" ∷ codes "i" ∷ []) ∷ (codes "b" ∷ codes "i" ∷ []) ∷ []
+unfolding targets_of targets_in reaches leads path_order written_closed
 targets-stand-in-path-order-each-once = refl
 
-an-analysis-port-may-have-many : wire_fault written_closed 3 ≡ None
-unfolding wire_fault driver_in targets_in reaches leads
+an-analysis-port-may-have-many : wire_fault written_closed 5 ≡ None
+unfolding wire_fault driver_in targets_in reaches leads path_order written_closed
 an-analysis-port-may-have-many = refl
 
-an-imp-reaches-nothing : targets_of written_closed 1 ≡ []
-unfolding targets_of targets_in reaches leads
+an-imp-reaches-nothing : target_paths 4 ≡ []
+unfolding targets_of targets_in reaches leads path_order written_closed
 an-imp-reaches-nothing = refl
 
 -- in path order: a put port without a connection, one to two FIFOs and one to one, and the FIFOs

@@ -61,7 +61,7 @@ fn is_shown_and_taken(fifo: &mut Fifo) -> Result<bool, AllocError> {
 // An item is put and taken without waiting.
 fn goes_at_once(fifo: &mut Fifo) -> Result<bool, AllocError> {
     let stored = fifo.try_put(item(9))?;
-    let first = fifo.items().front().copied();
+    let first = fifo.item(0);
     let taken = fifo.try_take();
     Ok(stored && first == Some(item(9)) && taken == first && fifo.try_take() == None)
 }
@@ -85,7 +85,7 @@ fn holds_many(fifo: &mut Fifo) -> Result<bool, AllocError> {
             return Ok(false);
         }
     }
-    Ok(fifo.items().len() == 70_000 && fifo.try_take() == Some(item(0)))
+    Ok(fifo.len() == 70_000 && !fifo.is_empty() && fifo.try_take() == Some(item(0)))
 }
 
 // Adds what stands at a node.
@@ -138,30 +138,34 @@ impl Bench {
     }
 }
 
-// The nodes of an export, a FIFO, an imp, a port and a sequencer, in path order.
+// The nodes of the imps `a.i` and `b.i`, an export, a FIFO, a port and a sequencer, in path order.
 #[derive(Clone, Copy)]
 struct Nodes {
+    first: NodeId,
+    second: NodeId,
     export: NodeId,
     fifo: NodeId,
-    imp: NodeId,
     port: NodeId,
     sequencer: NodeId,
 }
 
-fn five_nodes(tree: &mut Tree) -> Result<Nodes, Fail> {
+fn six_nodes(tree: &mut Tree) -> Result<Nodes, Fail> {
+    let b = add_node(tree, NodeId::TOP, b"b")?;
+    let a = add_node(tree, NodeId::TOP, b"a")?;
     Ok(Nodes {
+        first: add_node(tree, a, b"i")?,
+        second: add_node(tree, b, b"i")?,
         export: add_node(tree, NodeId::TOP, b"e")?,
         fifo: add_node(tree, NodeId::TOP, b"f")?,
-        imp: add_node(tree, NodeId::TOP, b"i")?,
         port: add_node(tree, NodeId::TOP, b"p")?,
         sequencer: add_node(tree, NodeId::TOP, b"s")?,
     })
 }
 
-// A port is connected to an imp, and over an export to a FIFO without a limit.
+// A port is connected to two imps, and over an export to a FIFO without a limit.
 #[test]
 fn a_port_reaches_its_targets(rt: HostRuntime) -> Result<(), Fail> {
-    let nodes = five_nodes(&mut Tree::new(rt.alloc()))?;
+    let nodes = six_nodes(&mut Tree::new(rt.alloc()))?;
     let mut bench = Bench::new(rt.alloc());
     assert!(rt; is_wired(&rt, &mut bench, nodes)?);
     Ok(())
@@ -178,21 +182,23 @@ fn is_wired<R: Abort>(rt: &R, bench: &mut Bench, nodes: Nodes) -> Result<bool, W
 fn add_nodes<R: Abort>(rt: &R, bench: &mut Bench, nodes: Nodes) -> Result<(), WireFault> {
     bench.add(rt, nodes.sequencer, End::Sequencer)?;
     bench.add(rt, nodes.port, End::Port(PortKind::Analysis))?;
-    bench.add(rt, nodes.imp, End::Imp)?;
     bench.add(rt, nodes.fifo, End::Fifo(0))?;
-    bench.add(rt, nodes.export, End::Export(PortKind::Analysis))
+    bench.add(rt, nodes.export, End::Export(PortKind::Analysis))?;
+    bench.add(rt, nodes.second, End::Imp)?;
+    bench.add(rt, nodes.first, End::Imp)
 }
 
 fn connect_nodes(bench: &mut Bench, nodes: Nodes) -> Result<(), WireFault> {
-    bench.connect(nodes.port, nodes.imp)?;
+    bench.connect(nodes.port, nodes.second)?;
+    bench.connect(nodes.port, nodes.first)?;
     bench.connect(nodes.port, nodes.export)?;
     bench.connect(nodes.export, nodes.fifo)
 }
 
 fn is_resolved(wiring: &Wiring, nodes: Nodes) -> bool {
     wiring.is_closed()
-        && wiring.order().first() == Some(&nodes.export)
-        && wiring.resolve(nodes.port) == [nodes.fifo, nodes.imp].as_slice()
+        && wiring.order().first() == Some(&nodes.first)
+        && wiring.resolve(nodes.port) == [nodes.first, nodes.second, nodes.fifo].as_slice()
         && wiring.fault_of(nodes.port) == None
         && wiring.port_kind(nodes.port) == Some(PortKind::Analysis)
         && wiring.end(nodes.fifo) == Some(End::Fifo(0))

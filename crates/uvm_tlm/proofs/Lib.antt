@@ -3,8 +3,9 @@ pub mod Leads
 pub mod Reached
 pub mod Sources
 pub mod Noted
-pub mod Wired
 pub mod Routes
+pub mod Listed
+pub mod Wired
 pub mod Targets
 pub mod Drivers
 pub mod Agreeing

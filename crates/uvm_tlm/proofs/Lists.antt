@@ -1,10 +1,10 @@
 -- Lists of nodes, and tests of their elements.
-use Rattle.std.proofs.Common.{◌≡◌, ◌≤◌, ℕ, Bool, true, false, cond, eqb, ◌||◌, nat_eq, List, [], ◌∷◌, ◌++◌, length, take, reverse, All, Option, Some, if◌then◌else◌, refl, sym, ap, ◌∙◌, inl, inr, arith}
+use Rattle.std.proofs.Common.{◌≡◌, ◌≤◌, ℕ, Bool, true, false, cond, eqb, ◌||◌, nat_eq, List, [], ◌∷◌, ◌++◌, length, take, All, Option, Some, if◌then◌else◌, refl, sym, ap, ◌∙◌, inl, inr, arith}
 use Rattle.std.specs.List.{list_any}
 use Rattle.std.specs.Option.{option_map_or}
 use Rattle.std.proofs.lemmas.Bool.{eqb-true, eq-eqb, false≢true, or_cases, or_left, or_right}
 use Rattle.std.proofs.lemmas.Bool.Decides.{nat_tests}
-use Rattle.std.proofs.lemmas.List.{reverse-append, take-append-le, length_push}
+use Rattle.std.proofs.lemmas.List.{take-append-le, length_push}
 use Rattle.std.proofs.lemmas.List.Elements.{All-head, All-tail}
 use Rattle.std.proofs.lemmas.List.Folds.{list_any-append}
 use Rattle.indexmap.specs.IndexSet.{insert_key, insert_all}
@@ -42,20 +42,6 @@ any_weaker test other (x ∷ xs) all h = elim (or_cases (test x) (list_any test 
   | inl here ↦ or_left (other x) (list_any other xs) (All-head (λ x. test x ≡ true → other x ≡ true) x xs all here)
   | inr later ↦ or_right (other x) (list_any other xs) (any_weaker test other xs (All-tail (λ x. test x ≡ true → other x ≡ true) x xs all) later)
 ]
-
-or-flip : (a b : Bool) → (b || (a || false)) ≡ (a || b)
-or-flip true true = refl
-or-flip true false = refl
-or-flip false true = refl
-or-flip false false = refl
-
-pub list_any-reverse : {X : Type 0} (test : X → Bool) (xs : List X) → list_any test (reverse xs) ≡ list_any test xs
-list_any-reverse test [] = refl
-list_any-reverse test (x ∷ xs) =
-    ap (list_any test) (reverse-append (x ∷ []) xs)
-    ∙ list_any-append test (reverse xs) (x ∷ [])
-    ∙ ap (λ b. b || (test x || false)) (list_any-reverse test xs)
-    ∙ or-flip (test x) (list_any test xs)
 
 -- one more element of the list at a key
 pub pushed : {V : Type 0} (items : V → List ℕ) (f g : ℕ → Option V) (key element : ℕ) (w : V)

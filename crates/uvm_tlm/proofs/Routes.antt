@@ -25,7 +25,8 @@ member_of_any test (x ∷ xs) h = by (or_cases (test x) (list_any test xs) h) (m
     by (inl here) rest = (x, (Contains-append_left (x ∷ []) xs x (Contains-push [] x), here))
     by (inr later) rest = let found = rest later in (found.0, (Contains-append_right (x ∷ []) xs found.0 found.1.0, found.1.1))
 
-connected : (connections : List Connection) (c : Connection) → Contains connections c → is_connected connections c.from c.to ≡ true
+-- each connection is found
+pub connected : (connections : List Connection) (c : Connection) → Contains connections c → is_connected connections c.from c.to ≡ true
 connected connections c member = any_member (λ d. eqb c.from d.from && eqb c.to d.to) connections c member (and_from _ _ (eqb-same c.from) (eqb-same c.to))
 
 -- a route is found

@@ -1,14 +1,23 @@
 -- What each call keeps of a wiring.
-use Rattle.std.proofs.Common.{◌≡◌, ℕ, Bool, true, false, cond, nat_eq, List, [], ◌∷◌, ◌++◌, map, reverse, Option, Some, None, is_some, option_map, refl, sym, ap, subst, ◌∙◌}
+use Rattle.std.proofs.Common.{◌≡◌, ℕ, Bool, true, false, ◌&&◌, ◌||◌, cond, eqb, inl, inr, nat_eq, not, List, [], ◌∷◌, ◌++◌, map, reverse, Option, Some, None, is_some, option_map, refl, sym, ap, subst, ◌∙◌}
 use Rattle.std.specs.List.{AllByRecursion}
 use Rattle.std.specs.Option.{ForSome}
-use Rattle.std.proofs.lemmas.Bool.{eqb-true, false≢true}
+use Rattle.std.proofs.lemmas.Bool.{and_parts, eqb-true, false≢true, or_cases, or_right}
 use Rattle.std.proofs.lemmas.List.{reverse-append}
-use Rattle.std.proofs.lemmas.List.Elements.{All-cons, All-weaker}
+use Rattle.std.proofs.lemmas.List.Elements.{All-weaker}
 use Rattle.std.proofs.lemmas.Map.Keys.{IsDistinct-cons}
 use Rattle.std.proofs.lemmas.Option.{none-some, same_Some}
+use Rattle.uvm_glob.specs.Faults.{fault_if}
+use Rattle.uvm_glob.specs.Lists.{first_given}
 use Rattle.uvm_tlm.specs.declared.ends.End.{End}
-use Rattle.uvm_tlm.specs.Wirings.{WiringValue, IsWiring, IsPathOrder, end_at, may_connect, with_end, with_connection}
+use Rattle.uvm_tlm.specs.declared.faults.WireFault.TheVariants.{KindDiffers, Late, Unknown}
+use Rattle.uvm_tlm.specs.declared.wirings.Connection.{Connection}
+use Rattle.uvm_tlm.specs.declared.wirings.Wiring.TheInside.{Inside}
+use Rattle.uvm_tlm.specs.Graphs.{has}
+use Rattle.uvm_tlm.specs.Kept.{connections_of, nodes_of, value_of}
+use Rattle.uvm_tlm.specs.Wirings.{WiringValue, IsWiring, IsPathOrder, end_at, connections_among, is_closed, is_connected, are_known, connect_fault, may_connect, with_end, with_connection}
+use Rattle.uvm_tlm.proofs.Listed.{AreBetween, added-there, all-among, among-more, among-same, listed}
+use Rattle.uvm_tlm.proofs.Lists.{any_follows, same_answer}
 
 -- what holds of a value holds of the one that there is
 pub for_some : {X : Type 0} (P : X → Type 0) (x : X) → P x → ForSome (Some x) P
@@ -57,7 +66,20 @@ added w node end unclosed none is = record {
 pub connected : (w : WiringValue) (from to : ℕ) → may_connect (end_at w.ends from) (end_at w.ends to) ≡ true → IsWiring w → IsWiring (with_connection from to w)
 connected w from to allowed is = record {
   apart = is.apart;
-  allowed = All-cons (λ c. may_connect (end_at w.ends c.from) (end_at w.ends c.to) ≡ true) (record { from = from; to = to }) w.connections allowed is.allowed;
+  allowed = all-among (λ a b. may_connect (end_at w.ends a) (end_at w.ends b) ≡ true) (λ a b. (eqb a from && eqb b to) || is_connected w.connections a b) (map (λ e. e.0) w.ends) (λ a b h.
+      elim (or_cases (eqb a from && eqb b to) (is_connected w.connections a b) h) [
+        | inl this ↦
+            let same = and_parts (eqb a from) (eqb b to) this in
+            ap (λ n. may_connect (end_at w.ends n) (end_at w.ends b)) (eqb-true a from same.0) ∙ ap (λ n. may_connect (end_at w.ends from) (end_at w.ends n)) (eqb-true b to same.1) ∙ allowed
+        | inr earlier ↦
+            any_follows (λ c. eqb a c.from && eqb b c.to) (may_connect (end_at w.ends a) (end_at w.ends b)) w.connections
+            (All-weaker (λ c. may_connect (end_at w.ends c.from) (end_at w.ends c.to) ≡ true) (λ c. (eqb a c.from && eqb b c.to) ≡ true → may_connect (end_at w.ends a) (end_at w.ends b) ≡ true)
+            (λ c allowed both.
+            let same = and_parts (eqb a c.from) (eqb b c.to) both in
+            ap (λ n. may_connect (end_at w.ends n) (end_at w.ends b)) (eqb-true a c.from same.0) ∙ ap (λ n. may_connect (end_at w.ends c.from) (end_at w.ends n)) (eqb-true b c.to same.1) ∙ allowed)
+            w.connections is.allowed)
+            earlier
+      ]);
   ordered = is.ordered;
 }
 
@@ -76,3 +98,71 @@ reverse-push xs x = reverse-append xs (x ∷ [])
 pub nothing_found : {X Y : Type 0} (see : X → Y) (found : Option X) → is_some (option_map see found) ≡ false → found ≡ None
 nothing_found see None h = refl
 nothing_found see (Some x) h = absurd (false≢true (sym h))
+
+-- what is seen of a wiring by its nodes, its connections and the order
+abbrev seen : List (ℕ × End) → List Connection → Option (List ℕ) → WiringValue
+seen ends connections order = record { ends = ends; connections = connections_among (is_connected connections) (map (λ e. e.0) ends); order = order }
+
+-- with one more node
+pub seen-more : (w new : Inside) (node : ℕ) (end : End) → reverse new.ends.entries ≡ (node, end) ∷ reverse w.ends.entries → new.connections.keys ≡ w.connections.keys → option_map (λ closed. closed.order.items) new.closed ≡ option_map (λ closed. closed.order.items) w.closed
+    → end_at (reverse w.ends.entries) node ≡ None → AreBetween (is_connected w.connections.keys) (nodes_of w) → value_of new ≡ with_end node end (value_of w)
+seen-more w new node end turned keys order unknown between =
+    let more = among-more (is_connected w.connections.keys) node (nodes_of w) between (sym (added-there (reverse w.ends.entries) node) ∙ ap is_some unknown) in
+    (λ j. seen (turned j) (keys j) (order j))
+    ∙ ap (λ (cs : List Connection). record { ends = (node, end) ∷ reverse w.ends.entries; connections = cs; order = option_map (λ closed. closed.order.items) w.closed }) more
+
+-- some connections with one more, which may be among them already
+abbrev pub IsConnectedMore : List Connection → ℕ → ℕ → List Connection → Type 0
+IsConnectedMore old from to new = (a b : ℕ) → is_connected new a b ≡ ((eqb a from && eqb b to) || is_connected old a b)
+
+-- with one more connection
+pub seen-connected : (w : Inside) (connections : List Connection) (from to : ℕ) → IsConnectedMore w.connections.keys from to connections → AreBetween (is_connected w.connections.keys) (nodes_of w)
+    → seen (reverse w.ends.entries) connections (option_map (λ closed. closed.order.items) w.closed) ≡ with_connection from to (value_of w)
+seen-connected w connections from to more between =
+    let same = among-same (is_connected connections) (λ a b. (eqb a from && eqb b to) || is_connected (connections_of w) a b) (nodes_of w)
+    (λ a b. more a b ∙ ap (λ c. (eqb a from && eqb b to) || c) (sym (listed (is_connected w.connections.keys) (nodes_of w) between a b))) in
+    ap (λ (cs : List Connection). record { ends = reverse w.ends.entries; connections = cs; order = option_map (λ closed. closed.order.items) w.closed }) same
+
+-- which changes nothing where it is there
+pub seen-again : (w : Inside) (connections : List Connection) (from to : ℕ) → IsConnectedMore w.connections.keys from to connections → AreBetween (is_connected w.connections.keys) (nodes_of w) → is_connected (connections_of w) from to ≡ true
+    → seen (reverse w.ends.entries) connections (option_map (λ closed. closed.order.items) w.closed) ≡ value_of w
+seen-again w connections from to more between there =
+    let known : is_connected w.connections.keys from to ≡ true = sym (listed (is_connected w.connections.keys) (nodes_of w) between from to) ∙ there in
+    let same = among-same (is_connected connections) (is_connected w.connections.keys) (nodes_of w)
+    (λ a b. more a b
+    ∙ same_answer ((eqb a from && eqb b to) || is_connected w.connections.keys a b) (is_connected w.connections.keys a b)
+    (λ h. elim (or_cases (eqb a from && eqb b to) (is_connected w.connections.keys a b) h) [
+      | inl this ↦
+          let at = and_parts (eqb a from) (eqb b to) this in
+          ap (λ n. is_connected w.connections.keys n b) (eqb-true a from at.0) ∙ ap (is_connected w.connections.keys from) (eqb-true b to at.1) ∙ known
+      | inr earlier ↦ earlier
+    ])
+    (λ h. or_right (eqb a from && eqb b to) (is_connected w.connections.keys a b) h)) in
+    ap (λ (cs : List Connection). record { ends = reverse w.ends.entries; connections = cs; order = option_map (λ closed. closed.order.items) w.closed }) same
+
+-- which goes between nodes
+pub between-more : (ends : List (ℕ × End)) (old new : List Connection) (from to : ℕ) → IsConnectedMore old from to new → may_connect (end_at ends from) (end_at ends to) ≡ true → AreBetween (is_connected old) (map (λ e. e.0) ends)
+    → AreBetween (is_connected new) (map (λ e. e.0) ends)
+between-more ends old new from to more allowed between a b h = elim (or_cases (eqb a from && eqb b to) (is_connected old a b) (sym (more a b) ∙ h)) [
+  | inl this ↦
+      let same = and_parts (eqb a from) (eqb b to) this in (
+        ap (has (map (λ e. e.0) ends)) (eqb-true a from same.0) ∙ sym (added-there ends from) ∙ is-there (end_at ends from) (some_from (end_at ends from) (end_at ends to) allowed),
+        ap (has (map (λ e. e.0) ends)) (eqb-true b to same.1) ∙ sym (added-there ends to) ∙ is-there (end_at ends to) (some_to (end_at ends from) (end_at ends to) allowed),
+      )
+  | inr earlier ↦ between a b earlier
+]
+  where
+    is-there : (end : Option End) → (end ≡ None → ⊥) → is_some end ≡ true
+    is-there None some = absurd (some refl)
+    is-there (Some end) some = refl
+
+-- where a connection has no fault it is allowed, and the wiring is open
+pub unfaulted : (w : WiringValue) (from to : ℕ) → connect_fault w from to ≡ None → (is_closed w ≡ false) × (may_connect (end_at w.ends from) (end_at w.ends to) ≡ true)
+unfolding connect_fault
+unfaulted w from to none = by (is_closed w) (are_known (end_at w.ends from) (end_at w.ends to)) (may_connect (end_at w.ends from) (end_at w.ends to)) none
+  where
+    by : (closed known allowed : Bool) → first_given (fault_if closed Late ∷ fault_if (not known) Unknown ∷ fault_if (not allowed) KindDiffers ∷ []) ≡ None → (closed ≡ false) × (allowed ≡ true)
+    by true known allowed none = cc
+    by false false allowed none = cc
+    by false true false none = cc
+    by false true true none = (refl, refl)

@@ -1,8 +1,9 @@
 -- The graph of a wiring, and lists of its nodes.
-use Rattle.std.specs.Prelude.{ℕ, Bool, ◌&&◌, ◌==◌, nat_eq, List}
+use Rattle.std.specs.Prelude.{ℕ, Bool, nat_eq, List}
 use Rattle.std.specs.List.{list_any}
 use Rattle.uvm_tlm.specs.declared.ends.End.{End}
 use Rattle.uvm_tlm.specs.declared.wirings.Connection.{Connection}
+pub use Rattle.uvm_tlm.specs.Wirings.{is_connected}
 
 -- the nodes with what stands there, and the connections
 pub record GraphValue : Type 0 where
@@ -12,7 +13,3 @@ pub record GraphValue : Type 0 where
 -- whether a node is among some
 abbrev pub has : List ℕ → ℕ → Bool
 has nodes node = list_any (nat_eq node) nodes
-
--- whether a connection goes from a node to another
-abbrev pub is_connected : List Connection → ℕ → ℕ → Bool
-is_connected connections from to = list_any (λ c. (from == c.from) && (to == c.to)) connections

@@ -9,4 +9,4 @@ use Rattle.uvm_tlm.specs.Wirings.{end_at}
 -- what stands at each node is found, and where the connections to it start
 pub record IsGraph (g : Inside) : Type 0 where
   pub ends_found : (n : ℕ) → get nat_eq g.ends.now n ≡ end_at (reverse g.ends.now.entries) n
-  pub starts_found : (from to : ℕ) → has (list_of g.starts to) from ≡ is_connected (reverse g.connections.now) from to
+  pub starts_found : (from to : ℕ) → has (list_of g.starts to) from ≡ is_connected g.connections.now from to

@@ -1,18 +1,28 @@
 -- What a wiring keeps.
-use Rattle.std.specs.Prelude.{◌≡◌, ℕ, nat_eq, reverse}
+use Rattle.std.specs.Prelude.{◌≡◌, ℕ, true, nat_eq, List, map, reverse}
 use Rattle.std.specs.HashMap.{get}
 use Rattle.std.specs.Option.{ForSome, option_map}
+use Rattle.uvm_tlm.specs.declared.wirings.Connection.{Connection}
 use Rattle.uvm_tlm.specs.declared.wirings.Wiring.TheInside.{Inside}
+use Rattle.uvm_tlm.specs.Graphs.{has}
 use Rattle.uvm_tlm.specs.NodeLists.{list_of}
-use Rattle.uvm_tlm.specs.Wirings.{IsWiring, WiringValue, end_at, targets_in, driver_in}
+use Rattle.uvm_tlm.specs.Wirings.{IsWiring, WiringValue, connections_among, end_at, is_connected, targets_in, driver_in}
+
+-- its nodes, the one added last first, and its connections in their order
+abbrev pub nodes_of : Inside → List ℕ
+nodes_of w = map (λ e. e.0) (reverse w.ends.entries)
+
+abbrev pub connections_of : Inside → List Connection
+connections_of w = connections_among (is_connected w.connections.keys) (nodes_of w)
 
 -- what a wiring is seen as
 abbrev pub value_of : Inside → WiringValue
-value_of w = record { ends = reverse w.ends.entries; connections = reverse w.connections.items; order = option_map (λ closed. closed.order.items) w.closed }
+value_of w = record { ends = reverse w.ends.entries; connections = connections_of w; order = option_map (λ closed. closed.order.items) w.closed }
 
--- what stands at each node is found, and what was found at the close is the targets of each node and the driver of each sequencer
+-- connections go between its nodes, what stands at each node is found, and what was found at the close is the targets of each node and the driver of each sequencer
 pub record IsWired (w : Inside) : Type 0 where
   pub is_wiring : IsWiring (value_of w)
+  pub among : (from to : ℕ) → is_connected w.connections.keys from to ≡ true → (has (nodes_of w) from ≡ true) × (has (nodes_of w) to ≡ true)
   pub ends_found : (n : ℕ) → get nat_eq w.ends n ≡ end_at (reverse w.ends.entries) n
-  pub targets_found : ForSome w.closed (λ closed. (n : ℕ) → list_of closed.targets n ≡ targets_in (reverse w.ends.entries) (reverse w.connections.items) closed.order.items n)
-  pub drivers_found : ForSome w.closed (λ closed. (n : ℕ) → get nat_eq closed.drivers n ≡ driver_in (reverse w.ends.entries) (reverse w.connections.items) closed.order.items n)
+  pub targets_found : ForSome w.closed (λ closed. (n : ℕ) → list_of closed.targets n ≡ targets_in (reverse w.ends.entries) (connections_of w) closed.order.items n)
+  pub drivers_found : ForSome w.closed (λ closed. (n : ℕ) → get nat_eq closed.drivers n ≡ driver_in (reverse w.ends.entries) (connections_of w) closed.order.items n)

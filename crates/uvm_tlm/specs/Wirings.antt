@@ -1,5 +1,5 @@
 -- What is connected, which targets a port reaches over the connections, and what is wrong with a port.
-use Rattle.std.specs.Prelude.{◌≡◌, ℕ, Bool, true, false, ◌&&◌, ◌||◌, ◌==◌, nat_eq, not, List, [], ◌∷◌, map, filter, find, All, Contains, Option, Some, None, is_some, option_and_then}
+use Rattle.std.specs.Prelude.{◌≡◌, ℕ, Bool, true, false, ◌&&◌, ◌||◌, ◌==◌, nat_eq, not, List, [], ◌∷◌, map, filter, find, flat_map, All, Contains, Option, Some, None, is_some, option_and_then}
 use Rattle.std.specs.List.{list_any, IsDistinct}
 use Rattle.std.specs.Map.{lookup}
 use Rattle.std.specs.Option.{option_map_or, ForSome}
@@ -13,7 +13,7 @@ use Rattle.uvm_tlm.specs.declared.faults.WireFault.TheVariants.{KindDiffers, Too
 use Rattle.uvm_tlm.specs.declared.wirings.Connection.{Connection}
 use Rattle.uvm_tlm.specs.Ends.{agrees, is_target, port_kind}
 
--- the nodes with what stands there, the one added last first; the accepted connections, the newest first; and the path order
+-- the nodes with what stands there, the one added last first; the connections, in the order of these nodes; and the path order
 -- of the nodes, once the wiring is closed
 pub record WiringValue : Type 0 where
   pub ends : List (ℕ × End)
@@ -32,9 +32,26 @@ end_at ends node = lookup (nat_eq node) ends
 abbrev pub with_end : ℕ → End → WiringValue → WiringValue
 with_end node end w = record w { ends = (node, end) ∷ w.ends }
 
--- with one more connection
+-- whether a node is connected to another
+abbrev pub is_connected : List Connection → ℕ → ℕ → Bool
+is_connected connections from to = list_any (λ c. (from == c.from) && (to == c.to)) connections
+
+-- the connection from a node to another
+abbrev pub connection : ℕ → ℕ → Connection
+connection from to = record { from = from; to = to }
+
+-- the connections from a node to some, and those among some, each once and in the order of the nodes
+abbrev pub connections_from : (ℕ → ℕ → Bool) → List ℕ → ℕ → List Connection
+connections_from connected nodes from = map (connection from) (filter (connected from) nodes)
+
+abbrev pub connections_among : (ℕ → ℕ → Bool) → List ℕ → List Connection
+connections_among connected nodes = flat_map (connections_from connected nodes) nodes
+
+-- with a node connected to another, which it may be already
 abbrev pub with_connection : ℕ → ℕ → WiringValue → WiringValue
-with_connection from to w = record w { connections = record { from = from; to = to } ∷ w.connections }
+with_connection from to w = record w {
+  connections = connections_among (λ a b. ((a == from) && (b == to)) || is_connected w.connections a b) (map (λ e. e.0) w.ends);
+}
 
 abbrev pub is_closed : WiringValue → Bool
 is_closed w = is_some w.order

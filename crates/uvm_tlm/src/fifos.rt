@@ -1,6 +1,6 @@
 //! A FIFO, and who waits at it.
 
-ghost use Rattle.std.specs.Prelude.{◌≡◌, ◌==◌, ◌≤◌, true, None, not, filter, slice_get, OnOk, OnErr, IfOk, if◌then◌else◌};
+ghost use Rattle.std.specs.Prelude.{◌≡◌, ◌==◌, ◌≤◌, [], true, None, not, filter, length, slice_get, IsTrue, ◌↔◌, OnOk, OnErr, IfOk, if◌then◌else◌};
 ghost use Rattle.std.specs.VecDeque.{deque_len};
 ghost use Rattle.uvm_tlm.specs.Fifos.{new_fifo, with_item, with_put, with_take, with_peek, without_item, waiting_count, has_room, can_put, can_take, take_move, put_move, next_move, after_move, cleared};
 
@@ -195,11 +195,25 @@ impl Fifo {
         end_takes(&mut self.takes, phase);
     }
 
-    /// The items, the first to go out first.
-    pub fn items(&self) -> &VecDeque<Item>
-        ensures { result.now.items ≡ self.now.items }
+    /// How many items are in it.
+    pub fn len(&self) -> usize
+        ensures { result ≡ length self.now.items }
     {
-        &self.items
+        self.items.len()
+    }
+
+    /// Whether no item is in it.
+    pub fn is_empty(&self) -> bool
+        ensures { IsTrue result ↔ (self.now.items ≡ []) }
+    {
+        self.items.is_empty()
+    }
+
+    /// The item at a place, of which 0 is that of the first to go out, and none where there are not so many.
+    pub fn item(&self, place: usize) -> Option<Item>
+        ensures { result ≡ slice_get self.now.items place }
+    {
+        self.items.get(place).copied()
     }
 
     /// How many puts, takes and peeks wait.

@@ -16,8 +16,8 @@ use std::collections::HashMap;
 use std::marker::Model;
 use uvm_tree::NodeId;
 
-// The ends and the connections of a wiring, with where the connections to each node start. Contracts see the ends and the
-// connections, the newest first.
+// The ends and the connections of a wiring, with where the connections to each node start. Contracts see the ends, the newest
+// first, and the connections.
 #[derive(Drop)]
 pub(crate) struct Graph<'a> {
     ends: &'a IndexMap<NodeId, End>,
@@ -32,7 +32,7 @@ impl<'a> Model for Graph<'a> {
 
     ghost Value = { GraphValue };
 
-    ghost view = { λ g. record { ends = reverse g.ends.now.entries; connections = reverse g.connections.now } };
+    ghost view = { λ g. record { ends = reverse g.ends.now.entries; connections = g.connections.now } };
 
     ghost invariant = { λ g. IsGraph g };
 }
@@ -45,7 +45,7 @@ impl<'a> Graph<'a> {
         connections: &'a [Connection],
     ) -> Result<Graph<'a>, AllocError>
         requires { (n : ℕ) → get nat_eq ends.now n ≡ end_at (reverse ends.now.entries) n }
-        ensures { IfOk result (λ graph. graph ≡ record { ends = reverse ends.now.entries; connections = reverse connections.now }) }
+        ensures { IfOk result (λ graph. graph ≡ record { ends = reverse ends.now.entries; connections = connections.now }) }
     {
         let starts = starts(alloc, connections)?;
         Ok(Graph {

@@ -1,23 +1,23 @@
 //! The connections of a testbench.
 
-ghost use Rattle.std.specs.Prelude.{◌≡◌, ℕ, ◌∷◌, ◌++◌, ◌==◌, [], nat_eq, unwrap_or, Some, None, OnOk, OnErr, IfErr, if◌then◌else◌};
+ghost use Rattle.std.specs.Prelude.{◌≡◌, ℕ, ◌∷◌, ◌++◌, ◌==◌, ◌&&◌, ◌||◌, [], nat_eq, unwrap_or, Some, None, IsTrue, OnOk, OnErr, IfErr, if◌then◌else◌};
 ghost use Rattle.std.specs.HashMap.{get};
 ghost use Rattle.uvm_tlm.specs.NodeLists.{list_of};
 ghost use Rattle.uvm_tlm.specs.Faults.{refusal};
-ghost use Rattle.uvm_tlm.specs.Wirings.{new_wiring, end_at, with_end, with_connection, is_closed, late_fault, connect_fault, kind_at, targets_of, wire_fault, port_fault, count_fault, seq_fault, is_some_of, IsPathOrder, IsWiring};
+ghost use Rattle.uvm_tlm.specs.Wirings.{new_wiring, end_at, with_end, with_connection, is_closed, is_connected, late_fault, connect_fault, kind_at, targets_of, wire_fault, port_fault, count_fault, seq_fault, is_some_of, IsPathOrder, IsWiring};
 
 use crate::ends::{End, PortKind};
 use crate::faults::WireFault;
 use crate::graphs::Graph;
 use crate::node_lists::NodeLists;
-use indexmap::IndexMap;
+use indexmap::{IndexMap, IndexSet};
 use std::alloc::{AllocError, Global};
 use std::collections::HashMap;
 use std::marker::Model;
 use uvm_tree::NodeId;
 
 /// A connection (the standard's `connect`).
-#[derive(Clone, Copy, PartialEq, Eq)]
+#[derive(Clone, Copy, PartialEq, Eq, Hash)]
 pub struct Connection {
     /// The port or export that asks.
     pub from: NodeId,
@@ -29,11 +29,12 @@ pub struct Connection {
 /// and sequencers are added, and connected in any order, until the wiring is closed. Then each port has its targets, which are
 /// what it reaches over any number of connections, and perhaps a fault.
 ///
-/// Contracts see what was added and what was connected, the newest first, and the path order once the wiring is closed.
+/// Contracts see what was added, the newest first, which node is connected to which, in the order of the nodes, and the path order
+/// once the wiring is closed.
 #[derive(Drop)]
 pub struct Wiring {
     ends: IndexMap<NodeId, End>,
-    connections: Vec<Connection>,
+    connections: IndexSet<Connection>,
     closed: Option<Closed>,
 }
 
@@ -65,7 +66,7 @@ impl Wiring {
     {
         Wiring {
             ends: IndexMap::new(alloc),
-            connections: Vec::new(alloc),
+            connections: IndexSet::new(alloc),
             closed: None,
         }
     }
@@ -126,20 +127,21 @@ impl Wiring {
         self.add(node, End::Sequencer)
     }
 
-    /// Connects a node to another; to do so again changes no target. The first of these that holds is the fault: `Late` where
+    /// Connects a node to another; to do so again changes nothing. The first of these that holds is the fault: `Late` where
     /// the wiring is closed; `Unknown` where nothing was added at one of the nodes; `KindDiffers` where no connection goes from
     /// the one to the other; `Memory` where memory is refused. A fault connects nothing.
     #[tactic(auto, unfolding(crate::specs::Wirings::connect_fault))]
     pub fn connect(&mut self, from: NodeId, to: NodeId) -> Result<(), WireFault>
         ensures ok { OnOk result (connect_fault self.old from to ≡ None) }
         ensures added { OnOk result (self.new ≡ with_connection from to self.old) }
+        ensures again { OnOk result (IsTrue (is_connected self.old.connections from to) → self.new ≡ self.old) }
         ensures err { IfErr result (λ fault. connect_fault self.old from to ≡ refusal fault) }
         ensures unchanged { OnErr result (self.new ≡ self.old) }
     {
         if let Some(fault) = self.connect_fault(from, to) {
             return Err(fault);
         }
-        self.connections.push(Connection { from, to })?;
+        add_connection(&mut self.connections, Connection { from, to })?;
         Ok(())
     }
 
@@ -313,5 +315,17 @@ fn add_end(ends: &mut IndexMap<NodeId, End>, node: NodeId, end: End) -> Result<(
     ensures unchanged { OnErr result (ends.new.entries ≡ ends.old.entries) }
 {
     ends.insert(node, end)?;
+    Ok(())
+}
+
+// Adds a connection, unless it is there.
+fn add_connection(
+    connections: &mut IndexSet<Connection>,
+    connection: Connection,
+) -> Result<(), AllocError>
+    ensures added { OnOk result ((from to : ℕ) → is_connected connections.new.keys from to ≡ (((from == connection.from) && (to == connection.to)) || is_connected connections.old.keys from to)) }
+    ensures unchanged { OnErr result (connections.new.keys ≡ connections.old.keys) }
+{
+    connections.insert(connection)?;
     Ok(())
 }

@@ -15,7 +15,8 @@ use Rattle.std.specs.List.{range_with_len}
 use Rattle.std.specs.Option.{option_cmp, option_map_or, option_or}
 use Rattle.std.specs.Ordering.{is_lt, nat_cmp, ordering_reverse}
 use Rattle.uvm_tree.specs.declared.nodes.Node.{Node}
-use Rattle.uvm_tree.specs.Children.{ChildrenValue, GivesNextChild, children_left, children_of, is_left, is_under, is_named_after, is_named_before, name_at, own_name}
+use Rattle.uvm_tree.specs.ChildCursors.{CursorValue, children_left, is_left, is_named_after, seen}
+use Rattle.uvm_tree.specs.Children.{ChildrenValue, GivesNextChild, all_children, children_of, is_under, is_named_before, name_at, own_name}
 use Rattle.uvm_tree.specs.Cursors.{IsLeast, LeastIsLeast, least, numbers_of}
 use Rattle.uvm_tree.specs.Nodes.{AreNodes, node_at, parent_of}
 use Rattle.uvm_tree.proofs.Grown.{within, siblings}
@@ -110,8 +111,8 @@ one_child nodes are parent m n first second tied =
     let same = same_name (name_at nodes m) (name_at nodes n) here.0 there.0 here.2 there.2 tied in
     siblings nodes are m n (parent, there.0) (here.1 ∙ (λ i. Some (parent, same i))) there.1
 
-module _ (s : ChildrenValue) (are : AreNodes s.nodes) (c : ℕ) (found : IsLeast (is_named_before s.nodes) (children_left s) (Some c)) where
-  abbrev after : ChildrenValue
+module _ (s : CursorValue) (are : AreNodes s.nodes) (c : ℕ) (found : IsLeast (is_named_before s.nodes) (children_left s) (Some c)) where
+  abbrev after : CursorValue
   after = record { nodes = s.nodes; parent = s.parent; last = Some c }
 
   passes : All (λ n. is_left s n ≡ true) (children_left s)
@@ -164,18 +165,21 @@ module _ (s : ChildrenValue) (are : AreNodes s.nodes) (c : ℕ) (found : IsLeast
       let both = IsPermutation-filter_both (is c) (λ n. not (is c n)) (λ n. refl) (children_left s) in
       subst (IsPermutation (children_left s)) (λ i. given i ++ sym left_after i) both
 
-pub gives_next_child : (s : ChildrenValue) (given : Option ℕ) (t : ChildrenValue) → AreNodes s.nodes → IsLeast (is_named_before s.nodes) (children_left s) given → t ≡ record { nodes = s.nodes; parent = s.parent; last = option_or given s.last } → GivesNextChild s given t
-gives_next_child s None t are found e = record { least = found; others = rw e (IsPermutation-refl (children_left s)); last = e }
-gives_next_child s (Some c) t are found e = record { least = found; others = rw e (others s are c found); last = e }
+pub gives_next_child : (s : CursorValue) (given : Option ℕ) (t : CursorValue) → AreNodes s.nodes → IsLeast (is_named_before s.nodes) (children_left s) given → t ≡ record { nodes = s.nodes; parent = s.parent; last = option_or given s.last } → GivesNextChild (seen s) given (seen t)
+gives_next_child s None t are found e = record { least = found; others = rw e (IsPermutation-refl (children_left s)); rest = rw e refl }
+gives_next_child s (Some c) t are found e = record { least = found; others = rw e (others s are c found); rest = rw e (ap (λ (left : List ℕ). record { nodes = s.nodes; left = left }) (left_after s are c found)) }
 
 -- after a child was given fewer are left
-pub fewer_left : (s : ChildrenValue) (c : ℕ) (t : ChildrenValue) → GivesNextChild s (Some c) t → length (children_left t) < length (children_left s)
-fewer_left s c t gives = let same = length_permutation (children_left s) (c ∷ children_left t) gives.others in omega arith
+pub fewer_left : (s : ChildrenValue) (c : ℕ) (t : ChildrenValue) → GivesNextChild s (Some c) t → length t.left < length s.left
+fewer_left s c t gives = let same = length_permutation s.left (c ∷ t.left) gives.others in omega arith
 
 -- the order of names is total, so what a scan has found is the least
 pub least_of_scan : LeastIsLeast → (nodes : List Node) (numbers : List ℕ) → IsLeast (is_named_before nodes) numbers (least (is_named_before nodes) numbers)
 least_of_scan law nodes numbers = law (by_name nodes) (by_name_total nodes) numbers
 
 -- at first all children are left
-pub all_left : (nodes : List Node) (parent : ℕ) → children_left (record { nodes = nodes; parent = parent; last = None }) ≡ children_of nodes parent
+all_left : (nodes : List Node) (parent : ℕ) → children_left (record { nodes = nodes; parent = parent; last = None }) ≡ children_of nodes parent
 all_left nodes parent = filter_agree (is_left (record { nodes = nodes; parent = parent; last = None })) (is_under nodes parent) (λ n. and-true (is_under nodes parent n)) (numbers_of nodes)
+
+pub seen_all : (nodes : List Node) (parent : ℕ) → seen (record { nodes = nodes; parent = parent; last = None }) ≡ all_children nodes parent
+seen_all nodes parent = ap (λ (left : List ℕ). record { nodes = nodes; left = left }) (all_left nodes parent)

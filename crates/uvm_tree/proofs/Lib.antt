@@ -1,3 +1,4 @@
+pub mod Counted
 pub mod Grown
 pub mod Leasts
 pub mod Left
@@ -5,3 +6,4 @@ pub mod Ordered
 pub mod Places
 pub mod Scans
 pub mod Sorted
+pub mod SortedPaths

@@ -47,7 +47,7 @@ nodes_are_ordered total nodes are direction = record {
 }
 
 -- two of which neither stands before the other are equal
-neither : (a b : Ordering) → a ≡ ordering_reverse b → is_lt a ≡ false → is_lt b ≡ false → a ≡ Equal
+pub neither : (a b : Ordering) → a ≡ ordering_reverse b → is_lt a ≡ false → is_lt b ≡ false → a ≡ Equal
 neither Less b e low high = cc
 neither Equal b e low high = refl
 neither Greater Less e low high = cc

@@ -1,38 +1,24 @@
 -- Numbers in an order.
-use Rattle.std.proofs.Common.{◌≡◌, ◌<◌, ℕ, zero, suc, ◌+◌, Bool, true, false, not, List, [], ◌∷◌, ◌++◌, fold, insert, refl, ap, sym, ◌∙◌, arith, if◌then◌else◌, IsPermutation, AllPairs, All, append-nil}
+use Rattle.std.proofs.Common.{◌≡◌, ℕ, suc, ◌+◌, Bool, true, false, List, [], ◌∷◌, ◌++◌, fold, refl, arith, if◌then◌else◌, IsPermutation, AllPairs, All, append-nil}
 use Rattle.std.proofs.lemmas.List.Elements.{All-nil, All-cons, All-weaker}
 use Rattle.std.proofs.lemmas.List.Kept.{AllPairs-cons}
-use Rattle.std.proofs.lemmas.List.Sorted.{IsPermutation-refl, IsPermutation-sym, IsPermutation-trans, IsPermutation-middle, IsPermutation-insert, IsPermutation-append_left, All-permutation}
+use Rattle.std.proofs.lemmas.List.Sorted.{IsPermutation-refl, IsPermutation-trans, IsPermutation-middle, IsPermutation-insert, IsPermutation-append_left, All-permutation}
 use Rattle.std.specs.declared.cmp.Ordering.{Ordering}
 use Rattle.std.specs.declared.cmp.Ordering.TheVariants.{Less, Equal, Greater}
 use Rattle.std.specs.Cmp.{IsTotalOrder}
 use Rattle.std.specs.Ordering.{is_lt, ordering_reverse}
-use Rattle.std.specs.List.{range_with_len, position_or_len}
+use Rattle.std.specs.List.{position_or_len}
 use Rattle.std.proofs.lemmas.Cmp.{on_total}
 use Rattle.uvm_glob.specs.declared.orders.Direction.{Direction}
 use Rattle.uvm_glob.specs.declared.orders.Direction.TheVariants.{Down}
 use Rattle.uvm_glob.specs.Orders.{order_of, down_cmp}
+use Rattle.uvm_tree.specs.declared.nodes.Node.{Node}
 use Rattle.uvm_tree.specs.Nodes.{path_at}
 use Rattle.uvm_tree.specs.Cursors.{is_before, node_cmp, numbers_of}
-use Rattle.uvm_tree.specs.Sorted.{inserted, sorted, path_order, PathOrderIsInOrder}
-use Rattle.uvm_tree.proofs.Scans.{range-more}
-
-fold-append : {A B : Type 0} (f : B → A → B) (a : B) (xs ys : List A) → fold f a (xs ++ ys) ≡ fold f (fold f a xs) ys
-fold-append f a [] ys = refl
-fold-append f a (x ∷ xs) ys = fold-append f (f a x) xs ys
-
--- one more number
-pub sorted-more : (before : ℕ → ℕ → Bool) (n : ℕ) → sorted before (range_with_len 1 (n + 1)) ≡ inserted before (n + 1) (sorted before (range_with_len 1 n))
-sorted-more before n =
-    let e : n + 1 ≡ suc n = omega arith in
-    let f : 1 + n ≡ n + 1 = omega arith in
-    ap (λ k. sorted before (range_with_len 1 k)) e
-    ∙ ap (sorted before) (range-more 1 n)
-    ∙ fold-append (λ order k. inserted before k order) [] (range_with_len 1 n) ((1 + n) ∷ [])
-    ∙ ap (λ k. inserted before k (sorted before (range_with_len 1 n))) f
+use Rattle.uvm_tree.specs.Sorted.{inserted, path_order, PathOrderIsInOrder}
 
 -- an insertion moves numbers, and so does an order
-moved : (before : ℕ → ℕ → Bool) (order numbers : List ℕ) → IsPermutation (order ++ numbers) (fold (λ order n. inserted before n order) order numbers)
+pub moved : (before : ℕ → ℕ → Bool) (order numbers : List ℕ) → IsPermutation (order ++ numbers) (fold (λ order n. inserted before n order) order numbers)
 moved before order [] = rw append-nil (IsPermutation-refl order)
 moved before order (n ∷ numbers) =
     IsPermutation-trans (order ++ n ∷ numbers) (n ∷ (order ++ numbers)) _ (IsPermutation-middle order n numbers)
@@ -49,7 +35,7 @@ inserted-tested before n m others false e =
     rw (e, s) refl
 
 -- a relation of each to those behind it, by recursion
-Behind : (ℕ → ℕ → Type 0) → List ℕ → Type 0
+unfoldable pub Behind : (ℕ → ℕ → Type 0) → List ℕ → Type 0
 Behind R [] = Unit {0}
 Behind R (n ∷ numbers) = All (R n) numbers × Behind R numbers
 
@@ -59,11 +45,11 @@ AllPairs-from_behind R [] each = λ i j d before within. absurd (omega arith)
 AllPairs-from_behind R (n ∷ numbers) each = AllPairs-cons R n numbers each.0 (AllPairs-from_behind R numbers each.1)
 
 -- one does not stand before another
-abbrev NotAfter : (ℕ → ℕ → Ordering) → ℕ → ℕ → Type 0
+abbrev pub NotAfter : (ℕ → ℕ → Ordering) → ℕ → ℕ → Type 0
 NotAfter cmp m n = is_lt (cmp n m) ≡ false
 
 -- what stands before a number does not stand after those that do not stand before it
-first-of-two : (a b : Ordering) → a ≡ ordering_reverse b → is_lt b ≡ true → is_lt a ≡ false
+pub first-of-two : (a b : Ordering) → a ≡ ordering_reverse b → is_lt b ≡ true → is_lt a ≡ false
 first-of-two Less Less e h = cc
 first-of-two Less Equal e h = cc
 first-of-two Less Greater e h = cc
@@ -101,11 +87,14 @@ ordered-fold : (cmp : ℕ → ℕ → Ordering) → IsTotalOrder cmp → (order 
 ordered-fold cmp total order [] ordered = ordered
 ordered-fold cmp total order (n ∷ numbers) ordered = ordered-fold cmp total (inserted (λ i j. is_lt (cmp i j)) n order) numbers (ordered-insert cmp total n order ordered)
 
-pub path_order_is_in_order : ((direction : Direction) → IsTotalOrder (order_of direction)) → PathOrderIsInOrder
+pub path-order-behind : (nodes : List Node) → IsTotalOrder (node_cmp down_cmp nodes) → Behind (NotAfter (node_cmp down_cmp nodes)) (path_order nodes)
 unfolding path_order Behind
+path-order-behind nodes total = ordered-fold (node_cmp down_cmp nodes) total [] (numbers_of nodes) tt
+
+pub path_order_is_in_order : ((direction : Direction) → IsTotalOrder (order_of direction)) → PathOrderIsInOrder
+unfolding path_order
 path_order_is_in_order total nodes =
-    let cmp = node_cmp down_cmp nodes in
     record {
       whole = moved (is_before down_cmp nodes) [] (numbers_of nodes);
-      ordered = AllPairs-from_behind (NotAfter cmp) _ (ordered-fold cmp (on_total (path_at nodes) (total Down)) [] (numbers_of nodes) tt);
+      ordered = AllPairs-from_behind (NotAfter (node_cmp down_cmp nodes)) _ (path-order-behind nodes (on_total (path_at nodes) (total Down)));
     }

@@ -1,17 +1,16 @@
 -- The children of a node in the order of their names.
-use Rattle.std.specs.Prelude.{◌≡◌, ℕ, Bool, true, false, ◌&&◌, ◌==◌, List, ◌++◌, filter, IsPermutation, Option, Some, None, option_map, option_and_then}
-use Rattle.std.specs.Option.{option_map_or, option_or, option_cmp, option_to_list}
+use Rattle.std.specs.Prelude.{◌≡◌, ℕ, Bool, false, not, ◌==◌, List, ◌++◌, filter, IsPermutation, Option, Some, None, option_map, option_and_then}
+use Rattle.std.specs.Option.{option_map_or, option_cmp, option_to_list}
 use Rattle.std.specs.Ordering.{is_lt, nat_cmp}
 use Rattle.std.specs.Cmp.Lexicographic.{slice_cmp}
 use Rattle.uvm_tree.specs.declared.nodes.Node.{Node}
 use Rattle.uvm_tree.specs.Nodes.{node_at, parent_of}
 use Rattle.uvm_tree.specs.Cursors.{IsLeast, numbers_of}
 
--- the nodes of a tree, the node whose children are given, and the last that was given, if one was
+-- the nodes of a tree, and the children that are left to give, by their numbers
 pub record ChildrenValue : Type 0 where
   pub nodes : List Node
-  pub parent : ℕ
-  pub last : Option ℕ
+  pub left : List ℕ
 
 -- the name of a node under its parent, which the top has not
 abbrev pub own_name : Node → Option (List ℕ)
@@ -25,11 +24,6 @@ name_at nodes id = option_and_then own_name (node_at nodes id)
 abbrev pub is_named_before : List Node → ℕ → ℕ → Bool
 is_named_before nodes m n = is_lt (option_cmp (slice_cmp nat_cmp) (name_at nodes m) (name_at nodes n))
 
--- whether the name of a node stands after that of the last one given, if one was
-abbrev pub is_named_after : List Node → Option ℕ → ℕ → Bool
-is_named_after nodes None n = true
-is_named_after nodes (Some m) n = is_named_before nodes m n
-
 -- whether a node is a child of another
 abbrev pub is_under : List Node → ℕ → ℕ → Bool
 is_under nodes parent n = option_map_or (λ above. above == parent) (option_and_then parent_of (node_at nodes n)) false
@@ -38,17 +32,17 @@ is_under nodes parent n = option_map_or (λ above. above == parent) (option_and_
 abbrev pub children_of : List Node → ℕ → List ℕ
 children_of nodes parent = filter (is_under nodes parent) (numbers_of nodes)
 
--- whether a node is a child that is left
-abbrev pub is_left : ChildrenValue → ℕ → Bool
-is_left s n = is_under s.nodes s.parent n && is_named_after s.nodes s.last n
+-- all children of a node are left
+abbrev pub all_children : List Node → ℕ → ChildrenValue
+all_children nodes parent = record { nodes = nodes; left = children_of nodes parent }
 
--- the children that are left
-abbrev pub children_left : ChildrenValue → List ℕ
-children_left s = filter (is_left s) (numbers_of s.nodes)
+-- the numbers without one that is given, if one is
+abbrev pub without : Option ℕ → List ℕ → List ℕ
+without None numbers = numbers
+without (Some n) numbers = filter (λ m. not (m == n)) numbers
 
--- a call gives the child of the least name of those that are left, and none where none is left; the others are then left,
--- and what was given is the last
+-- a call gives the child of the least name of those that are left, and none where none is left; the others are then left
 pub record GivesNextChild (s : ChildrenValue) (given : Option ℕ) (t : ChildrenValue) : Type 0 where
-  pub least : IsLeast (is_named_before s.nodes) (children_left s) given
-  pub others : IsPermutation (children_left s) (option_to_list given ++ children_left t)
-  pub last : t ≡ record { nodes = s.nodes; parent = s.parent; last = option_or given s.last }
+  pub least : IsLeast (is_named_before s.nodes) s.left given
+  pub others : IsPermutation s.left (option_to_list given ++ t.left)
+  pub rest : t ≡ record s { left = without given s.left }

@@ -5,3 +5,5 @@ pub mod Nodes
 mod Rooms
 pub mod Scans
 pub mod Sorted
+-- what the bodies go by, and no caller cites
+pub mod ChildCursors

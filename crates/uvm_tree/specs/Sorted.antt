@@ -3,7 +3,6 @@ use Rattle.std.specs.Prelude.{◌≡◌, ℕ, Bool, false, List, [], fold, inser
 use Rattle.std.specs.List.{position_or_len}
 use Rattle.uvm_glob.specs.Orders.{down_cmp}
 use Rattle.uvm_tree.specs.declared.nodes.Node.{Node}
-use Rattle.uvm_tree.specs.Nodes.{AreNodes}
 use Rattle.uvm_tree.specs.Cursors.{is_before, numbers_of}
 
 -- with one more number, in front of the first that it stands before

@@ -1,8 +1,9 @@
 //! The children of a node.
 
-ghost use Rattle.std.specs.Prelude.{◌≡◌, None};
+ghost use Rattle.std.specs.Prelude.{◌≡◌, Some};
 ghost use Rattle.std.specs.Option.{option_copied};
-ghost use Rattle.uvm_tree.specs.Children.{name_at, is_named_before, is_under, is_left, children_left, children_of};
+ghost use Rattle.uvm_tree.specs.ChildCursors.{children_left, is_left};
+ghost use Rattle.uvm_tree.specs.Children.{all_children, is_named_before, is_under, name_at};
 ghost use Rattle.uvm_tree.specs.Cursors.{IsLeast, sooner};
 ghost use Rattle.uvm_tree.specs.Nodes.{AreNodes};
 ghost use Rattle.uvm_tree.specs.Scans.{scanned};
@@ -13,35 +14,50 @@ use crate::trees::Tree;
 use std::marker::Model;
 use uvm_glob::Name;
 
-/// An iterator over the children of a node, in byte order of their names. Contracts see the nodes of the tree, the node
-/// whose children are given, and the last that was given. Each step takes no memory, and the time of two comparisons of
-/// names for each node of the tree.
+/// An iterator over the children of a node, in byte order of their names. Contracts see the nodes of the tree, and the children that
+/// are left. Each step takes no memory, and the time of two comparisons of names for each node of the tree.
 #[derive(Drop)]
 pub struct Children<'a> {
+    cursor: Cursor<'a>,
+}
+
+impl<'a> Model for Children<'a> {
+    ghost use Rattle.uvm_tree.specs.ChildCursors.{seen};
+    ghost use Rattle.uvm_tree.specs.Children.{ChildrenValue};
+
+    ghost Value = { ChildrenValue };
+
+    ghost view = { λ c. seen c.cursor };
+}
+
+// Stands behind the last child that was given.
+#[derive(Drop)]
+struct Cursor<'a> {
     tree: &'a Tree,
     parent: NodeId,
     last: Option<NodeId>,
 }
 
-impl<'a> Model for Children<'a> {
-    ghost use Rattle.uvm_tree.specs.Children.{ChildrenValue};
+impl<'a> Model for Cursor<'a> {
+    ghost use Rattle.uvm_tree.specs.ChildCursors.{CursorValue};
 
-    ghost Value = { ChildrenValue };
+    ghost Value = { CursorValue };
 
     ghost view = { λ c. record { nodes = c.tree.now.nodes; parent = c.parent; last = c.last } };
 }
 
 impl Tree {
     /// The children of a node, in byte order of their names: all of them, each once, and none where there is no such node.
-    #[tactic(auto, using(crate::proofs::Left::all_left))]
+    #[tactic(auto, using(crate::proofs::Left::seen_all))]
     pub fn children(&self, parent: NodeId) -> Children<'_>
-        ensures children { result ≡ record { nodes = self.now.nodes; parent = parent; last = None } }
-        ensures all { children_left result ≡ children_of self.now.nodes parent }
+        ensures { result ≡ all_children self.now.nodes parent }
     {
         Children {
-            tree: self,
-            parent,
-            last: None,
+            cursor: Cursor {
+                tree: self,
+                parent,
+                last: None,
+            },
         }
     }
 }
@@ -49,22 +65,29 @@ impl Tree {
 impl Iterator for Children<'_> {
     ghost use Rattle.std.specs.Prelude.{length};
     ghost use Rattle.std.specs.Iterator.{at_most};
-    ghost use Rattle.uvm_tree.specs.Children.{children_left, GivesNextChild};
+    ghost use Rattle.uvm_tree.specs.Children.{GivesNextChild};
 
     type Item = NodeId;
 
     ghost next_gives = { GivesNextChild };
 
-    ghost remaining = { λ s. at_most (length (children_left s)) };
+    ghost remaining = { λ s. at_most (length s.left) };
 
     fn next(&mut self) -> Option<NodeId> {
-        let child = self.next_child()?;
-        self.last = Some(child);
+        let child = self.cursor.next_child()?;
+        self.cursor.pass(child);
         Some(child)
     }
 }
 
-impl Children<'_> {
+impl Cursor<'_> {
+    // Goes on behind a child.
+    fn pass(&mut self, child: NodeId)
+        ensures { self.new ≡ record self.old { last = Some child } }
+    {
+        self.last = Some(child);
+    }
+
     // The child that comes next.
     fn next_child(&self) -> Option<NodeId>
         ensures next { IsLeast (is_named_before self.now.nodes) (children_left self.now) result }

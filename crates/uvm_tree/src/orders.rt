@@ -1,49 +1,35 @@
 //! The nodes of a tree in path order, as a list.
 
-ghost use Rattle.std.specs.Prelude.{◌≡◌, ◌≤◌, IfOk, OnOk, length};
-ghost use Rattle.std.specs.List.{position_or_len};
-ghost use Rattle.uvm_glob.specs.Orders.{down_cmp};
-ghost use Rattle.uvm_tree.specs.Cursors.{is_before};
-ghost use Rattle.uvm_tree.specs.Sorted.{inserted, path_order};
+ghost use Rattle.std.specs.Prelude.{◌≡◌, IfOk};
+ghost use Rattle.uvm_tree.specs.Cursors.{numbers_of};
+ghost use Rattle.uvm_tree.specs.Nodes.{AreNodes};
+ghost use Rattle.uvm_tree.specs.Sorted.{path_order};
 
 use crate::nodes::NodeId;
 use crate::trees::Tree;
 use std::alloc::{AllocError, Global};
-use uvm_glob::Direction;
+use uvm_glob::laws::orders_are_total;
 
 impl Tree {
-    /// All nodes besides the top, in Down. The error is want of memory; the time is that of a comparison of paths for each two
-    /// nodes.
-    #[tactic(auto, unfolding(crate::specs::Sorted::path_order))]
+    /// All nodes besides the top, in Down. The error is want of memory; the time is that of a sort by comparisons of paths.
     pub fn path_order(&self, alloc: Global) -> Result<Vec<NodeId>, AllocError>
         ensures { IfOk result (λ order. order.items ≡ path_order self.now.nodes) }
     {
-        let mut order = Vec::new(alloc);
-        for place in 0..self.number_of_nodes() {
-            self.insert_in_order(&mut order, NodeId::new(place as u16 + 1))?;
-        }
+        orders_are_total();
+        let mut order = self.numbers(alloc)?;
+        order.sort_by(|node, other| self.path_or_top(*node).cmp(self.path_or_top(*other)))?;
         Ok(order)
     }
 
-    // Adds a node in front of the first that it comes before.
-    fn insert_in_order(&self, order: &mut Vec<NodeId>, node: NodeId) -> Result<(), AllocError>
-        ensures { OnOk result (order.new.items ≡ inserted (is_before down_cmp self.now.nodes) node order.old.items) }
+    // All nodes besides the top, in the order in which they were added.
+    fn numbers(&self, alloc: Global) -> Result<Vec<NodeId>, AllocError>
+        ensures numbers { IfOk result (λ numbers. numbers.items ≡ numbers_of self.now.nodes) }
+        ensures nodes { AreNodes self.now.nodes }
     {
-        let place = self.place_in_order(order.as_slice(), node);
-        order.insert(place, node)?;
-        Ok(())
-    }
-
-    // Where that is.
-    fn place_in_order(&self, order: &[NodeId], node: NodeId) -> usize
-        ensures place { result ≡ position_or_len (is_before down_cmp self.now.nodes node) order.now }
-        ensures within { result ≤ length order.now }
-    {
-        for (place, other) in order.iter().enumerate() {
-            if self.is_before(Direction::Down, node, *other) {
-                return place;
-            }
+        let mut numbers = Vec::new(alloc);
+        for place in 0..self.number_of_nodes() {
+            numbers.push(NodeId::new(place as u16 + 1))?;
         }
-        order.len()
+        Ok(numbers)
     }
 }

@@ -85,7 +85,7 @@ impl Tree {
     }
 
     /// Adds a node under a parent: the first of `TreeFault` that holds, if one does. Takes no memory where there is room for a
-    /// child of that parent.
+    /// child of that parent. A refusal leaves the room as it was, and what is added takes it, whosever it was.
     #[tactic(auto, unfolding(crate::specs::Nodes::add_fault))]
     pub fn add(&mut self, parent: NodeId, name: Name, kind: NodeKind) -> Result<NodeId, TreeFault>
         ensures ok { IfOk result (λ id. (add_fault self.old.nodes parent name ≡ None) × (id ≡ length self.old.nodes)) }
@@ -93,14 +93,16 @@ impl Tree {
         ensures err { IfErr result (λ fault. add_fault self.old.nodes parent name ≡ refusal fault) }
         ensures unchanged { OnErr result (self.new.nodes ≡ self.old.nodes) }
         ensures room { self.old.spare ≡ Some parent → result ≢ Err TreeFault.Memory }
+        ensures spare { OnErr result (self.new.spare ≡ self.old.spare) }
     {
         if let Some(fault) = self.fault(parent, &name) {
             return Err(fault);
         }
-        let room = self.room.take();
-        let Ok(path) = self.child_path(room, parent, &name) else {
-            return Err(TreeFault::Memory);
+        self.reserve(parent)?;
+        let Some(room) = self.room.take() else {
+            unreachable!()
         };
+        let path = room.child(&name);
         push(
             &mut self.nodes,
             Node {
@@ -229,33 +231,6 @@ impl Tree {
         ensures { result ≡ list_any (is_child parent name.now) self.now.nodes }
     {
         has_child(self.nodes.as_slice(), parent, name)
-    }
-
-    // The path of a child that may be added, in the room if it is for that parent.
-    fn child_path(
-        &self,
-        room: Option<Room>,
-        parent: NodeId,
-        name: &Name,
-    ) -> Result<Path, AllocError>
-        requires node { IsSome (node_at self.now.nodes parent) }
-        requires fits { path_fault (path_at self.now.nodes parent ++ name.now ∷ []) ≡ None }
-        requires room { ForSome room (λ room. room.path ≡ path_at self.now.nodes room.parent) }
-        ensures ok { IfOk result (λ path. path ≡ path_at self.now.nodes parent ++ name.now ∷ []) }
-        ensures memory { option_map (λ room. room.parent) room ≡ Some parent → IsOk result }
-    {
-        if let Some(room) = room {
-            if room.parent == parent {
-                return Ok(room.child(name));
-            }
-        }
-        match self.node(parent) {
-            Some(above) => match above.path.child(name) {
-                Ok(path) => Ok(path),
-                Err(_) => Err(AllocError),
-            },
-            None => unreachable!(),
-        }
     }
 }
 

@@ -1,26 +1,20 @@
-use Rattle.std.proofs.Common.{◌≡◌, ◌<◌, ◌∙◌, arith, true, false, length}
-use Rattle.std.specs.Prelude.{◌==◌}
-use Rattle.std.proofs.lemmas.Bool.Decides.{nat_tests}
-use Rattle.uvm_sequencer.proofs.Releases.{held-own, held-other, own-step, other-step, found-more}
+use Rattle.std.proofs.Common.{◌≡◌, Option, Some, None, ℕ, is_some, refl, sym, rules}
+use Rattle.uvm_sequencer.specs.Contending.{without_place}
+use Rattle.uvm_sequencer.specs.Queues.{is_held, released}
+use Rattle.uvm_sequencer.proofs.Releases.{none-held, last-held}
 use Rattle.uvm_sequencer.proofs.sequencers.last_place.Goals as goal
-use Rattle.uvm_sequencer.proofs.sequencers.last_place.Goals.{then-eq, else-eq}
 
-pub loop-place-preserved : goal.loop-place-preserved
-loop-place-preserved c =
-    let within : c.loop-place.place < length c.args.holders.now = omega arith in
-    elim c.if-eq.branch [
-      | then-eq w ↦
-          let own : (c.index-holders-place.result == c.args.seq) ≡ true = grind (arith, nat_tests) in
-          rw w.last-is (record {
-            held = held-own c.args.seq c.args.holders.now c.loop-place.place c.index-holders-place.result within c.index-holders-place.is own;
-            found = omega arith;
-            rest = own-step c.args.seq c.args.holders.now c.loop-place.place c.index-holders-place.result within c.index-holders-place.is own;
-          })
-      | else-eq w ↦
-          let other : (c.index-holders-place.result == c.args.seq) ≡ false = grind (arith, nat_tests) in
-          rw w.last-is (record {
-            held = c.loop-place.invariant.held ∙ held-other c.args.seq c.args.holders.now c.loop-place.place c.index-holders-place.result within c.index-holders-place.is other;
-            found = found-more c.loop-place.last c.loop-place.place c.loop-place.invariant.found;
-            rest = other-step c.args.seq c.args.holders.now c.loop-place.place c.index-holders-place.result c.loop-place.last within c.index-holders-place.is other c.loop-place.invariant.found c.loop-place.invariant.rest;
-          })
-    ]
+-- by what was found
+found : (c : goal.After-rposition) (place : Option ℕ) → c.rposition.result ≡ place → (is_some place ≡ is_held c.args.seq c.args.holders.now) × (released c.args.seq c.args.holders.now ≡ without_place c.args.holders.now place)
+found c None is =
+    let none = none-held c.args.seq c.args.holders.now (search rules) in
+    (sym none.0, none.1)
+found c (Some place) is =
+    let last = last-held c.args.seq c.args.holders.now place (search rules) (search rules) (search rules) in
+    (sym last.0, last.1)
+
+pub returns-clause-held : goal.returns-clause-held
+returns-clause-held c = (found c c.rposition.result refl).0
+
+pub returns-clause-rest : goal.returns-clause-rest
+returns-clause-rest c = (found c c.rposition.result refl).1

@@ -1,4 +1,4 @@
-use Rattle.std.proofs.Common.{◌≡◌, Some, ◌∙◌, subst}
+use Rattle.std.proofs.Common.{◌∙◌, subst}
 use Rattle.uvm_sequencer.specs.Sequences.{SequencesValue, AreStarted}
 use Rattle.uvm_sequencer.proofs.Living.{names-parent}
 use Rattle.uvm_sequencer.proofs.starts.Sequences.names.Goals as goal

@@ -1,4 +1,4 @@
-use Rattle.std.proofs.Common.{◌≡◌, ℕ, suc, ◌++◌, Option, Some, None}
+use Rattle.std.proofs.Common.{◌≡◌, suc, ◌++◌, Some}
 use Rattle.std.specs.List.{filter_map}
 use Rattle.std.specs.Option.{option_map_or}
 use Rattle.uvm_sequencer.specs.Sequences.{name_at}

@@ -64,8 +64,8 @@ pub struct Unfit<O> {
 }
 
 /// A testbench that runs: the machine, and the objects that it asks. Contracts see the machine, who is held with which object,
-/// in no order, whether the kernel has failed, and whose object gave no answer, if one did not.
-#[derive(Drop)]
+/// in no order, whether the kernel has failed, and whose object gave no answer, if one did not. A kernel cannot be let go: `finish` ends one,
+/// once each object was given back.
 pub struct Kernel<O: UvmObject> {
     alloc: Global,
     core: Core,
@@ -223,6 +223,20 @@ impl<O: UvmObject> Kernel<O> {
             return Some(back);
         }
         self.seats.pop_first()
+    }
+
+    /// Ends a kernel that holds no object any more. Takes no memory.
+    pub fn finish(self)
+        requires { self.held ≡ [] }
+    {
+        let Kernel {
+            alloc: _,
+            core: _,
+            seats: _,
+            sequences: _,
+            failed: _,
+            unknown: _,
+        } = self;
     }
 
     /// Gives up: from now on the kernel has failed, and only gives back. Nothing changes where the run is over, or the

@@ -161,3 +161,8 @@ never-ran script trace held = record {
 -- and its health
 pub told-health : {O : Type 0} (old new : KernelValue O) → HasTold old new → old.core.health ≡ Good → new.core.health ≡ Good
 told-health old new told good = ap (λ (core : CoreValue). core.health) told.core ∙ good
+
+-- the fault that a result has is the one that was told
+pub err-told : {A : Type 0} (result : Result A RunFault) (why other : RunFault) → IsErrAnd result (λ told. told ≡ why) → result ≡ Err other → why ≡ other
+err-told (Ok given) why other told is = absurd told
+err-told (Err given) why other told is = let same : given ≡ why = told in cc

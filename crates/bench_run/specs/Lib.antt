@@ -3,5 +3,7 @@ pub mod Endings
 pub mod Words
 pub mod Lives
 pub mod Running
+pub mod Sinks
+pub mod Texts
 pub mod Laws
 pub mod Given

@@ -16,7 +16,9 @@ mod endings;
 mod faults;
 pub mod laws;
 mod running;
+mod sinks;
 
 pub use endings::Ending;
 pub use faults::RunFault;
 pub use running::{run_kernel, run_script};
+pub use sinks::Sink;

@@ -16,17 +16,19 @@ ghost use Rattle.uvm_report.specs.Observed as reports;
 ghost use Rattle.uvm_report.specs.Observed.{limit_of};
 ghost use Rattle.bench_run.specs.Words.{HasGiven, HasLost, HasWordsOf, may_lose, word_made};
 ghost use Rattle.bench_run.specs.Lives.{AreKept, HaveLived, MayGive};
+ghost use Rattle.bench_run.specs.Sinks.{TookMore};
+ghost use Rattle.bench_run.specs.Texts.{TookTexts};
 ghost use Rattle.bench_run.specs.Running.{Grows, HasTold, IsEnding, IsDeclined, IsHalted, IsRun, IsUnwritten, LeavesRun, log_counts, summary_of};
 
 use crate::endings::Ending;
 use crate::faults::RunFault;
+use crate::sinks::Sink;
 use bench_core::CoreFault;
 use bench_history::laws;
 use bench_kernel::{Kernel, Misfit, Step, Unfit, laws as custody};
 use bench_script::Script;
 use rand_core::Rng;
 use std::alloc::{AllocError, Global};
-use std::io;
 use uvm_glob::Name;
 use uvm_object::{Entry, Reason, UvmObject};
 use uvm_report::{Reports, Severity};
@@ -38,24 +40,28 @@ use uvm_report::{Reports, Severity};
 /// sequence has ended, and all others at the end, whatever that is.
 ///
 /// Once the run is over the summary of its reports is written. Answers how it is over. The error is `LogFull` where the log has
-/// 1,000,000 entries and is not over, `Memory` where memory was refused, also to `make`, and `Output` where a write failed,
-/// after which nothing is said of what was written.
+/// 1,000,000 entries and is not over, `Memory` where memory was refused, also to `make`, and `Output` where the sink refused a text, as a
+/// writer does that fails, after which nothing is said of what was written.
+///
+/// The sink takes a text for each entry, an empty one where there is nothing to write, and then the summary.
 pub fn run_script<
     O: UvmObject,
     R: Rng,
     F: Fn(&Name) -> Result<Option<O>, AllocError> + Drop,
-    W: io::Write,
+    S: Sink,
 >(
     alloc: Global,
     script: Script,
     words: &mut R,
     trace: bool,
     make: F,
-    out: &mut W,
+    out: &mut S,
 ) -> Result<Ending, RunFault>
     requires callable { F.IsAlwaysCallable make }
     requires tested { IsSome script.test }
-    ensures { IsRun O.view O.name O.says (MayGive F.Fn make) (R.stream words.old) (R.stream words.new) script trace (W.contents out.old) (W.contents out.new) result }
+    ensures run { IsRun O.view O.name O.says (MayGive F.Fn make) (R.stream words.old) (R.stream words.new) script trace (S.contents out.old) (S.contents out.new) result }
+    ensures texts { TookTexts script (S.taken out.old) (S.taken out.new) result }
+    ensures output { result ≡ Err RunFault.Output → S.refuses out.old }
 {
     let mut kernel: Kernel<O> = match Kernel::new(alloc, script) {
         Ok(kernel) => kernel,
@@ -64,30 +70,28 @@ pub fn run_script<
     let ended = run_kernel(alloc, &mut kernel, words, trace, &make, out);
     // Whose text was written.
     let _log = kernel.log();
+    kernel.finish();
     ended
 }
 
 /// Runs a kernel that has not begun, and was not abandoned, as `run_script` runs a script, and gives each object back. The kernel then
 /// still tells its log, which is that of the run, and, where the run is over, its reports. No word is drawn beyond those of the log,
 /// but for one at most where memory is refused.
-pub fn run_kernel<
-    O: UvmObject,
-    R: Rng,
-    F: Fn(&Name) -> Result<Option<O>, AllocError>,
-    W: io::Write,
->(
+pub fn run_kernel<O: UvmObject, R: Rng, F: Fn(&Name) -> Result<Option<O>, AllocError>, S: Sink>(
     alloc: Global,
     kernel: &mut Kernel<O>,
     words: &mut R,
     trace: bool,
     make: &F,
-    out: &mut W,
+    out: &mut S,
 ) -> Result<Ending, RunFault>
     requires callable { F.IsAlwaysCallable make.now }
     requires good { kernel.old.core.health ≡ Good }
     requires going { kernel.old.failed ≡ false }
     requires begun { kernel.old.core.history ≡ [] }
-    ensures run { LeavesRun kernel.old.core.script trace kernel.new.core.history (W.contents out.old) (W.contents out.new) result }
+    ensures run { LeavesRun kernel.old.core.script trace kernel.new.core.history (S.contents out.old) (S.contents out.new) result }
+    ensures texts { TookTexts kernel.old.core.script (S.taken out.old) (S.taken out.new) result }
+    ensures output { result ≡ Err RunFault.Output → S.refuses out.old }
     ensures sound { OnOk result (kernel.new.core.health ≡ Good) }
     ensures words { HasWordsOf (R.stream words.old) kernel.new.core.history }
     ensures left { HasGiven (may_lose result) kernel.new.core.history (R.stream words.old) (R.stream words.new) }
@@ -102,19 +106,21 @@ pub fn run_kernel<
 }
 
 // Makes entries until the run is over, writes the summary, and answers how it is over.
-fn run_to_end<O: UvmObject, R: Rng, F: Fn(&Name) -> Result<Option<O>, AllocError>, W: io::Write>(
+fn run_to_end<O: UvmObject, R: Rng, F: Fn(&Name) -> Result<Option<O>, AllocError>, S: Sink>(
     alloc: Global,
     kernel: &mut Kernel<O>,
     words: &mut R,
     trace: bool,
     make: &F,
-    out: &mut W,
+    out: &mut S,
 ) -> Result<Ending, RunFault>
     requires callable { F.IsAlwaysCallable make.now }
     requires good { kernel.old.core.health ≡ Good }
     requires going { kernel.old.failed ≡ false }
     requires begun { kernel.old.core.history ≡ [] }
-    ensures run { LeavesRun kernel.old.core.script trace kernel.new.core.history (W.contents out.old) (W.contents out.new) result }
+    ensures run { LeavesRun kernel.old.core.script trace kernel.new.core.history (S.contents out.old) (S.contents out.new) result }
+    ensures texts { TookTexts kernel.old.core.script (S.taken out.old) (S.taken out.new) result }
+    ensures output { result ≡ Err RunFault.Output → S.refuses out.old }
     ensures sound { OnOk result (kernel.new.core.health ≡ Good) }
     ensures words { HasWordsOf (R.stream words.old) kernel.new.core.history }
     ensures left { HasGiven (may_lose result) kernel.new.core.history (R.stream words.old) (R.stream words.new) }
@@ -245,15 +251,19 @@ fn supply<O: UvmObject>(kernel: &mut Kernel<O>, object: O) -> Result<(), RunFaul
 }
 
 // Writes the text of the newest entry.
-fn write_last<O: UvmObject, W: io::Write>(
+fn write_last<O: UvmObject, S: Sink>(
     alloc: Global,
     kernel: &Kernel<O>,
     trace: bool,
-    out: &mut W,
+    out: &mut S,
 ) -> Result<(), RunFault>
     ensures legal { IsLegal kernel.now.core.script kernel.now.core.history }
-    ensures ok { OnOk result (Appends (W.contents out.old) (W.contents out.new) (if is_sound kernel.now.core.health then last_text trace kernel.now.core.script kernel.now.core.history else [])) }
-    ensures err { IfErr result (λ fault. IsUnwritten fault (W.contents out.old) (W.contents out.new)) }
+    ensures ok { OnOk result (Appends (S.contents out.old) (S.contents out.new) (if is_sound kernel.now.core.health then last_text trace kernel.now.core.script kernel.now.core.history else [])) }
+    ensures err { IfErr result (λ fault. IsUnwritten fault (S.contents out.old) (S.contents out.new)) }
+    ensures count { OnOk result (TookMore 1 (S.taken out.old) (S.taken out.new)) }
+    ensures untaken { result ≡ Err RunFault.Memory → S.taken out.new ≡ S.taken out.old }
+    ensures output { result ≡ Err RunFault.Output → S.refuses out.old }
+    ensures steady { S.refuses out.new → S.refuses out.old }
     ensures lost { result ≡ Err RunFault.Memory → last_text trace kernel.now.core.script kernel.now.core.history ≢ [] }
 {
     // It belongs to a legal log.
@@ -266,14 +276,18 @@ fn write_last<O: UvmObject, W: io::Write>(
 }
 
 // Writes the summary of the reports.
-fn write_summary<O: UvmObject, W: io::Write>(
+fn write_summary<O: UvmObject, S: Sink>(
     alloc: Global,
     kernel: &Kernel<O>,
-    out: &mut W,
+    out: &mut S,
 ) -> Result<(), RunFault>
     requires { is_sound kernel.now.core.health ≡ true }
-    ensures ok { OnOk result (Appends (W.contents out.old) (W.contents out.new) (summary_of kernel.now.core.script kernel.now.core.history)) }
-    ensures err { IfErr result (λ fault. IsUnwritten fault (W.contents out.old) (W.contents out.new)) }
+    ensures ok { OnOk result (Appends (S.contents out.old) (S.contents out.new) (summary_of kernel.now.core.script kernel.now.core.history)) }
+    ensures err { IfErr result (λ fault. IsUnwritten fault (S.contents out.old) (S.contents out.new)) }
+    ensures count { OnOk result (TookMore 1 (S.taken out.old) (S.taken out.new)) }
+    ensures untaken { result ≡ Err RunFault.Memory → S.taken out.new ≡ S.taken out.old }
+    ensures output { result ≡ Err RunFault.Output → S.refuses out.old }
+    ensures steady { S.refuses out.new → S.refuses out.old }
 {
     let mut text = Vec::new(alloc);
     if reports_of(kernel).summary(&mut text).is_err() {
@@ -282,11 +296,14 @@ fn write_summary<O: UvmObject, W: io::Write>(
     write_text(text.as_slice(), out)
 }
 
-fn write_text<W: io::Write>(text: &[u8], out: &mut W) -> Result<(), RunFault>
-    ensures ok { OnOk result (Appends (W.contents out.old) (W.contents out.new) text.now) }
+fn write_text<S: Sink>(text: &[u8], out: &mut S) -> Result<(), RunFault>
+    ensures ok { OnOk result (Appends (S.contents out.old) (S.contents out.new) text.now) }
     ensures err { IfErr result (λ fault. fault ≡ RunFault.Output) }
+    ensures count { OnOk result (TookMore 1 (S.taken out.old) (S.taken out.new)) }
+    ensures output { OnErr result (S.refuses out.old) }
+    ensures steady { S.refuses out.new → S.refuses out.old }
 {
-    match out.write_all(text) {
+    match out.put(text) {
         Ok(()) => Ok(()),
         Err(_) => Err(RunFault::Output),
     }

@@ -124,9 +124,20 @@ fn kernel_shows<O: UvmObject, F: Fn(&Name) -> Result<Option<O>, AllocError>>(
     requires { F.IsAlwaysCallable make.now }
 {
     match Kernel::new(alloc, script) {
-        Ok(mut kernel) => is_right(alloc, &mut kernel, scene, make),
+        Ok(mut kernel) => {
+            let right = is_right(alloc, &mut kernel, scene, make);
+            end(kernel);
+            right
+        }
         Err(fault) => fault == CoreFault::NoTest && matches!(scene.look, Look::Nothing),
     }
+}
+
+// Abandons a kernel, gives back each object that it holds, and ends it.
+fn end<O: UvmObject>(mut kernel: Kernel<O>) {
+    kernel.abandon();
+    while let Some((_, _)) = kernel.give_back() {}
+    kernel.finish();
 }
 
 fn is_right<O: UvmObject, F: Fn(&Name) -> Result<Option<O>, AllocError>>(

@@ -95,7 +95,8 @@ fn ran<O: UvmObject, F: Fn(&Name) -> Result<Option<O>, AllocError> + Drop>(
     }
 }
 
-fn script(alloc: Global) -> Option<Script>
+// The script of an object that says nothing.
+pub(crate) fn script(alloc: Global) -> Option<Script>
     ensures { IfSome result (λ script. IsSome script.test) }
 {
     let script = bench_script::read(alloc, SCRIPT).ok()?;

@@ -1,6 +1,7 @@
 -- What a run of reads has read of what there was.
-use Rattle.std.proofs.Common.{◌≡◌, ◌≢◌, ◌⊎◌, ◌∙◌, ◌≤◌, ◌++◌, ℕ, List, [], ◌∷◌, Option, Some, None, IfSome, length, take, inl, inr, sym, ap, arith, append-nil}
+use Rattle.std.proofs.Common.{◌≡◌, ◌≢◌, ◌⊎◌, ◌∙◌, ◌<◌, ◌≤◌, ◌+◌, ◌++◌, ℕ, List, [], ◌∷◌, Option, Some, None, Result, Ok, Err, IfSome, length, take, inl, inr, sym, ap, arith, append-nil}
 use Rattle.std.proofs.lemmas.List.{take-append-le, take_all}
+use Rattle.std.specs.Result.{IsErrAnd}
 use Rattle.std.specs.Io.KnownBytes.{Consumes, IsAtEnd}
 use Rattle.std.proofs.KnownBytes.{Consumes-trans}
 use Rattle.bus_jobs.specs.declared.verdicts.Breakage.TheVariants.{Memory, LogFull, Output, Unread}
@@ -38,3 +39,14 @@ fault_after old mid new bs (Broken Memory) first fault = (bs ++ fault.0, some-af
 fault_after old mid new bs (Broken LogFull) first fault = fault
 fault_after old mid new bs (Broken Output) first fault = fault
 fault_after old mid new bs (Broken Unread) first fault = fault
+
+-- each read has given a byte, or one may have failed
+pub progress-more : {reads before after : ℕ} {First Then : Type 0} → (reads ≤ before) ⊎ First → (Then → First) → (before < after) ⊎ Then → (reads + 1 ≤ after) ⊎ First
+progress-more (inl enough) earlier (inl more) = inl (omega arith)
+progress-more (inl enough) earlier (inr fails) = inr (earlier fails)
+progress-more (inr failed) earlier more = inr failed
+
+-- the error that a result has is the one that was told
+pub err-told : {A : Type 0} (result : Result A Verdict) (why other : Verdict) → IsErrAnd result (λ told. told ≡ why) → result ≡ Err other → why ≡ other
+err-told (Ok given) why other told is = absurd told
+err-told (Err given) why other told is = let same : given ≡ why = told in cc

@@ -1,6 +1,6 @@
 //! The command `debug`.
 
-ghost use Rattle.std.specs.Prelude.{[], ◌≡◌, ◌++◌, ◌<◌, length, OnOk, IfOk, IfErr};
+ghost use Rattle.std.specs.Prelude.{[], Err, ◌≡◌, ◌++◌, ◌<◌, length, OnOk, IfOk, IfErr};
 ghost use Rattle.std.specs.List.{concat};
 ghost use Rattle.std.specs.Io.KnownBytes.{Appends};
 ghost use Rattle.uvm_factory.specs.Observed.{types_of, made_at};
@@ -10,18 +10,19 @@ ghost use Rattle.bus_jobs.specs.Debugging.{IsDebugRun, BrokeOff, answer_line, an
 ghost use Rattle.bench_history.specs.History.{type_name_or};
 
 use crate::verdicts::{Breakage, Verdict};
+use bench_run::Sink;
 use bench_script::{Probe, Script, ScriptFault};
 use std::alloc::{AllocError, Global};
-use std::io;
 use uvm_factory::{Factory, TypeId, Unmade};
 
 /// Writes a line for each probe of the script in `bytes`: which type the factory makes there. The verdict is `Clean`
 /// where all were written, a loop of overrides included; `Refused` where the bytes are no script, with nothing written;
 /// `Broken` where memory was refused (whole lines were written, from the first on), which it is not for bytes that are no text or
-/// too many, or a write failed.
-pub fn debug_bench<W: io::Write>(alloc: Global, bytes: &[u8], out: &mut W) -> Verdict
-    ensures run { IsDebugRun bytes.now (W.contents out.old) (W.contents out.new) result }
+/// too many, or the sink refused a line.
+pub fn debug_bench<S: Sink>(alloc: Global, bytes: &[u8], out: &mut S) -> Verdict
+    ensures run { IsDebugRun bytes.now (S.contents out.old) (S.contents out.new) result }
     ensures memory { result ≡ Verdict.Broken Breakage.Memory → IsReadable bytes.now }
+    ensures output { result ≡ Verdict.Broken Breakage.Output → S.refuses out.old }
 {
     match bench_script::read(alloc, bytes) {
         Ok(script) => match answer(alloc, &script, out) {
@@ -34,9 +35,10 @@ pub fn debug_bench<W: io::Write>(alloc: Global, bytes: &[u8], out: &mut W) -> Ve
 }
 
 // Writes the line of each probe of a script.
-fn answer<W: io::Write>(alloc: Global, script: &Script, out: &mut W) -> Result<(), Breakage>
-    ensures ok { OnOk result (Appends (W.contents out.old) (W.contents out.new) (concat (debug_lines script.now))) }
-    ensures err { IfErr result (BrokeOff (debug_lines script.now) (W.contents out.old) (W.contents out.new)) }
+fn answer<S: Sink>(alloc: Global, script: &Script, out: &mut S) -> Result<(), Breakage>
+    ensures ok { OnOk result (Appends (S.contents out.old) (S.contents out.new) (concat (debug_lines script.now))) }
+    ensures err { IfErr result (BrokeOff (debug_lines script.now) (S.contents out.old) (S.contents out.new)) }
+    ensures output { result ≡ Err Breakage.Output → S.refuses out.old }
 {
     match script.factory(alloc) {
         Ok(factory) => write_answers(alloc, &factory, script, out),
@@ -45,22 +47,23 @@ fn answer<W: io::Write>(alloc: Global, script: &Script, out: &mut W) -> Result<(
 }
 
 // Writes the line of each probe, by the factory of the script.
-fn write_answers<W: io::Write>(
+fn write_answers<S: Sink>(
     alloc: Global,
     factory: &Factory,
     script: &Script,
-    out: &mut W,
+    out: &mut S,
 ) -> Result<(), Breakage>
     requires { IsFactoryOf script.now factory.now }
-    ensures ok { OnOk result (Appends (W.contents out.old) (W.contents out.new) (concat (debug_lines script.now))) }
-    ensures err { IfErr result (BrokeOff (debug_lines script.now) (W.contents out.old) (W.contents out.new)) }
+    ensures ok { OnOk result (Appends (S.contents out.old) (S.contents out.new) (concat (debug_lines script.now))) }
+    ensures err { IfErr result (BrokeOff (debug_lines script.now) (S.contents out.old) (S.contents out.new)) }
+    ensures output { result ≡ Err Breakage.Output → S.refuses out.old }
 {
     let probes = script.probes();
     for probe in probes {
         let Ok(line) = line_of(alloc, factory, probe) else {
             return Err(Breakage::Memory);
         };
-        let Ok(()) = out.write_all(line.as_slice()) else {
+        let Ok(()) = out.put(line.as_slice()) else {
             return Err(Breakage::Output);
         };
     }

@@ -1,8 +1,9 @@
 //! The bytes of a file.
-ghost use Rattle.std.specs.Prelude.{◌≡◌, ◌⊎◌, ◌<◌, ◌≤◌, ◌+◌, ◌++◌, ℕ, List, Err, IfErr, IfOk, IfSome, OnOk, length, take, true, vec_len};
+ghost use Rattle.std.specs.Prelude.{◌≡◌, ◌⊎◌, ◌<◌, ◌≤◌, ◌+◌, ◌++◌, ℕ, List, Err, IfErr, IfOk, IfSome, OnOk, false, length, take, true, vec_len};
 ghost use Rattle.std.specs.Io.KnownBytes.{Consumes, IsAtEnd};
 ghost use Rattle.bus_jobs.specs.Verdicts.{IsReadFault, IsUnread};
 
+use crate::sources::Source;
 use crate::verdicts::{Breakage, Verdict};
 use std::alloc::Global;
 use std::io;
@@ -21,18 +22,19 @@ const PIECE: usize = 8192;
 ///
 /// The error is `Broken(Unread)` where a read fails, or where 2,097,152 calls of `read` come to no
 /// end, and `Broken(Memory)` where an allocation is refused.
-pub fn read_file<R: io::Read>(alloc: Global, reader: &mut R) -> Result<Vec<u8>, Verdict>
+pub fn read_file<S: Source>(alloc: Global, reader: &mut S) -> Result<Vec<u8>, Verdict>
     ensures bound { IfOk result (λ bytes. vec_len bytes ≤ MOST_BYTES) }
-    ensures bytes { IfOk result (λ bytes. IfSome (R.remaining reader.old)
+    ensures bytes { IfOk result (λ bytes. IfSome (S.remaining reader.old)
         (λ all. bytes.items ≡ take MOST_BYTES all)) }
     ensures left { IfOk result (λ bytes.
-        Consumes (R.remaining reader.old) (R.remaining reader.new) bytes.items) }
-    ensures fault { IfErr result (IsReadFault (R.remaining reader.old) (R.remaining reader.new)) }
+        Consumes (S.remaining reader.old) (S.remaining reader.new) bytes.items) }
+    ensures fault { IfErr result (IsReadFault (S.remaining reader.old) (S.remaining reader.new)) }
     ensures err { IfErr result IsUnread }
+    ensures failed { result ≡ Err (Verdict.Broken Breakage.Unread) → S.fails reader.old }
 {
     let mut bytes = Vec::new(alloc);
     let mut piece = [0u8; PIECE];
-    'reads: for _ in 0..MOST_READS {
+    'reads: for _made in 0..MOST_READS {
         let room = (MOST_BYTES - bytes.len()).min(PIECE);
         if room == 0 {
             return Ok(bytes);
@@ -45,20 +47,23 @@ pub fn read_file<R: io::Read>(alloc: Global, reader: &mut R) -> Result<Vec<u8>, 
 }
 
 // One read into `piece`, whose bytes go to the end of `bytes`. It answers whether the end was met.
-fn read_piece<R: io::Read>(
-    reader: &mut R,
+fn read_piece<S: Source>(
+    reader: &mut S,
     piece: &mut [u8],
     bytes: &mut Vec<u8>,
 ) -> Result<bool, Verdict>
     requires { 0 < length piece.old }
     ensures bound { OnOk result (vec_len bytes.new ≤ vec_len bytes.old + length piece.old) }
     ensures more { OnOk result ((more : List ℕ) × (bytes.new.items ≡ bytes.old.items ++ more)
-        × Consumes (R.remaining reader.old) (R.remaining reader.new) more) }
-    ensures end { IfOk result (λ ended. ended ≡ true → IsAtEnd (R.remaining reader.new)) }
-    ensures fault { IfErr result (IsReadFault (R.remaining reader.old) (R.remaining reader.new)) }
+        × Consumes (S.remaining reader.old) (S.remaining reader.new) more) }
+    ensures end { IfOk result (λ ended. ended ≡ true → IsAtEnd (S.remaining reader.new)) }
+    ensures fault { IfErr result (IsReadFault (S.remaining reader.old) (S.remaining reader.new)) }
     ensures err { IfErr result IsUnread }
+    ensures failed { result ≡ Err (Verdict.Broken Breakage.Unread) → S.fails reader.old }
+    ensures stalled { IfOk result (λ ended. ended ≡ false → (vec_len bytes.old < vec_len bytes.new) ⊎ S.fails reader.old) }
+    ensures steady { S.fails reader.new → S.fails reader.old }
 {
-    match reader.read(piece) {
+    match reader.read_some(piece) {
         Ok(0) => Ok(true),
         Ok(count) => {
             bytes.extend_from_slice(&piece[..count])?;

@@ -12,5 +12,5 @@ pub fn runs_are_determined()
     ensures { RunsAreDetermined }
 {
     objects::objects_are_functions();
-    runs::runs_are_functions::<BusObject>();
+    runs::ends_are_determined::<BusObject>();
 }

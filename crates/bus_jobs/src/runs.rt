@@ -3,16 +3,16 @@
 ghost use Rattle.std.specs.Prelude.{◌≡◌, ◌≢◌, IfErr, IfOk, IsSome, MatchResult, Ok, Err, if◌then◌else◌, option_copied};
 ghost use Rattle.bench_script.specs.Documents.{IsReadable};
 ghost use Rattle.bench_run.specs.Endings.{is_clean};
+ghost use Rattle.bench_run.specs.Texts.{TookSome, TookTexts};
 ghost use Rattle.bus_jobs.specs.Runs.{GivesNamed, IsBenchRun, IsBusRun, script_to_run, words_of_seed};
 
 use crate::verdicts::{Breakage, Verdict};
-use bench_run::{Ending, RunFault, run_script};
+use bench_run::{Ending, RunFault, Sink, run_script};
 use bench_script::{Script, ScriptFault};
 use bus_objects::BusObject;
 use rand_core::{Rng, SeedableRng};
 use rand_pcg::Pcg64;
 use std::alloc::{AllocError, Global};
-use std::io;
 use uvm_glob::Name;
 
 /// Runs the script in `bytes`, with `test` in place of its own test where it is given, on the words of `Pcg64` from the seed.
@@ -22,18 +22,20 @@ use uvm_glob::Name;
 ///
 /// The verdict is `Clean` where the run finished and neither an ERROR nor a FATAL was counted, `Faulty` where it ended otherwise,
 /// and `Refused` where the bytes are no script or it has no such test (`Missing` where it has none at all), with nothing
-/// written. It is `Broken` where the log is full, memory was refused, or a write failed; memory is not refused for bytes that are
+/// written. It is `Broken` where the log is full, memory was refused, or the sink refused a text; memory is not refused for bytes that are
 /// no text or too many.
-pub fn run_bench<W: io::Write>(
+pub fn run_bench<S: Sink>(
     alloc: Global,
     bytes: &[u8],
     seed: u64,
     test: Option<&Name>,
     trace: bool,
-    out: &mut W,
+    out: &mut S,
 ) -> Verdict
-    ensures run { IsBenchRun (script_to_run bytes.now (option_copied test.entry)) (words_of_seed seed) trace (W.contents out.old) (W.contents out.new) result }
+    ensures run { IsBenchRun (script_to_run bytes.now (option_copied test.entry)) (words_of_seed seed) trace (S.contents out.old) (S.contents out.new) result }
     ensures memory { result ≡ Verdict.Broken Breakage.Memory → IsReadable bytes.now }
+    ensures room { result ≡ Verdict.Broken Breakage.Memory → IfOk (script_to_run bytes.now (option_copied test.entry)) (λ script. TookSome script (S.taken out.old) (S.taken out.new)) }
+    ensures output { result ≡ Verdict.Broken Breakage.Output → S.refuses out.old }
 {
     match script_to_run(alloc, bytes, test) {
         Ok(script) => {
@@ -78,15 +80,17 @@ fn script_to_run(alloc: Global, bytes: &[u8], test: Option<&Name>) -> Result<Scr
 }
 
 // Runs a script with the objects of the bench.
-fn run_objects<R: Rng, W: io::Write>(
+fn run_objects<R: Rng, S: Sink>(
     alloc: Global,
     script: Script,
     words: &mut R,
     trace: bool,
-    out: &mut W,
+    out: &mut S,
 ) -> Result<Ending, RunFault>
     requires { IsSome script.test }
-    ensures { IsBusRun (R.stream words.old) script trace (W.contents out.old) (W.contents out.new) result }
+    ensures run { IsBusRun (R.stream words.old) script trace (S.contents out.old) (S.contents out.new) result }
+    ensures texts { TookTexts script (S.taken out.old) (S.taken out.new) result }
+    ensures output { result ≡ Err RunFault.Output → S.refuses out.old }
 {
     run_script(
         alloc,

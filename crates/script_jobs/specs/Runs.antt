@@ -1,5 +1,6 @@
 -- What the run of a document does.
-use Rattle.std.specs.Prelude.{◌≡◌, ◌≢◌, ◌⊎◌, ℕ, Bool, true, false, List, [], ◌∷◌, Option, Some, None, Result, Ok, Err, codes}
+use Rattle.std.specs.Prelude.{◌≡◌, ◌≢◌, ◌⊎◌, ℕ, Bool, true, false, not, List, [], ◌∷◌, map, filter, slice_get, bytes_eq, Option, Some, None, Result, Ok, Err, codes}
+use Rattle.std.specs.List.{list_any}
 use Rattle.std.specs.Io.KnownBytes.{Keeps}
 use Rattle.toml.specs.Data.{Data, Members, as_table, get_member}
 use Rattle.rand_core.specs.Stream.{Stream}
@@ -8,6 +9,7 @@ use Rattle.bench_script.specs.declared.faults.ScriptFault.TheVariants as faults
 use Rattle.bench_script.specs.Reading.{and_then}
 use Rattle.bench_script.specs.Documents.{script_beside, tree_of_bytes}
 use Rattle.bench_script.specs.Scripts.{ScriptValue}
+use Rattle.uvm_factory.specs.Faults.{Types}
 use Rattle.bench_run.specs.Endings.{is_clean}
 use Rattle.bench_run.specs.Running.{IsRun}
 use Rattle.bench_run.specs.declared.endings.Ending.{Ending}
@@ -15,9 +17,9 @@ use Rattle.bench_run.specs.declared.faults.RunFault.{RunFault}
 use Rattle.bus_jobs.specs.Runs.{tested, with_test}
 use Rattle.bus_jobs.specs.Verdicts.{breakage_of}
 use Rattle.bus_jobs.specs.declared.verdicts.Breakage.TheVariants as broke
+use Rattle.scripted_objects.specs.Answers.{TypeValue}
 use Rattle.scripted_objects.specs.Tables.{AreTypesOf}
-use Rattle.scripted_objects.specs.declared.answers.TypeRules.{TypeRules}
-use Rattle.script_jobs.specs.Objects.{IsObjectFor, name_of, says_of, view_of}
+use Rattle.script_jobs.specs.Objects.{name_of, object_named, says_of, view_of}
 use Rattle.script_jobs.specs.declared.objects.BenchObject.{BenchObject}
 use Rattle.script_jobs.specs.declared.verdicts.Refusal.TheVariants.{Script, NoTable, UnknownType, Answers}
 use Rattle.script_jobs.specs.declared.verdicts.Verdict.{Verdict}
@@ -28,7 +30,7 @@ abbrev pub script_to_run : Members → Option (List ℕ) → Result ScriptValue 
 script_to_run root test = and_then (and_then (script_beside (codes "answers" ∷ []) root) (with_test test)) tested
 
 -- what stands at the key of the answers are the rules of these types
-abbrev pub HoldsAnswers : Option Data → List TypeRules → Type 0
+abbrev pub HoldsAnswers : Option Data → List TypeValue → Type 0
 HoldsAnswers None types = types ≡ []
 HoldsAnswers (Some answers) types = (table : Members) × (as_table answers ≡ Some table) × AreTypesOf table types
 
@@ -37,36 +39,51 @@ abbrev pub IsNoTable : Option Data → Type 0
 IsNoTable None = ⊥
 IsNoTable (Some answers) = as_table answers ≡ None
 
-abbrev pub IsAnswersFault : Option Data → Verdict → Type 0
-IsAnswersFault answers Clean = ⊥
-IsAnswersFault answers Faulty = ⊥
-IsAnswersFault answers (Refused (Script fault)) = ⊥
-IsAnswersFault answers (Refused NoTable) = IsNoTable answers
-IsAnswersFault answers (Refused (UnknownType type_name)) = Unit {0}
-IsAnswersFault answers (Refused (Answers text)) = Unit {0}
-IsAnswersFault answers (Broken broke.Memory) = Unit {0}
-IsAnswersFault answers (Broken broke.LogFull) = ⊥
-IsAnswersFault answers (Broken broke.Output) = ⊥
-IsAnswersFault answers (Broken broke.Unread) = ⊥
+-- there are answers, in a table
+abbrev pub HasTable : Option Data → Type 0
+HasTable None = ⊥
+HasTable (Some answers) = (table : Members) × (as_table answers ≡ Some table)
 
--- for the name of a type a document gives a new object of it
-abbrev pub GivesNamed : List TypeRules → List ℕ → Option BenchObject → Type 0
-GivesNamed types type_name None = ⊥
-GivesNamed types type_name (Some object) = IsObjectFor types type_name object
+-- the types that have answers, and that the script does not have
+abbrev pub has_type : Types → List ℕ → Bool
+has_type types name = list_any (λ row. bytes_eq row.0 name) types
+
+abbrev pub unknown_types : List TypeValue → Types → List (List ℕ)
+unknown_types answers types = filter (λ name. not (has_type types name)) (map (λ rules. rules.type_name) answers)
+
+abbrev pub HasUnknown : Option Data → Types → List ℕ → Type 0
+HasUnknown said types name = (answers : List TypeValue) × HoldsAnswers said answers × (slice_get (unknown_types answers types) 0 ≡ Some name)
+
+abbrev pub IsAnswersFault : Option Data → Types → Verdict → Type 0
+IsAnswersFault answers types Clean = ⊥
+IsAnswersFault answers types Faulty = ⊥
+IsAnswersFault answers types (Refused (Script fault)) = ⊥
+IsAnswersFault answers types (Refused NoTable) = IsNoTable answers
+IsAnswersFault answers types (Refused (UnknownType type_name)) = HasUnknown answers types type_name
+IsAnswersFault answers types (Refused (Answers text)) = HasTable answers
+IsAnswersFault answers types (Broken broke.Memory) = Unit {0}
+IsAnswersFault answers types (Broken broke.LogFull) = ⊥
+IsAnswersFault answers types (Broken broke.Output) = ⊥
+IsAnswersFault answers types (Broken broke.Unread) = ⊥
+
+-- for the name of a type a document gives the new object of it
+abbrev pub GivesNamed : List TypeValue → List ℕ → Option BenchObject → Type 0
+GivesNamed types type_name given = given ≡ Some (object_named types type_name)
 
 -- a run on the words of a generator, over the objects of a document
-abbrev pub IsScriptRun : List TypeRules → Stream → ScriptValue → Bool → Option (List ℕ) → Option (List ℕ) → Result Ending RunFault → Type 0
+abbrev pub IsScriptRun : List TypeValue → Stream → ScriptValue → Bool → Option (List ℕ) → Option (List ℕ) → Result Ending RunFault → Type 0
 IsScriptRun types words script trace old new result = (left : Stream) × IsRun view_of name_of says_of (GivesNamed types) words left script trace old new result
 
--- the script of a tree, with the rules of its types
-pub record HasBench (root : Members) (test : Option (List ℕ)) (script : ScriptValue) (types : List TypeRules) : Type 0 where
+-- the script of a tree, with the rules of types that it has
+pub record HasBench (root : Members) (test : Option (List ℕ)) (script : ScriptValue) (types : List TypeValue) : Type 0 where
   pub asked : script_to_run root test ≡ Ok script
   pub answers : HoldsAnswers (get_member (codes "answers") root) types
+  pub known : unknown_types types script.types ≡ []
 
 -- a run of the script of a tree, which ended so
 pub record RanTo (root : Members) (test : Option (List ℕ)) (words : Stream) (trace : Bool) (old new : Option (List ℕ)) (result : Result Ending RunFault) : Type 0 where
   pub script : ScriptValue
-  pub types : List TypeRules
+  pub types : List TypeValue
   pub bench : HasBench root test script types
   pub run : IsScriptRun types words script trace old new result
 
@@ -74,7 +91,7 @@ pub record RanTo (root : Members) (test : Option (List ℕ)) (words : Stream) (t
 pub record IsRefused (root : Members) (test : Option (List ℕ)) (old new : Option (List ℕ)) (verdict : Verdict) : Type 0 where
   pub script : ScriptValue
   pub asked : script_to_run root test ≡ Ok script
-  pub fault : IsAnswersFault (get_member (codes "answers") root) verdict
+  pub fault : IsAnswersFault (get_member (codes "answers") root) script.types verdict
   pub keeps : Keeps old new
 
 -- what the verdict says of the tree and of the bytes that the writer holds before and after

@@ -2,6 +2,7 @@
 #![tactic(auto)]
 
 mod answers;
+pub mod laws;
 mod objects;
 mod runs;
 mod verdicts;

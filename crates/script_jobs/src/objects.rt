@@ -1,7 +1,7 @@
 //! The objects of a run.
 
-ghost use Rattle.std.specs.Prelude.{IfOk};
-ghost use Rattle.script_jobs.specs.Objects.{IsObjectFor};
+ghost use Rattle.std.specs.Prelude.{◌≡◌, IfOk};
+ghost use Rattle.script_jobs.specs.Objects.{object_named};
 
 use bus_objects::BusObject;
 use scripted_objects::{Answers, Scripted};
@@ -26,7 +26,7 @@ impl<'a> BenchObject<'a> {
         answers: &'a Answers,
         type_name: &Name,
     ) -> Result<BenchObject<'a>, AllocError>
-        ensures { IfOk result (IsObjectFor answers.now.types.items type_name.now) }
+        ensures { IfOk result (λ object. object ≡ object_named answers.now type_name.now) }
     {
         if let Some(rules) = answers.of_type(type_name) {
             return Ok(BenchObject::Scripted(Scripted::new(alloc, type_name, rules)?));

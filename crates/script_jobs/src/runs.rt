@@ -3,21 +3,21 @@
 ghost use Rattle.std.specs.Prelude.{◌≡◌, ◌≢◌, IfErr, IfOk, IsSome, MatchResult, Ok, Err, if◌then◌else◌, option_copied};
 ghost use Rattle.toml.specs.View.{table_view};
 ghost use Rattle.bench_run.specs.Endings.{is_clean};
-ghost use Rattle.bench_script.specs.Documents.{IsReadable};
+ghost use Rattle.bench_run.specs.Texts.{TookSome, TookTexts};
+ghost use Rattle.bench_script.specs.Documents.{IsReadable, tree_of_bytes};
 ghost use Rattle.bus_jobs.specs.Runs.{words_of_seed};
 ghost use Rattle.script_jobs.specs.Runs.{GivesNamed, IsBenchRun, IsScriptRun, IsTreeRun, refused_by, script_to_run};
 
 use crate::answers::{ANSWERS, answers_in};
 use crate::objects::BenchObject;
 use crate::verdicts::{Refusal, Verdict};
-use bench_run::{Ending, RunFault, run_script};
+use bench_run::{Ending, RunFault, Sink, run_script};
 use bench_script::{Script, ScriptFault, read_document, read_table};
 use bus_jobs::Breakage;
 use rand_core::{Rng, SeedableRng};
 use rand_pcg::Pcg64;
 use scripted_objects::Answers;
 use std::alloc::{AllocError, Global};
-use std::io;
 use toml::Table;
 use uvm_glob::Name;
 
@@ -29,17 +29,19 @@ use uvm_glob::Name;
 /// The verdict is `Clean` where the run finished and neither an ERROR nor a FATAL was counted, `Faulty` where it ended otherwise,
 /// and `Refused`, with nothing written, where the bytes, their answers aside, are no script or have no such test, and then where
 /// the answers are at fault. It is `Broken` where the log is full, memory was refused, which it is not for bytes that are no text or too
-/// many, or a write failed.
-pub fn run_bench<W: io::Write>(
+/// many, or the sink refused a text.
+pub fn run_bench<S: Sink>(
     alloc: Global,
     bytes: &[u8],
     seed: u64,
     test: Option<&Name>,
     trace: bool,
-    out: &mut W,
+    out: &mut S,
 ) -> Verdict
-    ensures run { IsBenchRun bytes.now (option_copied test.entry) (words_of_seed seed) trace (W.contents out.old) (W.contents out.new) result }
+    ensures run { IsBenchRun bytes.now (option_copied test.entry) (words_of_seed seed) trace (S.contents out.old) (S.contents out.new) result }
     ensures memory { result ≡ Verdict.Broken Breakage.Memory → IsReadable bytes.now }
+    ensures room { result ≡ Verdict.Broken Breakage.Memory → IfOk (tree_of_bytes bytes.now) (λ root. IfOk (script_to_run root (option_copied test.entry)) (λ script. TookSome script (S.taken out.old) (S.taken out.new))) }
+    ensures output { result ≡ Verdict.Broken Breakage.Output → S.refuses out.old }
 {
     match read_document(alloc, bytes) {
         Ok(root) => run_tree(alloc, &root, seed, test, trace, out),
@@ -58,15 +60,17 @@ fn refused(fault: ScriptFault) -> Verdict
 }
 
 // Runs the script in the tree of a document.
-fn run_tree<W: io::Write>(
+fn run_tree<S: Sink>(
     alloc: Global,
     root: &Table,
     seed: u64,
     test: Option<&Name>,
     trace: bool,
-    out: &mut W,
+    out: &mut S,
 ) -> Verdict
-    ensures { IsTreeRun (table_view root.now) (option_copied test.entry) (words_of_seed seed) trace (W.contents out.old) (W.contents out.new) result }
+    ensures run { IsTreeRun (table_view root.now) (option_copied test.entry) (words_of_seed seed) trace (S.contents out.old) (S.contents out.new) result }
+    ensures room { result ≡ Verdict.Broken Breakage.Memory → IfOk (script_to_run (table_view root.now) (option_copied test.entry)) (λ script. TookSome script (S.taken out.old) (S.taken out.new)) }
+    ensures output { result ≡ Verdict.Broken Breakage.Output → S.refuses out.old }
 {
     let script = match script_to_run(alloc, root, test) {
         Ok(script) => script,
@@ -112,16 +116,18 @@ fn script_to_run(alloc: Global, root: &Table, test: Option<&Name>) -> Result<Scr
 }
 
 // Runs a script with the objects of a document.
-fn run_objects<R: Rng, W: io::Write>(
+fn run_objects<R: Rng, S: Sink>(
     alloc: Global,
     script: Script,
     answers: &Answers,
     words: &mut R,
     trace: bool,
-    out: &mut W,
+    out: &mut S,
 ) -> Result<Ending, RunFault>
     requires { IsSome script.test }
-    ensures { IsScriptRun answers.now.types.items (R.stream words.old) script trace (W.contents out.old) (W.contents out.new) result }
+    ensures run { IsScriptRun answers.now (R.stream words.old) script trace (S.contents out.old) (S.contents out.new) result }
+    ensures texts { TookTexts script (S.taken out.old) (S.taken out.new) result }
+    ensures output { result ≡ Err RunFault.Output → S.refuses out.old }
 {
     run_script(
         alloc,
@@ -129,7 +135,7 @@ fn run_objects<R: Rng, W: io::Write>(
         words,
         trace,
         |type_name: &Name| -> Result<Option<BenchObject<'_>>, AllocError>
-            ensures { IfOk result (GivesNamed answers.entry.now.types.items type_name.now) }
+            ensures { IfOk result (GivesNamed answers.entry.now type_name.now) }
         { Ok(Some(BenchObject::of_type(alloc, answers, type_name)?)) },
         out,
     )

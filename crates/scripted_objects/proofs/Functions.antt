@@ -4,12 +4,12 @@ use Rattle.uvm_tlm.specs.declared.items.Item.{Item}
 use Rattle.uvm_object.specs.Lines.{call_text}
 use Rattle.uvm_object.specs.Objects.{View}
 use Rattle.uvm_object.specs.declared.acts.Act.{Act}
-use Rattle.scripted_objects.specs.Acts.{act_with}
+use Rattle.answer_lines.specs.Replies.{act_with}
 use Rattle.scripted_objects.specs.Laws.{AnswersAreFunctions}
-use Rattle.scripted_objects.specs.Patterns.{item_in}
+use Rattle.answer_lines.specs.Keys.{item_in}
 use Rattle.scripted_objects.specs.Rules.{answers_to}
 use Rattle.scripted_objects.specs.Scripted.{IsAnswer, one_more}
-use Rattle.scripted_objects.specs.declared.replies.Reply.{Reply}
+use Rattle.answer_lines.specs.declared.replies.Reply.{Reply}
 
 -- what was found says what is answered
 said-by : (item : Option Item) (before : View) (found : Option (ℕ × List Reply)) → (said : List Act × View) × IsAnswer item before found said.0 said.1

@@ -1,3 +1,6 @@
 mod Entries
 mod Functions
+mod Single
+mod Sorting
 mod Types
+mod Unique

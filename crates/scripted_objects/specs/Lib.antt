@@ -1,6 +1,6 @@
-pub mod Acts
+pub mod Answers
+pub mod Faults
 pub mod Laws
-pub mod Patterns
 pub mod Rules
 pub mod Scripted
 pub mod Tables

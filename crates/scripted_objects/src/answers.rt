@@ -1,41 +1,88 @@
 //! The answers of all types.
 
 ghost use Rattle.std.specs.Prelude.{◌≡◌, [], option_copied};
-ghost use Rattle.scripted_objects.specs.Tables.{rules_named};
+ghost use Rattle.scripted_objects.specs.Answers.{rules_named};
 
 use crate::rules::Rule;
 use std::alloc::Global;
+use std::marker::Model;
 use uvm_glob::Name;
 
 /// The rules of one type.
 #[derive(Drop)]
 pub struct TypeRules {
-    /// The type.
-    pub type_name: Name,
-    /// Its rules, those for longer lines before those for shorter ones.
-    pub rules: Vec<Rule>,
+    type_name: Name,
+    // Those that fix more of a line before those that fix less.
+    rules: Vec<Rule>,
+}
+
+impl Model for TypeRules {
+    ghost use Rattle.scripted_objects.specs.Answers.{TypeValue};
+
+    ghost Value = { TypeValue };
+
+    ghost view = { λ rules. record { type_name = rules.type_name; rules = rules.rules.items } };
+}
+
+impl TypeRules {
+    // The rules of a type.
+    pub(crate) fn of(type_name: Name, rules: Vec<Rule>) -> TypeRules
+        ensures name { result.type_name ≡ type_name }
+        ensures rules { result.rules ≡ rules.items }
+    {
+        TypeRules { type_name, rules }
+    }
+
+    /// Lends the name of the type.
+    pub fn type_name(&self) -> &Name
+        ensures { result.now ≡ self.now.type_name }
+    {
+        &self.type_name
+    }
 }
 
 /// The answers of all types.
 #[derive(Drop)]
 pub struct Answers {
-    /// The types, each with its rules.
-    pub types: Vec<TypeRules>,
+    types: Vec<TypeRules>,
+}
+
+impl Model for Answers {
+    ghost use Rattle.std.specs.Prelude.{List};
+    ghost use Rattle.scripted_objects.specs.Answers.{TypeValue};
+
+    ghost Value = { List TypeValue };
+
+    ghost view = { λ answers. answers.types.items };
 }
 
 impl Answers {
-    /// Answers of no type.
+    /// Makes answers of no type.
     pub fn new(alloc: Global) -> Answers
-        ensures { result.types.items ≡ [] }
+        ensures { result ≡ [] }
     {
         Answers {
             types: Vec::new(alloc),
         }
     }
 
+    // The answers of some types.
+    pub(crate) fn of(types: Vec<TypeRules>) -> Answers
+        ensures { result ≡ types.items }
+    {
+        Answers { types }
+    }
+
+    /// Lends the types that have answers, each with its rules.
+    pub fn types(&self) -> &[TypeRules]
+        ensures { result.now ≡ self.now }
+    {
+        self.types.as_slice()
+    }
+
     /// Lends the rules of a type, if it has any.
     pub fn of_type(&self, type_name: &Name) -> Option<&[Rule]>
-        ensures { option_copied result ≡ rules_named self.now.types.items type_name.now }
+        ensures { option_copied result ≡ rules_named self.now type_name.now }
     {
         for rules in &self.types {
             if rules.type_name == *type_name {

@@ -1,6 +1,6 @@
 //! Why answers are refused.
 
-use std::alloc::{AllocError, AllocFailed};
+use answer_lines::LineFault;
 use std::error::Error;
 use std::fmt;
 
@@ -62,6 +62,11 @@ impl AnswerFault {
 }
 
 impl fmt::Display for AnswerFault {
+    ghost use Rattle.std.specs.Prelude.{Some};
+    ghost use Rattle.scripted_objects.specs.Faults.{fault_text};
+
+    ghost output = { λ fault. Some (fault_text fault) };
+
     fn fmt<W: fmt::Write>(&self, f: &mut fmt::Formatter<W>) -> fmt::Result {
         f.write_str(match self {
             AnswerFault::WrongKind => "no list of acts",
@@ -78,6 +83,11 @@ impl Error for AnswerFault {}
 
 /// The place, what is wrong there, and the text of the act, if there is one: `answers.driver."wake 1": no act: creat c b`.
 impl fmt::Display for FaultyAnswer<'_> {
+    ghost use Rattle.std.specs.Prelude.{Some};
+    ghost use Rattle.scripted_objects.specs.Faults.{faulty_text};
+
+    ghost output = { λ fault. Some (faulty_text fault) };
+
     fn fmt<W: fmt::Write>(&self, f: &mut fmt::Formatter<W>) -> fmt::Result {
         write!(f, "answers.{}", self.type_name)?;
         if let Some(call) = self.call {
@@ -91,24 +101,17 @@ impl fmt::Display for FaultyAnswer<'_> {
     }
 }
 
-impl From<AllocError> for AnswerFault {
+impl From<LineFault> for AnswerFault {
     ghost use Rattle.std.specs.Prelude.{◌≡◌};
-    ghost use Rattle.scripted_objects.specs.declared.faults.AnswerFault.TheVariants.{Memory};
+    ghost use Rattle.scripted_objects.specs.Faults.{fault_of};
 
-    ghost from_gives = { λ _ fault. fault ≡ Memory };
+    ghost from_gives = { λ fault given. given ≡ fault_of fault };
 
-    fn from(_: AllocError) -> AnswerFault {
-        AnswerFault::Memory
-    }
-}
-
-impl<T: Drop> From<AllocFailed<T>> for AnswerFault {
-    ghost use Rattle.std.specs.Prelude.{◌≡◌};
-    ghost use Rattle.scripted_objects.specs.declared.faults.AnswerFault.TheVariants.{Memory};
-
-    ghost from_gives = { λ _ fault. fault ≡ Memory };
-
-    fn from(_: AllocFailed<T>) -> AnswerFault {
-        AnswerFault::Memory
+    fn from(fault: LineFault) -> AnswerFault {
+        match fault {
+            LineFault::NoCall => AnswerFault::NoCall,
+            LineFault::NoAct => AnswerFault::NoAct,
+            LineFault::Memory => AnswerFault::Memory,
+        }
     }
 }

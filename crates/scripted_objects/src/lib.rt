@@ -9,23 +9,15 @@
 //! ```
 #![tactic(auto)]
 
-mod acts;
 mod answers;
 mod faults;
-mod items;
 pub mod laws;
 mod objects;
-mod patterns;
 mod reading;
-mod replies;
-mod report_acts;
 mod rules;
-mod sequence_acts;
-mod words;
 
 pub use answers::{Answers, TypeRules};
 pub use faults::{AnswerFault, FaultyAnswer};
 pub use objects::Scripted;
 pub use reading::read_answers;
-pub use replies::Reply;
 pub use rules::Rule;

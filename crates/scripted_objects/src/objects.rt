@@ -1,13 +1,14 @@
 //! The object whose answers are data.
 
-ghost use Rattle.std.specs.Prelude.{◌≡◌, ◌<◌, length, map, option_map, replicate, slice_get, IfOk, IfSome};
-ghost use Rattle.scripted_objects.specs.Acts.{act_with};
+ghost use Rattle.std.specs.Prelude.{◌≡◌, ◌<◌, length, map, option_map, slice_get, IfOk, IfSome};
+ghost use Rattle.answer_lines.specs.Replies.{act_with};
 ghost use Rattle.scripted_objects.specs.Rules.{answers_to};
+ghost use Rattle.scripted_objects.specs.Scripted.{new_of};
 
-use crate::patterns::item_in;
-use crate::replies::Reply;
 use crate::rules::Rule;
+use answer_lines::{Reply, item_in};
 use std::alloc::{AllocError, Global};
+use std::marker::Model;
 use uvm_glob::Name;
 use uvm_object::{Acts, Call, UvmObject, call_text};
 use uvm_tlm::Item;
@@ -22,16 +23,22 @@ pub struct Scripted<'a> {
     used: Vec<usize>,
 }
 
+impl<'a> Model for Scripted<'a> {
+    ghost use Rattle.scripted_objects.specs.Scripted.{ScriptedValue};
+
+    ghost Value = { ScriptedValue };
+
+    ghost view = { λ scripted. record { type_name = scripted.type_name; rules = scripted.rules.now; used = scripted.used.items } };
+}
+
 impl<'a> Scripted<'a> {
-    /// A new object of a type, with the rules of the type. It has answered nothing.
+    /// Makes a new object of a type, with the rules of the type. It has answered nothing.
     pub fn new(
         alloc: Global,
         type_name: &Name,
         rules: &'a [Rule],
     ) -> Result<Scripted<'a>, AllocError>
-        ensures rules { IfOk result (λ scripted. scripted.rules.now ≡ rules.now) }
-        ensures name { IfOk result (λ scripted. scripted.type_name ≡ type_name.now) }
-        ensures used { IfOk result (λ scripted. scripted.used.items ≡ replicate (length rules.now) 0) }
+        ensures { IfOk result (λ scripted. scripted ≡ new_of type_name.now rules.now) }
     {
         Ok(Scripted {
             type_name: *type_name,
@@ -42,8 +49,8 @@ impl<'a> Scripted<'a> {
 
     // The first rule that has an answer to a call, and that answer.
     fn answer(&self, line: &[u8], has_item: bool) -> Option<(usize, &'a [Reply])>
-        ensures found { option_map (λ found. (found.0, found.1.now)) result ≡ slice_get (answers_to self.now.rules.now self.now.used.items line.now has_item) 0 }
-        ensures place { IfSome result (λ found. found.0 < length self.now.used.items) }
+        ensures found { option_map (λ found. (found.0, found.1.now)) result ≡ slice_get (answers_to self.now.rules self.now.used line.now has_item) 0 }
+        ensures place { IfSome result (λ found. found.0 < length self.now.used) }
     {
         for (place, rule) in self.rules.iter().enumerate() {
             let used = *self.used.get(place)?;
@@ -58,11 +65,11 @@ impl<'a> Scripted<'a> {
 impl UvmObject for Scripted<'_> {
     ghost use Rattle.scripted_objects.specs.Scripted.{ScriptedSays};
 
-    ghost view = { λ scripted. scripted.used.items };
+    ghost view = { λ scripted. scripted.used };
 
     ghost name = { λ scripted. scripted.type_name };
 
-    ghost says = { λ scripted. ScriptedSays scripted.rules.now };
+    ghost says = { λ scripted. ScriptedSays scripted.rules };
 
     fn type_name(&self) -> &Name {
         &self.type_name

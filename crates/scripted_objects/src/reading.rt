@@ -1,23 +1,25 @@
 //! Reads answers.
 
-ghost use Rattle.std.specs.Prelude.{◌≡◌, ◌-◌, ◌^◌, IfOk, length, map, slice_get};
+ghost use Rattle.std.specs.Prelude.{◌≡◌, ◌<◌, true, false, All, IfOk, length, map};
 ghost use Rattle.toml.specs.Data.{array};
 ghost use Rattle.toml.specs.View.{items_view, table_view, view};
-ghost use Rattle.scripted_objects.specs.Tables.{AreTypesOf, IsLongestFirst, IsTableOf, answer_data, data_of, entry_in, entry_of, key_of, only_data, reply_data};
+ghost use Rattle.answer_lines.specs.Replies.{IsAlone};
+ghost use Rattle.scripted_objects.specs.Rules.{length_key};
+ghost use Rattle.scripted_objects.specs.Tables.{AreRulesOf, AreTypesOf, IsRead, answer_data, data_of, entry_in, entry_of, only_data, reply_data};
 
 use crate::answers::{Answers, TypeRules};
 use crate::faults::{AnswerFault, FaultyAnswer};
-use crate::patterns::{may_have_item, read_pattern};
-use crate::replies::Reply;
 use crate::rules::Rule;
-use crate::words::name_of;
+use answer_lines::{Key, Reply};
 use std::alloc::Global;
+use std::cmp::Reverse;
 use toml::{Table, Value};
+use uvm_glob::Name;
 
 /// Reads the answers of all types: a table for each type, with a key for each form of calls. The fault is the first, types and keys
 /// in byte order.
 pub fn read_answers<'a>(alloc: Global, table: &'a Table) -> Result<Answers, FaultyAnswer<'a>>
-    ensures { IfOk result (λ answers. AreTypesOf (table_view table.now) answers.types.items) }
+    ensures { IfOk result (λ answers. AreTypesOf (table_view table.now) answers) }
 {
     let mut types = Vec::new(alloc);
     for (type_name, value) in table.iter() {
@@ -26,20 +28,18 @@ pub fn read_answers<'a>(alloc: Global, table: &'a Table) -> Result<Answers, Faul
             return Err(AnswerFault::Memory.at_type(type_name.as_str()));
         };
     }
-    Ok(Answers { types })
+    Ok(Answers::of(types))
 }
 
-#[tactic(auto, using(crate::proofs::Entries::members_same))]
 fn read_type<'a>(
     alloc: Global,
     type_name: &'a str,
     value: &'a Value,
 ) -> Result<TypeRules, FaultyAnswer<'a>>
     ensures name { IfOk result (λ rules. rules.type_name ≡ type_name.now) }
-    ensures rules { IfOk result (λ rules. IsTableOf (view value.now) rules.rules.items) }
-    ensures order { IfOk result (λ rules. IsLongestFirst rules.rules.items) }
+    ensures rules { IfOk result (λ rules. AreRulesOf (view value.now) rules.rules) }
 {
-    let Ok(name) = name_of(type_name) else {
+    let Ok(name) = Name::new(type_name.as_bytes()) else {
         return Err(AnswerFault::BadName.at_type(type_name));
     };
     let Some(table) = value.as_table() else {
@@ -47,16 +47,13 @@ fn read_type<'a>(
     };
     let mut rules = read_rules(alloc, type_name, table)?;
     let Ok(()) = rules.sort_by_key(
-        |rule: &Rule| -> usize
-            ensures { result ≡ (2 ^ 64 - 1) - length rule.now.pattern.items }
-        { usize::MAX - rule.pattern.len() },
+        |rule: &Rule| -> Reverse<usize>
+            ensures { result ≡ length_key rule.now }
+        { Reverse(rule.key.fixed_len()) },
     ) else {
         return Err(AnswerFault::Memory.at_type(type_name));
     };
-    Ok(TypeRules {
-        type_name: name,
-        rules,
-    })
+    Ok(TypeRules::of(name, rules))
 }
 
 // The rules of one type, in the order of their keys.
@@ -65,60 +62,74 @@ fn read_rules<'a>(
     type_name: &'a str,
     table: &'a Table,
 ) -> Result<Vec<Rule>, FaultyAnswer<'a>>
-    ensures { IfOk result (λ rules. map entry_of rules.items ≡ map entry_in table.now.entries) }
+    ensures entries { IfOk result (λ rules. map entry_of rules.items ≡ map entry_in table.now.entries) }
+    ensures read { IfOk result (λ rules. All IsRead rules.items) }
 {
     let mut rules = Vec::new(alloc);
     for (call, value) in table.iter() {
         let call = call.as_str();
-        match read_rule(alloc, call, value) {
-            Ok(rule) => {
-                if rules.push(rule).is_err() {
-                    return Err(AnswerFault::Memory.at_call(type_name, call, None));
-                }
-            }
+        let rule = match read_rule(alloc, call, value) {
+            Ok(rule) => rule,
             Err((fault, act)) => return Err(fault.at_call(type_name, call, act)),
-        }
+        };
+        let Ok(()) = rules.push(rule) else {
+            return Err(AnswerFault::Memory.at_call(type_name, call, None));
+        };
     }
     Ok(rules)
 }
 
-// The rule for the calls of one form, or what is wrong with it, and with which of its acts.
+// The rule of one key, or what is wrong with it, and with which of its acts.
 fn read_rule<'a>(
     alloc: Global,
     call: &'a str,
     value: &'a Value,
 ) -> Result<Rule, (AnswerFault, Option<&'a str>)>
-    ensures key { IfOk result (λ rule. key_of rule ≡ call.now) }
+    ensures key { IfOk result (λ rule. rule.key ≡ call.now) }
     ensures data { IfOk result (λ rule. data_of rule ≡ view value.now) }
+    ensures read { IfOk result IsRead }
 {
-    let (pattern, open) = match read_pattern(call) {
-        Ok(read) => read,
-        Err(_) => return Err((AnswerFault::NoCall, None)),
-    };
-    let has_item = may_have_item(pattern);
-    let Ok(pattern) = Vec::from_slice(alloc, pattern.as_bytes()) else {
-        return Err((AnswerFault::Memory, None));
-    };
     let Some(values) = value.as_array() else {
         return Err((AnswerFault::WrongKind, None));
     };
     let values = values.as_slice();
     let once = is_list_of_lists(values);
+    if !are_answers(values, once) {
+        return Err((AnswerFault::WrongKind, None));
+    }
+    let (key, has_item) = match Key::read(alloc, call) {
+        Ok(read) => read,
+        Err(fault) => return Err((AnswerFault::from(fault), None)),
+    };
     let answers = if once {
         read_each(alloc, values, has_item)?
     } else {
         read_only(alloc, values, has_item)?
     };
-    Ok(Rule {
-        pattern,
-        open,
-        once,
-        answers,
+    Ok(Rule { key, once, answers })
+}
+
+// Whether a value is an array of texts.
+fn are_texts(value: &Value) -> bool {
+    match value.as_array() {
+        Some(values) => values.iter().all(|value| value.is_str()),
+        None => false,
+    }
+}
+
+// Whether each of some values is a text, or, where each answer is given once, an array of texts.
+fn are_answers(values: &[Value], once: bool) -> bool {
+    values.iter().all(|value| if once {
+        are_texts(value)
+    } else {
+        value.is_str()
     })
 }
 
 // Whether the first of some values is an array.
-fn is_list_of_lists(values: &[Value]) -> bool {
+fn is_list_of_lists(values: &[Value]) -> bool
+    ensures { result ≡ true → 0 < length values.now }
+{
     match values.first() {
         Some(first) => first.is_array(),
         None => false,
@@ -131,7 +142,9 @@ fn read_each<'a>(
     values: &'a [Value],
     has_item: bool,
 ) -> Result<Vec<Vec<Reply>>, (AnswerFault, Option<&'a str>)>
-    ensures { IfOk result (λ answers. map answer_data answers.items ≡ map view values.now) }
+    ensures answers { IfOk result (λ answers. map answer_data (map (λ answer. answer.items) answers.items) ≡ map view values.now) }
+    ensures count { IfOk result (λ answers. length answers.items ≡ length values.now) }
+    ensures alone { IfOk result (λ answers. All (All IsAlone) (map (λ answer. answer.items) answers.items)) }
 {
     let mut answers = Vec::new(alloc);
     for value in values {
@@ -139,9 +152,9 @@ fn read_each<'a>(
             return Err((AnswerFault::WrongKind, None));
         };
         let answer = read_answer(alloc, lines.as_slice(), has_item)?;
-        if answers.push(answer).is_err() {
+        let Ok(()) = answers.push(answer) else {
             return Err((AnswerFault::Memory, None));
-        }
+        };
     }
     Ok(answers)
 }
@@ -152,13 +165,15 @@ fn read_only<'a>(
     values: &'a [Value],
     has_item: bool,
 ) -> Result<Vec<Vec<Reply>>, (AnswerFault, Option<&'a str>)>
-    ensures { IfOk result (λ answers. only_data (slice_get answers.items 0) ≡ array (items_view values.now)) }
+    ensures answer { IfOk result (λ answers. only_data (map (λ answer. answer.items) answers.items) ≡ array (items_view values.now)) }
+    ensures one { IfOk result (λ answers. length answers.items ≡ 1) }
+    ensures alone { IfOk result (λ answers. All (All IsAlone) (map (λ answer. answer.items) answers.items)) }
 {
     let answer = read_answer(alloc, values, has_item)?;
     let mut answers = Vec::new(alloc);
-    if answers.push(answer).is_err() {
+    let Ok(()) = answers.push(answer) else {
         return Err((AnswerFault::Memory, None));
-    }
+    };
     Ok(answers)
 }
 
@@ -168,7 +183,8 @@ fn read_answer<'a>(
     lines: &'a [Value],
     has_item: bool,
 ) -> Result<Vec<Reply>, (AnswerFault, Option<&'a str>)>
-    ensures { IfOk result (λ replies. map reply_data replies.items ≡ map view lines.now) }
+    ensures data { IfOk result (λ replies. map reply_data replies.items ≡ map view lines.now) }
+    ensures alone { IfOk result (λ replies. All IsAlone replies.items) }
 {
     let mut replies = Vec::new(alloc);
     for value in lines {
@@ -176,9 +192,9 @@ fn read_answer<'a>(
         if reply.passes() && !has_item {
             return Err((AnswerFault::NoItem, Some(line)));
         }
-        if replies.push(reply).is_err() {
+        let Ok(()) = replies.push(reply) else {
             return Err((AnswerFault::Memory, Some(line)));
-        }
+        };
     }
     Ok(replies)
 }
@@ -188,13 +204,14 @@ fn read_reply<'a>(
     alloc: Global,
     value: &'a Value,
 ) -> Result<(Reply, &'a str), (AnswerFault, Option<&'a str>)>
-    ensures { IfOk result (λ read. reply_data read.0 ≡ view value.now) }
+    ensures data { IfOk result (λ read. reply_data read.0 ≡ view value.now) }
+    ensures alone { IfOk result (λ read. IsAlone read.0) }
 {
     let Some(line) = value.as_str() else {
         return Err((AnswerFault::WrongKind, None));
     };
     match Reply::read(alloc, line) {
         Ok(reply) => Ok((reply, line)),
-        Err(fault) => Err((fault, Some(line))),
+        Err(fault) => Err((AnswerFault::from(fault), Some(line))),
     }
 }

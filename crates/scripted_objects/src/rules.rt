@@ -1,40 +1,37 @@
-//! What a type answers to the calls of one form.
+//! What a type answers to the calls of one key.
 
 ghost use Rattle.std.specs.Prelude.{◌≡◌, option_copied};
-ghost use Rattle.scripted_objects.specs.Rules.{answer_of, is_for, needs_item};
+ghost use Rattle.scripted_objects.specs.Rules.{answer_of, needs_item};
 
-use crate::replies::Reply;
+use answer_lines::{Key, Reply};
+use std::marker::Model;
 
-/// What a type answers to the calls of one form.
+/// What a type answers to the calls of one key.
 #[derive(Drop)]
 pub struct Rule {
-    /// The line of these calls, or what it begins with.
-    pub pattern: Vec<u8>,
-    /// Whether more follows.
-    pub open: bool,
-    /// Whether each answer is given once, in order; else there is one, which is given always.
-    pub once: bool,
-    /// The answers.
-    pub answers: Vec<Vec<Reply>>,
+    // The key, which says which calls it answers.
+    pub(crate) key: Key,
+    // Whether each answer is given once, in order; else there is one, which is given always.
+    pub(crate) once: bool,
+    // The answers.
+    pub(crate) answers: Vec<Vec<Reply>>,
+}
+
+impl Model for Rule {
+    ghost use Rattle.std.specs.Prelude.{map};
+    ghost use Rattle.scripted_objects.specs.Rules.{RuleValue};
+
+    ghost Value = { RuleValue };
+
+    ghost view = { λ rule. record { key = rule.key; once = rule.once; answers = map (λ answer. answer.items) rule.answers.items } };
 }
 
 impl Rule {
-    // Whether it is for the call with this line.
-    fn is_for(&self, line: &[u8]) -> bool
-        ensures { result ≡ is_for self.now line.now }
-    {
-        if self.open {
-            line.starts_with(self.pattern.as_slice())
-        } else {
-            line == self.pattern.as_slice()
-        }
-    }
-
     // The answer to the call with this line, where so many were given before, if it has one that can be given.
     pub(crate) fn answer(&self, line: &[u8], used: usize, has_item: bool) -> Option<&[Reply]>
         ensures { option_copied result ≡ answer_of self.now line.now used has_item }
     {
-        if !self.is_for(line) {
+        if !self.key.is_for(line) {
             return None;
         }
         let answer = self.answers.get(if self.once { used } else { 0 })?;

@@ -5,11 +5,12 @@ use Rattle.bench_kernel.specs.Kernels.{KernelValue}
 use Rattle.bench_run.specs.Lives.{HaveLived, MayGive}
 use Rattle.bench_run.proofs.Goings.{never-ran}
 use Rattle.bench_run.proofs.Lives.{none-lived}
+use Rattle.bench_run.specs.Texts.{took-nothing}
 use Rattle.bench_run.proofs.running.run_script.Goals as goal
 
 -- the log is that of the kernel, which is of the script
-pub returns : goal.returns
-returns g c =
+pub returns-clause-run : goal.returns-clause-run
+returns-clause-run g c =
     let script : c.in-Ok.kernel.core.script ≡ c.args.script = ap (λ (k : KernelValue g.row.O.Denot). k.core.script) c.in-Ok.ensures.ok.1 in
     let same : c.run_kernel-ended.new.kernel.core.script ≡ c.args.script = c.run_kernel-ended.ensures.script ∙ script in
     record {
@@ -22,12 +23,20 @@ returns g c =
     }
 
 -- there is no log
-pub returns-in-Err : goal.returns-in-Err
-returns-in-Err g c = record {
+pub returns-in-Err-clause-run : goal.returns-in-Err-clause-run
+returns-in-Err-clause-run g c = record {
   history = [];
   legal = record { each = tt; few = lit≤ tt };
-  leaves = never-ran c.args.script c.args.trace (g.W.Write.contents c.args.out.now);
+  leaves = never-ran c.args.script c.args.trace (g.S.Sink.contents c.args.out.now);
   words = refl;
   given = record { lost = 0; few = lit≤ tt; left = refl };
   objects = none-lived g.O.UvmObject.view g.O.UvmObject.name g.O.UvmObject.says _ c.args.script;
 }
+
+pub returns-in-Err-clause-texts : goal.returns-in-Err-clause-texts
+returns-in-Err-clause-texts g c = took-nothing c.args.script (g.S.Sink.taken c.args.out.now)
+
+pub returns-clause-texts : goal.returns-clause-texts
+returns-clause-texts g c =
+    let script : c.in-Ok.kernel.core.script ≡ c.args.script = ap (λ (k : KernelValue g.row.O.Denot). k.core.script) c.in-Ok.ensures.ok.1 in
+    rw script at (c.run_kernel-ended.ensures.texts)

@@ -6,9 +6,11 @@ use Rattle.bench_core.specs.declared.cores.Health.TheVariants.{Good}
 use Rattle.bench_run.specs.Lives.{AreKept, MayGive}
 use Rattle.bench_run.specs.Words.{AreDrawn}
 use Rattle.bench_run.specs.Running.{transcript}
+use Rattle.bench_run.specs.Sinks.{TookMore}
 use Rattle.bench_run.proofs.running.run_to_end.Given as goal
 
--- the text of the log so far was written, which has room where the kernel has failed; its words were drawn, and its objects have lived
+-- the text of the log so far was written, one for each entry, which has room where the kernel has failed; its words were drawn, and its objects have
+-- lived
 abbrev pub invariant-loop-kernel : goal.invariant-loop-kernel
 invariant-loop-kernel g l = record {
   good : l.kernel.core.health ≡ Good;
@@ -17,7 +19,9 @@ invariant-loop-kernel g l = record {
   room : l.kernel.failed ≡ true → length l.kernel.core.history < log_limit l.fn.kernel.core.script;
   drawn : AreDrawn g.R.Rng.stream l.kernel.core.history l.fn.words l.words;
   objects : AreKept g.O.UvmObject.view g.O.UvmObject.name g.O.UvmObject.says (MayGive g.F.Fn l.fn.make) l.kernel;
-  wrote : Appends (g.W.Write.contents l.fn.out) (g.W.Write.contents l.out) (transcript l.trace l.fn.kernel.core.script l.kernel.core.history);
+  wrote : Appends (g.S.Sink.contents l.fn.out) (g.S.Sink.contents l.out) (transcript l.trace l.fn.kernel.core.script l.kernel.core.history);
+  took : TookMore (length l.kernel.core.history) (g.S.Sink.taken l.fn.out) (g.S.Sink.taken l.out);
+  steady : g.S.Sink.refuses l.out → g.S.Sink.refuses l.fn.out;
 }
 
 -- the log grows

@@ -1,7 +1,9 @@
-use Rattle.std.proofs.Common.{arith, inl, inr, rules}
+use Rattle.std.proofs.Common.{◌≡◌, ◌∙◌, ◌≤◌, ◌<◌, ◌+◌, ◌⊎◌, ℕ, Err, ap, sym, arith, inl, inr, rules}
 use Rattle.std.proofs.lemmas.List.{length-take}
 use Rattle.bus_jobs.specs.declared.files.TheConstants.{MOST_BYTES}
-use Rattle.bus_jobs.proofs.ReadLemmas.{read_front, read_more, fault_after}
+use Rattle.bus_jobs.specs.declared.verdicts.Breakage.TheVariants.{Unread}
+use Rattle.bus_jobs.specs.declared.verdicts.Verdict.TheVariants.{Broken}
+use Rattle.bus_jobs.proofs.ReadLemmas.{err-told, fault_after, progress-more, read_front, read_more}
 use Rattle.bus_jobs.proofs.files.read_file.Goals as goal
 
 pub returns-then-room-eq0-clause-bytes : goal.returns-then-room-eq0-clause-bytes
@@ -22,8 +24,17 @@ reads-preserved g c =
     record {
       bound = omega (arith, c.in_ok-read_piece.ensures.bound, length-take c.min-room.result c.reads.piece);
       left = read_more _ _ _ c.reads.bytes.items more.0 c.read_piece.new.bytes.items c.reads.invariant.left more.2 more.1;
+      progress = progress-more c.reads.invariant.progress c.reads.invariant.steady (c.in_ok-read_piece.ensures.stalled c.if-branch.false);
+      steady = λ fails. c.reads.invariant.steady (c.read_piece.ensures.steady fails);
     }
 
 pub returns-in_err-read_piece-clause-fault : goal.returns-in_err-read_piece-clause-fault
 returns-in_err-read_piece-clause-fault g c =
     search (fault_after _ _ _ c.reads.bytes.items _ c.reads.invariant.left c.in_err-read_piece.ensures.fault, rules)
+
+pub returns-in_err-read_piece-clause-failed : goal.returns-in_err-read_piece-clause-failed
+returns-in_err-read_piece-clause-failed g c = λ unread. c.reads.invariant.steady (c.in_err-read_piece.ensures.failed (ap Err (err-told c.from_residual.result c.in_err-read_piece.field-0.0 (Broken Unread) c.from_residual.ensures.1 unread)))
+
+-- more reads than bytes
+pub returns-clause-failed : goal.returns-clause-failed
+returns-clause-failed g c = λ unread. elim c.reads.invariant.progress [ inl enough ↦ absurd (omega (arith, c.reads.invariant.bound)) | inr fails ↦ fails ]

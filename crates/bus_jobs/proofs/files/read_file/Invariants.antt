@@ -1,4 +1,4 @@
-use Rattle.std.proofs.Common.{◌≤◌, vec_len}
+use Rattle.std.proofs.Common.{◌≤◌, ◌⊎◌, vec_len}
 use Rattle.std.specs.Io.KnownBytes.{Consumes}
 use Rattle.bus_jobs.specs.declared.files.TheConstants.{MOST_BYTES}
 use Rattle.bus_jobs.proofs.files.read_file.Given as goal
@@ -7,5 +7,7 @@ use Rattle.bus_jobs.proofs.files.read_file.Given as goal
 abbrev pub invariant-reads : goal.invariant-reads
 invariant-reads g l = record {
   bound : vec_len l.bytes ≤ MOST_BYTES;
-  left : Consumes (g.R.Read.remaining l.initial.reader) (g.R.Read.remaining l.reader) l.bytes.items;
+  left : Consumes (g.S.Source.remaining l.initial.reader) (g.S.Source.remaining l.reader) l.bytes.items;
+  progress : (l._made ≤ vec_len l.bytes) ⊎ g.S.Source.fails l.initial.reader;
+  steady : g.S.Source.fails l.reader → g.S.Source.fails l.initial.reader;
 }

@@ -3,4 +3,4 @@ use Rattle.bus_jobs.proofs.laws.runs_are_determined.Goals as goal
 
 -- their logs are the same
 pub returns : goal.returns
-returns c = runs-are-determined c.objects_are_functions.ensures c.runs_are_functions.ensures
+returns c = runs-are-determined c.objects_are_functions.ensures c.ends_are_determined.ensures

@@ -5,8 +5,8 @@ use Rattle.script_jobs.specs.Runs.{GivesNamed}
 use Rattle.script_jobs.proofs.runs.run_objects.Goals as goal
 
 -- the closure gives what the document says
-pub returns : goal.returns
-returns g c =
+pub returns-clause-run : goal.returns-clause-run
+returns-clause-run g c =
     let left = g.R.Rng.stream c.run_script.new.words in
-    let types = c.args.answers.now.types.items in
-    (left, run-as view_of name_of says_of _ (GivesNamed types) (λ type_name given gives. subst (λ name. GivesNamed types name given) gives.shows gives.says.met) (g.R.Rng.stream c.args.words.now) left c.args.script c.args.trace _ _ c.run_script.result c.run_script.ensures)
+    let types = c.args.answers.now in
+    (left, run-as view_of name_of says_of _ (GivesNamed types) (λ type_name given gives. subst (λ name. GivesNamed types name given) gives.shows gives.says.met) (g.R.Rng.stream c.args.words.now) left c.args.script c.args.trace _ _ c.run_script.result c.run_script.ensures.run)

@@ -1,5 +1,5 @@
 use Rattle.std.proofs.Common.{◌≡◌, ◌++◌, drop, map}
-use Rattle.scripted_objects.specs.Acts.{act_with}
+use Rattle.answer_lines.specs.Replies.{act_with}
 use Rattle.scripted_objects.proofs.objects.acts_of.Given as goal
 
 -- the acts so far, and those of the replies that are left

@@ -1,4 +1,4 @@
-use Rattle.std.proofs.Common.{rules, ◌≡◌, List, [], ◌∷◌, ◌++◌, String, append_assoc, subst, sym, ◌∙◌}
+use Rattle.std.proofs.Common.{rules, [], ◌∷◌, ◌++◌, String, append_assoc, subst, sym, ◌∙◌}
 use Rattle.std.specs.declared.alloc.Global.{Global}
 use Rattle.toml.specs.declared.value.Value.{Value}
 use Rattle.scripted_objects.proofs.Types.{AreOf, all-read, one-more}
@@ -11,10 +11,10 @@ loop-type_name-preserved c =
       kept.0 ++ entry ∷ [],
       append_assoc kept.0 (entry ∷ []) c.next.new.self ∙ search (rules, kept.1, c.in-Some.ensures.steps),
       subst (AreOf (kept.0 ++ entry ∷ [])) (sym c.in-Ok.ensures.items)
-          (one-more kept.0 c.loop-type_name.types.items entry c.in_ok-rules.rules kept.2 (c.in_ok-rules.ensures.name ∙ c.as_str.ensures.value) c.in_ok-rules.ensures.rules c.in_ok-rules.ensures.order),
+          (one-more kept.0 c.loop-type_name.types.items entry c.in_ok-rules.rules kept.2 (c.in_ok-rules.ensures.name ∙ c.as_str.ensures.value) c.in_ok-rules.ensures.rules),
     )
 
 pub returns : goal.returns
 returns c =
     let kept = c.loop-type_name.invariant in
-    all-read c.args.table.now.entries kept.0 c.loop-type_name.types.items (search (rules, kept.1, c.in-None.ensures.steps)) kept.2
+    rw c.of.ensures (all-read c.args.table.now.entries kept.0 c.loop-type_name.types.items (search (rules, kept.1, c.in-None.ensures.steps)) kept.2)

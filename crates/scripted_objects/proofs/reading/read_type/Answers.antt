@@ -1,6 +1,16 @@
-use Rattle.std.proofs.Common.{rules, ◌-◌, ◌^◌, length}
-use Rattle.std.proofs.lemmas.List.Sorted.{IsNonDecreasingBy-from_sort_by_key}
+use Rattle.std.proofs.Common.{rules}
+use Rattle.std.specs.Ordering.{nat_cmp}
+use Rattle.scripted_objects.specs.Rules.{length_key}
+use Rattle.scripted_objects.proofs.Entries.{members_same}
+use Rattle.scripted_objects.proofs.Sorting.{sorted-by, stable-by}
 use Rattle.scripted_objects.proofs.reading.read_type.Goals as goal
 
-pub returns-clause-order : goal.returns-clause-order
-returns-clause-order c = IsNonDecreasingBy-from_sort_by_key (λ rule. (2 ^ 64 - 1) - length rule.pattern.items) _ c.in-Ok-sort_by_key.ensures.sorted (λ a r q k. search rules)
+-- they are those of its entries, sorted
+pub returns-clause-rules : goal.returns-clause-rules
+returns-clause-rules c = rw c.of.ensures.rules record {
+  read = c.in_ok-rules.rules.items;
+  each = c.in_ok-rules.ensures.read;
+  table = search (rules, members_same, c.in_ok-rules.ensures.entries, c.in-Some.ensures);
+  longest_first = sorted-by length_key (λ rule other. nat_cmp other.0 rule.0) c.sort_by_key.new.self.items c.in-Ok-sort_by_key.ensures.sorted (λ given result next called. search rules);
+  in_order = stable-by length_key (λ rule other. nat_cmp other.0 rule.0) c.in_ok-rules.rules.items c.sort_by_key.new.self.items c.in-Ok-sort_by_key.ensures.stable (λ given result next called. search rules);
+}

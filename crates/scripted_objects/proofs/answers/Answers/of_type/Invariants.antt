@@ -1,5 +1,5 @@
 use Rattle.std.proofs.Common.{◌≡◌, drop}
-use Rattle.scripted_objects.specs.Tables.{rules_named}
+use Rattle.scripted_objects.specs.Answers.{rules_named}
 use Rattle.scripted_objects.proofs.answers.Answers.of_type.Given as goal
 
 -- no type before the place has the name

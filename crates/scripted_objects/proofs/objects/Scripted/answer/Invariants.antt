@@ -1,4 +1,4 @@
-use Rattle.std.proofs.Common.{◌≡◌, drop, slice_get}
+use Rattle.std.proofs.Common.{◌≡◌, drop}
 use Rattle.std.specs.List.{enumerate_from, filter_map, zip}
 use Rattle.scripted_objects.specs.Rules.{answer_at, answers_to}
 use Rattle.scripted_objects.proofs.objects.Scripted.answer.Given as goal
@@ -6,5 +6,5 @@ use Rattle.scripted_objects.proofs.objects.Scripted.answer.Given as goal
 -- no rule before the place has an answer
 abbrev pub invariant-loop-place : goal.invariant-loop-place
 invariant-loop-place l =
-    answers_to l.self.rules.now l.self.used.items l.line l.has_item
-    ≡ filter_map (answer_at l.line l.has_item) (enumerate_from l.place (zip (drop l.place l.self.rules.now) (drop l.place l.self.used.items)))
+    answers_to l.self.rules l.self.used l.line l.has_item
+    ≡ filter_map (answer_at l.line l.has_item) (enumerate_from l.place (zip (drop l.place l.self.rules) (drop l.place l.self.used)))

@@ -1,6 +1,9 @@
 //! The acts that have to do with sequences.
 
-use crate::faults::AnswerFault;
+ghost use Rattle.std.specs.Prelude.{IfOk};
+ghost use Rattle.answer_lines.specs.Replies.{IsPlain};
+
+use crate::faults::LineFault;
 use crate::items::{item, some_item};
 use crate::words::Words;
 use std::alloc::Global;
@@ -8,7 +11,9 @@ use uvm_object::Act;
 use uvm_sequencer::{How, Mode};
 
 // The act of a sequence, or of its driver, that a line is.
-pub(crate) fn sequence_act(alloc: Global, line: &str) -> Result<Act, AnswerFault> {
+pub(crate) fn sequence_act(alloc: Global, line: &str) -> Result<Act, LineFault>
+    ensures { IfOk result IsPlain }
+{
     let mut words = Words::of(line);
     match words.word()? {
         "ask" => Ok(Act::Ask {
@@ -35,27 +40,27 @@ pub(crate) fn sequence_act(alloc: Global, line: &str) -> Result<Act, AnswerFault
             item: item(&mut words)?,
         }),
         "end_step" => Ok(Act::EndStep),
-        _ => Err(AnswerFault::NoAct),
+        _ => Err(LineFault::NoAct),
     }
 }
 
 // The next word is the mode of a sequencer.
-pub(crate) fn mode(words: &mut Words<'_>) -> Result<Mode, AnswerFault> {
+pub(crate) fn mode(words: &mut Words<'_>) -> Result<Mode, LineFault> {
     match words.word()? {
         "FIFO" => Ok(Mode::Fifo),
         "WEIGHTED" => Ok(Mode::Weighted),
         "RANDOM" => Ok(Mode::Random),
         "STRICT_FIFO" => Ok(Mode::StrictFifo),
         "STRICT_RANDOM" => Ok(Mode::StrictRandom),
-        _ => Err(AnswerFault::NoAct),
+        _ => Err(LineFault::NoAct),
     }
 }
 
-fn how(words: &mut Words<'_>) -> Result<How, AnswerFault> {
+fn how(words: &mut Words<'_>) -> Result<How, LineFault> {
     match words.word()? {
         "next" => Ok(How::Next),
         "try" => Ok(How::Try),
         "get" => Ok(How::Get),
-        _ => Err(AnswerFault::NoAct),
+        _ => Err(LineFault::NoAct),
     }
 }

@@ -1,13 +1,18 @@
 //! The acts on reports.
 
-use crate::faults::AnswerFault;
+ghost use Rattle.std.specs.Prelude.{IfOk};
+ghost use Rattle.answer_lines.specs.Replies.{IsPlain};
+
+use crate::faults::LineFault;
 use crate::words::{Words, name_of, severity_of};
 use std::alloc::Global;
 use uvm_object::Act;
 use uvm_report::{Actions, Report, Text, TextFault, Which};
 
 // The act on reports that a line is.
-pub(crate) fn report_act(alloc: Global, line: &str) -> Result<Act, AnswerFault> {
+pub(crate) fn report_act(alloc: Global, line: &str) -> Result<Act, LineFault>
+    ensures { IfOk result IsPlain }
+{
     let mut words = Words::of(line);
     match words.word()? {
         "report" => report(alloc, &mut words),
@@ -27,19 +32,21 @@ pub(crate) fn report_act(alloc: Global, line: &str) -> Result<Act, AnswerFault> 
             },
             to: words.severity()?,
         }),
-        _ => Err(AnswerFault::NoAct),
+        _ => Err(LineFault::NoAct),
     }
 }
 
 // Behind the id stand the verbosity and the text, where they are not 0 and empty.
-fn report(alloc: Global, words: &mut Words<'_>) -> Result<Act, AnswerFault> {
+fn report(alloc: Global, words: &mut Words<'_>) -> Result<Act, LineFault>
+    ensures { IfOk result IsPlain }
+{
     let severity = words.severity()?;
     let id = words.name()?;
     let verbosity = if words.is_done() { 0 } else { words.small()? };
     let text = match Text::new(alloc, words.rest().as_bytes()) {
         Ok(text) => text,
-        Err(TextFault::Memory) => return Err(AnswerFault::Memory),
-        Err(_) => return Err(AnswerFault::NoAct),
+        Err(TextFault::Memory) => return Err(LineFault::Memory),
+        Err(_) => return Err(LineFault::NoAct),
     };
     Ok(Act::Report {
         report: Report {
@@ -52,7 +59,7 @@ fn report(alloc: Global, words: &mut Words<'_>) -> Result<Act, AnswerFault> {
 }
 
 // The reports that a setting is for: `all`, `SEVERITY`, `id ID` or `SEVERITY ID`, with one more word behind.
-fn which(words: &mut Words<'_>) -> Result<Which, AnswerFault> {
+fn which(words: &mut Words<'_>) -> Result<Which, LineFault> {
     let first = words.word()?;
     if first == "all" {
         return Ok(Which::All);
@@ -60,7 +67,7 @@ fn which(words: &mut Words<'_>) -> Result<Which, AnswerFault> {
     if first == "id" {
         return Ok(Which::Id(words.name()?));
     }
-    let severity = severity_of(first).ok_or(AnswerFault::NoAct)?;
+    let severity = severity_of(first).ok_or(LineFault::NoAct)?;
     let mut ahead = *words;
     ahead.word()?;
     if ahead.is_done() {
@@ -69,7 +76,7 @@ fn which(words: &mut Words<'_>) -> Result<Which, AnswerFault> {
     Ok(Which::Both(severity, words.name()?))
 }
 
-fn actions(word: &str) -> Result<Actions, AnswerFault> {
+fn actions(word: &str) -> Result<Actions, LineFault> {
     let (display, count, exit) = match word {
         "display,count,exit" => (true, true, true),
         "display,count" => (true, true, false),
@@ -79,7 +86,7 @@ fn actions(word: &str) -> Result<Actions, AnswerFault> {
         "count" => (false, true, false),
         "exit" => (false, false, true),
         "none" => (false, false, false),
-        _ => return Err(AnswerFault::NoAct),
+        _ => return Err(LineFault::NoAct),
     };
     Ok(Actions {
         display,

@@ -1,6 +1,9 @@
 //! The act that a line is.
 
-use crate::faults::AnswerFault;
+ghost use Rattle.std.specs.Prelude.{IfOk};
+ghost use Rattle.answer_lines.specs.Replies.{IsPlain};
+
+use crate::faults::LineFault;
 use crate::items::{item, port_kind};
 use crate::report_acts::report_act;
 use crate::sequence_acts::{mode, sequence_act};
@@ -9,7 +12,9 @@ use std::alloc::Global;
 use uvm_object::{Act, What};
 
 // The act that a line is, by its first word. What stands behind the act is not looked at.
-pub(crate) fn act_of(alloc: Global, line: &str) -> Result<Act, AnswerFault> {
+pub(crate) fn act_of(alloc: Global, line: &str) -> Result<Act, LineFault>
+    ensures { IfOk result IsPlain }
+{
     let mut words = Words::of(line);
     match words.word()? {
         "create" => Ok(Act::Create {
@@ -41,7 +46,9 @@ pub(crate) fn act_of(alloc: Global, line: &str) -> Result<Act, AnswerFault> {
 }
 
 // An act of objections and of time, or the fault of a line that is none.
-fn time_act(line: &str) -> Result<Act, AnswerFault> {
+fn time_act(line: &str) -> Result<Act, LineFault>
+    ensures { IfOk result IsPlain }
+{
     let mut words = Words::of(line);
     match words.word()? {
         "raise" => Ok(Act::RaiseObjection {
@@ -57,12 +64,14 @@ fn time_act(line: &str) -> Result<Act, AnswerFault> {
             ticks: words.number()?,
             tag: words.tag()?,
         }),
-        _ => Err(AnswerFault::NoAct),
+        _ => Err(LineFault::NoAct),
     }
 }
 
 // An act of a port, or the fault of a line that is none.
-fn port_act(line: &str) -> Result<Act, AnswerFault> {
+fn port_act(line: &str) -> Result<Act, LineFault>
+    ensures { IfOk result IsPlain }
+{
     let mut words = Words::of(line);
     match words.word()? {
         "put" => Ok(Act::Put {
@@ -86,11 +95,11 @@ fn port_act(line: &str) -> Result<Act, AnswerFault> {
         "peek" => Ok(Act::Peek {
             port: words.name()?,
         }),
-        _ => Err(AnswerFault::NoAct),
+        _ => Err(LineFault::NoAct),
     }
 }
 
-fn what(words: &mut Words<'_>) -> Result<What, AnswerFault> {
+fn what(words: &mut Words<'_>) -> Result<What, LineFault> {
     match words.word()? {
         "sequencer" => Ok(What::Sequencer { mode: mode(words)? }),
         "fifo" => Ok(What::Fifo {
@@ -103,11 +112,13 @@ fn what(words: &mut Words<'_>) -> Result<What, AnswerFault> {
             kind: port_kind(words)?,
         }),
         "imp" => Ok(What::Imp),
-        _ => Err(AnswerFault::NoAct),
+        _ => Err(LineFault::NoAct),
     }
 }
 
-fn override_act(alloc: Global, words: &mut Words<'_>) -> Result<Act, AnswerFault> {
+fn override_act(alloc: Global, words: &mut Words<'_>) -> Result<Act, LineFault>
+    ensures { IfOk result IsPlain }
+{
     let original = words.name()?;
     let new = words.name()?;
     if words.is_done() {
@@ -128,6 +139,6 @@ fn override_act(alloc: Global, words: &mut Words<'_>) -> Result<Act, AnswerFault
             new,
             glob: words.glob(alloc)?,
         }),
-        _ => Err(AnswerFault::NoAct),
+        _ => Err(LineFault::NoAct),
     }
 }

@@ -1,0 +1,9 @@
+-- The texts of faults.
+use Rattle.std.specs.Prelude.{ℕ, List, codes}
+use Rattle.answer_lines.specs.declared.faults.LineFault.{LineFault}
+use Rattle.answer_lines.specs.declared.faults.LineFault.TheVariants.{NoCall, NoAct, Memory}
+
+abbrev pub fault_text : LineFault → List ℕ
+fault_text NoCall = codes "no call"
+fault_text NoAct = codes "no act"
+fault_text Memory = codes "memory"

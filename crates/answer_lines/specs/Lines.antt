@@ -1,0 +1,22 @@
+-- The lines of acts.
+use Rattle.std.specs.Prelude.{ℕ, List, [], ◌∷◌, ◌++◌, ◌==◌, ◌&&◌, length, if◌then◌else◌}
+use Rattle.std.specs.Fmt.{decimal}
+use Rattle.uvm_object.specs.Lines.{act_text}
+use Rattle.uvm_object.specs.declared.acts.Act.{Act}
+use Rattle.uvm_object.specs.declared.acts.Act.TheVariants as act
+
+-- what a report says, behind its id: its verbosity and its text, where they are not 0 and empty
+abbrev pub text_behind : List ℕ → List ℕ
+text_behind text = if length text == 0 then [] else 32 ∷ text
+
+abbrev pub said_text : ℕ → List ℕ → List ℕ
+said_text verbosity text = if (verbosity == 0) && (length text == 0) then [] else 32 ∷ decimal verbosity ++ text_behind text
+
+-- what stands behind an act of the transcript
+abbrev pub said_by : Act → List ℕ
+said_by (act.Report report) = said_text report.verbosity report.text
+said_by other = []
+
+-- an act as it is written in an answer: as the transcript writes it, a report with what it says behind
+abbrev pub act_line : Act → List ℕ
+act_line other = act_text other ++ said_by other

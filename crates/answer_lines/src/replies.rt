@@ -1,0 +1,74 @@
+//! One act of an answer, as it is read.
+
+ghost use Rattle.std.specs.Prelude.{◌≡◌, IfOk};
+ghost use Rattle.answer_lines.specs.Lines.{act_line};
+ghost use Rattle.answer_lines.specs.Replies.{IsAlone, act_with, passes, reply_line};
+
+use crate::acts::act_of;
+use crate::faults::LineFault;
+use crate::lines::act_line;
+use crate::relays::Relay;
+use crate::types::acts_are_sound;
+use std::alloc::{AllocError, Global};
+use uvm_object::Act;
+use uvm_tlm::Item;
+
+/// One act of an answer.
+#[derive(Drop)]
+pub enum Reply {
+    /// The act that stands there.
+    Says(Act),
+    /// An act with the item that was heard.
+    Passes(Relay),
+}
+
+// What stands for the item that was heard.
+const HEARD: &str = " *";
+
+impl Reply {
+    /// Reads an act as the transcript writes it, a report with its verbosity and its text behind, and with `*` for an item that is
+    /// the one heard. The error is `NoAct` where no act has this text, `Memory` where memory was refused.
+    pub fn read(alloc: Global, line: &str) -> Result<Reply, LineFault>
+        ensures line { IfOk result (λ reply. reply_line reply ≡ line.now) }
+        ensures alone { IfOk result IsAlone }
+    {
+        if let Some(stem) = line.strip_suffix(HEARD) {
+            if let Some(relay) = Relay::read(stem) {
+                return Ok(Reply::Passes(relay));
+            }
+        }
+        Ok(Reply::Says(exact_act(alloc, line)?))
+    }
+
+    /// Tells whether it passes on an item that was heard.
+    pub fn passes(&self) -> bool
+        ensures { result ≡ passes self.now }
+    {
+        matches!(self, Reply::Passes(_))
+    }
+
+    /// Gives the act, with the item that was heard where it passes that on; four zeros stand for it where none was heard.
+    pub fn act_with(&self, heard: Option<Item>) -> Result<Act, AllocError>
+        ensures { IfOk result (λ act. act ≡ act_with heard self.now) }
+    {
+        match self {
+            Reply::Says(act) => act.copy(),
+            Reply::Passes(relay) => Ok(relay.act(heard.unwrap_or(Item([0; 4])))),
+        }
+    }
+}
+
+// The act whose line this is, and of no other form.
+fn exact_act(alloc: Global, line: &str) -> Result<Act, LineFault>
+    ensures line { IfOk result (λ act. act_line act ≡ line.now) }
+    ensures alone { IfOk result (λ act. IsAlone (Reply.Says act)) }
+{
+    let act = act_of(alloc, line)?;
+    let text = act_line(alloc, &act)?;
+    if text.as_slice() == line.as_bytes() {
+        acts_are_sound(&act);
+        Ok(act)
+    } else {
+        Err(LineFault::NoAct)
+    }
+}

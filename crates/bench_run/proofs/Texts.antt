@@ -1,0 +1,103 @@
+-- How many texts a sink has taken of a run.
+use Rattle.std.proofs.Common.{◌≡◌, ◌≢◌, ◌<◌, ◌≤◌, ◌+◌, ℕ, Bool, true, false, List, [], ◌∷◌, length, Option, Some, None, Result, Ok, Err, ap, refl, sym, ◌∙◌, subst, arith, suc, lit<, lit≤}
+use Rattle.std.specs.Result.{IsErrAnd}
+use Rattle.uvm_object.specs.declared.entries.Entry.{Entry}
+use Rattle.bench_script.specs.Scripts.{ScriptValue}
+use Rattle.bench_history.specs.Limits.{log_limit}
+use Rattle.bench_history.specs.History.{is_over}
+use Rattle.bench_history.specs.Next.{IsLegal}
+use Rattle.bench_core.specs.Cores.{CoreValue}
+use Rattle.bench_kernel.specs.Steps.{IsSameLog}
+use Rattle.bench_run.specs.declared.endings.Ending.{Ending}
+use Rattle.bench_run.specs.declared.faults.RunFault.{RunFault}
+use Rattle.bench_run.specs.declared.faults.RunFault.TheVariants as fault
+use Rattle.bench_run.specs.Running.{Grows, IsHalted, IsUnwritten}
+use Rattle.bench_run.specs.Sinks.{TookMore}
+use Rattle.bench_run.specs.Texts.{TookTexts}
+
+-- none was taken
+pub took-none : (count : Option ℕ) → TookMore 0 count count
+took-none None = tt
+took-none (Some before) = omega arith
+
+-- some, and then one more
+pub took-more : (count : ℕ) (first half last : Option ℕ) → TookMore count first half → TookMore 1 half last → TookMore (count + 1) first last
+took-more count None half last some more = tt
+took-more count (Some before) None last some more = absurd some
+took-more count (Some before) (Some between) None some more = absurd more
+took-more count (Some before) (Some between) (Some after) some more = omega arith
+
+-- one for one more entry
+pub took-grown : (old new : CoreValue) (first half last : Option ℕ) → Grows old new → TookMore (length old.history) first half → TookMore 1 half last → TookMore (length new.history) first last
+took-grown old new first half last grown some more =
+    let longer : length new.history ≡ length old.history + 1 = ap (λ (core : CoreValue). length core.history) grown.is ∙ omega arith in
+    rw longer (took-more (length old.history) first half last some more)
+
+-- one more entry, whose text was not taken
+pub took-unwritten :
+    (result : Result Ending RunFault) (why : RunFault) (old new : CoreValue) (script : ScriptValue) (held holds : Option (List ℕ)) (first half last : Option ℕ)
+    → IsErrAnd result (λ told. told ≡ why) → Grows old new → new.script ≡ script → IsLegal script old.history → IsLegal new.script new.history
+    → IsUnwritten why held holds → TookMore (length old.history) first half → (why ≡ fault.Memory → last ≡ half)
+    → TookTexts script first last result
+took-unwritten (Ok ending) why old new script held holds first half last told grown same legal more unwritten some kept = absurd told
+took-unwritten (Err given) why old new script held holds first half last told grown same legal more unwritten some kept =
+    go given (subst (λ fault. IsUnwritten fault held holds) (sym told) unwritten) (λ is. kept (sym told ∙ is))
+  where
+    one_more : length new.history ≡ suc (length old.history)
+    one_more = ap (λ (core : CoreValue). length core.history) grown.is
+
+    go : (given : RunFault) → IsUnwritten given held holds → (given ≡ fault.Memory → last ≡ half) → TookTexts script first last (Err given)
+    go fault.Memory unwritten kept = record {
+      history = old.history;
+      legal = legal;
+      room = λ going. omega (arith, one_more, more.few);
+      took = rw (kept refl) some;
+    }
+    go fault.LogFull unwritten kept = absurd unwritten
+    go fault.Output unwritten kept = tt
+
+-- no more entry
+pub took-halted :
+    (result : Result Ending RunFault) (why : RunFault) (failed : Bool) (old : CoreValue) (script : ScriptValue) (first last : Option ℕ)
+    → IsErrAnd result (λ told. told ≡ why) → IsHalted why failed old → (failed ≡ true → length old.history < log_limit script) → IsLegal old.script old.history → old.script ≡ script
+    → TookMore (length old.history) first last
+    → TookTexts script first last result
+took-halted (Ok ending) why failed old script first last told halted room legal is some = absurd told
+took-halted (Err given) why failed old script first last told halted room legal is some =
+    go given (subst (λ fault. IsHalted fault failed old) (sym told) halted)
+  where
+    has-room : (failed : Bool) → (failed ≡ false → length old.history < log_limit old.script) → (failed ≡ true → length old.history < log_limit script) → length old.history < log_limit script
+    has-room true going full = full refl
+    has-room false going full = subst (λ (s : ScriptValue). length old.history < log_limit s) is (going refl)
+
+    go : (given : RunFault) → IsHalted given failed old → TookTexts script first last (Err given)
+    go fault.Memory halted = record {
+      history = old.history;
+      legal = subst (λ (s : ScriptValue). IsLegal s old.history) is legal;
+      room = λ on. has-room failed halted room;
+      took = some;
+    }
+    go fault.LogFull halted =
+        let full : length old.history ≡ log_limit script = omega (arith, halted.0, legal.few) in
+        subst (λ (count : ℕ). TookMore count first last) full some
+    go fault.Output halted = absurd halted
+
+-- the run is over, and its summary was not taken
+pub took-unsummed :
+    (result : Result Ending RunFault) (why : RunFault) (old : CoreValue) (script : ScriptValue) (held holds : Option (List ℕ)) (first half last : Option ℕ)
+    → IsErrAnd result (λ told. told ≡ why) → is_over old.history ≡ true → IsLegal old.script old.history → old.script ≡ script
+    → IsUnwritten why held holds → TookMore (length old.history) first half → (why ≡ fault.Memory → last ≡ half)
+    → TookTexts script first last result
+took-unsummed (Ok ending) why old script held holds first half last told over legal is unwritten some kept = absurd told
+took-unsummed (Err given) why old script held holds first half last told over legal is unwritten some kept =
+    go given (subst (λ fault. IsUnwritten fault held holds) (sym told) unwritten) (λ same. kept (sym told ∙ same))
+  where
+    go : (given : RunFault) → IsUnwritten given held holds → (given ≡ fault.Memory → last ≡ half) → TookTexts script first last (Err given)
+    go fault.Memory unwritten kept = record {
+      history = old.history;
+      legal = subst (λ (s : ScriptValue). IsLegal s old.history) is legal;
+      room = λ going. absurd (let bad : true ≡ false = rw over at going in cc);
+      took = rw (kept refl) some;
+    }
+    go fault.LogFull unwritten kept = absurd unwritten
+    go fault.Output unwritten kept = tt

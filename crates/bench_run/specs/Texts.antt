@@ -1,0 +1,41 @@
+-- How many texts a run hands to its sink.
+use Rattle.std.specs.Prelude.{◌≡◌, ◌<◌, ◌+◌, ℕ, true, false, List, [], length, Option, Some, None, Result, Ok, Err}
+use Rattle.std.proofs.Common.{add-zero, lit<, lit≤, sym}
+use Rattle.uvm_object.specs.declared.entries.Entry.{Entry}
+use Rattle.bench_script.specs.Scripts.{ScriptValue}
+use Rattle.bench_history.specs.History.{is_over}
+use Rattle.bench_history.specs.Limits.{log_limit}
+use Rattle.bench_history.specs.Next.{IsLegal}
+use Rattle.bench_run.specs.Sinks.{TookMore}
+use Rattle.bench_run.specs.declared.endings.Ending.{Ending}
+use Rattle.bench_run.specs.declared.faults.RunFault.{RunFault}
+use Rattle.bench_run.specs.declared.faults.RunFault.TheVariants.{Memory, LogFull, Output}
+
+-- one for each entry of a legal log that is over, and the summary
+pub record TookAll (script : ScriptValue) (before after : Option ℕ) : Type 0 where
+  pub history : List Entry
+  pub legal : IsLegal script history
+  pub over : is_over history ≡ true
+  pub took : TookMore (length history + 1) before after
+
+-- one for each entry of a legal log that has room for another, or is over
+pub record TookSome (script : ScriptValue) (before after : Option ℕ) : Type 0 where
+  pub history : List Entry
+  pub legal : IsLegal script history
+  pub room : is_over history ≡ false → length history < log_limit script
+  pub took : TookMore (length history) before after
+
+-- by what a run comes to: all of them; where memory was refused, some; with a full log, one for each entry that it may have
+abbrev pub TookTexts : ScriptValue → Option ℕ → Option ℕ → Result Ending RunFault → Type 0
+TookTexts script before after (Ok ending) = TookAll script before after
+TookTexts script before after (Err Memory) = TookSome script before after
+TookTexts script before after (Err LogFull) = TookMore (log_limit script) before after
+TookTexts script before after (Err Output) = Unit {0}
+
+-- before the first entry
+took-none : (count : Option ℕ) → TookMore 0 count count
+took-none None = tt
+took-none (Some before) = sym (add-zero before)
+
+pub took-nothing : (script : ScriptValue) (count : Option ℕ) → TookSome script count count
+took-nothing script count = record { history = []; legal = record { each = tt; few = lit≤ tt }; room = λ going. lit< tt; took = took-none count }

@@ -1,7 +1,7 @@
 -- An act that passes on an item has a text of its own.
 use Rattle.std.proofs.Common.{◌≡◌, ◌∙◌, ℕ, true, refl, ap, sym, List, [], ◌∷◌, ◌++◌, codes, get_or, append-nil, arith}
 use Rattle.std.proofs.lemmas.List.{append_cancel_left, append_cancel_right}
-use Rattle.uvm_object.specs.Lines.{item_text}
+use Rattle.uvm_lines.specs.Lines.{item_text}
 use Rattle.uvm_object.specs.declared.acts.Act.{Act}
 use Rattle.uvm_object.specs.declared.acts.Act.TheVariants as act
 use Rattle.uvm_tlm.specs.declared.items.Item.{Item}

@@ -21,7 +21,7 @@ use Rattle.uvm_object.specs.declared.acts.What.{What}
 use Rattle.uvm_object.specs.declared.acts.What.TheVariants as what
 use Rattle.uvm_object.specs.declared.acts.Act.{Act}
 use Rattle.uvm_object.specs.declared.acts.Act.TheVariants as act
-use Rattle.uvm_object.specs.Lines.{act_text, item_text, some_item_text, priority_text, id_text, actions_text, which_text, what_text, how_text, mode_text, kind_text}
+use Rattle.uvm_lines.specs.Lines.{act_text, item_text, some_item_text, priority_text, id_text, actions_text, which_text, what_text, how_text, mode_text, kind_text}
 use Rattle.answer_lines.specs.Lines.{act_line, said_text}
 use Rattle.answer_lines.specs.Sound.{IsSound, IsWhich, IsWhat, IsName}
 use Rattle.answer_lines.proofs.Splits.{lacks, AllLack, parts_at, parts-one, parts-more, parts-join}

@@ -2,7 +2,7 @@
 use Rattle.std.specs.Prelude.{◌≡◌, ℕ, ◌-◌, ◌==◌, Bool, true, List, length, take, nat_eq, slice_index_or, bytes_eq, Option, Some, None, is_some, if◌then◌else◌}
 use Rattle.std.specs.List.{starts_with}
 use Rattle.uvm_tlm.specs.declared.items.Item.{Item}
-use Rattle.uvm_object.specs.Lines.{call_text}
+use Rattle.uvm_lines.specs.Lines.{call_text}
 use Rattle.uvm_object.specs.declared.acts.Call.{Call}
 use Rattle.uvm_object.specs.declared.acts.Call.TheVariants.{Taken, TryTaken, Peeked, Written, NextItem, ItemDone}
 

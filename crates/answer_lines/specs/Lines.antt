@@ -1,7 +1,7 @@
 -- The lines of acts.
 use Rattle.std.specs.Prelude.{ℕ, List, [], ◌∷◌, ◌++◌, ◌==◌, ◌&&◌, length, if◌then◌else◌}
 use Rattle.std.specs.Fmt.{decimal}
-use Rattle.uvm_object.specs.Lines.{act_text}
+use Rattle.uvm_lines.specs.Lines.{act_text}
 use Rattle.uvm_object.specs.declared.acts.Act.{Act}
 use Rattle.uvm_object.specs.declared.acts.Act.TheVariants as act
 

@@ -1,7 +1,7 @@
 //! The keys of answers: the calls that each is for.
 
 ghost use Rattle.std.specs.Prelude.{◌≡◌, IfOk, length};
-ghost use Rattle.uvm_object.specs.Lines.{call_text};
+ghost use Rattle.uvm_lines.specs.Lines.{call_text};
 ghost use Rattle.answer_lines.specs.Keys.{IsCallLine, IsKeyOf, fixed, is_for, item_in};
 
 use crate::faults::LineFault;
@@ -10,7 +10,8 @@ use crate::words::{Words, integer_of, name_of, number_of, tag_of};
 use std::alloc::{AllocError, Global};
 use std::marker::Model;
 use uvm_glob::Name;
-use uvm_object::{Call, call_text};
+use uvm_lines::call_text;
+use uvm_object::Call;
 use uvm_phase::Phase;
 use uvm_tlm::Item;
 

@@ -4,7 +4,8 @@ ghost use Rattle.std.specs.Prelude.{◌≡◌, ◌++◌, IfOk, OnOk};
 ghost use Rattle.answer_lines.specs.Lines.{act_line, said_by, said_text};
 
 use std::alloc::{AllocError, Global};
-use uvm_object::{Act, act_text};
+use uvm_lines::act_text;
+use uvm_object::Act;
 
 /// Gives the line of an act as an answer in a file writes it: its text in a transcript, and behind that of a report its verbosity
 /// and its text. The error is want of memory.

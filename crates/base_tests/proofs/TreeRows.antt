@@ -3,12 +3,11 @@ use Rattle.std.proofs.Common.{◌≡◌, ℕ, zero, suc, List, [], ◌∷◌, �
 use Rattle.std.specs.Prelude.{codes, true, false, Option, map, replicate}
 use Rattle.uvm_glob.specs.Orders.{PathOrder, down_cmp, up_cmp}
 use Rattle.uvm_glob.specs.Paths.{path_fault, path_text, names_of}
-use Rattle.uvm_tree.specs.declared.nodes.Node.{Node}
 use Rattle.uvm_tree.specs.declared.nodes.NodeKind.{NodeKind}
 use Rattle.uvm_tree.specs.declared.nodes.NodeKind.TheVariants.{Component, Sequencer, Port, Imp}
 use Rattle.uvm_tree.specs.declared.faults.TreeFault.TheVariants.{NoParent, NameTaken, TooDeep, Full, Memory}
 use Rattle.uvm_tree.specs.Faults.{fault_text}
-use Rattle.uvm_tree.specs.Nodes.{top, child, node_at, number_at, parent_of, under_at, add_fault}
+use Rattle.uvm_tree.specs.Nodes.{Node, top, child, node_at, number_at, parent_of, under_at, add_fault}
 use Rattle.uvm_tree.specs.Cursors.{is_before, least, nodes_after}
 use Rattle.uvm_tree.specs.Children.{all_children, is_named_before, without}
 use Rattle.uvm_tree.specs.Sorted.{path_order}

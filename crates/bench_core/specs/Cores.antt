@@ -7,7 +7,7 @@ use Rattle.uvm_object.specs.declared.acts.Call.{Call}
 use Rattle.uvm_object.specs.declared.acts.Act.{Act}
 use Rattle.uvm_object.specs.declared.entries.Entry.{Entry}
 use Rattle.uvm_object.specs.declared.entries.Entry.TheVariants.{Granted, Heard}
-use Rattle.uvm_object.specs.Lines.{entry_line}
+use Rattle.uvm_lines.specs.Lines.{entry_line}
 use Rattle.bench_script.specs.Scripts.{ScriptValue}
 use Rattle.bench_history.specs.Limits.{log_limit}
 use Rattle.bench_history.specs.History.{nodes_of}

@@ -14,7 +14,7 @@ use Rattle.uvm_phase.specs.declared.agendas.Cause.{Cause}
 use Rattle.uvm_phase.specs.Phases.{same_phase}
 use Rattle.uvm_phase.specs.Dues.{in_order}
 use Rattle.uvm_phase.specs.Laws.{OrderKeepsAll}
-use Rattle.uvm_tree.specs.declared.nodes.Node as tree
+use Rattle.uvm_tree.specs.Nodes as tree
 use Rattle.uvm_tree.specs.Nodes.{under_at}
 use Rattle.uvm_tree.specs.Cursors.{is_before}
 use Rattle.uvm_object.specs.Acts.{node_of}

@@ -2,9 +2,8 @@
 use Rattle.std.proofs.Common.{◌≡◌, ℕ, suc, ◌≤◌, List, [], ◌∷◌, ◌++◌, length, slice_get, Option, Some, refl, ap, ◌∙◌, sym, subst, arith}
 use Rattle.std.specs.Option.{option_map_or}
 use Rattle.std.proofs.lemmas.List.{append-nil, length-append, length-map}
-use Rattle.uvm_tree.specs.declared.nodes.Node.{Node}
 use Rattle.uvm_tree.specs.declared.nodes.NodeKind.TheVariants.{Component}
-use Rattle.uvm_tree.specs.Nodes.{child}
+use Rattle.uvm_tree.specs.Nodes.{Node, child}
 use Rattle.uvm_object.specs.Acts.{node_of}
 use Rattle.uvm_object.specs.Objects.{exchanged_in}
 use Rattle.uvm_object.specs.declared.acts.Who.{Who}

@@ -8,8 +8,7 @@ use Rattle.uvm_glob.specs.Lists.{first_given}
 use Rattle.uvm_glob.specs.Faults.{fault_if}
 use Rattle.uvm_phase.specs.Laws.{OrderKeepsAll}
 use Rattle.uvm_sequencer.specs.Sequences.{numbered}
-use Rattle.uvm_tree.specs.declared.nodes.Node.{Node}
-use Rattle.uvm_tree.specs.Nodes.{node_at}
+use Rattle.uvm_tree.specs.Nodes.{Node, node_at}
 use Rattle.uvm_object.specs.declared.acts.Who.{Who}
 use Rattle.uvm_object.specs.declared.acts.Who.TheVariants as who
 use Rattle.uvm_object.specs.declared.acts.Call.{Call}

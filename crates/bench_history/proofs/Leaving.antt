@@ -9,7 +9,7 @@ use Rattle.uvm_phase.specs.declared.phases.Phase.{Phase}
 use Rattle.uvm_phase.specs.Phases.{same_phase}
 use Rattle.uvm_phase.specs.Laws.{OrderKeepsAll}
 use Rattle.uvm_sequencer.specs.Sequences.{numbered}
-use Rattle.uvm_tree.specs.declared.nodes.Node.{Node}
+use Rattle.uvm_tree.specs.Nodes.{Node}
 use Rattle.uvm_object.specs.Objects.{same_who}
 use Rattle.uvm_object.specs.declared.acts.Who.{Who}
 use Rattle.uvm_object.specs.declared.acts.Who.TheVariants as who

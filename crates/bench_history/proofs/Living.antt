@@ -7,7 +7,7 @@ use Rattle.uvm_phase.specs.declared.phases.Phase.{Phase}
 use Rattle.uvm_phase.specs.declared.phases.Phase.TheVariants.{Build, Connect, EndOfElaboration, StartOfSimulation, Run, Extract, Check, Report, Final}
 use Rattle.uvm_phase.specs.Phases.{same_phase}
 use Rattle.uvm_sequencer.specs.Sequences.{numbered}
-use Rattle.uvm_tree.specs.declared.nodes.Node.{Node}
+use Rattle.uvm_tree.specs.Nodes.{Node}
 use Rattle.uvm_object.specs.declared.acts.Who.{Who}
 use Rattle.uvm_object.specs.declared.acts.Who.TheVariants as who
 use Rattle.uvm_object.specs.Objects.{same_who}

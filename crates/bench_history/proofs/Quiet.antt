@@ -8,7 +8,7 @@ use Rattle.std.proofs.lemmas.List.Sums.{sum_by-cons}
 use Rattle.std.proofs.lemmas.List.Folds.{list_any-append}
 use Rattle.std.proofs.lemmas.Option.{slice_get_within}
 use Rattle.uvm_phase.specs.declared.phases.Phase.{Phase}
-use Rattle.uvm_tree.specs.declared.nodes.Node as tree
+use Rattle.uvm_tree.specs.Nodes as tree
 use Rattle.uvm_tree.specs.declared.nodes.NodeKind.TheVariants as kind
 use Rattle.uvm_tree.specs.Nodes.{add_fault, child, node_at}
 use Rattle.uvm_objection.specs.Nodes.{Node, top, new_node, is_known, held_of, source_of}

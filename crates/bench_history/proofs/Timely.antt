@@ -114,7 +114,7 @@ from-timed before performer outcome act =
 begins-due : (time before after drain due held : ℕ) → held ≡ 0 → 0 < held_after before after drain held → totals.due_after time before after drain due ≡ time + drain
 begins-due time before after drain due held none holds = by (nat_lt 0 after) (begins before after drain) holds
   where
-    by : (stands begun : Bool) → 0 < (if stands then 0 else (if begun then before else held)) → (if begun then time + drain else due) ≡ time + drain
+    by : (stands begun : Bool) → 0 < (if stands then 0 else (if begun then before else held)) → (if stands then 0 else (if begun then time + drain else due)) ≡ time + drain
     by true begun holds = absurd (omega (arith, holds))
     by false true holds = refl
     by false false holds = absurd (omega (arith, none, holds))
@@ -164,8 +164,8 @@ dropped-is at count nodes = record {
 
 pub released-is : (at : ℕ) (nodes : List objection.Node) → IsChanged nodes (released at nodes)
 released-is at nodes = record {
-  drains = λ node. found-same (λ e. e.drain) node at (λ e. record e { held = 0 }) (λ e. refl) (λ e. refl) nodes;
-  none = λ node. found-none (λ e. e.held) node at (λ e. record e { held = 0 }) (λ e. refl) (λ e nothing. refl) nodes;
+  drains = λ node. found-same (λ e. e.drain) node at (λ e. record e { held = 0; due = 0 }) (λ e. refl) (λ e. refl) nodes;
+  none = λ node. found-none (λ e. e.held) node at (λ e. record e { held = 0; due = 0 }) (λ e. refl) (λ e nothing. refl) nodes;
 }
 
 module _ (goes : SettledGoByTotals) (held_are : BegunDrainsAreHeld) where

@@ -2,11 +2,10 @@
 use Rattle.std.proofs.Common.{◌≡◌, Bool, not, List, [], ◌∷◌, Option, Some, None, refl, ◌∙◌, sym, subst, inl, inr, ℕ}
 use Rattle.uvm_glob.specs.Lists.{first_given}
 use Rattle.uvm_glob.specs.Faults.{fault_if}
-use Rattle.uvm_tree.specs.declared.nodes.Node.{Node}
 use Rattle.uvm_tree.specs.declared.nodes.NodeKind.TheVariants.{Component}
 use Rattle.uvm_tree.specs.declared.faults.TreeFault.{TreeFault}
 use Rattle.uvm_tree.specs.declared.faults.TreeFault.TheVariants.{NameTaken}
-use Rattle.uvm_tree.specs.Nodes.{AreNodes, NodesGrow, add_fault}
+use Rattle.uvm_tree.specs.Nodes.{Node, AreNodes, NodesGrow, add_fault}
 use Rattle.uvm_object.specs.Acts.{node_of}
 use Rattle.uvm_object.specs.declared.acts.Who.{Who}
 use Rattle.uvm_object.specs.declared.acts.What.{What}

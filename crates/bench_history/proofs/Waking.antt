@@ -16,7 +16,7 @@ use Rattle.uvm_sequencer.specs.Sequences.{numbered}
 use Rattle.uvm_tlm.specs.declared.fifos.MoveKind.{MoveKind}
 use Rattle.uvm_tlm.specs.declared.fifos.MoveKind.TheVariants as move
 use Rattle.uvm_tlm.specs.declared.items.Item.{Item}
-use Rattle.uvm_tree.specs.declared.nodes.Node as tree
+use Rattle.uvm_tree.specs.Nodes as tree
 use Rattle.uvm_tree.specs.Nodes.{under_at}
 use Rattle.uvm_object.specs.Acts.{node_of}
 use Rattle.uvm_object.specs.declared.acts.Who.{Who}

@@ -12,10 +12,9 @@ use Rattle.uvm_factory.specs.Faults.{Types, type_named}
 use Rattle.uvm_phase.specs.declared.phases.Phase.{Phase}
 use Rattle.uvm_phase.specs.declared.phases.Phase.TheVariants.{Build}
 use Rattle.uvm_phase.specs.Phases.{is_top_down}
-use Rattle.uvm_tree.specs.declared.nodes.Node.{Node}
 use Rattle.uvm_tree.specs.declared.nodes.NodeKind.{NodeKind}
 use Rattle.uvm_tree.specs.declared.nodes.NodeKind.TheVariants as kind
-use Rattle.uvm_tree.specs.Nodes.{top, child, path_at}
+use Rattle.uvm_tree.specs.Nodes.{Node, top, child, path_at}
 use Rattle.uvm_tree.specs.Cursors.{is_before, least}
 use Rattle.uvm_object.specs.declared.acts.Who.{Who}
 use Rattle.uvm_object.specs.declared.acts.Who.TheVariants as who

@@ -16,10 +16,9 @@ use Rattle.uvm_tlm.specs.Wirings.{are_known, may_connect}
 use Rattle.bench_history.specs.Limits.{most_ticks}
 use Rattle.uvm_phase.specs.declared.phases.Phase.{Phase}
 use Rattle.uvm_phase.specs.Phases.{is_task}
-use Rattle.uvm_tree.specs.declared.nodes.Node.{Node}
 use Rattle.uvm_tree.specs.declared.faults.TreeFault.{TreeFault}
 use Rattle.uvm_tree.specs.declared.faults.TreeFault.TheVariants.{NameTaken}
-use Rattle.uvm_tree.specs.Nodes.{path_at, add_fault}
+use Rattle.uvm_tree.specs.Nodes.{Node, path_at, add_fault}
 use Rattle.uvm_object.specs.declared.acts.Who.{Who}
 use Rattle.uvm_object.specs.declared.acts.Who.TheVariants as who
 use Rattle.uvm_object.specs.declared.acts.Act.{Act}

@@ -10,14 +10,13 @@ use Rattle.uvm_report.specs.Fates.{displayed_as}
 use Rattle.uvm_report.specs.Commands.{Command, SetVerbosity, SetAction, SetSeverity, SetQuitLimit, Issue, fate_in, is_exit_asked}
 use Rattle.uvm_report.specs.Lines.{report_line}
 use Rattle.uvm_sequencer.specs.Sequences.{Start}
-use Rattle.uvm_tree.specs.declared.nodes.Node.{Node}
-use Rattle.uvm_tree.specs.Nodes.{path_at}
+use Rattle.uvm_tree.specs.Nodes.{Node, path_at}
 use Rattle.uvm_object.specs.Acts.{node_of}
 use Rattle.uvm_object.specs.declared.acts.Act.{Act}
 use Rattle.uvm_object.specs.declared.acts.Act.TheVariants as act
 use Rattle.uvm_object.specs.Fatals.{fatal_report}
 use Rattle.uvm_object.specs.declared.fatals.Fatal.TheVariants as fatal
-use Rattle.uvm_object.specs.Lines.{shown_path, source_text}
+use Rattle.uvm_lines.specs.Lines.{shown_path, source_text}
 use Rattle.uvm_object.specs.declared.entries.Outcome.{Outcome}
 use Rattle.uvm_object.specs.declared.entries.Outcome.TheVariants.{Done, Refused}
 use Rattle.uvm_object.specs.declared.entries.Reason.{Reason}

@@ -8,10 +8,9 @@ use Rattle.uvm_phase.specs.Phases.{same_phase}
 use Rattle.uvm_sequencer.specs.declared.starts.SeqStep.{SeqStep}
 use Rattle.uvm_sequencer.specs.declared.starts.SeqStep.TheVariants.{PreStart, Body, PostStart}
 use Rattle.uvm_sequencer.specs.Sequences.{Start, names_of, numbered, step_after}
-use Rattle.uvm_tree.specs.declared.nodes.Node.{Node}
 use Rattle.uvm_tree.specs.declared.nodes.NodeKind.{NodeKind}
 use Rattle.uvm_tree.specs.declared.nodes.NodeKind.TheVariants as kind
-use Rattle.uvm_tree.specs.Nodes.{node_at, path_at}
+use Rattle.uvm_tree.specs.Nodes.{Node, node_at, path_at}
 use Rattle.uvm_object.specs.declared.acts.Who.{Who}
 use Rattle.uvm_object.specs.declared.acts.Who.TheVariants as who
 use Rattle.uvm_object.specs.Objects.{same_who}

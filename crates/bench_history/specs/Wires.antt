@@ -4,8 +4,7 @@ use Rattle.std.specs.List.{list_any, after_first}
 use Rattle.uvm_glob.specs.Lists.{first_given, newest}
 use Rattle.uvm_glob.specs.Paths.{path_fault}
 use Rattle.uvm_phase.specs.declared.phases.Phase.TheVariants.{Connect}
-use Rattle.uvm_tree.specs.declared.nodes.Node.{Node}
-use Rattle.uvm_tree.specs.Nodes.{path_at, number_at}
+use Rattle.uvm_tree.specs.Nodes.{Node, path_at, number_at}
 use Rattle.uvm_tree.specs.Sorted.{path_order}
 use Rattle.uvm_tlm.specs.declared.ends.End.{End}
 use Rattle.uvm_tlm.specs.declared.ends.End.TheVariants as end

@@ -7,7 +7,7 @@ use Rattle.std.specs.Prelude.{◌⊎◌, All, Contains}
 use Rattle.std.specs.List.Sorted.{IsPermutation}
 use Rattle.std.specs.Map.{keys_of}
 use Rattle.std.specs.declared.alloc.AllocError.{AllocError}
-use Rattle.uvm_tree.specs.declared.nodes.Node as declared
+use Rattle.uvm_tree.specs.Nodes as declared
 use Rattle.uvm_tree.specs.Nodes.{path_at}
 use Rattle.uvm_object.specs.Objects.{View, Says}
 use Rattle.uvm_object.specs.declared.acts.Who.{Who}

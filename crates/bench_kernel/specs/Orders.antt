@@ -1,7 +1,7 @@
 -- The order in which objects are given back.
 use Rattle.std.specs.Prelude.{◌≡◌, ◌<◌, false, List, All}
 use Rattle.uvm_glob.specs.Orders.{down_cmp}
-use Rattle.uvm_tree.specs.declared.nodes.Node as declared
+use Rattle.uvm_tree.specs.Nodes as declared
 use Rattle.uvm_tree.specs.Cursors.{is_before}
 use Rattle.uvm_object.specs.declared.acts.Who.{Who}
 use Rattle.uvm_object.specs.declared.acts.Who.TheVariants.{Node, Sequence}

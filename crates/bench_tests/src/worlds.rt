@@ -1,7 +1,7 @@
 //! A world before its first entry.
 
 ghost use Rattle.std.specs.Prelude.{◌≡◌, true, IfSome, IsSome};
-ghost use Rattle.bench_world.specs.Sequencings.{IsMaking};
+ghost use Rattle.bench_world.specs.Worlds.{IsMaking};
 
 use bench_history::Stage;
 use bench_script::{Script, read};

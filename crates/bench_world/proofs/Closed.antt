@@ -9,11 +9,11 @@ use Rattle.bench_history.specs.Wires.{wiring_of}
 use Rattle.bench_history.specs.Next.{EachIsNext}
 use Rattle.bench_history.specs.Laws.{ConnectFollowsBuild, is_at_check}
 use Rattle.bench_world.specs.declared.making.Waiting.{Waiting}
-use Rattle.bench_world.specs.declared.services.Services.{Services}
-use Rattle.bench_world.specs.Connectings.{IsConnecting, IsClosing}
-use Rattle.bench_world.specs.Services.{ServicesMatch}
+use Rattle.world_services.specs.declared.services.Services.{Services}
+use Rattle.world_wiring.specs.Connectings.{IsConnecting, IsClosing}
+use Rattle.world_services.specs.Services.{ServicesMatch}
 use Rattle.bench_world.specs.Worlds.{IsWorld, IsReady}
-use Rattle.bench_world.proofs.Connected.{connecting-closed, closing-now}
+use Rattle.world_wiring.proofs.Connected.{connecting-closed, closing-now}
 
 -- the services, with the wiring closed
 abbrev pub with_order : Services → Services

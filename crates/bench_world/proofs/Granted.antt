@@ -13,14 +13,15 @@ use Rattle.bench_history.specs.Cases.{chosen_at}
 use Rattle.bench_history.specs.History.{ended_of, nodes_of}
 use Rattle.bench_history.specs.Laws.{IsLiving}
 use Rattle.bench_history.specs.Sequences.{begun_of, finished_of, is_live, sequences_of, starts_in}
-use Rattle.bench_world.specs.declared.services.Services.{Services}
-use Rattle.bench_world.specs.Arbiters.{ChangesAt, Kept, at_sequencer, lock_in, ready_in}
-use Rattle.bench_world.specs.Arbitratings.{IsArbitrated, IsArbitrating, arbiter_with, ledger_at}
-use Rattle.bench_world.specs.Sequencings.{live_by}
-use Rattle.bench_world.specs.Services.{ServicesMatch}
-use Rattle.bench_world.proofs.Arbited.{arbitrated-granted, arbitrated-locked, arbitrated-more, granted-is, locked-is}
-use Rattle.bench_world.proofs.Contested.{arbitrating-there, locked-known, served-known}
-use Rattle.bench_world.proofs.Seated.{itself, said}
+use Rattle.world_services.specs.declared.services.Services.{Services}
+use Rattle.world_sequencers.specs.Arbiters.{ChangesAt, Kept, at_sequencer, lock_in, ready_in}
+use Rattle.world_sequencers.specs.Arbitratings.{IsArbitrated, IsArbitrating, arbiter_with, ledger_at}
+use Rattle.world_sequences.specs.Sequencings.{live_by}
+use Rattle.world_services.specs.Services.{ServicesMatch}
+use Rattle.world_sequencers.proofs.Arbited.{arbitrated-granted, arbitrated-locked, arbitrated-more, granted-is, locked-is}
+use Rattle.world_sequencers.proofs.Contested.{arbitrating-there}
+use Rattle.world_services.proofs.Known.{locked-known, served-known}
+use Rattle.world_sequencer_acts.proofs.Seated.{itself, said}
 
 -- what is found first is found at the sequencer that was changed last
 found-there : {A : Type 0} (at : ℕ → Option A) (contested : Option ℕ) (node : ℕ) (a : A) → option_and_then (λ n. option_map {U = ℕ × A} (λ a. (n, a)) (at n)) contested ≡ Some (node, a) → (contested ≡ Some node) × (at node ≡ Some a)

@@ -11,12 +11,12 @@ use Rattle.bench_history.specs.Laws.{IsThere}
 use Rattle.bench_history.specs.History.{components_of, nodes_of}
 use Rattle.bench_history.specs.Sequences.{Beginning, begun_of}
 use Rattle.uvm_sequencer.specs.Sequences.{numbered}
-use Rattle.bench_world.proofs.Numbered.{numbered-holds}
+use Rattle.world_sequences.proofs.Numbered.{numbered-holds}
 use Rattle.uvm_object.specs.declared.entries.Entry.{Entry}
 use Rattle.uvm_object.specs.declared.entries.Entry.TheVariants.{Heard}
-use Rattle.bench_world.specs.declared.services.Component.{Component}
-use Rattle.bench_world.specs.Services.{with_call, acts_in, AreTurns, IsAnswer}
-use Rattle.bench_world.proofs.Entered.{get-last, answered-last}
+use Rattle.world_services.specs.declared.services.Component.{Component}
+use Rattle.world_services.specs.Services.{with_call, acts_in, AreTurns, IsAnswer}
+use Rattle.world_services.proofs.Entered.{get-last, answered-last}
 use Rattle.bench_world.proofs.Turns.{turns-heard}
 
 -- who is there stands at a node

@@ -1,32 +1,32 @@
 -- The object of an act that waits.
 use Rattle.std.proofs.Common.{◌≡◌, ℕ, suc, List, [], length, Option, Some, None, IsSome, option_map, ◌⊎◌, inl, inr, refl, ap, sym, ◌∙◌, subst}
 use Rattle.uvm_sequencer.specs.Sequences.{Start, numbered}
-use Rattle.uvm_tree.specs.declared.nodes.Node.{Node}
-use Rattle.uvm_tree.specs.Nodes.{node_at}
+use Rattle.uvm_tree.specs.Nodes.{Node, node_at}
 use Rattle.uvm_object.specs.Acts.{node_of}
 use Rattle.uvm_object.specs.Logs.{LogValue}
 use Rattle.uvm_object.specs.declared.acts.Who.{Who}
-use Rattle.uvm_object.specs.declared.acts.Who.TheVariants as who
 use Rattle.uvm_object.specs.declared.acts.Act.{Act}
-use Rattle.uvm_object.specs.declared.acts.Act.TheVariants as act
 use Rattle.uvm_object.specs.declared.entries.Entry.{Entry}
 use Rattle.uvm_object.specs.declared.entries.Outcome.{Outcome}
 use Rattle.uvm_object.specs.declared.entries.Outcome.TheVariants.{Made, Started}
 use Rattle.bench_script.specs.Scripts.{ScriptValue}
-use Rattle.bench_history.specs.declared.needs.Need as needs
 use Rattle.bench_history.specs.Cases.{Need}
 use Rattle.bench_history.specs.History.{nodes_of, opening, speaker_of}
 use Rattle.bench_history.specs.Laws.{IsBegun, IsCreated, IsCreation, IsMadeBy, IsThere}
 use Rattle.bench_history.specs.Sequences.{Beginning, begun_of, home_asked, leaving_after, sequence_in, sequences_of, start_by}
 use Rattle.bench_history.specs.Upshots.{starting_now}
 use Rattle.bench_world.specs.declared.making.Waiting.{Waiting}
-use Rattle.bench_world.specs.declared.services.Services.{Services}
-use Rattle.bench_world.specs.Sequencings.{CanMake, home_for, outcome_made, who_made}
-use Rattle.bench_world.specs.Services.{ServicesMatch}
+use Rattle.world_services.specs.declared.services.Services.{Services}
+use Rattle.world_services.specs.Makings.{CanMake, outcome_made, who_made}
+use Rattle.world_sequences.specs.Sequencings.{home_for}
+use Rattle.world_services.specs.Services.{ServicesMatch}
 use Rattle.bench_world.specs.Worlds.{IsReady, made_who}
-use Rattle.bench_world.proofs.Acting.{unrefused}
-use Rattle.bench_world.proofs.Finished.{there-begun}
-use Rattle.bench_world.proofs.Numbered.{numbered-map}
+use Rattle.world_services.proofs.Acting.{unrefused}
+use Rattle.world_sequencer_acts.proofs.Finished.{there-begun}
+use Rattle.world_sequences.proofs.Numbered.{numbered-map}
+use Rattle.uvm_object.specs.declared.acts.Who.TheVariants as who
+use Rattle.uvm_object.specs.declared.acts.Act.TheVariants as act
+use Rattle.bench_history.specs.declared.needs.Need as needs
 
 -- there is room for it, and what it is
 pub record IsMakeable (history : List Entry) (services : Services) (act : Act) (home : Option ℕ) (type_name : List ℕ) (need : needs.Need) (made : Outcome) : Type 0 where

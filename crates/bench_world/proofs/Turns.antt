@@ -4,9 +4,9 @@ use Rattle.std.proofs.lemmas.List.Folds.{list_any_none}
 use Rattle.std.proofs.Common.{◌≡◌, ℕ, suc, ◌<◌, true, false, not, ◌==◌, List, [], ◌∷◌, ◌++◌, map, filter, refl, ap, ◌∙◌, sym, arith, if◌then◌else◌}
 use Rattle.std.specs.List.{All}
 use Rattle.std.proofs.lemmas.List.Elements.{All-append, All-cons}
-use Rattle.bench_world.specs.declared.services.Component.{Component}
+use Rattle.world_services.specs.declared.services.Component.{Component}
 use Rattle.bench_history.specs.History.{had_call}
-use Rattle.bench_world.specs.Services.{cleared, with_call, marked, waiting_in, AreTurns}
+use Rattle.world_services.specs.Services.{cleared, with_call, marked, waiting_in, AreTurns}
 
 cleared-marked : (called nodes : List ℕ) → map cleared (map (marked called) nodes) ≡ map (marked []) nodes
 cleared-marked called [] = refl

@@ -12,22 +12,25 @@ use Rattle.bench_history.specs.History.{nodes_of, components_of, called_of, ende
 use Rattle.uvm_object.specs.declared.acts.Act.{Act}
 use Rattle.uvm_object.specs.declared.entries.Entry.{Entry}
 use Rattle.uvm_object.specs.declared.entries.Outcome.{Outcome}
-use Rattle.bench_history.specs.declared.needs.Need as needs
 use Rattle.bench_history.specs.Cases.{Next, Need, by_act}
 use Rattle.bench_history.specs.Next.{next_of, need_in}
 use Rattle.bench_history.specs.Laws.{DriversAreThere, IsSettled, PerformersAreThere, PhasesGoInOrder}
 use Rattle.bench_history.specs.Dues.{caused_of, heard_of}
 use Rattle.bench_history.specs.Sequences.{finished_of}
 use Rattle.uvm_object.specs.declared.acts.Who.{Who}
-use Rattle.bench_world.proofs.Objected.{objecting-same}
+use Rattle.world_agenda.proofs.Objected.{objecting-same}
 use Rattle.bench_world.specs.declared.making.Waiting.{Waiting}
-use Rattle.bench_world.specs.declared.services.Services.{Services}
-use Rattle.bench_world.specs.Reportings.{KeepsReporting}
-use Rattle.bench_world.specs.Services.{AreTurns, IsAgenda, ServicesMatch, IsInNeed}
+use Rattle.world_services.specs.declared.services.Services.{Services}
+use Rattle.world_reports.specs.Reportings.{KeepsReporting}
+use Rattle.world_services.specs.Services.{AreTurns, ServicesMatch}
+use Rattle.world_agenda.specs.Agendas.{IsAgenda}
+use Rattle.world_services.specs.Attempts.{IsInNeed}
 use Rattle.bench_world.specs.Worlds.{IsActed, IsWorld, IsReady, WorldValue}
-use Rattle.bench_world.proofs.Entered.{for-some}
-use Rattle.bench_world.proofs.Later.{act-next, scene-of}
-use Rattle.bench_world.proofs.Sequenced.{sequencing-same}
+use Rattle.world_services.proofs.Entered.{for-some}
+use Rattle.bench_world.proofs.Going.{act-next}
+use Rattle.world_services.proofs.Later.{scene-of}
+use Rattle.world_sequences.proofs.Sequenced.{sequencing-same}
+use Rattle.bench_history.specs.declared.needs.Need as needs
 
 -- a tree of the same nodes, as many components and sequences in the same order, as much that is due, and reports that give the same are as good
 same-match :

@@ -1,11 +1,1 @@
-pub mod Reportings
-pub mod Stations
-pub mod Objectings
-pub mod Connectings
-pub mod Passings
-pub mod Arbiters
-pub mod Sequencings
-pub mod Arbitratings
-pub mod Services
-pub mod Drivings
 pub mod Worlds

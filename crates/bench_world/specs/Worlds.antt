@@ -1,30 +1,37 @@
 -- What contracts see of a world.
-use Rattle.std.specs.Prelude.{◌≡◌, ◌<◌, ℕ, Bool, true, false, List, ◌∷◌, length, Option, Some, None, IsSome, IsTrue, is_some, vec_len, vec_capacity}
+use Rattle.std.specs.Prelude.{◌≡◌, ◌<◌, ℕ, Bool, true, false, List, ◌∷◌, length, Option, Some, None, is_some, IsSome, vec_len, vec_capacity, IsTrue}
 use Rattle.std.specs.Option.{ForSome}
-use Rattle.uvm_tree.specs.Nodes.{node_at}
-use Rattle.uvm_report.specs.Observed.{has_room}
+use Rattle.uvm_tree.specs.Nodes.{Node, node_at}
+use Rattle.uvm_object.specs.declared.acts.Who.{Who}
+use Rattle.uvm_object.specs.declared.acts.Act.{Act}
+use Rattle.uvm_object.specs.declared.acts.Act.TheVariants.{Create, Start}
+use Rattle.uvm_object.specs.declared.entries.Outcome.TheVariants.{Made, Started}
 use Rattle.uvm_object.specs.Acts.{node_of}
+use Rattle.uvm_object.specs.declared.entries.Entry.{Entry}
+use Rattle.world_services.specs.declared.services.Services.{Services}
+use Rattle.uvm_report.specs.Observed.{has_room}
 use Rattle.uvm_object.specs.Fatals.{id_of, fatal_report}
 use Rattle.uvm_object.specs.declared.fatals.Fatal.TheVariants.{NoObject}
-use Rattle.uvm_object.specs.declared.acts.Act.{Act}
-use Rattle.uvm_object.specs.declared.acts.Who.{Who}
-use Rattle.uvm_object.specs.declared.acts.Who.TheVariants as who
-use Rattle.uvm_object.specs.declared.entries.Outcome.TheVariants.{Made, Started}
-use Rattle.uvm_object.specs.declared.entries.Entry.{Entry}
 use Rattle.uvm_object.specs.declared.entries.Entry.TheVariants.{Granted}
 use Rattle.uvm_object.specs.Logs.{LogValue}
 use Rattle.bench_script.specs.Scripts.{ScriptValue}
 use Rattle.bench_world.specs.declared.making.Waiting.{Waiting}
-use Rattle.bench_world.specs.declared.services.Services.{Services}
 use Rattle.bench_history.specs.Limits.{log_limit}
 use Rattle.bench_history.specs.History.{left_of, nodes_of, rest_of, speaker_of}
 use Rattle.bench_history.specs.Sequences.{leaving_of, sequences_of, start_by}
-use Rattle.bench_world.specs.Sequencings.{home_for}
+use Rattle.world_sequences.specs.Sequencings.{home_for}
 use Rattle.bench_history.specs.Cases.{Next, Exactly, Need, Grant, by_act, chosen_at}
 use Rattle.bench_history.specs.Next.{next_of, need_in, IsAct, IsLegal}
 use Rattle.bench_history.specs.Laws.{IsSettled}
+use Rattle.world_services.specs.Services.{ServicesMatch}
+use Rattle.uvm_object.specs.declared.acts.Who.TheVariants as who
 use Rattle.bench_history.specs.declared.needs.Need as needs
-use Rattle.bench_world.specs.Services.{ServicesMatch}
+
+-- an act makes an object
+abbrev pub IsMaking : Act → Type 0
+IsMaking (Create type_name name) = Unit {0}
+IsMaking (Start type_name name on priority) = Unit {0}
+IsMaking act = ⊥
 
 -- the script, the entries with the newest first, whether the services are what they say, and the object for which the next act waits,
 -- once it was found to need one

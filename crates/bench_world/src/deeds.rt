@@ -7,20 +7,22 @@ ghost use Rattle.bench_history.specs.History.{left_of, head_of, speaker_of};
 ghost use Rattle.uvm_object.specs.declared.acts.Act.TheVariants.{Create};
 ghost use Rattle.bench_history.specs.Sequences.{leaving_after};
 ghost use Rattle.bench_history.specs.Upshots.{open_upshot, refusal_in, upshot_of};
-ghost use Rattle.bench_world.specs.Sequencings.{IsMaking, IsStart};
+ghost use Rattle.bench_world.specs.Worlds.{IsMaking, IsActed, MayAct, MayPerform, broken};
+ghost use Rattle.world_sequences.specs.Sequencings.{IsStart};
 ghost use Rattle.bench_history.specs.Next.{next_of};
-ghost use Rattle.bench_world.specs.Services.{acts_at, IsUnmade, MayWantMemoryFor};
-ghost use Rattle.bench_world.specs.Worlds.{IsActed, MayAct, MayPerform, broken};
+ghost use Rattle.world_services.specs.Services.{acts_at};
+ghost use Rattle.world_services.specs.Creations.{IsUnmade, MayWantMemoryFor};
 
-use crate::attempts::{Attempt, enter, is_open_to, perform};
-use crate::creations::{Uncreated, what_is_created};
 use crate::making::{Waiting, make_room};
-use crate::starting::what_is_started;
+use crate::performing::{enter, perform};
 use crate::worlds::World;
 use bench_history::laws;
 use std::alloc::{AllocError, Global};
 use uvm_glob::Name;
 use uvm_object::{Act, Deed, Entry, Fatal, Log, LoggedOutcome, Outcome, Who};
+use world_sequencer_acts::starts::what_is_started;
+use world_services::attempts::{Attempt, is_open_to};
+use world_services::creations::{Uncreated, what_is_created};
 
 impl World {
     /// Who gave the last answer; the top before any. For a sound world.

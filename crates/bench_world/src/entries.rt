@@ -7,20 +7,10 @@ ghost use Rattle.bench_history.specs.Reports.{noted_end, reason_of};
 ghost use Rattle.bench_history.specs.Wires.{ends_connect};
 ghost use Rattle.uvm_glob.specs.Orders.{order_of};
 ghost use Rattle.uvm_tree.specs.Cursors.{is_before, least, sooner};
-ghost use Rattle.bench_world.specs.Services.{waiting_in};
+ghost use Rattle.world_services.specs.Services.{waiting_in};
 ghost use Rattle.bench_history.specs.Cases.{Exactly, Answer};
-ghost use Rattle.bench_history.specs.Next.{next_of};
 ghost use Rattle.bench_world.specs.Worlds.{IsGranted, MayEnter, MayGrant, world_after, broken};
 
-use crate::arbiters::{choose_at, end_phase, settle_at};
-use crate::attempts::report_at;
-use crate::connecting::close_after;
-use crate::objecting::move_drains;
-use crate::passing::tell_passed;
-use crate::sequencing::{finish_all, leaving_with};
-use crate::services::{Component, LastAnswer, clear_calls, mark_call};
-use crate::stations::{end_waits, pass};
-use crate::telling::tell_to;
 use crate::worlds::World;
 use bench_history::{Owner, Stage, laws};
 use std::alloc::AllocError;
@@ -32,6 +22,13 @@ use uvm_objection::laws as objections;
 use uvm_phase::{Cause, Phase, laws as agenda};
 use uvm_sequencer::SeqId;
 use uvm_tree::{NodeId, Tree, laws as trees};
+use world_fifos::stations::{end_waits, pass};
+use world_sequencers::arbiters::{choose_at, end_phase, settle_at};
+use world_sequences::ends::{finish_all, leaving_with};
+use world_services::attempts::report_at;
+use world_services::services::{Component, LastAnswer, clear_calls, mark_call};
+use world_services::tells::{move_drains, tell_passed, tell_to};
+use world_wiring::connections::close_after;
 
 impl World {
     /// A phase begins (IEEE 1800.2-2020, Clause 9). The world is sound, its log is not full, and this entry is next. The error is

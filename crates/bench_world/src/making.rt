@@ -12,16 +12,12 @@ ghost use Rattle.bench_history.specs.Laws.{IsCreation};
 ghost use Rattle.uvm_object.specs.Fatals.{fatal_report};
 ghost use Rattle.uvm_object.specs.declared.fatals.Fatal.TheVariants.{NoObject};
 ghost use Rattle.uvm_report.specs.Observed.{has_room};
-ghost use Rattle.bench_world.specs.Reportings.{CanReport, KeepsReporting};
-ghost use Rattle.bench_world.specs.Sequencings.{CanGrow, CanMake, outcome_made, who_made};
-ghost use Rattle.bench_world.specs.Services.{TakesIn, IsAttempt};
+ghost use Rattle.world_reports.specs.Reportings.{KeepsReporting};
+ghost use Rattle.world_services.specs.Makings.{CanGrow, CanMake, outcome_made, who_made};
+ghost use Rattle.world_services.specs.Attempts.{TakesIn};
 ghost use Rattle.bench_world.specs.Worlds.{made_who, world_after};
 
-use crate::attempts::{Attempt, enter, refused, refused_by};
-use crate::creations::{Uncreated, what_is_created};
-use crate::performing::add_child;
-use crate::services::{Component, Services};
-use crate::starting::begin;
+use crate::performing::enter;
 use crate::worlds::World;
 use bench_history::{Need, laws};
 use std::alloc::{AllocError, Global};
@@ -30,6 +26,10 @@ use uvm_object::{Act, Deed, Fatal, Log, LoggedOutcome, Who};
 use uvm_objection::laws as objections;
 use uvm_report::Report;
 use uvm_tree::{NodeId, NodeKind};
+use world_sequencer_acts::starts::begin;
+use world_services::attempts::refused_by;
+use world_services::nodes::add_child;
+use world_services::services::{Component, Services};
 
 /// A creation or a start that waits for its object: what it needs, the act, the sequencer of a sequence, room for the name of the
 /// type that is made, and the report of an object that is declined.
@@ -171,24 +171,6 @@ pub(crate) fn make_room(log: &mut Log, services: &mut Services, id: &Name) -> Re
     services.agenda.reserve()?;
     services.reporting.reserve_id(id)?;
     log.reserve()
-}
-
-// A component is to be created below the performer's node: an object is needed, or it is refused.
-pub(crate) fn create(
-    services: &mut Services,
-    alloc: Global,
-    type_name: &Name,
-    name: &Name,
-) -> Result<Attempt, AllocError>
-    requires { CanReport services.old.reporting }
-    ensures { IfOk result (λ attempt. (place : ℕ) → IsAttempt (Create type_name.now name.now) attempt place services.old services.new) }
-{
-    let performer = services.answer.speaker;
-    match what_is_created(services, &performer, type_name, name) {
-        Ok(need) => Ok(Attempt::Needed { need, home: None }),
-        Err(Uncreated::Refused(fatal)) => refused(services, alloc, fatal),
-        Err(Uncreated::Memory) => Err(AllocError),
-    }
 }
 
 // The object that an act makes is there, in the room for it, a component of a type or a sequence on this sequencer: who it is, and

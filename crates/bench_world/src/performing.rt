@@ -1,210 +1,135 @@
-//! Acts on the tree and on the factory.
+//! Which act is performed how, and the entry of an act.
 
-ghost use Rattle.std.specs.Prelude.{◌≡◌, ℕ, ◌∷◌, ◌++◌, [], List, length, false, None, Some, OnOk, IfOk, IfNone, IsOk};
-ghost use Rattle.uvm_glob.specs.Paths.{path_text, dotted};
-ghost use Rattle.uvm_factory.specs.declared.overrides.Override.{Override};
-ghost use Rattle.uvm_factory.specs.declared.overrides.Override.TheVariants.{Instance, Whole};
-ghost use Rattle.uvm_factory.specs.Faults.{Types, type_named};
-ghost use Rattle.uvm_factory.specs.Observed.{types_of};
-ghost use Rattle.uvm_tree.specs.Nodes.{child, path_at};
-ghost use Rattle.uvm_object.specs.Acts.{node_of};
-ghost use Rattle.uvm_object.specs.declared.acts.Act.TheVariants.{Add, OverrideType, OverrideInst};
-ghost use Rattle.bench_history.specs.History.{kind_of, with_override};
-ghost use Rattle.bench_history.specs.Refusals.{addition_refusal, child_refusal, overriding_refusal};
-ghost use Rattle.bench_world.specs.Reportings.{CanReport};
-ghost use Rattle.bench_world.specs.Services.{CanPerform, IsAttempt, IsFactory};
+ghost use Rattle.std.specs.Prelude.{◌≡◌, ◌∷◌, ◌<◌, ◌+◌, ◌||◌, ◌==◌, length, true, OnOk, OnErr, IfOk, IsOk};
+ghost use Rattle.uvm_object.specs.declared.entries.Entry.TheVariants.{Did};
+ghost use Rattle.bench_history.specs.Refusals.{is_open_to};
+ghost use Rattle.world_services.specs.Attempts.{CanPerform, IsAttempt, IsAttemptOfAny, one_done};
 
-use crate::arbiters::add_arbiter;
-use crate::attempts::{Attempt, done, refused};
-use crate::connecting::add_end;
-use crate::creations::child_refusal;
-use crate::services::Services;
-use crate::stations::add_station;
+use crate::entries::push;
 use std::alloc::{AllocError, Global};
-use uvm_factory::{Factory, laws};
-use uvm_glob::{Glob, Name};
-use uvm_object::{Fatal, What};
-use uvm_objection::laws as objections;
-use uvm_tree::{NodeId, NodeKind, Tree};
+use uvm_object::{Act, Deed, Entry, Fatal, Log, LoggedOutcome};
+use uvm_report::Report;
+use world_port_acts::passages::{peek, put, take, try_put, try_take};
+use world_port_acts::writes::write;
+use world_sequencer_acts::drivers::{ask, item_done};
+use world_sequencer_acts::requests::{grab, lock, request, send, unlock};
+use world_sequencer_acts::starts::start;
+use world_sequencer_acts::steps::end_step;
+use world_services::attempts::{Attempt, is_open_to, refused};
+use world_services::services::Services;
+use world_tree_acts::additions::add;
+use world_tree_acts::components::create;
+use world_tree_acts::connections::connect;
+use world_tree_acts::fields::{get_field, set_field};
+use world_tree_acts::objections::{drop, raise, set_drain};
+use world_tree_acts::overrides::{override_inst, override_type};
+use world_tree_acts::reports::{issue, set_action, set_severity, set_verbosity};
+use world_tree_acts::waits::wait;
 
-// A node is added below the performer's, unless that is refused.
-pub(crate) fn add(
+// An act of the speaker, whose entry will stand at a place, is performed, or refused, or needs an object.
+pub(crate) fn perform(
     services: &mut Services,
     alloc: Global,
-    name: Name,
-    what: What,
+    place: usize,
+    act: &Act,
 ) -> Result<Attempt, AllocError>
     requires { CanPerform services.old }
-    ensures { IfOk result (λ attempt. (place : ℕ) → IsAttempt (Add name what) attempt place services.old services.new) }
+    ensures { IfOk result (λ attempt. IsAttemptOfAny act.now attempt place services.old services.new) }
 {
-    if let Some(fatal) = addition_refusal(services, &name) {
-        return refused(services, alloc, fatal);
+    let performer = services.answer.speaker;
+    if !is_open_to(act, &performer) {
+        return refused(services, alloc, Fatal::NotOpen);
     }
-    objections::nodes_grow();
-    let parent = services.answer.speaker.node();
-    let node = add_child(&mut services.tree, parent, name, kind_of(what))?;
-    services.objection.add(node, parent)?;
-    add_end(&mut services.wiring, node, what)?;
-    add_station(&mut services.stations, alloc, node, what)?;
-    add_arbiter(&mut services.arbiters, alloc, node, what)?;
-    // Nothing passes and nothing is granted anywhere, nor in what is new.
-    services.unsettled.clear();
-    services.contested = None;
-    Ok(done(services))
+    perform_open(services, alloc, place, act)
 }
 
-// A type is overridden everywhere, unless that is refused.
-pub(crate) fn override_type(
+// So is one that is open to the speaker.
+fn perform_open(
     services: &mut Services,
     alloc: Global,
-    original: &Name,
-    new: &Name,
-    replace: bool,
+    place: usize,
+    act: &Act,
 ) -> Result<Attempt, AllocError>
-    requires { CanReport services.old.reporting }
-    ensures { IfOk result (λ attempt. (place : ℕ) → IsAttempt (OverrideType original.now new.now replace) attempt place services.old services.new) }
+    requires can { CanPerform services.old }
+    requires open { is_open_to act.now services.old.answer.speaker ≡ true }
+    ensures { IfOk result (λ attempt. IsAttempt act.now attempt place services.old services.new) }
 {
-    if let Some(fatal) = overriding_refusal(&services.factory, original, new) {
-        return refused(services, alloc, fatal);
+    match act {
+        Act::Create { type_name, name } => create(services, alloc, type_name, name),
+        Act::Add { name, what } => add(services, alloc, *name, *what),
+        Act::Set { glob, field, value } => set_field(services, alloc, glob, *field, *value),
+        Act::Get { field } => get_field(services, alloc, place, *field),
+        Act::OverrideType {
+            original,
+            new,
+            replace,
+        } => override_type(services, alloc, original, new, *replace),
+        Act::OverrideInst {
+            original,
+            new,
+            glob,
+        } => override_inst(services, alloc, original, new, glob),
+        Act::Connect { from, to } => connect(services, alloc, from, to),
+        Act::Put { port, item } => put(services, alloc, place, port, *item),
+        Act::TryPut { port, item } => try_put(services, alloc, place, port, *item),
+        Act::Take { port } => take(services, alloc, place, port),
+        Act::TryTake { port } => try_take(services, alloc, place, port),
+        Act::Peek { port } => peek(services, alloc, place, port),
+        Act::Write { port, item } => write(services, alloc, place, port, *item),
+        Act::Ask { port, how } => ask(services, alloc, place, port, *how),
+        Act::ItemDone { port, response } => item_done(services, alloc, place, port, *response),
+        Act::Start {
+            type_name,
+            name,
+            on,
+            priority,
+        } => start(services, alloc, type_name, name, on, *priority),
+        Act::Request { priority } => request(services, alloc, *priority),
+        Act::Lock => lock(services, alloc),
+        Act::Grab => grab(services, alloc),
+        Act::Unlock => unlock(services, alloc),
+        Act::Send { item } => send(services, alloc, place, *item),
+        Act::EndStep => end_step(services, alloc, place),
+        Act::Report { report } => issue(services, alloc, report),
+        Act::Verbosity { which, level } => set_verbosity(services, alloc, *which, *level),
+        Act::Actions { which, actions } => set_action(services, alloc, *which, *actions),
+        Act::Severity { from, id, to } => set_severity(services, alloc, *from, *id, *to),
+        Act::RaiseObjection { count } => raise(services, alloc, place, *count),
+        Act::DropObjection { count } => drop(services, alloc, place, *count),
+        Act::SetDrain { ticks } => set_drain(services, alloc, *ticks),
+        Act::Wait { ticks, tag } => wait(services, alloc, place, *ticks, *tag),
     }
-    override_everywhere(&mut services.factory, original, new, replace)?;
-    Ok(done(services))
 }
 
-// A type is overridden at the paths that a glob matches under the performer's, unless that is refused.
-pub(crate) fn override_inst(
+// What became of an act stands in its entry, and one more act is done.
+pub(crate) fn enter(
+    log: &mut Log,
     services: &mut Services,
-    alloc: Global,
-    original: &Name,
-    new: &Name,
-    glob: &Glob,
-) -> Result<Attempt, AllocError>
-    requires { CanReport services.old.reporting }
-    ensures { IfOk result (λ attempt. (place : ℕ) → IsAttempt (OverrideInst original.now new.now glob.now) attempt place services.old services.new) }
-{
-    if let Some(fatal) = overriding_refusal(&services.factory, original, new) {
-        return refused(services, alloc, fatal);
-    }
-    let node = services.answer.speaker.node();
-    let scope = scope_under(alloc, &services.tree, node, glob)?;
-    override_within(&mut services.factory, original, new, scope)?;
-    Ok(done(services))
-}
-
-// Why nothing is added under a name, if so.
-#[tactic(auto, unfolding(bench_history::specs::Refusals::addition_refusal))]
-fn addition_refusal(services: &Services, name: &Name) -> Option<Fatal>
-    ensures refusal { result ≡ addition_refusal services.now.built services.now.tree.nodes (node_of services.now.answer.speaker) name.now }
-    ensures building { IfNone result (services.now.built ≡ false) }
-    ensures free { IfNone result (child_refusal services.now.tree.nodes (node_of services.now.answer.speaker) name.now ≡ None) }
-{
-    if services.built {
-        return Some(Fatal::CreatedAfterBuild);
-    }
-    child_refusal(&services.tree, services.answer.speaker.node(), name)
-}
-
-// What an addition adds to the tree.
-fn kind_of(what: What) -> NodeKind
-    ensures { result ≡ kind_of what }
-{
-    match what {
-        What::Sequencer { .. } => NodeKind::Sequencer,
-        What::Fifo { .. } => NodeKind::Fifo,
-        What::Port { .. } => NodeKind::Port,
-        What::Export { .. } => NodeKind::Export,
-        What::Imp => NodeKind::Imp,
-    }
-}
-
-// Overrides a type, where that is not refused.
-#[tactic(auto, unfolding(bench_history::specs::Refusals::overriding_refusal))]
-fn override_everywhere(
-    factory: &mut Factory,
-    original: &Name,
-    new: &Name,
-    replace: bool,
+    outcome: LoggedOutcome,
+    deed: Deed,
 ) -> Result<(), AllocError>
-    requires { overriding_refusal (types_of factory.old) original.now new.now ≡ None }
-    ensures { OnOk result ((types : Types) (overrides : List Override) → IsFactory types overrides factory.old →
-        IsFactory types (with_override (type_named types original.now) (type_named types new.now) (λ o n. Whole o n replace) overrides) factory.new) }
+    requires room { length log.old.entries < log.old.limit }
+    requires open { services.old.answer.done < services.old.answer.count }
+    ensures ok { OnOk result (log.new.entries ≡ Did services.old.answer.speaker outcome deed ∷ log.old.entries) }
+    ensures services { OnOk result (services.new ≡ one_done services.old) }
+    ensures err { OnErr result (log.new.entries ≡ log.old.entries) }
+    ensures limit { log.new.limit ≡ log.old.limit }
+    ensures memory { 0 < log.old.spare → IsOk result }
 {
-    laws::steps_are_given();
-    let (Some(original), Some(new)) = (factory.find(original), factory.find(new)) else {
-        unreachable!()
+    let entry = Entry::Did {
+        who: services.answer.speaker,
+        outcome,
+        act: deed,
     };
-    match factory.override_type(original, new, replace) {
-        Ok(()) => Ok(()),
-        Err(_) => Err(AllocError),
-    }
+    push(log, entry)?;
+    services.answer.done = one_more(services.answer.done, services.answer.count);
+    Ok(())
 }
 
-// Overrides a type at the paths that a glob matches, where that is not refused.
-#[tactic(auto, unfolding(bench_history::specs::Refusals::overriding_refusal))]
-fn override_within(
-    factory: &mut Factory,
-    original: &Name,
-    new: &Name,
-    scope: Glob,
-) -> Result<(), AllocError>
-    requires { overriding_refusal (types_of factory.old) original.now new.now ≡ None }
-    ensures { OnOk result ((types : Types) (overrides : List Override) → IsFactory types overrides factory.old →
-        IsFactory types (with_override (type_named types original.now) (type_named types new.now) (λ o n. Instance o n scope) overrides) factory.new) }
+fn one_more(done: usize, count: usize) -> usize
+    requires { done < count }
+    ensures { result ≡ done + 1 }
 {
-    laws::steps_are_given();
-    let (Some(original), Some(new)) = (factory.find(original), factory.find(new)) else {
-        unreachable!()
-    };
-    match factory.override_inst(original, new, scope) {
-        Ok(()) => Ok(()),
-        Err(_) => Err(AllocError),
-    }
-}
-
-// Why a type is not overridden by another, if so.
-#[tactic(auto, unfolding(bench_history::specs::Refusals::overriding_refusal))]
-fn overriding_refusal(factory: &Factory, original: &Name, new: &Name) -> Option<Fatal>
-    ensures { result ≡ overriding_refusal (types_of factory.now) original.now new.now }
-{
-    let (Some(original), Some(new)) = (factory.find(original), factory.find(new)) else {
-        return Some(Fatal::InvalidType);
-    };
-    match (factory.kind_of(original), factory.kind_of(new)) {
-        (Some(original), Some(new)) if original == new => None,
-        _ => Some(Fatal::InvalidType),
-    }
-}
-
-// The glob under the path of a node.
-pub(crate) fn scope_under(
-    alloc: Global,
-    tree: &Tree,
-    node: NodeId,
-    glob: &Glob,
-) -> Result<Glob, AllocError>
-    ensures { IfOk result (λ scope. scope ≡ dotted (path_text (path_at tree.now.nodes node)) glob.now) }
-{
-    match tree.path(node) {
-        Some(path) => Glob::under(alloc, path, glob),
-        None => glob.copy(),
-    }
-}
-
-// Adds a child whose name is free.
-#[tactic(auto, unfolding(uvm_tree::specs::Nodes::add_fault))]
-pub(crate) fn add_child(
-    tree: &mut Tree,
-    parent: NodeId,
-    name: Name,
-    kind: NodeKind,
-) -> Result<NodeId, AllocError>
-    requires { child_refusal tree.old.nodes parent name ≡ None }
-    ensures id { IfOk result (λ id. id ≡ length tree.old.nodes) }
-    ensures nodes { OnOk result (tree.new.nodes ≡ tree.old.nodes ++ child tree.old.nodes parent name kind ∷ []) }
-    ensures memory { tree.old.spare ≡ Some parent → IsOk result }
-{
-    match tree.add(parent, name, kind) {
-        Ok(id) => Ok(id),
-        Err(_) => Err(AllocError),
-    }
+    prove!(done < count);
+    done + 1
 }

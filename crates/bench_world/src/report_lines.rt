@@ -6,14 +6,15 @@ ghost use Rattle.uvm_report.specs.Lines.{report_line};
 ghost use Rattle.uvm_tree.specs.Nodes.{path_at};
 ghost use Rattle.uvm_object.specs.Acts.{node_of};
 ghost use Rattle.uvm_object.specs.Fatals.{fatal_report};
-ghost use Rattle.uvm_object.specs.Lines.{shown_path, source_text};
+ghost use Rattle.uvm_lines.specs.Lines.{shown_path, source_text};
 ghost use Rattle.bench_history.specs.History.{nodes_of, now_of};
 ghost use Rattle.bench_history.specs.Reports.{deed_command, line_under, newest_fate, report_text};
 ghost use Rattle.bench_history.specs.Sequences.{sequences_of};
 
 use crate::worlds::World;
 use std::alloc::AllocError;
-use uvm_object::{Act, Entry, Fatal, Outcome, Who, shown_path, source_of};
+use uvm_lines::{shown_path, source_of};
+use uvm_object::{Act, Entry, Fatal, Outcome, Who};
 use uvm_report::{Report, Severity};
 use uvm_tree::NodeId;
 

@@ -1,6 +1,6 @@
 //! The world.
 
-ghost use Rattle.std.specs.Prelude.{◌≡◌, ℕ, [], IfOk, true, false, IsSome, None, length, nat_le, nat_lt, if◌then◌else◌};
+ghost use Rattle.std.specs.Prelude.{◌≡◌, ℕ, [], IfOk, true, IsSome, None, length, nat_le, nat_lt, if◌then◌else◌};
 ghost use Rattle.bench_script.specs.Factories.{IsFactoryOf};
 ghost use Rattle.bench_history.specs.Limits.{log_limit};
 ghost use Rattle.bench_history.specs.History.{opening, stage_of, running, now_of, nodes_of, overrides_of};
@@ -13,8 +13,8 @@ ghost use Rattle.std.specs.Option.{option_copied};
 ghost use Rattle.uvm_phase.specs.Dues.{in_order};
 ghost use Rattle.bench_history.specs.Wires.{is_past_connect, wiring_of};
 ghost use Rattle.uvm_tlm.specs.Wirings.{is_closed};
-ghost use Rattle.bench_world.specs.Connectings.{IsConnecting};
-ghost use Rattle.bench_world.specs.Services.{IsFactory, IsSettings, ServicesMatch};
+ghost use Rattle.world_wiring.specs.Connectings.{IsConnecting};
+ghost use Rattle.world_services.specs.Services.{IsFactory, IsSettings, ServicesMatch};
 ghost use Rattle.uvm_glob.specs.Paths.{path_text};
 ghost use Rattle.uvm_config.specs.Answers.{config_answer};
 ghost use Rattle.bench_history.specs.Configuration.{settings_of};
@@ -26,10 +26,7 @@ ghost use Rattle.bench_history.specs.Sequences.{leaving_of, sequences_of, step_o
 ghost use Rattle.uvm_sequencer.specs.Sequences.{step_at};
 ghost use Rattle.bench_world.specs.Worlds.{WorldValue};
 
-use crate::arbiters::{first_locked, first_served, requests_at};
 use crate::making::Waiting;
-use crate::services::Services;
-use crate::stations::{first_passing, waiting_at};
 use bench_history::{Owner, Stage};
 use bench_script::Script;
 use std::alloc::{AllocError, Global};
@@ -44,6 +41,9 @@ use uvm_report::{Fate, Reports};
 use uvm_sequencer::{SeqId, Sequences};
 use uvm_tlm::Wiring;
 use uvm_tree::{NodeId, Tree};
+use world_fifos::stations::{first_passing, waiting_at};
+use world_sequencers::arbiters::{first_locked, first_served, requests_at};
+use world_services::services::Services;
 
 /// A legal log with the script of the run and the services. While `sound()` is true each service is what the log says.
 #[derive(Drop)]

@@ -1,7 +1,7 @@
 -- An object whose answers are data gives one answer.
 use Rattle.std.proofs.Common.{◌≡◌, ℕ, refl, List, [], map, Option, Some, None, is_some, slice_get}
 use Rattle.uvm_tlm.specs.declared.items.Item.{Item}
-use Rattle.uvm_object.specs.Lines.{call_text}
+use Rattle.uvm_lines.specs.Lines.{call_text}
 use Rattle.uvm_object.specs.Objects.{View}
 use Rattle.uvm_object.specs.declared.acts.Act.{Act}
 use Rattle.answer_lines.specs.Replies.{act_with}

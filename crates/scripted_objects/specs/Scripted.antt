@@ -2,7 +2,7 @@
 use Rattle.std.specs.Prelude.{◌≡◌, ℕ, List, [], Option, Some, None, is_some, length, map, min, replicate, ◌^◌, ◌-◌, ◌+◌, slice_get, slice_index_or}
 use Rattle.std.specs.List.{slice_set}
 use Rattle.uvm_tlm.specs.declared.items.Item.{Item}
-use Rattle.uvm_object.specs.Lines.{call_text}
+use Rattle.uvm_lines.specs.Lines.{call_text}
 use Rattle.uvm_object.specs.Objects.{View}
 use Rattle.uvm_object.specs.declared.acts.Act.{Act}
 use Rattle.uvm_object.specs.declared.acts.Call.{Call}

@@ -10,7 +10,8 @@ use answer_lines::{Reply, item_in};
 use std::alloc::{AllocError, Global};
 use std::marker::Model;
 use uvm_glob::Name;
-use uvm_object::{Acts, Call, UvmObject, call_text};
+use uvm_lines::call_text;
+use uvm_object::{Acts, Call, UvmObject};
 use uvm_tlm::Item;
 
 /// An object whose answers are data. It answers a call by the first of its rules that has an answer to it, and with no acts where

@@ -1,7 +1,6 @@
 pub mod Acts
 pub mod Copies
 pub mod Fatals
-pub mod Lines
 pub mod Logs
 pub mod Objects
 pub mod Outcomes

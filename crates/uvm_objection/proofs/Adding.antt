@@ -23,9 +23,9 @@ passed_push node parent k [] = nothing (is_under (new_entry node parent) k)
 passed_push node parent k (e ∷ newer) = ap (λ n. when (is_under e k) (e.total + e.held) + n) (passed_push node parent k newer)
 
 pub kept_push : (node parent : ℕ) (es : List Entry) → AddUp es → AddUp (es ++ new_entry node parent ∷ [])
-kept_push node parent [] kept = (refl, λ h. refl, tt)
+kept_push node parent [] kept = (refl, λ h. refl, λ h. refl, tt)
 kept_push node parent (e ∷ newer) kept =
-    (kept.0 ∙ ap (λ n. e.source + n) (sym (passed_push node parent e.node newer)), kept.1, kept_push node parent newer kept.2)
+    (kept.0 ∙ ap (λ n. e.source + n) (sym (passed_push node parent e.node newer)), kept.1, kept.2, kept_push node parent newer kept.3)
 
 fits_push : (node parent : ℕ) (es : List Entry) → Fits es → Fits (es ++ new_entry node parent ∷ [])
 fits_push node parent [] fits = (omega arith, omega arith, omega arith, tt)

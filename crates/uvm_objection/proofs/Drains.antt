@@ -183,4 +183,4 @@ walk_tells c held [] apart kept was = record {
 }
 walk_tells c held (e ∷ newer) apart kept was =
     let below = walked c newer in
-    told_here c held below.walk e newer below.entries (walk_settles c newer apart.1 kept.2) apart kept was.0 (walk_tells c held newer apart.1 kept.2 was.1) (is_at below.walk e) refl
+    told_here c held below.walk e newer below.entries (walk_settles c newer apart.1 kept.3) apart kept was.0 (walk_tells c held newer apart.1 kept.3 was.1) (is_at below.walk e) refl

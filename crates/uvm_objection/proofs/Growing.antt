@@ -3,7 +3,7 @@ use Rattle.std.proofs.Common.{◌≡◌, ◌<◌, ◌≤◌, ℕ, ◌+◌, Bool,
 use Rattle.uvm_objection.specs.declared.nodes.Entry.{Entry}
 use Rattle.uvm_objection.specs.declared.nodes.Change.{Change}
 use Rattle.uvm_objection.specs.declared.nodes.ChangeKind.TheVariants.{Raise, Drop, Release, SetDrain}
-use Rattle.uvm_objection.specs.Nodes.{Node, top, new_node, is_known, held_of}
+use Rattle.uvm_objection.specs.Nodes.{Node, top, new_node, is_known, held_of, due_of}
 use Rattle.uvm_objection.specs.Totals.{total, settled}
 use Rattle.uvm_objection.specs.Laws.{places, IsNew, AreUnder, IsTree, AreNodes, GrowsBy, NodesGrow}
 use Rattle.uvm_objection.specs.Changes.{nodes_changed, most_raised, IsTimely, IsSteady}
@@ -14,7 +14,7 @@ use Rattle.uvm_objection.proofs.Trees.{Distinct, distinct_of, shape, same_node, 
 use Rattle.uvm_objection.proofs.Sums.{agree, add_up}
 use Rattle.uvm_objection.proofs.Settling.{IsSettled, walk_settles, few_after}
 use Rattle.uvm_objection.proofs.Adding.{new_entry, kept_push, tree_push}
-use Rattle.uvm_objection.proofs.Objecting.{holds_nothing, timely, same_time, before_kept, map_changed, settled_steady}
+use Rattle.uvm_objection.proofs.Objecting.{holds_nothing, nothing_due, timely, same_time, before_kept, map_changed, settled_steady}
 
 -- the nodes with their totals
 abbrev entries_at : List Node → List Entry
@@ -45,21 +45,43 @@ positive_later e newer new positive node some = by_test (e.node == node) refl
         let is = positive node more in
         rw here at is
 
-kept_first : (e : Node) (newer : List Node) → Positive (e ∷ newer) → Kept (entries_at newer) → Kept (entries_at (e ∷ newer))
-kept_first e newer positive kept =
-    (ap (λ ns. total ns e.node) (sym (same_nodes (e ∷ newer))), λ some. let is = positive e.node some in rw (same_node e.node) at is, kept)
+-- nothing is due where nothing is held, and so it is without the first
+abbrev Over : List Node → Type 0
+Over nodes = (node : ℕ) → held_of node nodes ≡ 0 → due_of node nodes ≡ 0
 
-kept_under : (known : ℕ → Bool) (nodes : List Node) → AreUnder known (places nodes) → Positive nodes → Kept (entries_at nodes)
-kept_under known [] under positive = tt
-kept_under known (e ∷ newer) under positive =
+due_absent : (node : ℕ) (nodes : List Node) → IsNew node (places nodes) → due_of node nodes ≡ 0
+due_absent node [] new = refl
+due_absent node (e ∷ newer) new = rw (other_node e.node node new.0) (due_absent node newer new.1)
+
+over_later : (e : Node) (newer : List Node) → IsNew e.node (places newer) → Over (e ∷ newer) → Over newer
+over_later e newer new over node none = by_test (e.node == node) refl
+  where
+    by_test : (b : Bool) → (e.node == node) ≡ b → due_of node newer ≡ 0
+    by_test true here = ap (λ k. due_of k newer) (sym (true_node e.node node here)) ∙ due_absent e.node newer new
+    by_test false here =
+        let still : held_of node (e ∷ newer) ≡ 0 = rw here none in
+        let is = over node still in
+        rw here at is
+
+kept_first : (e : Node) (newer : List Node) → Positive (e ∷ newer) → Over (e ∷ newer) → Kept (entries_at newer) → Kept (entries_at (e ∷ newer))
+kept_first e newer positive over kept = (
+  ap (λ ns. total ns e.node) (sym (same_nodes (e ∷ newer))),
+  λ some. let is = positive e.node some in rw (same_node e.node) at is,
+  λ none. let first : held_of e.node (e ∷ newer) ≡ 0 = rw (same_node e.node) none in let is = over e.node first in rw (same_node e.node) at is,
+  kept,
+)
+
+kept_under : (known : ℕ → Bool) (nodes : List Node) → AreUnder known (places nodes) → Positive nodes → Over nodes → Kept (entries_at nodes)
+kept_under known [] under positive over = tt
+kept_under known (e ∷ newer) under positive over =
     let seen : ℕ → Bool = λ k. (e.node == k) || known k in
-    kept_first e newer positive (kept_under seen newer under.2 (positive_later e newer under.1 positive))
+    kept_first e newer positive over (kept_under seen newer under.2 (positive_later e newer under.1 positive) (over_later e newer under.1 over))
 
 kept_at : (nodes : List Node) → AreNodes nodes → Kept (entries_at nodes)
 kept_at [] are = tt
 kept_at (e ∷ newer) are =
     let known : ℕ → Bool = λ k. e.node == k in
-    kept_first e newer are.positive (kept_under known newer are.tree.3 (positive_later e newer are.tree.2 are.positive))
+    kept_first e newer are.positive are.over (kept_under known newer are.tree.3 (positive_later e newer are.tree.2 are.positive) (over_later e newer are.tree.2 are.over))
 
 -- the total of the top among entries
 abbrev first_total_of : List Entry → ℕ
@@ -75,13 +97,13 @@ grown es ys count tree apart sums tree' apart' sums' most =
     let before = top_total es tree apart sums in
     let after = top_total ys tree' apart' sums' in
     record {
-      nodes = record { tree = tree'; positive = λ node some. holds_nothing node ys apart' sums' some };
+      nodes = record { tree = tree'; positive = λ node some. holds_nothing node ys apart' sums' some; over = λ node none. nothing_due node ys sums' none };
       most = omega (arith, before, after, most);
     }
 
 most_after : (c : Change) (es : List Entry) → Distinct es → AddUp es → first_total_of (walked c es).entries ≤ first_total_of es + most_raised c.kind
 most_after c [] apart sums = omega arith
-most_after c (e ∷ newer) apart sums = (few_after c (walked c newer).walk e newer (walked c newer).entries (walk_settles c newer apart.1 sums.2) apart sums).0
+most_after c (e ∷ newer) apart sums = (few_after c (walked c newer).walk e newer (walked c newer).entries (walk_settles c newer apart.1 sums.3) apart sums).0
 
 map_push : (node parent : ℕ) (es : List Entry) → map node_of (es ++ new_entry node parent ∷ []) ≡ map node_of es ++ new_node node parent ∷ []
 map_push node parent [] = refl
@@ -132,11 +154,15 @@ module _ (nodes : List Node) (are : AreNodes nodes) where
       subst H (same_nodes nodes) (subst G (map_push node parent es) grows)
 
 top_alone : AreNodes (top ∷ [])
-top_alone = record { tree = (refl, refl, tt, tt); positive = λ node some. nothing node (0 == node) refl }
+top_alone = record { tree = (refl, refl, tt, tt); positive = λ node some. nothing node (0 == node) refl; over = λ node none. due node (0 == node) refl }
   where
     nothing : (node : ℕ) (b : Bool) → (0 == node) ≡ b → held_of node (top ∷ []) ≡ 0
     nothing node true here = rw here refl
     nothing node false here = rw here refl
+
+    due : (node : ℕ) (b : Bool) → (0 == node) ≡ b → due_of node (top ∷ []) ≡ 0
+    due node true here = rw here refl
+    due node false here = rw here refl
 
 pub nodes_grow : NodesGrow
 nodes_grow = (

@@ -7,10 +7,10 @@ use Rattle.uvm_objection.specs.declared.nodes.ChangeKind.{ChangeKind}
 use Rattle.uvm_objection.specs.declared.nodes.ChangeKind.TheVariants.{Raise, Drop, Release, SetDrain}
 use Rattle.uvm_objection.specs.declared.walks.Walk.{Walk}
 use Rattle.uvm_objection.specs.declared.objections.Objection.TheInside.{Inside}
-use Rattle.uvm_objection.specs.Nodes.{Node, held_of, changed_at}
+use Rattle.uvm_objection.specs.Nodes.{Node, held_of, due_of, changed_at}
 use Rattle.uvm_objection.specs.Totals.{total, settled, settled_node, drains_begun, drains_ended}
 use Rattle.uvm_objection.specs.Laws.{IsTree, AreNodes}
-use Rattle.uvm_objection.specs.Changes.{source_changed, held_changed, drain_changed, entry_changed, node_changed, nodes_changed, most_raised, IsWithin, IsTimely, IsSteady, TellsOf}
+use Rattle.uvm_objection.specs.Changes.{source_changed, held_changed, due_changed, drain_changed, entry_changed, node_changed, nodes_changed, most_raised, IsWithin, IsTimely, IsSteady, TellsOf}
 use Rattle.uvm_objection.specs.Walks.{walked, CanWalk}
 use Rattle.uvm_objection.specs.Kept.{node_of, Kept, Fits, IsObjection}
 use Rattle.uvm_objection.proofs.Passed.{is_under, passed, when, AddUp}
@@ -26,7 +26,7 @@ abbrev pub nodes_of : Inside → List Node
 nodes_of o = map node_of (entries_of o)
 
 -- the nodes of the entries with a change
-one_changed : (b : Bool) (kind : ChangeKind) (e : Entry) → let f : Entry = record e { source = if b then source_changed kind e.source else e.source; held = if b then held_changed kind e.held else e.held; drain = if b then drain_changed kind e.drain else e.drain } in node_of f ≡ (if b then node_changed kind (node_of e) else node_of e)
+one_changed : (b : Bool) (kind : ChangeKind) (e : Entry) → let f : Entry = record e { source = if b then source_changed kind e.source else e.source; held = if b then held_changed kind e.held else e.held; due = if b then due_changed kind e.due else e.due; drain = if b then drain_changed kind e.drain else e.drain } in node_of f ≡ (if b then node_changed kind (node_of e) else node_of e)
 one_changed true (Raise count) e = refl
 one_changed true (Drop count) e = refl
 one_changed true Release e = refl
@@ -50,12 +50,22 @@ holds_test node e newer false here agrees kept some rest = let later = rw here a
 pub holds_nothing : (node : ℕ) (es : List Entry) → Distinct es → AddUp es → 0 < total (map node_of es) node → held_of node (map node_of es) ≡ 0
 holds_nothing node [] apart kept some = refl
 holds_nothing node (e ∷ newer) apart kept some =
-    holds_test node e newer (e.node == node) refl (agree newer apart.1 kept.2) kept some (holds_nothing node newer apart.1 kept.2)
+    holds_test node e newer (e.node == node) refl (agree newer apart.1 kept.3) kept some (holds_nothing node newer apart.1 kept.3)
+
+-- and nothing is due where nothing is held
+over_test : (node : ℕ) (e : Entry) (newer : List Entry) (b : Bool) → (e.node == node) ≡ b → AddUp (e ∷ newer) → held_of node (map node_of (e ∷ newer)) ≡ 0 → (held_of node (map node_of newer) ≡ 0 → due_of node (map node_of newer) ≡ 0) → due_of node (map node_of (e ∷ newer)) ≡ 0
+over_test node e newer true here kept none rest = let own = rw here at none in rw here (kept.2 own)
+over_test node e newer false here kept none rest = let later = rw here at none in rw here (rest later)
+
+pub nothing_due : (node : ℕ) (es : List Entry) → AddUp es → held_of node (map node_of es) ≡ 0 → due_of node (map node_of es) ≡ 0
+nothing_due node [] kept none = refl
+nothing_due node (e ∷ newer) kept none = over_test node e newer (e.node == node) refl kept none (nothing_due node newer kept.3)
 
 pub are_nodes : (o : Inside) → IsObjection o → AreNodes (nodes_of o)
 are_nodes o keeps = record {
   tree = keeps.tree;
   positive = λ node some. let apart = distinct_of (entries_of o) keeps.tree in holds_nothing node (entries_of o) apart (add_up (entries_of o) apart keeps.kept) some;
+  over = λ node none. nothing_due node (entries_of o) (add_up (entries_of o) (distinct_of (entries_of o) keeps.tree) keeps.kept) none;
 }
 
 -- a raise lets nothing fall, so that its time does not matter
@@ -87,12 +97,12 @@ room Release t low within = omega arith
 room (SetDrain drain) t low within = omega arith
 
 -- a change that changes no total leaves what is settled
-steady_one : (b : Bool) (kind : ChangeKind) (n : ℕ) → IsSteady kind → ((if b then source_changed kind n else n) ≡ n) × ((if b then held_changed kind n else n) ≡ n)
-steady_one true (Raise count) n steady = (omega arith, refl)
-steady_one true (Drop count) n steady = (omega arith, refl)
+steady_one : (b : Bool) (kind : ChangeKind) (n : ℕ) → IsSteady kind → ((if b then source_changed kind n else n) ≡ n) × ((if b then held_changed kind n else n) ≡ n) × ((if b then due_changed kind n else n) ≡ n)
+steady_one true (Raise count) n steady = (omega arith, refl, refl)
+steady_one true (Drop count) n steady = (omega arith, refl, refl)
 steady_one true Release n steady = absurd steady
-steady_one true (SetDrain drain) n steady = (refl, refl)
-steady_one false kind n steady = (refl, refl)
+steady_one true (SetDrain drain) n steady = (refl, refl, refl)
+steady_one false kind n steady = (refl, refl, refl)
 
 steady_rises : (node : ℕ) (kind : ChangeKind) (time : ℕ) → IsSteady kind → let c : Change = record { node = node; kind = kind; time = time } in Rises c
 steady_rises node kind time steady b n = let same = (steady_one b kind n steady).0 in (omega (arith, same), (steady_one b kind n steady).1)
@@ -134,9 +144,10 @@ kept_changed c steady [] kept = tt
 kept_changed c steady (e ∷ newer) kept =
     let source = (steady_one (c.node == e.node) c.kind e.source steady).0 in
     let held = (steady_one (c.node == e.node) c.kind e.held steady).1 in
+    let due = (steady_one (c.node == e.node) c.kind e.due steady).2 in
     let below = passed_changed c steady newer e.node in
     let is = kept.0 in
-    (omega (arith, source, below, is), λ some. held ∙ kept.1 some, kept_changed c steady newer kept.2)
+    (omega (arith, source, below, is), λ some. held ∙ kept.1 some, λ none. due ∙ kept.2 (sym held ∙ none), kept_changed c steady newer kept.3)
 
 differs_changed : (c : Change) (k : ℕ) (es : List Entry) → Differs k es → Differs k (map (entry_changed c) es)
 differs_changed c k [] apart = tt
@@ -155,10 +166,10 @@ settled_kept time before [] apart kept were = refl
 settled_kept time before (e ∷ newer) apart kept were =
     let n = node_of e in
     let below = map node_of newer in
-    ap (λ ns. settled_node time (before e.node) (total (n ∷ ns) e.node) n ∷ ns) (settled_kept time before newer apart.1 kept.2 were.1)
+    ap (λ ns. settled_node time (before e.node) (total (n ∷ ns) e.node) n ∷ ns) (settled_kept time before newer apart.1 kept.3 were.1)
     ∙ ap (λ t. settled_node time t (total (n ∷ below) e.node) n ∷ below) were.0
-    ∙ ap (λ t. settled_node time e.total t n ∷ below) (first_total e newer (agree newer apart.1 kept.2) ∙ sym kept.0)
-    ∙ ap (λ f. node_of f ∷ below) (entry_same time e kept.1)
+    ∙ ap (λ t. settled_node time e.total t n ∷ below) (first_total e newer (agree newer apart.1 kept.3) ∙ sym kept.0)
+    ∙ ap (λ f. node_of f ∷ below) (entry_same time e kept.1 kept.2)
 
 pub settled_steady : (c : Change) → IsSteady c.kind → (before : ℕ → ℕ) (es : List Entry) → Distinct es → AddUp es → Before before es → settled c.time before (nodes_changed c.node c.kind (map node_of es)) ≡ nodes_changed c.node c.kind (map node_of es)
 settled_steady c steady before es apart sums were =

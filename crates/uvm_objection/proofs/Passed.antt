@@ -17,7 +17,8 @@ abbrev pub passed : List Entry → ℕ → ℕ
 passed [] node = 0
 passed (e ∷ newer) node = when (is_under e node) (e.total + e.held) + passed newer node
 
--- each total is the source with what is passed up to it, and where it is positive nothing is held
+-- each total is the source with what is passed up to it, where it is positive nothing is held, and nothing is due where
+-- nothing is held
 abbrev pub AddUp : List Entry → Type 0
 AddUp [] = Unit {0}
-AddUp (e ∷ newer) = (e.total ≡ e.source + passed newer e.node) × (0 < e.total → e.held ≡ 0) × AddUp newer
+AddUp (e ∷ newer) = (e.total ≡ e.source + passed newer e.node) × (0 < e.total → e.held ≡ 0) × (e.held ≡ 0 → e.due ≡ 0) × AddUp newer

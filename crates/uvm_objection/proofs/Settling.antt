@@ -9,7 +9,7 @@ use Rattle.uvm_objection.specs.declared.nodes.Entry.{Entry}
 use Rattle.uvm_objection.specs.declared.walks.Walk.{Walk}
 use Rattle.uvm_objection.specs.Nodes.{Node}
 use Rattle.uvm_objection.specs.Totals.{total, settled, settled_node, held_after, due_after, begins}
-use Rattle.uvm_objection.specs.Changes.{source_changed, held_changed, drain_changed, entry_changed, most_raised, IsWithin}
+use Rattle.uvm_objection.specs.Changes.{source_changed, held_changed, due_changed, drain_changed, entry_changed, most_raised, IsWithin}
 use Rattle.uvm_objection.specs.Walks.{start_of, walked, entry_after, entry_next, walk_after, walk_next, entry_settled, is_at, is_at_node, CanStep, CanWalk}
 use Rattle.uvm_objection.specs.Kept.{node_of, Fits}
 use Rattle.uvm_objection.proofs.Passed.{passed, when, AddUp}
@@ -79,17 +79,37 @@ pub held_same : (t d h : ℕ) → (0 < t → h ≡ 0) → held_after t t d h ≡
 held_same zero d h good = refl
 held_same (suc t) d h good = rw (positive (suc t) (omega arith)) (sym (good (omega arith)))
 
-due_same : (time t d u : ℕ) → due_after time t t d u ≡ u
-due_same time t d u = rw (begins_same t d) refl
+due_same : (time t d u : ℕ) → (0 < t → u ≡ 0) → due_after time t t d u ≡ u
+due_same time zero d u none = refl
+due_same time (suc t) d u none = rw (positive (suc t) (omega arith)) (sym (none (omega arith)))
 
-pub entry_same : (time : ℕ) (e : Entry) → (0 < e.total → e.held ≡ 0) → entry_settled time e.total e ≡ e
-entry_same time e good =
+pub entry_same : (time : ℕ) (e : Entry) → (0 < e.total → e.held ≡ 0) → (e.held ≡ 0 → e.due ≡ 0) → entry_settled time e.total e ≡ e
+entry_same time e good over =
     ap (λ h. let f : Entry = record e { held = h; due = due_after time e.total e.total e.drain e.due } in f) (held_same e.total e.drain e.held good)
-    ∙ ap (λ u. let f : Entry = record e { due = u } in f) (due_same time e.total e.drain e.due)
+    ∙ ap (λ u. let f : Entry = record e { due = u } in f) (due_same time e.total e.drain e.due (λ some. over (good some)))
 
 -- what has a total holds nothing
 pub held_none : (t s d h : ℕ) → 0 < s → held_after t s d h ≡ 0
 held_none t s d h some = rw (positive s some) refl
+
+-- nothing is due where nothing is held
+over_changed : (b : Bool) (kind : ChangeKind) (h u : ℕ) → (h ≡ 0 → u ≡ 0) → (if b then held_changed kind h else h) ≡ 0 → (if b then due_changed kind u else u) ≡ 0
+over_changed true (Raise count) h u over none = over none
+over_changed true (Drop count) h u over none = over none
+over_changed true Release h u over none = refl
+over_changed true (SetDrain drain) h u over none = over none
+over_changed false kind h u over none = over none
+
+begins_some : (t s d : ℕ) → begins t s d ≡ true → 0 < t
+begins_some t s d is = grind (arith, nat_tests)
+
+over_after : (time t s d h u : ℕ) → (h ≡ 0 → u ≡ 0) → held_after t s d h ≡ 0 → due_after time t s d u ≡ 0
+over_after time t s d h u over = by_test (nat_lt 0 s) (begins t s d) (begins_some t s d)
+  where
+    by_test : (b c : Bool) → (c ≡ true → 0 < t) → (if b then 0 else (if c then t else h)) ≡ 0 → (if b then 0 else (if c then time + d else u)) ≡ 0
+    by_test true c some none = refl
+    by_test false true some none = let there = some refl in absurd (omega (arith, there, none))
+    by_test false false some none = over none
 
 -- no more goes up than came
 held_or : (t h : ℕ) (b : Bool) → (if b then t else h) ≤ t + h
@@ -179,7 +199,7 @@ module _ (c : Change) (w : Walk) (e : Entry) (newer ys : List Entry) (so_far : I
       let sum = rw at at here.sum in
       let is = was.0 in
       let total : e.total ≡ e.source + passed ys e.node = omega (arith, is, sum) in
-      sym (entry_same c.time e was.1)
+      sym (entry_same c.time e was.1 was.2)
       ∙ ap (λ t. entry_settled c.time t e) total
       ∙ ap (λ g. entry_settled c.time (g.source + passed ys e.node) g) (sym (same_entry c e (other at)))
 
@@ -257,7 +277,7 @@ module _ (c : Change) (w : Walk) (e : Entry) (newer ys : List Entry) (so_far : I
     waits = waits_here b at;
     near = near_here b;
     rises = rises_here b;
-    kept = (refl, held_none e.total own f.drain f.held, so_far.kept);
+    kept = (refl, held_none e.total own f.drain f.held, over_after c.time e.total own f.drain f.held f.due (over_changed (c.node == e.node) c.kind e.held e.due was.2), so_far.kept);
     apart = λ k differ. (differ.0, so_far.apart k differ.1);
     distinct = (so_far.apart e.node apart.0, so_far.distinct);
     places = ap (λ ps. (e.node, e.parent) ∷ ps) so_far.places;
@@ -328,12 +348,12 @@ walk_settles c [] apart was = record {
     none_low true = omega arith
     none_low false = omega arith
 walk_settles c (e ∷ newer) apart was =
-    step_settled c (walked c newer).walk e newer (walked c newer).entries (walk_settles c newer apart.1 was.2) apart was
+    step_settled c (walked c newer).walk e newer (walked c newer).entries (walk_settles c newer apart.1 was.3) apart was
 
 -- and its numbers fit
 pub walk_can : (c : Change) (es : List Entry) → Distinct es → AddUp es → (t : ℕ) → IsWithin c.kind t → (m : ℕ) → m + most_raised c.kind ≤ 10 ^ 18 → Under m es → Fits es → c.time ≤ 10 ^ 18 → CanWalk c es
 walk_can c [] apart was t within m limit under fits early = tt
 walk_can c (e ∷ newer) apart was t within m limit under fits early = (
-  walk_can c newer apart.1 was.2 t within m limit under.1 fits.3 early,
-  can_here c (walked c newer).walk e newer (walked c newer).entries (walk_settles c newer apart.1 was.2) apart was t within m limit under fits early,
+  walk_can c newer apart.1 was.3 t within m limit under.1 fits.3 early,
+  can_here c (walked c newer).walk e newer (walked c newer).entries (walk_settles c newer apart.1 was.3) apart was t within m limit under fits early,
 )

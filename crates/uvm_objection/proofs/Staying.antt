@@ -33,7 +33,7 @@ places_stay = record {
   settled = settled_stay;
   raised = λ node count nodes. changed_stay node (λ e. record e { source = e.source + count }) (λ n. refl) nodes;
   dropped = λ node count nodes. changed_stay node (λ e. record e { source = e.source - count }) (λ n. refl) nodes;
-  released = λ node nodes. changed_stay node (λ e. record e { held = 0 }) (λ n. refl) nodes;
+  released = λ node nodes. changed_stay node (λ e. record e { held = 0; due = 0 }) (λ n. refl) nodes;
   with_drain = λ node drain nodes. changed_stay node (λ e. record e { drain = drain }) (λ n. refl) nodes;
   known = λ node nodes others same. known_at node others ∙ ap (list_any (λ (p : ℕ × Option ℕ). p.0 == node)) same ∙ sym (known_at node nodes);
 }

@@ -40,16 +40,16 @@ first_total e newer agree = own_total (node_of e) (map node_of newer) ∙ ap (λ
 pub agree : (es : List Entry) → Distinct es → AddUp es → Agree (map node_of es) es
 agree [] apart kept = tt
 agree (e ∷ newer) apart kept =
-    let rest = agree newer apart.1 kept.2 in
+    let rest = agree newer apart.1 kept.3 in
     (first_total e newer rest ∙ sym kept.0, agree_later (node_of e) (map node_of newer) newer apart.0 rest)
 
 -- the totals that are kept add up, and totals that add up are those from scratch
 pub add_up : (es : List Entry) → Distinct es → Kept es → AddUp es
 add_up [] apart kept = tt
 add_up (e ∷ newer) apart kept =
-    let rest = add_up newer apart.1 kept.2 in
-    (kept.0 ∙ first_total e newer (agree newer apart.1 rest), kept.1, rest)
+    let rest = add_up newer apart.1 kept.3 in
+    (kept.0 ∙ first_total e newer (agree newer apart.1 rest), kept.1, kept.2, rest)
 
 pub kept_of : (es : List Entry) → Distinct es → AddUp es → Kept es
 kept_of [] apart sums = tt
-kept_of (e ∷ newer) apart sums = (sums.0 ∙ sym (first_total e newer (agree newer apart.1 sums.2)), sums.1, kept_of newer apart.1 sums.2)
+kept_of (e ∷ newer) apart sums = (sums.0 ∙ sym (first_total e newer (agree newer apart.1 sums.3)), sums.1, sums.2, kept_of newer apart.1 sums.3)

@@ -71,7 +71,7 @@ under_from known m (e ∷ newer) low under kept =
     let both : e.total + e.held ≤ m = own_part e.parent known (e.total + e.held) m (passed newer) under.0 low in
     let is = kept.0 in
     let seen : ℕ → Bool = λ node. (e.node == node) || known node in
-    (omega (arith, both), under_from seen m newer (λ k h. seen_low e newer known m k (e.node == k) refl h (omega (arith, both, is)) (low k)) under.2 kept.2)
+    (omega (arith, both), under_from seen m newer (λ k h. seen_low e newer known m k (e.node == k) refl h (omega (arith, both, is)) (low k)) under.2 kept.3)
 
 pub under_top : (e : Entry) (newer : List Entry) → IsTree (shape (e ∷ newer)) → AddUp (e ∷ newer) → Under e.total (e ∷ newer)
 under_top e newer tree kept =
@@ -79,4 +79,4 @@ under_top e newer tree kept =
     let seen : ℕ → Bool = λ node. e.node == node in
     let Low : ℕ → Type 0 = λ n. passed newer n ≤ e.total in
     let own : passed newer e.node ≤ e.total = omega (arith, is) in
-    (omega arith, under_from seen e.total newer (λ k h. subst Low (true_node e.node k h) own) tree.3 kept.2)
+    (omega arith, under_from seen e.total newer (λ k h. subst Low (true_node e.node k h) own) tree.3 kept.3)

@@ -7,7 +7,7 @@ use Rattle.uvm_objection.specs.declared.nodes.Change.{Change}
 use Rattle.uvm_objection.specs.declared.nodes.ChangeKind.{ChangeKind}
 use Rattle.uvm_objection.specs.declared.nodes.ChangeKind.TheVariants.{Raise, Drop, Release, SetDrain}
 
--- what a change makes of a source, of what is held, and of a drain time
+-- what a change makes of a source, of what is held, of when its drain is due, and of a drain time
 abbrev pub source_changed : ChangeKind → ℕ → ℕ
 source_changed (Raise count) source = source + count
 source_changed (Drop count) source = source - count
@@ -20,6 +20,12 @@ held_changed (Drop count) held = held
 held_changed Release held = 0
 held_changed (SetDrain drain) held = held
 
+abbrev pub due_changed : ChangeKind → ℕ → ℕ
+due_changed (Raise count) due = due
+due_changed (Drop count) due = due
+due_changed Release due = 0
+due_changed (SetDrain drain) due = due
+
 abbrev pub drain_changed : ChangeKind → ℕ → ℕ
 drain_changed (Raise count) drain = drain
 drain_changed (Drop count) drain = drain
@@ -31,6 +37,7 @@ abbrev pub entry_changed : Change → Entry → Entry
 entry_changed c e = record e {
   source = if c.node == e.node then source_changed c.kind e.source else e.source;
   held = if c.node == e.node then held_changed c.kind e.held else e.held;
+  due = if c.node == e.node then due_changed c.kind e.due else e.due;
   drain = if c.node == e.node then drain_changed c.kind e.drain else e.drain;
 }
 
@@ -38,7 +45,7 @@ entry_changed c e = record e {
 abbrev pub node_changed : ChangeKind → Node → Node
 node_changed (Raise count) e = record e { source = e.source + count }
 node_changed (Drop count) e = record e { source = e.source - count }
-node_changed Release e = record e { held = 0 }
+node_changed Release e = record e { held = 0; due = 0 }
 node_changed (SetDrain drain) e = record e { drain = drain }
 
 abbrev pub nodes_changed : ℕ → ChangeKind → List Node → List Node

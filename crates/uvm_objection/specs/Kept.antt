@@ -10,10 +10,10 @@ use Rattle.uvm_objection.specs.declared.objections.Objection.TheInside.{Inside}
 abbrev pub node_of : Entry → Node
 node_of e = record { node = e.node; parent = e.parent; source = e.source; drain = e.drain; held = e.held; due = e.due }
 
--- each total is that from scratch, and where it is positive nothing is held
+-- each total is that from scratch, where it is positive nothing is held, and nothing is due where nothing is held
 abbrev pub Kept : List Entry → Type 0
 Kept [] = Unit {0}
-Kept (e ∷ newer) = (e.total ≡ total (map node_of (e ∷ newer)) e.node) × (0 < e.total → e.held ≡ 0) × Kept newer
+Kept (e ∷ newer) = (e.total ≡ total (map node_of (e ∷ newer)) e.node) × (0 < e.total → e.held ≡ 0) × (e.held ≡ 0 → e.due ≡ 0) × Kept newer
 
 -- the bounds of what is kept
 abbrev pub Fits : List Entry → Type 0

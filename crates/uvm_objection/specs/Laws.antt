@@ -24,11 +24,12 @@ abbrev pub IsTree : List (ℕ × Option ℕ) → Type 0
 IsTree [] = ⊥
 IsTree (p ∷ ps) = (p.0 ≡ 0) × (p.1 ≡ None) × IsNew p.0 ps × AreUnder (λ node. p.0 == node) ps
 
--- these are the nodes of an objection: the top stands first, each other node once and behind its parent, and a node with a
--- positive total holds nothing
+-- these are the nodes of an objection: the top stands first, each other node once and behind its parent, a node with a
+-- positive total holds nothing, and nothing is due where nothing is held
 pub record AreNodes (nodes : List Node) : Type 0 where
   pub tree : IsTree (places nodes)
   pub positive : (node : ℕ) → 0 < total nodes node → held_of node nodes ≡ 0
+  pub over : (node : ℕ) → held_of node nodes ≡ 0 → due_of node nodes ≡ 0
 
 -- a node with a positive total holds nothing
 abbrev pub PositiveTotalHoldsNothing : Type 0

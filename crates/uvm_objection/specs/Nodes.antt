@@ -4,7 +4,7 @@ use Rattle.std.specs.List.{list_any}
 use Rattle.std.specs.Option.{option_map_or}
 
 -- a node: its parent, which the top alone has not, the count raised at it, its drain time, the count that it holds back, and
--- when the drain that began last is due
+-- when its drain is due, 0 where it holds nothing back
 pub record Node : Type 0 where
   pub node : ℕ
   pub parent : Option ℕ
@@ -58,7 +58,7 @@ abbrev pub dropped : ℕ → ℕ → List Node → List Node
 dropped node count nodes = changed_at node (λ e. record e { source = e.source - count }) nodes
 
 abbrev pub released : ℕ → List Node → List Node
-released node nodes = changed_at node (λ e. record e { held = 0 }) nodes
+released node nodes = changed_at node (λ e. record e { held = 0; due = 0 }) nodes
 
 abbrev pub with_drain : ℕ → ℕ → List Node → List Node
 with_drain node drain nodes = changed_at node (λ e. record e { drain = drain }) nodes

@@ -24,7 +24,7 @@ pub(crate) struct Change {
 }
 
 // A node: its parent, which the top alone has not, the count raised at it, its drain time, the count that it holds back,
-// when its last drain is due, and its total.
+// when its drain is due, which is 0 where it holds nothing, and its total.
 #[derive(Clone, Copy)]
 pub(crate) struct Entry {
     pub node: NodeId,
@@ -61,6 +61,7 @@ impl Entry {
         self.total = total;
         if total > 0 {
             self.held = 0;
+            self.due = 0;
         } else if before > 0 && self.drain > 0 {
             self.held = before;
             self.due = time + self.drain;
@@ -78,7 +79,10 @@ impl Entry {
         match change.kind {
             ChangeKind::Raise(count) => self.source += u64::from(count),
             ChangeKind::Drop(count) => self.source = self.source.saturating_sub(u64::from(count)),
-            ChangeKind::Release => self.held = 0,
+            ChangeKind::Release => {
+                self.held = 0;
+                self.due = 0;
+            }
             ChangeKind::SetDrain(drain) => self.drain = drain,
         }
     }

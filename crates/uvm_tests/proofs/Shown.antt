@@ -1,8 +1,7 @@
 -- The tree and the sequences in which lines are shown: `uvm_test_top`, and `a` below it, at which a sequence `a` and its child `b` were started.
 use Rattle.std.specs.Prelude.{ℕ, List, [], ◌∷◌, Some, None, codes}
-use Rattle.uvm_tree.specs.declared.nodes.Node.{Node}
 use Rattle.uvm_tree.specs.declared.nodes.NodeKind.TheVariants.{Component}
-use Rattle.uvm_tree.specs.Nodes.{top}
+use Rattle.uvm_tree.specs.Nodes.{Node, top}
 use Rattle.uvm_sequencer.specs.Sequences.{Start}
 use Rattle.uvm_object.specs.declared.acts.Act.{Act}
 use Rattle.uvm_object.specs.declared.acts.Call.{Call}
@@ -12,7 +11,7 @@ use Rattle.uvm_object.specs.declared.entries.Entry.{Entry}
 use Rattle.uvm_object.specs.declared.entries.Entry.TheVariants.{Did, Heard}
 use Rattle.uvm_object.specs.declared.entries.Outcome.{Outcome}
 use Rattle.uvm_object.specs.declared.entries.Outcome.TheVariants.{Done}
-use Rattle.uvm_object.specs.Lines.{entry_line}
+use Rattle.uvm_lines.specs.Lines.{entry_line}
 
 abbrev pub nodes : List Node
 nodes =

@@ -1,10 +1,9 @@
 -- What ports reach over connections, what is wrong with them, and what may be connected.
 use Rattle.std.proofs.Common.{◌≡◌, ℕ, List, [], ◌∷◌, Some, None, refl}
 use Rattle.std.specs.Prelude.{◌++◌, Option, codes, map}
-use Rattle.uvm_tree.specs.declared.nodes.Node.{Node}
 use Rattle.uvm_tree.specs.declared.nodes.NodeKind.{NodeKind}
 use Rattle.uvm_tree.specs.declared.nodes.NodeKind.TheVariants as node
-use Rattle.uvm_tree.specs.Nodes.{child, path_at, top}
+use Rattle.uvm_tree.specs.Nodes.{Node, child, path_at, top}
 use Rattle.uvm_tree.specs.Sorted.{path_order}
 use Rattle.uvm_tlm.specs.declared.ends.End.{End}
 use Rattle.uvm_tlm.specs.declared.ends.End.TheVariants.{Port, Export, Imp, Fifo, Sequencer}

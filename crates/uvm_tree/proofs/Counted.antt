@@ -7,7 +7,7 @@ use Rattle.std.proofs.lemmas.List.Sums.{sum_by-cons}
 use Rattle.std.proofs.lemmas.List.Sorted.{sum_by-IsPermutation}
 use Rattle.std.specs.declared.cmp.Ordering.{Ordering}
 use Rattle.std.specs.Ordering.{is_lt}
-use Rattle.uvm_tree.specs.declared.nodes.Node.{Node}
+use Rattle.uvm_tree.specs.Nodes.{Node}
 use Rattle.uvm_tree.specs.Cursors.{OrdersNodes}
 use Rattle.uvm_tree.proofs.Ordered.{neither}
 use Rattle.uvm_tree.proofs.Sorted.{Behind, NotAfter, first-of-two}

@@ -11,9 +11,8 @@ use Rattle.uvm_glob.specs.Lists.{first_given}
 use Rattle.uvm_glob.specs.Faults.{fault_if}
 use Rattle.uvm_tree.specs.declared.faults.TreeFault.{TreeFault}
 use Rattle.uvm_tree.specs.declared.faults.TreeFault.TheVariants.{NoParent, NameTaken, TooDeep, Full}
-use Rattle.uvm_tree.specs.declared.nodes.Node.{Node}
 use Rattle.uvm_tree.specs.declared.nodes.NodeKind.{NodeKind}
-use Rattle.uvm_tree.specs.Nodes.{AreNodes, AreSiblingsApart, NodesGrow, add_fault, child, is_child, is_named, most_nodes, node_at, path_at, top, under_at}
+use Rattle.uvm_tree.specs.Nodes.{Node, AreNodes, AreSiblingsApart, NodesGrow, add_fault, child, is_child, is_named, most_nodes, node_at, path_at, top, under_at}
 
 -- the nodes before one more are what they were
 before : (nodes : List Node) (x : Node) (id : ℕ) → id < length nodes → node_at (nodes ++ x ∷ []) id ≡ node_at nodes id

@@ -14,11 +14,10 @@ use Rattle.std.specs.Cmp.Lexicographic.{slice_cmp, options_total}
 use Rattle.std.specs.List.{range_with_len}
 use Rattle.std.specs.Option.{option_cmp, option_map_or, option_or}
 use Rattle.std.specs.Ordering.{is_lt, nat_cmp, ordering_reverse}
-use Rattle.uvm_tree.specs.declared.nodes.Node.{Node}
 use Rattle.uvm_tree.specs.ChildCursors.{CursorValue, children_left, is_left, is_named_after, seen}
 use Rattle.uvm_tree.specs.Children.{ChildrenValue, GivesNextChild, all_children, children_of, is_under, is_named_before, name_at, own_name}
 use Rattle.uvm_tree.specs.Cursors.{IsLeast, LeastIsLeast, least, numbers_of}
-use Rattle.uvm_tree.specs.Nodes.{AreNodes, node_at, parent_of}
+use Rattle.uvm_tree.specs.Nodes.{Node, AreNodes, node_at, parent_of}
 use Rattle.uvm_tree.proofs.Grown.{within, siblings}
 
 -- a filter of a filter

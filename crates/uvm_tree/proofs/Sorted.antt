@@ -12,8 +12,7 @@ use Rattle.std.proofs.lemmas.Cmp.{on_total}
 use Rattle.uvm_glob.specs.declared.orders.Direction.{Direction}
 use Rattle.uvm_glob.specs.declared.orders.Direction.TheVariants.{Down}
 use Rattle.uvm_glob.specs.Orders.{order_of, down_cmp}
-use Rattle.uvm_tree.specs.declared.nodes.Node.{Node}
-use Rattle.uvm_tree.specs.Nodes.{path_at}
+use Rattle.uvm_tree.specs.Nodes.{Node, path_at}
 use Rattle.uvm_tree.specs.Cursors.{is_before, node_cmp, numbers_of}
 use Rattle.uvm_tree.specs.Sorted.{inserted, path_order, PathOrderIsInOrder}
 

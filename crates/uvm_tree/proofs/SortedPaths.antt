@@ -10,8 +10,7 @@ use Rattle.std.specs.List.Sorted.{IsSortedBy}
 use Rattle.uvm_glob.specs.declared.orders.Direction.{Direction}
 use Rattle.uvm_glob.specs.declared.orders.Direction.TheVariants.{Down}
 use Rattle.uvm_glob.specs.Orders.{order_of, down_cmp}
-use Rattle.uvm_tree.specs.declared.nodes.Node.{Node}
-use Rattle.uvm_tree.specs.Nodes.{AreNodes, path_at, top}
+use Rattle.uvm_tree.specs.Nodes.{Node, AreNodes, path_at, top}
 use Rattle.uvm_tree.specs.Cursors.{is_before, node_cmp, numbers_of}
 use Rattle.uvm_tree.specs.Sorted.{path_order}
 use Rattle.uvm_tree.proofs.Counted.{one-order}

@@ -1,6 +1,6 @@
 -- How the children of a node are gone through: behind the last one given, in the order of their names.
 use Rattle.std.specs.Prelude.{ℕ, Bool, true, ◌&&◌, List, filter, Option, Some, None}
-use Rattle.uvm_tree.specs.declared.nodes.Node.{Node}
+use Rattle.uvm_tree.specs.Nodes.{Node}
 use Rattle.uvm_tree.specs.Children.{ChildrenValue, is_named_before, is_under}
 use Rattle.uvm_tree.specs.Cursors.{numbers_of}
 

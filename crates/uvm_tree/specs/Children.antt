@@ -3,8 +3,7 @@ use Rattle.std.specs.Prelude.{◌≡◌, ℕ, Bool, false, not, ◌==◌, List, 
 use Rattle.std.specs.Option.{option_map_or, option_cmp, option_to_list}
 use Rattle.std.specs.Ordering.{is_lt, nat_cmp}
 use Rattle.std.specs.Cmp.Lexicographic.{slice_cmp}
-use Rattle.uvm_tree.specs.declared.nodes.Node.{Node}
-use Rattle.uvm_tree.specs.Nodes.{node_at, parent_of}
+use Rattle.uvm_tree.specs.Nodes.{Node, node_at, parent_of}
 use Rattle.uvm_tree.specs.Cursors.{IsLeast, numbers_of}
 
 -- the nodes of a tree, and the children that are left to give, by their numbers

@@ -7,8 +7,7 @@ use Rattle.std.specs.Ordering.{is_lt}
 use Rattle.std.specs.List.{range_with_len}
 use Rattle.uvm_glob.specs.declared.orders.Direction.{Direction}
 use Rattle.uvm_glob.specs.Orders.{PathOrder, order_of}
-use Rattle.uvm_tree.specs.declared.nodes.Node.{Node}
-use Rattle.uvm_tree.specs.Nodes.{AreNodes, node_at, path_at}
+use Rattle.uvm_tree.specs.Nodes.{Node, AreNodes, node_at, path_at}
 
 -- whether a node stands before another
 abbrev pub is_before : PathOrder → List Node → ℕ → ℕ → Bool

@@ -2,7 +2,7 @@
 use Rattle.std.specs.Prelude.{◌≡◌, ℕ, Bool, false, List, [], fold, insert, IsPermutation, AllPairs}
 use Rattle.std.specs.List.{position_or_len}
 use Rattle.uvm_glob.specs.Orders.{down_cmp}
-use Rattle.uvm_tree.specs.declared.nodes.Node.{Node}
+use Rattle.uvm_tree.specs.Nodes.{Node}
 use Rattle.uvm_tree.specs.Cursors.{is_before, numbers_of}
 
 -- with one more number, in front of the first that it stands before

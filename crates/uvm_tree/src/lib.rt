@@ -11,5 +11,5 @@ mod trees;
 
 pub use children::Children;
 pub use faults::TreeFault;
-pub use nodes::{Node, NodeId, NodeKind};
+pub use nodes::{NodeId, NodeKind};
 pub use trees::Tree;

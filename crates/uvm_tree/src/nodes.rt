@@ -1,7 +1,7 @@
 //! What a node is.
 
 ghost use Rattle.std.specs.Prelude.{◌≡◌};
-ghost use Rattle.uvm_tree.specs.Nodes.{is_child};
+ghost use Rattle.uvm_tree.specs.Nodes.{is_child, is_path};
 
 use std::marker::Model;
 use uvm_glob::{Name, Path};
@@ -57,18 +57,30 @@ impl NodeId {
     }
 }
 
-/// A node of a tree.
+// What is kept of a node: its parent and its name under it, which the top alone has not, its path, and what stands there.
 #[derive(Drop)]
-pub struct Node {
-    /// Its parent, and its name under it; the top alone has none.
+pub(crate) struct KeptNode {
     pub under: Option<(NodeId, Name)>,
-    /// Its path: the names from below the top down to it.
     pub path: Path,
-    /// What stands there.
     pub kind: NodeKind,
 }
 
-impl Node {
+impl Model for KeptNode {
+    ghost use Rattle.uvm_tree.specs.Nodes.{Node};
+
+    ghost Value = { Node };
+
+    ghost view = { λ node. record { under = node.under; path = node.path; kind = node.kind } };
+}
+
+impl KeptNode {
+    // Whether it is the node at a path.
+    pub(crate) fn is_at(&self, path: &Path) -> bool
+        ensures { result ≡ is_path self.now.path path.now }
+    {
+        self.path == *path
+    }
+
     // Whether this is the child of a name.
     pub(crate) fn is_child(&self, parent: NodeId, name: &Name) -> bool
         ensures { result ≡ is_child parent name.now self.now }

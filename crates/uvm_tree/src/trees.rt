@@ -4,11 +4,10 @@ ghost use Rattle.std.specs.Prelude.{◌≡◌, ◌≢◌, ◌∷◌, ◌++◌, �
 ghost use Rattle.std.specs.List.{list_any};
 ghost use Rattle.std.specs.Option.{option_copied, ForSome};
 ghost use Rattle.uvm_glob.specs.Paths.{path_fault};
-ghost use Rattle.uvm_tree.specs.declared.nodes.Node.{Node};
-ghost use Rattle.uvm_tree.specs.Nodes.{AreNodes, most_nodes, top, child, path_at, node_at, is_child, is_path, number_at, parent_of, under_at, refusal, add_fault};
+ghost use Rattle.uvm_tree.specs.Nodes.{Node, AreNodes, most_nodes, top, child, path_at, node_at, is_child, is_path, number_at, parent_of, under_at, refusal, add_fault};
 
 use crate::faults::TreeFault;
-use crate::nodes::{Node, NodeId, NodeKind};
+use crate::nodes::{KeptNode, NodeId, NodeKind};
 use std::alloc::{AllocError, Global};
 use std::marker::Model;
 use uvm_glob::{ChildRoom, Name, Path};
@@ -18,9 +17,9 @@ use uvm_glob::{ChildRoom, Name, Path};
 /// that a path is the parent's with the name, and that no two nodes have one path.
 #[derive(Drop)]
 pub struct Tree {
-    top: Node,
+    top: KeptNode,
     // The nodes besides the top, in the order in which they were added.
-    nodes: Vec<Node>,
+    nodes: Vec<KeptNode>,
     room: Option<Room>,
 }
 
@@ -52,7 +51,7 @@ impl Tree {
         ensures { result ≡ record { nodes = top ∷ []; spare = None } }
     {
         Tree {
-            top: Node {
+            top: KeptNode {
                 under: None,
                 path: Path::top(alloc),
                 kind: NodeKind::Component,
@@ -105,7 +104,7 @@ impl Tree {
         let path = room.child(&name);
         push(
             &mut self.nodes,
-            Node {
+            KeptNode {
                 under: Some((parent, name)),
                 path,
                 kind,
@@ -136,7 +135,7 @@ impl Tree {
     pub fn find(&self, path: &Path) -> Option<NodeId>
         ensures { result ≡ number_at self.now.nodes path.now }
     {
-        if self.top.path == *path {
+        if self.top.is_at(path) {
             return Some(NodeId::TOP);
         }
         match position_of(self.nodes.as_slice(), path) {
@@ -216,7 +215,7 @@ impl Tree {
     }
 
     // The node of a number.
-    pub(crate) fn node(&self, id: NodeId) -> Option<&Node>
+    pub(crate) fn node(&self, id: NodeId) -> Option<&KeptNode>
         ensures node { option_copied result ≡ node_at self.now.nodes id }
         ensures nodes { AreNodes self.now.nodes }
     {
@@ -235,21 +234,21 @@ impl Tree {
 }
 
 // The place of the node at a path.
-fn position_of(nodes: &[Node], path: &Path) -> Option<usize>
+fn position_of(nodes: &[KeptNode], path: &Path) -> Option<usize>
     ensures { result ≡ position (λ node. is_path node.path path.now) nodes.now }
 {
-    nodes.iter().position(|node| node.path == *path)
+    nodes.iter().position(|node| node.is_at(path))
 }
 
 // Whether one of the nodes is the child of that name.
-fn has_child(nodes: &[Node], parent: NodeId, name: &Name) -> bool
+fn has_child(nodes: &[KeptNode], parent: NodeId, name: &Name) -> bool
     ensures { result ≡ list_any (is_child parent name.now) nodes.now }
 {
     nodes.iter().any(|node| node.is_child(parent, name))
 }
 
 // Adds a node.
-fn push(nodes: &mut Vec<Node>, node: Node) -> Result<NodeId, TreeFault>
+fn push(nodes: &mut Vec<KeptNode>, node: KeptNode) -> Result<NodeId, TreeFault>
     requires { length nodes.old.items < most_nodes }
     ensures ok { IfOk result (λ id. id ≡ length nodes.old.items + 1) }
     ensures added { OnOk result (nodes.new.items ≡ nodes.old.items ++ node ∷ []) }

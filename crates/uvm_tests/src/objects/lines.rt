@@ -6,9 +6,10 @@ use crate::nodes::add_node;
 use std::alloc::{AllocError, Global};
 use std::test::Fail;
 use uvm_glob::{Glob, Name, Path};
+use uvm_lines::{line_of, shown_path, source_of};
 use uvm_object::{
     Act, Acts, Call, Deed, Entry, Fatal, Grant, LoggedGrant, LoggedOutcome, LoggedPassage, Passage,
-    Reason, What, Who, line_of, shown_path, source_of,
+    Reason, What, Who,
 };
 use uvm_phase::Phase;
 use uvm_sequencer::{SeqId, Sequences};

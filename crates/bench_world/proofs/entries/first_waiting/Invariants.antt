@@ -1,7 +1,7 @@
 use Rattle.std.proofs.Common.{◌≡◌, drop, fold}
 use Rattle.uvm_glob.specs.Orders.{order_of}
 use Rattle.uvm_tree.specs.Cursors.{is_before, least, sooner}
-use Rattle.bench_world.specs.Services.{waiting_in}
+use Rattle.world_services.specs.Services.{waiting_in}
 use Rattle.bench_world.proofs.entries.first_waiting.Given as goal
 
 -- the least of the first so far and those that follow is the least of all

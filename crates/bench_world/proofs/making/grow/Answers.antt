@@ -6,19 +6,19 @@ use Rattle.uvm_objection.specs.Nodes.{new_node}
 use Rattle.bench_history.specs.History.{nodes_of, components_of, called_of, created_name, speaker_of}
 use Rattle.bench_history.specs.Dues.{due_events}
 use Rattle.bench_history.specs.Objections.{objections_of}
-use Rattle.bench_world.proofs.Drained.{events-all, held-more}
-use Rattle.bench_world.specs.Services.{AreTurns}
-use Rattle.bench_world.proofs.Answered.{length-snoc}
-use Rattle.bench_world.proofs.Later.{acted}
-use Rattle.bench_world.proofs.Objected.{objecting-more}
-use Rattle.bench_world.proofs.Connected.{building-open, connecting-grown}
+use Rattle.world_agenda.proofs.Drained.{events-all, held-more}
+use Rattle.world_services.specs.Services.{AreTurns}
+use Rattle.world_services.proofs.Answered.{length-snoc}
+use Rattle.world_services.proofs.Later.{acted}
+use Rattle.world_agenda.proofs.Objected.{objecting-more}
+use Rattle.world_wiring.proofs.Connected.{building-open, connecting-grown}
 use Rattle.bench_world.proofs.Turns.{turns-made}
 use Rattle.uvm_tree.specs.Sorted.{path_order}
 use Rattle.bench_history.specs.Passing.{passing_at}
-use Rattle.bench_world.specs.Passings.{AreUnsettled}
-use Rattle.bench_world.proofs.Arbiting.{arbitrating-grown}
-use Rattle.bench_world.proofs.Contested.{none-locked, none-served}
-use Rattle.bench_world.proofs.Passages.{settled-all, unsettled-none}
+use Rattle.world_fifos.specs.Passings.{AreUnsettled}
+use Rattle.world_sequencers.proofs.Arbiting.{arbitrating-grown}
+use Rattle.world_sequencers.proofs.Contested.{none-locked, none-served}
+use Rattle.world_services.proofs.Passages.{settled-all, unsettled-none}
 use Rattle.bench_world.proofs.making.grow.Goals as goal
 
 pub returns-clause-kept : goal.returns-clause-kept

@@ -1,6 +1,7 @@
 use Rattle.std.proofs.Common.{refl, rules}
 use Rattle.uvm_object.specs.declared.entries.Entry.TheVariants.{Begin}
-use Rattle.bench_world.proofs.Later.{later, entered}
+use Rattle.world_services.proofs.Later.{later}
+use Rattle.bench_world.proofs.Going.{entered}
 use Rattle.bench_world.proofs.Turns.{turns-begin}
 use Rattle.bench_world.proofs.worlds.World.begin.Goals as goal
 

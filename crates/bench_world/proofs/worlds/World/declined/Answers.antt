@@ -4,9 +4,10 @@ use Rattle.uvm_object.specs.declared.entries.Outcome.TheVariants.{Refused}
 use Rattle.uvm_object.specs.declared.fatals.Fatal.TheVariants.{NoObject}
 use Rattle.bench_history.specs.History.{speaker_of}
 use Rattle.bench_history.specs.Next.{IsAct, IsNext}
-use Rattle.bench_world.proofs.Later.{acted-on, refused-taken-in}
-use Rattle.bench_world.proofs.Acting.{ok-not-err, wanted}
-use Rattle.bench_world.proofs.Answered.{answer-open}
+use Rattle.bench_world.proofs.Going.{acted-on}
+use Rattle.world_services.proofs.Later.{refused-taken-in}
+use Rattle.world_services.proofs.Acting.{ok-not-err, wanted}
+use Rattle.world_services.proofs.Answered.{answer-open}
 use Rattle.bench_world.proofs.worlds.World.declined.Goals as goal
 
 pub refused_by-requires-clause-report : goal.refused_by-requires-clause-report

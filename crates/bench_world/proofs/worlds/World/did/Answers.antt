@@ -1,6 +1,6 @@
 use Rattle.std.proofs.Common.{◌∙◌, sym}
-use Rattle.bench_world.proofs.Answered.{head-left}
-use Rattle.bench_world.proofs.Acting.{acts-first, acts-settled, acts-some}
+use Rattle.world_services.proofs.Answered.{head-left}
+use Rattle.world_services.proofs.Acting.{acts-first, acts-settled, acts-some}
 use Rattle.bench_world.proofs.worlds.World.did.Goals as goal
 
 pub perform-requires : goal.perform-requires

@@ -8,9 +8,10 @@ use Rattle.bench_history.specs.Sequences.{finished_of}
 use Rattle.bench_history.specs.Dues.{caused_of, heard_of, is_open}
 use Rattle.bench_history.specs.History.{now_of, stage_of, ended_of}
 use Rattle.bench_history.specs.Objections.{objections_of}
-use Rattle.bench_world.proofs.Drained.{moved, due-released, due-is-held, known-held}
-use Rattle.bench_world.proofs.Later.{later, entered}
-use Rattle.bench_world.proofs.Objected.{objecting-changed}
+use Rattle.world_agenda.proofs.Drained.{moved, due-released, due-is-held, known-held}
+use Rattle.world_services.proofs.Later.{later}
+use Rattle.bench_world.proofs.Going.{entered}
+use Rattle.world_agenda.proofs.Objected.{objecting-changed}
 use Rattle.bench_world.proofs.worlds.World.drained.Goals as goal
 
 pub drained-began-requires-clause-known : goal.drained-began-requires-clause-known

@@ -7,15 +7,16 @@ use Rattle.bench_history.specs.Dues.{caused_of, heard_of}
 use Rattle.bench_history.specs.History.{ends_build, nodes_of, ended_of}
 use Rattle.bench_history.specs.Objections.{objections_of}
 use Rattle.bench_history.specs.Wires.{ends_connect, wiring_of}
-use Rattle.bench_world.specs.Connectings.{IsClosedPast, IsClosing, IsConnecting}
-use Rattle.bench_world.specs.Sequencings.{IsSequencing, enders_of, leaving_with}
-use Rattle.bench_world.proofs.Connected.{closing-after, connecting-after, ends-ordered, past-after}
-use Rattle.bench_world.proofs.Drained.{events-ended}
-use Rattle.bench_world.proofs.Ending.{leaving-known, sequencing-ended}
-use Rattle.bench_world.proofs.Arbiting.{arbitrating-ended}
-use Rattle.bench_world.proofs.Later.{later, entered}
-use Rattle.bench_world.proofs.Passages.{stations-ended, unsettled-ended}
-use Rattle.bench_world.proofs.Told.{agenda-ended}
+use Rattle.world_wiring.specs.Connectings.{IsClosedPast, IsClosing, IsConnecting}
+use Rattle.world_sequences.specs.Sequencings.{IsSequencing, enders_of, leaving_with}
+use Rattle.world_wiring.proofs.Connected.{closing-after, connecting-after, ends-ordered, past-after}
+use Rattle.world_agenda.proofs.Drained.{events-ended}
+use Rattle.world_sequences.proofs.Ending.{leaving-known, sequencing-ended}
+use Rattle.world_sequencers.proofs.Arbiting.{arbitrating-ended}
+use Rattle.world_services.proofs.Later.{later}
+use Rattle.bench_world.proofs.Going.{entered}
+use Rattle.world_services.proofs.Passages.{stations-ended, unsettled-ended}
+use Rattle.world_agenda.proofs.Told.{agenda-ended}
 use Rattle.bench_world.proofs.worlds.World.end.Goals as goal
 
 pub close_after-requires : goal.close_after-requires

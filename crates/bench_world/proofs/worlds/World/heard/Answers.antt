@@ -1,7 +1,8 @@
 use Rattle.std.proofs.Common.{None, refl, rules}
 use Rattle.uvm_object.specs.declared.entries.Entry.TheVariants.{Heard}
 use Rattle.bench_history.specs.History.{opening}
-use Rattle.bench_world.proofs.Later.{later, entered}
+use Rattle.world_services.proofs.Later.{later}
+use Rattle.bench_world.proofs.Going.{entered}
 use Rattle.bench_world.proofs.Heard.{there-within, heard-turns, heard-answer}
 use Rattle.bench_world.proofs.worlds.World.heard.Goals as goal
 

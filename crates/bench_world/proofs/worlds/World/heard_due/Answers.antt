@@ -4,10 +4,11 @@ use Rattle.bench_history.specs.History.{opening, ended_of}
 use Rattle.bench_history.specs.Sequences.{finished_of}
 use Rattle.bench_history.specs.Dues.{caused_of, heard_of}
 use Rattle.bench_history.specs.Objections.{objections_of}
-use Rattle.bench_world.proofs.Later.{later, entered}
+use Rattle.world_services.proofs.Later.{later}
+use Rattle.bench_world.proofs.Going.{entered}
 use Rattle.bench_world.proofs.Heard.{there-within, heard-answer}
-use Rattle.bench_world.proofs.Told.{agenda-heard}
-use Rattle.bench_world.proofs.Drained.{events-heard}
+use Rattle.world_agenda.proofs.Told.{agenda-heard}
+use Rattle.world_agenda.proofs.Drained.{events-heard}
 use Rattle.bench_world.proofs.worlds.World.heard_due.Goals as goal
 
 pub invariant_of-self-2 : goal.invariant_of-self-2

@@ -7,10 +7,11 @@ use Rattle.bench_history.specs.Sequences.{finished_of}
 use Rattle.bench_history.specs.Dues.{caused_at, caused_of, heard_of, is_open}
 use Rattle.bench_history.specs.History.{now_of, running, stage_of, ended_of}
 use Rattle.bench_history.specs.Objections.{objections_of}
-use Rattle.bench_world.proofs.Drained.{events-told}
-use Rattle.bench_world.proofs.Opened.{there-open}
-use Rattle.bench_world.proofs.Later.{entered, later}
-use Rattle.bench_world.proofs.Told.{agenda-event}
+use Rattle.world_agenda.proofs.Drained.{events-told}
+use Rattle.world_services.proofs.Opened.{there-open}
+use Rattle.bench_world.proofs.Going.{entered}
+use Rattle.world_services.proofs.Later.{later}
+use Rattle.world_agenda.proofs.Told.{agenda-event}
 use Rattle.bench_world.proofs.Granted.{led-there, locked-kept}
 use Rattle.bench_world.proofs.worlds.World.locked.Goals as goal
 

@@ -2,11 +2,11 @@ use Rattle.std.proofs.Common.{Some, inl, refl, ◌∙◌, ap, sym, subst}
 use Rattle.uvm_object.specs.declared.entries.Entry.TheVariants.{Did}
 use Rattle.bench_history.specs.History.{speaker_of}
 use Rattle.bench_history.specs.Next.{IsAct, IsNext}
-use Rattle.bench_world.specs.Sequencings.{outcome_made}
-use Rattle.bench_world.proofs.Answered.{answer-open}
-use Rattle.bench_world.proofs.Later.{acted-on}
+use Rattle.world_services.specs.Makings.{outcome_made}
+use Rattle.world_services.proofs.Answered.{answer-open}
+use Rattle.bench_world.proofs.Going.{acted-on}
 use Rattle.bench_world.proofs.Makeable.{made-leaves, makeable}
-use Rattle.bench_world.proofs.Acting.{ok-not-err, wanted, wanted-need}
+use Rattle.world_services.proofs.Acting.{ok-not-err, wanted, wanted-need}
 use Rattle.bench_world.proofs.worlds.World.made.Goals as goal
 
 pub make-who-requires : goal.make-who-requires

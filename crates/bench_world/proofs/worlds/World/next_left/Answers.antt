@@ -1,6 +1,6 @@
 use Rattle.std.proofs.Common.{◌∙◌}
 use Rattle.bench_history.specs.History.{opening}
-use Rattle.bench_world.proofs.Answered.{answer-head}
+use Rattle.world_services.proofs.Answered.{answer-head}
 use Rattle.bench_world.proofs.worlds.World.next_left.Goals as goal
 
 -- the act after those that are done

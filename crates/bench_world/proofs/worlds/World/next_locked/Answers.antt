@@ -1,5 +1,5 @@
 use Rattle.std.proofs.Common.{◌∙◌}
-use Rattle.bench_world.proofs.Contested.{locked-known}
+use Rattle.world_services.proofs.Known.{locked-known}
 use Rattle.bench_world.proofs.worlds.World.next_locked.Goals as goal
 
 pub returns : goal.returns

@@ -1,7 +1,7 @@
 use Rattle.std.proofs.Common.{ap, map, ◌∙◌, List, ℕ}
 use Rattle.uvm_glob.specs.Lists.{first_given}
-use Rattle.bench_world.specs.Stations.{passing_in}
-use Rattle.bench_world.proofs.Passages.{next-known}
+use Rattle.world_fifos.specs.Stations.{passing_in}
+use Rattle.world_services.proofs.Passages.{next-known}
 use Rattle.bench_world.proofs.worlds.World.next_passed.Goals as goal
 
 pub returns : goal.returns

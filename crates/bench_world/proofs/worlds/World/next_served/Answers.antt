@@ -1,5 +1,5 @@
 use Rattle.std.proofs.Common.{◌∙◌}
-use Rattle.bench_world.proofs.Contested.{served-known}
+use Rattle.world_services.proofs.Known.{served-known}
 use Rattle.bench_world.proofs.worlds.World.next_served.Goals as goal
 
 pub returns : goal.returns

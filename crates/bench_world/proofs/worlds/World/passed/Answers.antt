@@ -5,11 +5,12 @@ use Rattle.bench_history.specs.Sequences.{finished_of}
 use Rattle.bench_history.specs.Dues.{caused_at, caused_of, heard_of, is_open, told_of}
 use Rattle.bench_history.specs.History.{now_of, running, stage_of, ended_of}
 use Rattle.bench_history.specs.Objections.{objections_of}
-use Rattle.bench_world.proofs.Drained.{events-told}
-use Rattle.bench_world.proofs.Opened.{component-open}
-use Rattle.bench_world.proofs.Later.{entered, later}
-use Rattle.bench_world.proofs.Passages.{next-passes, passed-changes, passed-more, stations-changed, unsettled-passed}
-use Rattle.bench_world.proofs.Told.{agenda-event}
+use Rattle.world_agenda.proofs.Drained.{events-told}
+use Rattle.world_services.proofs.Opened.{component-open}
+use Rattle.bench_world.proofs.Going.{entered}
+use Rattle.world_services.proofs.Later.{later}
+use Rattle.world_services.proofs.Passages.{next-passes, passed-changes, passed-more, stations-changed, unsettled-passed}
+use Rattle.world_agenda.proofs.Told.{agenda-event}
 use Rattle.bench_world.proofs.worlds.World.passed.Goals as goal
 
 pub invariant_of-self-2 : goal.invariant_of-self-2

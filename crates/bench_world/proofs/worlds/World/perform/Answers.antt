@@ -2,9 +2,10 @@ use Rattle.std.proofs.Common.{◌≡◌, false, true, None, length, refl, sym, �
 use Rattle.uvm_tlm.specs.Wirings.{end_at, is_closed, late_fault}
 use Rattle.bench_history.specs.History.{running}
 use Rattle.bench_history.specs.Refusals.{in_task}
-use Rattle.bench_world.proofs.Later.{act-next, performed, scene-of}
+use Rattle.bench_world.proofs.Going.{act-next, performed}
+use Rattle.world_services.proofs.Later.{scene-of}
 use Rattle.bench_world.proofs.Waits.{acted-waits, need-by, waits}
-use Rattle.bench_world.proofs.Connected.{building-open, connectable-open, unused}
+use Rattle.world_wiring.proofs.Connected.{building-open, connectable-open, unused}
 use Rattle.bench_world.proofs.worlds.World.perform.Goals as goal
 
 pub perform-requires : goal.perform-requires

@@ -1,4 +1,4 @@
-use Rattle.bench_world.proofs.Stepped.{step-known}
+use Rattle.world_sequencer_acts.proofs.Stepped.{step-known}
 use Rattle.bench_world.proofs.worlds.World.sequences.Goals as goal
 
 pub returns-clause-steps : goal.returns-clause-steps

@@ -1,6 +1,6 @@
 use Rattle.bench_history.specs.History.{overrides_of}
-use Rattle.bench_world.specs.Services.{creation_in}
-use Rattle.bench_world.proofs.Creating.{uncreated-why}
+use Rattle.world_services.specs.Creations.{creation_in}
+use Rattle.world_services.proofs.Creating.{uncreated-why}
 use Rattle.bench_world.proofs.worlds.World.uncreated.Goals as goal
 
 pub returns : goal.returns

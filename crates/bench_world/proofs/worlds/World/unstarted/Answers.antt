@@ -5,9 +5,9 @@ use Rattle.bench_history.specs.History.{overrides_of}
 use Rattle.bench_history.specs.Refusals.{Starting}
 use Rattle.bench_history.specs.Sequences.{sequences_of}
 use Rattle.bench_history.specs.Upshots.{refusal_in, starting_upshot}
-use Rattle.bench_world.specs.Services.{IsUnmade, starting_in}
-use Rattle.bench_world.proofs.Begun.{starting-known}
-use Rattle.bench_world.proofs.Creating.{unstarted-why}
+use Rattle.world_services.specs.Creations.{IsUnmade, starting_in}
+use Rattle.world_sequencer_acts.proofs.Begun.{starting-known}
+use Rattle.world_services.proofs.Creating.{unstarted-why}
 use Rattle.bench_world.proofs.worlds.World.unstarted.Goals as goal
 
 pub returns : goal.returns

@@ -1,5 +1,5 @@
 use Rattle.std.proofs.Common.{◌∙◌, sym}
-use Rattle.bench_world.proofs.Contested.{requests-known, waiters-known}
+use Rattle.world_services.proofs.Known.{requests-known, waiters-known}
 use Rattle.bench_world.proofs.worlds.World.waiting.Goals as goal
 
 pub returns-in-None : goal.returns-in-None

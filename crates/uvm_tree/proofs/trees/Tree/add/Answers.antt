@@ -1,7 +1,6 @@
 use Rattle.std.proofs.Common.{rules, ◌≡◌, ◌∷◌, ◌++◌, ◌∙◌, ap, sym, arith, [], None, Some, List, ℕ, OnOk, OnErr}
 use Rattle.std.proofs.lemmas.Grind.{common_steps}
-use Rattle.uvm_tree.specs.declared.nodes.Node.{Node}
-use Rattle.uvm_tree.specs.Nodes.{TreeValue, add_fault, child, path_at}
+use Rattle.uvm_tree.specs.Nodes.{Node, TreeValue, add_fault, child, path_at}
 use Rattle.uvm_tree.proofs.Grown.{added}
 use Rattle.uvm_tree.proofs.trees.Tree.add.Goals as goal
 

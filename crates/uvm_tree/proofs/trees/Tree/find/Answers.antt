@@ -1,6 +1,5 @@
 use Rattle.std.proofs.Common.{◌≡◌, ◌∙◌, ◌+◌, sym, ap, Bool, Some, None, position, option_map}
-use Rattle.uvm_tree.specs.declared.nodes.Node.{Node}
-use Rattle.uvm_tree.specs.Nodes.{is_path}
+use Rattle.uvm_tree.specs.Nodes.{Node, is_path}
 use Rattle.uvm_tree.proofs.Places.{position-later}
 use Rattle.uvm_tree.proofs.trees.Tree.find.Goals as goal
 
@@ -10,7 +9,7 @@ returns-in-Some c =
     let test : Node → Bool = λ node. is_path node.path c.args.path.now in
     let place : position test kept.nodes.items ≡ Some c.in-Some.place =
     ap (position test) (sym c.as_slice.ensures.value) ∙ sym c.position_of.ensures ∙ c.in-Some.is in
-    let later = position-later test kept.top kept.nodes.items (sym c.if-eq.ensures) in
+    let later = position-later test kept.top kept.nodes.items (sym c.if-is_at.ensures) in
     rw (← c.self.view_is) (ap Some c.new.ensures ∙ sym (later ∙ ap (option_map (λ place. place + 1)) place))
 
 pub returns-in-None : goal.returns-in-None
@@ -19,5 +18,5 @@ returns-in-None c =
     let test : Node → Bool = λ node. is_path node.path c.args.path.now in
     let none : position test kept.nodes.items ≡ None =
     ap (position test) (sym c.as_slice.ensures.value) ∙ sym c.position_of.ensures ∙ c.in-None.is in
-    let later = position-later test kept.top kept.nodes.items (sym c.if-eq.ensures) in
+    let later = position-later test kept.top kept.nodes.items (sym c.if-is_at.ensures) in
     rw (← c.self.view_is) (sym (later ∙ ap (option_map (λ place. place + 1)) none))

@@ -1,6 +1,5 @@
 use Rattle.std.proofs.Common.{◌≡◌, ◌∷◌, ◌<◌, ◌≤◌, arith, length, vec_capacity, List, subst, sym}
-use Rattle.uvm_tree.specs.declared.nodes.Node.{Node}
-use Rattle.uvm_tree.specs.Nodes.{AreNodes, most_nodes, path_at}
+use Rattle.uvm_tree.specs.Nodes.{Node, AreNodes, most_nodes, path_at}
 use Rattle.uvm_tree.proofs.trees.Tree.reserve.Goals as goal
 
 -- the room stays what it was

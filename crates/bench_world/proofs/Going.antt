@@ -1,0 +1,92 @@
+-- A world goes on with one more entry.
+use Rattle.std.proofs.Common.{◌≡◌, ℕ, ◌<◌, true, List, ◌∷◌, length, Option, None, refl, ap, subst, ◌∙◌, arith, sym, Bool}
+use Rattle.uvm_object.specs.declared.acts.Act.{Act}
+use Rattle.uvm_object.specs.declared.acts.Who.{Who}
+use Rattle.uvm_object.specs.declared.entries.Entry.{Entry}
+use Rattle.uvm_object.specs.Logs.{LogValue}
+use Rattle.bench_script.specs.Scripts.{ScriptValue}
+use Rattle.world_services.specs.declared.services.Services.{Services}
+use Rattle.bench_history.specs.Limits.{log_limit}
+use Rattle.bench_history.specs.Sequences.{leaving_of, leaving_after}
+use Rattle.bench_history.specs.Next.{IsNext, IsLegal, next_of, IsAct}
+use Rattle.world_services.specs.Services.{ServicesMatch}
+use Rattle.bench_world.specs.Worlds.{IsWorld}
+use Rattle.uvm_object.specs.declared.entries.Entry.TheVariants.{Did}
+use Rattle.uvm_object.specs.declared.entries.Outcome.{Outcome}
+use Rattle.bench_world.specs.declared.making.Waiting.{Waiting}
+use Rattle.bench_history.specs.History.{left_of, rest_of, speaker_of}
+use Rattle.bench_history.specs.Upshots.{Upshot, Needs, Does, Finds, Stores, Takes, Asks, Finishes, Refuses, upshot_of}
+use Rattle.bench_history.specs.Cases.{by_act, by_upshot}
+use Rattle.bench_history.specs.Laws.{DriversAreThere, IsSettled, PerformersAreThere, PhasesGoInOrder, StaysWired, WiringStays}
+use Rattle.world_services.specs.Attempts.{TakesIn, IsPerformed, one_done}
+use Rattle.world_services.proofs.Later.{acted, scene-of}
+
+-- a legal log goes on with an entry that is next
+pub legal-more : {script : ScriptValue} {before : List Entry} (entry : Entry) → IsNext script before entry → length before < log_limit script → IsLegal script before → IsLegal script (entry ∷ before)
+legal-more entry next room legal = record { each = (next, legal.each); few = omega arith }
+
+-- a world is sound again once its services match
+pub sound-again :
+    {script : ScriptValue} {log : LogValue} {services : Services} {leaving : List Who} (entries : List Entry)
+    → log.entries ≡ entries → log.limit ≡ log_limit script → IsLegal script entries → leaving ≡ leaving_of entries → ServicesMatch script entries services → IsWorld true script log services None leaving
+sound-again {script} {log} {services} {leaving} entries is limit legal leaves match = record { limit = limit; legal = rw is legal; services_match = λ _. rw is match; leaves = λ _. rw is leaves; waits = λ _ e. cc; ready = λ _ e. cc }
+
+-- a world goes on with an entry that is next
+goes-on :
+    {P : Type 0} {sound : Bool} {script : ScriptValue} {log more : LogValue} {old services : Services} {waiting : Option Waiting} {left leaving : List Who} (entry : Entry)
+    → P × IsWorld sound script log old waiting left → sound ≡ true → length log.entries < log_limit script → IsNext script log.entries entry
+    → more.entries ≡ entry ∷ log.entries → more.limit ≡ log.limit → leaving ≡ leaving_of (entry ∷ log.entries)
+    → (ServicesMatch script log.entries old → ServicesMatch script (entry ∷ log.entries) services)
+    → P × IsWorld true script more services None leaving
+goes-on {log} entry p sound room next is limit leaves match =
+    (p.0, sound-again (entry ∷ log.entries) is (limit ∙ p.1.limit) (legal-more entry next room p.1.legal) leaves (match (p.1.services_match sound)))
+
+-- with what the machine enters by itself, or somebody's answer
+pub entered :
+    {P : Type 0} {sound : Bool} {script : ScriptValue} {log more : LogValue} {old services : Services} {waiting : Option Waiting} {left leaving : List Who} (entry : Entry)
+    → P × IsWorld sound script log old waiting left → sound ≡ true → length log.entries < log_limit script → IsNext script log.entries entry
+    → more.entries ≡ entry ∷ log.entries → more.limit ≡ log.limit → leaving ≡ leaving_of (entry ∷ log.entries) → WiringStays
+    → (ServicesMatch script log.entries old → StaysWired script log.entries entry → ServicesMatch script (entry ∷ log.entries) services)
+    → P × IsWorld true script more services None leaving
+entered {script = script} {log} entry p sound room next is limit leaves stay match = goes-on entry p sound room next is limit leaves (λ m. match m (stay script log.entries entry next))
+
+-- what an act comes to is the entry of an act, or a need
+act-is : (performer : Who) (act : Act) (upshot : Upshot) → IsAct (by_upshot performer act upshot)
+act-is performer act (Needs need made) = tt
+act-is performer act Does = tt
+act-is performer act (Finds value) = tt
+act-is performer act (Stores stored) = tt
+act-is performer act (Takes item) = tt
+act-is performer act (Asks waits) = tt
+act-is performer act Finishes = tt
+act-is performer act (Refuses fatal) = tt
+
+pub act-next : (script : ScriptValue) (history : List Entry) (act : Act) → next_of script history ≡ by_act script history (speaker_of history) act → IsAct (next_of script history)
+act-next script history act next = subst IsAct (sym next) (act-is (speaker_of history) act (upshot_of script history (speaker_of history) act))
+
+-- and with the entry of an act
+pub acted-on :
+    {P : Type 0} {sound : Bool} {script : ScriptValue} {log more : LogValue} {old new services : Services} {waiting : Option Waiting} {others leaving : List Who} (outcome : Outcome) (act : Act)
+    → P × IsWorld sound script log old waiting others → sound ≡ true → length log.entries < log_limit script
+    → IsSettled log.entries → left_of script log.entries ≡ act ∷ rest_of (left_of script log.entries) → IsNext script log.entries (Did (speaker_of log.entries) outcome act)
+    → IsAct (next_of script log.entries) → PhasesGoInOrder → PerformersAreThere → DriversAreThere → TakesIn act outcome (length log.entries) old new
+    → more.entries ≡ Did new.answer.speaker outcome act ∷ log.entries → more.limit ≡ log.limit → leaving ≡ leaving_after old.answer.speaker outcome → services ≡ one_done new
+    → P × IsWorld true script more services None leaving
+acted-on {script = script} {log} {old = old} {new} outcome act p sound room settled left next is_act order performers drivers kept is limit leaves done =
+    let m = p.1.services_match sound in
+    let match = kept.with_entry script log.entries (scene-of act m p.1.legal.each settled left order performers drivers is_act) in
+    goes-on (Did old.answer.speaker outcome act) p sound room (rw m.answer.speaker next) (is ∙ ap (λ (s : Who). Did s outcome act ∷ log.entries) (ap (λ a. a.speaker) kept.same_answer)) limit leaves (λ m. rw done match)
+
+-- what an act comes to by itself is next
+pub performed :
+    {P : Type 0} {sound : Bool} {script : ScriptValue} {log more : LogValue} {old new services : Services} {waiting : Option Waiting} {others leaving : List Who} (outcome : Outcome) (act : Act)
+    → P × IsWorld sound script log old waiting others → sound ≡ true → length log.entries < log_limit script
+    → IsSettled log.entries → left_of script log.entries ≡ act ∷ rest_of (left_of script log.entries) → next_of script log.entries ≡ by_act script log.entries (speaker_of log.entries) act
+    → PhasesGoInOrder → PerformersAreThere → DriversAreThere → IsPerformed by_act act outcome (length log.entries) old new
+    → more.entries ≡ Did new.answer.speaker outcome act ∷ log.entries → more.limit ≡ log.limit → leaving ≡ leaving_after old.answer.speaker outcome → services ≡ one_done new
+    → P × IsWorld true script more services None leaving
+performed {script = script} {log} {old = old} outcome act p sound room settled left next order performers drivers did is limit leaves done =
+    let m = p.1.services_match sound in
+    let is_act = act-next script log.entries act next in
+    let comes = next ∙ (rw m.answer.speaker at (did.comes script log.entries (scene-of act m p.1.legal.each settled left order performers drivers is_act))) in
+    acted-on outcome act p sound room settled left (rw comes refl) is_act order performers drivers did.kept is limit leaves done

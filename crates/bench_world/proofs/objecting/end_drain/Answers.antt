@@ -1,5 +1,0 @@
-use Rattle.bench_world.proofs.Drained.{none-ended}
-use Rattle.bench_world.proofs.objecting.end_drain.Goals as goal
-
-pub returns-in_default : goal.returns-in_default
-returns-in_default c = λ caused is. rw (c.in_default.is, none-ended caused) is

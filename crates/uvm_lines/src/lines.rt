@@ -1,0 +1,264 @@
+//! The lines of entries.
+
+ghost use Rattle.std.specs.Prelude.{◌≡◌, ◌++◌, ◌∷◌, [], IfOk, OnOk, OnErr};
+ghost use Rattle.std.specs.Fmt.{decimal, signed_decimal};
+ghost use Rattle.uvm_object.specs.declared.entries.Entry.TheVariants.{Passed};
+ghost use Rattle.uvm_object.specs.declared.acts.Call.TheVariants as call;
+ghost use Rattle.uvm_lines.specs.Lines.{entry_line, entry_text, who_text, shown_path, call_text, value_text, outcome_text, reason_text};
+ghost use Rattle.uvm_tree.specs.Nodes.{path_at};
+
+use crate::act_lines::push_act;
+use crate::item_lines::{answer_text, move_text, push_named, push_named_item, push_some_item};
+use crate::sequence_lines::{push_finished, push_granted, push_locked, push_next_item, push_who};
+use std::alloc::{AllocError, Global};
+use uvm_glob::Name;
+use uvm_object::{Call, Entry, Outcome, Passage, Reason, Who};
+use uvm_sequencer::Sequences;
+use uvm_tlm::Item;
+use uvm_tree::{NodeId, Tree};
+
+/// Appends the line of an entry, with its newline. The tree tells the paths of the nodes; the top, and a node that the tree
+/// does not have, is `uvm_top`. The sequences tell their names. Where memory is refused nothing is appended.
+pub fn line_of(
+    entry: &Entry,
+    tree: &Tree,
+    sequences: &Sequences,
+    out: &mut Vec<u8>,
+) -> Result<(), AllocError>
+    ensures ok { OnOk result (out.new.items ≡ out.old.items ++ entry_line tree.now.nodes sequences.now.started entry.now) }
+    ensures err { OnErr result (out.new.items ≡ out.old.items) }
+{
+    let mut line = Vec::new(*out.allocator());
+    push_entry(entry, tree, sequences, &mut line)?;
+    line.push(b'\n')?;
+    out.extend_from_slice(line.as_slice())
+}
+
+fn push_entry(
+    entry: &Entry,
+    tree: &Tree,
+    sequences: &Sequences,
+    line: &mut Vec<u8>,
+) -> Result<(), AllocError>
+    ensures { OnOk result (line.new.items ≡ line.old.items ++ entry_text tree.now.nodes sequences.now.started entry.now) }
+{
+    match entry {
+        Entry::Begin(phase) => push_two(b"begin ", phase.name(), line),
+        Entry::End(phase) => push_two(b"end ", phase.name(), line),
+        Entry::Time(time) => push_ticks(b"time ", *time, line),
+        Entry::Heard {
+            who,
+            call,
+            acts,
+            ..
+        } => {
+            push_doer(b"heard ", who, tree, sequences, line)?;
+            push_call(call.get(), line)?;
+            push_ticks(b": ", acts.get().len() as u64, line)
+        }
+        Entry::Did { who, outcome, act } => {
+            push_doer(b"did ", who, tree, sequences, line)?;
+            push_act(act.act(), line)?;
+            line.extend_from_slice(b": ")?;
+            push_outcome(&outcome.get(), line)
+        }
+        Entry::Locked { sequencer, id } => push_locked(*sequencer, *id, tree, sequences, line),
+        Entry::Granted { sequencer, grant } => {
+            push_granted(*sequencer, grant.get(), tree, sequences, line)
+        }
+        Entry::Passed { fifo, passage } => {
+            push_passage(*fifo, passage.get(), tree, sequences, line)
+        }
+        Entry::Drained { node, .. } => push_node(b"drained ", *node, tree, line),
+        Entry::Note { fatal, node } => {
+            push_two(b"note ", fatal.id(), line)?;
+            push_node(b" ", *node, tree, line)
+        }
+        Entry::Over(reason) => push_two(b"over ", reason_text(*reason), line),
+    }
+}
+
+// A word, and who acts or is called, with a blank behind.
+fn push_doer(
+    word: &[u8],
+    who: &Who,
+    tree: &Tree,
+    sequences: &Sequences,
+    line: &mut Vec<u8>,
+) -> Result<(), AllocError>
+    ensures { OnOk result (line.new.items ≡ line.old.items ++ (word.now ++ who_text tree.now.nodes sequences.now.started who.now ++ 32 ∷ [])) }
+{
+    line.extend_from_slice(word)?;
+    push_who(who, tree, sequences, line)?;
+    line.push(b' ')?;
+    Ok(())
+}
+
+fn push_passage(
+    fifo: NodeId,
+    passage: &Passage,
+    tree: &Tree,
+    sequences: &Sequences,
+    line: &mut Vec<u8>,
+) -> Result<(), AllocError>
+    ensures { OnOk result (line.new.items ≡ line.old.items ++ entry_text tree.now.nodes sequences.now.started (Passed fifo passage.now)) }
+{
+    push_node(b"passed ", fifo, tree, line)?;
+    push_two(b" ", move_text(passage.kind), line)?;
+    line.push(b' ')?;
+    push_who(&passage.who, tree, sequences, line)
+}
+
+// A word and a node.
+pub(crate) fn push_node(
+    word: &[u8],
+    node: NodeId,
+    tree: &Tree,
+    line: &mut Vec<u8>,
+) -> Result<(), AllocError>
+    ensures { OnOk result (line.new.items ≡ line.old.items ++ (word.now ++ shown_path (path_at tree.now.nodes node))) }
+{
+    line.extend_from_slice(word)?;
+    line.extend_from_slice(shown_path(node, tree))
+}
+
+pub(crate) fn push_two(front: &[u8], back: &str, line: &mut Vec<u8>) -> Result<(), AllocError>
+    ensures { OnOk result (line.new.items ≡ line.old.items ++ (front.now ++ back.now)) }
+{
+    line.extend_from_slice(front)?;
+    line.extend_from_slice(back.as_bytes())
+}
+
+/// How a node is shown in lines: by its path; the top, and a node that the tree does not have, is `uvm_top`. Takes no memory.
+pub fn shown_path(node: NodeId, tree: &Tree) -> &[u8]
+    ensures { result.now ≡ shown_path (path_at tree.now.nodes node) }
+{
+    match tree.path(node) {
+        Some(path) if path.depth() > 0 => path.as_bytes(),
+        _ => b"uvm_top",
+    }
+}
+
+/// Gives the text of a call, as it stands in the line of its entry, without the number of the acts that answer it.
+pub fn call_text(alloc: Global, call: &Call) -> Result<Vec<u8>, AllocError>
+    ensures { IfOk result (λ text. text.items ≡ call_text call.now) }
+{
+    let mut text = Vec::new(alloc);
+    push_call(call, &mut text)?;
+    Ok(text)
+}
+
+fn push_call(call: &Call, line: &mut Vec<u8>) -> Result<(), AllocError>
+    ensures { OnOk result (line.new.items ≡ line.old.items ++ call_text call.now) }
+{
+    match call {
+        Call::Phase(phase) => line.extend_from_slice(phase.name().as_bytes()),
+        Call::Wake { tag } => {
+            line.extend_from_slice(b"wake ")?;
+            push_number(u64::from(*tag), line)
+        }
+        Call::Config { field, value } => {
+            line.extend_from_slice(b"config ")?;
+            line.extend_from_slice(field.as_bytes())?;
+            line.push(b' ')?;
+            push_value(*value, line)
+        }
+        Call::Stored { port } => push_named(b"stored ", port, line),
+        Call::TryStored { port, stored } => push_stored(port, *stored, line),
+        Call::Taken { port, item } => push_named_item(b"taken ", port, item, line),
+        Call::TryTaken { port, item } => push_taken(port, item, line),
+        Call::Peeked { port, item } => push_named_item(b"peeked ", port, item, line),
+        Call::Written { imp, item } => push_named_item(b"written ", imp, item, line),
+        Call::NextItem { port, item } => push_next_item(port, item, line),
+        Call::PreStart => line.extend_from_slice(b"pre_start"),
+        Call::Body => line.extend_from_slice(b"body"),
+        Call::PostStart => line.extend_from_slice(b"post_start"),
+        Call::Grant => line.extend_from_slice(b"grant"),
+        Call::ItemDone { response } => {
+            line.extend_from_slice(b"item_done ")?;
+            push_some_item(response, line)
+        }
+        Call::Held => line.extend_from_slice(b"held"),
+        Call::Finished { name, id } => push_finished(name, *id, line),
+    }
+}
+
+fn push_stored(port: &Name, stored: bool, line: &mut Vec<u8>) -> Result<(), AllocError>
+    ensures { OnOk result (line.new.items ≡ line.old.items ++ call_text (call.TryStored port.now stored)) }
+{
+    push_named(b"try_stored ", port, line)?;
+    push_two(b" ", answer_text(stored), line)
+}
+
+fn push_taken(port: &Name, item: &Option<Item>, line: &mut Vec<u8>) -> Result<(), AllocError>
+    ensures { OnOk result (line.new.items ≡ line.old.items ++ call_text (call.TryTaken port.now item.now)) }
+{
+    push_named(b"try_taken ", port, line)?;
+    line.push(b' ')?;
+    push_some_item(item, line)
+}
+
+fn push_value(value: Option<i64>, line: &mut Vec<u8>) -> Result<(), AllocError>
+    ensures { OnOk result (line.new.items ≡ line.old.items ++ value_text value) }
+{
+    match value {
+        Some(value) => push_integer(value, line),
+        None => line.extend_from_slice(b"none"),
+    }
+}
+
+fn push_outcome(outcome: &Outcome, line: &mut Vec<u8>) -> Result<(), AllocError>
+    ensures { OnOk result (line.new.items ≡ line.old.items ++ outcome_text outcome.now) }
+{
+    match outcome {
+        Outcome::Done => line.extend_from_slice(b"done"),
+        Outcome::Made(type_name) => {
+            line.extend_from_slice(b"made ")?;
+            line.extend_from_slice(type_name.as_bytes())
+        }
+        Outcome::Started(id) => push_ticks(b"started ", id.number(), line),
+        Outcome::Value(value) => {
+            line.extend_from_slice(b"value ")?;
+            push_value(*value, line)
+        }
+        Outcome::Stored(stored) => line.extend_from_slice(answer_text(*stored).as_bytes()),
+        Outcome::Taken(item) => line.extend_from_slice(answer_text(item.is_some()).as_bytes()),
+        Outcome::Waits(waits) => line.extend_from_slice(answer_text(*waits).as_bytes()),
+        Outcome::Finished => line.extend_from_slice(b"finished"),
+        Outcome::Refused(fatal) => push_two(b"refused ", fatal.id(), line),
+    }
+}
+
+fn reason_text(reason: Reason) -> &'static str
+    ensures { result.now ≡ reason_text reason }
+{
+    match reason {
+        Reason::Finished => "finished",
+        Reason::Exit => "exit",
+        Reason::NoTest => "no_test",
+        Reason::Stall => "stall",
+        Reason::Timeout => "timeout",
+    }
+}
+
+// A word and a number.
+pub(crate) fn push_ticks(word: &[u8], ticks: u64, line: &mut Vec<u8>) -> Result<(), AllocError>
+    ensures { OnOk result (line.new.items ≡ line.old.items ++ (word.now ++ decimal ticks)) }
+{
+    line.extend_from_slice(word)?;
+    push_number(ticks, line)
+}
+
+pub(crate) fn push_number(n: u64, line: &mut Vec<u8>) -> Result<(), AllocError>
+    ensures { OnOk result (line.new.items ≡ line.old.items ++ decimal n) }
+{
+    let digits = n.to_string(*line.allocator())?;
+    line.extend_from_slice(digits.as_bytes())
+}
+
+pub(crate) fn push_integer(n: i64, line: &mut Vec<u8>) -> Result<(), AllocError>
+    ensures { OnOk result (line.new.items ≡ line.old.items ++ signed_decimal n) }
+{
+    let digits = n.to_string(*line.allocator())?;
+    line.extend_from_slice(digits.as_bytes())
+}

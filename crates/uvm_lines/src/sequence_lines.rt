@@ -1,0 +1,240 @@
+//! The lines of sequences, of their acts and of those of their driver.
+
+ghost use Rattle.std.specs.Prelude.{◌≡◌, ◌++◌, ◌∷◌, true, IfOk, OnOk};
+ghost use Rattle.std.specs.Fmt.{decimal};
+ghost use Rattle.uvm_glob.specs.Paths.{path_text};
+ghost use Rattle.uvm_object.specs.declared.acts.Act.TheVariants as act;
+ghost use Rattle.uvm_object.specs.declared.acts.Call.TheVariants as call;
+ghost use Rattle.uvm_object.specs.declared.entries.Entry.TheVariants.{Granted, Locked};
+ghost use Rattle.uvm_object.specs.Acts.{is_sequencing};
+ghost use Rattle.uvm_lines.specs.Lines.{act_text, call_text, drawn_text, entry_text, how_text, mode_text, priority_text, sequence_text, source_text, who_text};
+
+use crate::item_lines::{push_item, push_named, push_some_item};
+use crate::lines::{push_node, push_ticks, push_two};
+use std::alloc::{AllocError, Global};
+use uvm_glob::{Name, Path};
+use uvm_object::{Act, Grant, Who};
+use uvm_sequencer::{How, Mode, SeqId, Sequences};
+use uvm_tlm::Item;
+use uvm_tree::{NodeId, Tree};
+
+/// How somebody is shown as the source of a report (IEEE 1800.2-2020, Clause 6): a component by its path, a sequence by that of
+/// its home and the names from its root sequence down to itself, as `uvm_test_top.sqr@@a.b`. The error is want of memory.
+pub fn source_of(
+    alloc: Global,
+    who: &Who,
+    tree: &Tree,
+    sequences: &Sequences,
+) -> Result<Vec<u8>, AllocError>
+    ensures { IfOk result (λ source. source.items ≡ source_text tree.now.nodes sequences.now.started who.now) }
+{
+    let mut source = Vec::new(alloc);
+    match who {
+        Who::Node(node) => push_node(b"", *node, tree, &mut source)?,
+        Who::Sequence { id, home } => push_sequence(*id, *home, tree, sequences, &mut source)?,
+    }
+    Ok(source)
+}
+
+// Somebody, a sequence with its number.
+pub(crate) fn push_who(
+    who: &Who,
+    tree: &Tree,
+    sequences: &Sequences,
+    line: &mut Vec<u8>,
+) -> Result<(), AllocError>
+    ensures { OnOk result (line.new.items ≡ line.old.items ++ who_text tree.now.nodes sequences.now.started who.now) }
+{
+    match who {
+        Who::Node(node) => push_node(b"", *node, tree, line),
+        Who::Sequence { id, home } => {
+            push_sequence(*id, *home, tree, sequences, line)?;
+            push_ticks(b"#", id.number(), line)
+        }
+    }
+}
+
+// A sequence by its home and its names.
+fn push_sequence(
+    id: SeqId,
+    home: NodeId,
+    tree: &Tree,
+    sequences: &Sequences,
+    line: &mut Vec<u8>,
+) -> Result<(), AllocError>
+    ensures { OnOk result (line.new.items ≡ line.old.items ++ sequence_text tree.now.nodes sequences.now.started id home) }
+{
+    push_node(b"", home, tree, line)?;
+    line.extend_from_slice(b"@@")?;
+    let names = sequences.names(*line.allocator(), id)?;
+    push_joined(names.as_slice(), line)
+}
+
+// Names, with a dot between each two.
+fn push_joined(names: &[Name], line: &mut Vec<u8>) -> Result<(), AllocError>
+    ensures { OnOk result (line.new.items ≡ line.old.items ++ path_text names.now) }
+{
+    let Some((first, others)) = names.split_first() else {
+        return Ok(());
+    };
+    line.extend_from_slice(first.as_bytes())?;
+    for name in others {
+        push_named(b".", name, line)?;
+    }
+    Ok(())
+}
+
+pub(crate) fn push_locked(
+    sequencer: NodeId,
+    id: SeqId,
+    tree: &Tree,
+    sequences: &Sequences,
+    line: &mut Vec<u8>,
+) -> Result<(), AllocError>
+    ensures { OnOk result (line.new.items ≡ line.old.items ++ entry_text tree.now.nodes sequences.now.started (Locked sequencer id)) }
+{
+    let who = Who::Sequence {
+        id,
+        home: sequencer,
+    };
+    push_node(b"locked ", sequencer, tree, line)?;
+    line.push(b' ')?;
+    push_who(&who, tree, sequences, line)
+}
+
+pub(crate) fn push_granted(
+    sequencer: NodeId,
+    grant: &Grant,
+    tree: &Tree,
+    sequences: &Sequences,
+    line: &mut Vec<u8>,
+) -> Result<(), AllocError>
+    ensures { OnOk result (line.new.items ≡ line.old.items ++ entry_text tree.now.nodes sequences.now.started (Granted sequencer grant.now)) }
+{
+    let who = Who::Sequence {
+        id: grant.id,
+        home: sequencer,
+    };
+    push_node(b"granted ", sequencer, tree, line)?;
+    line.push(b' ')?;
+    push_who(&who, tree, sequences, line)?;
+    push_drawn(grant.word, line)
+}
+
+// The word that was drawn, if one was.
+fn push_drawn(word: Option<u64>, line: &mut Vec<u8>) -> Result<(), AllocError>
+    ensures { OnOk result (line.new.items ≡ line.old.items ++ drawn_text word) }
+{
+    match word {
+        Some(word) => push_ticks(b" word ", word, line),
+        None => Ok(()),
+    }
+}
+
+pub(crate) fn push_next_item(
+    port: &Name,
+    item: &Option<Item>,
+    line: &mut Vec<u8>,
+) -> Result<(), AllocError>
+    ensures { OnOk result (line.new.items ≡ line.old.items ++ call_text (call.NextItem port.now item.now)) }
+{
+    push_named(b"next_item ", port, line)?;
+    line.push(b' ')?;
+    push_some_item(item, line)
+}
+
+pub(crate) fn push_finished(name: &Name, id: SeqId, line: &mut Vec<u8>) -> Result<(), AllocError>
+    ensures { OnOk result (line.new.items ≡ line.old.items ++ call_text (call.Finished name.now id)) }
+{
+    push_named(b"finished ", name, line)?;
+    push_ticks(b" ", id.number(), line)
+}
+
+pub(crate) fn push_sequencing(act: &Act, line: &mut Vec<u8>) -> Result<(), AllocError>
+    requires { is_sequencing act.now ≡ true }
+    ensures { OnOk result (line.new.items ≡ line.old.items ++ act_text act.now) }
+{
+    match act {
+        Act::Ask { port, how } => push_ask(port, *how, line),
+        Act::ItemDone { port, response } => push_done(port, response, line),
+        Act::Start {
+            type_name,
+            name,
+            on,
+            priority,
+        } => push_start(type_name, name, on, *priority, line),
+        Act::Request { priority } => push_priority(b"request ", *priority, line),
+        Act::Lock => line.extend_from_slice(b"lock"),
+        Act::Grab => line.extend_from_slice(b"grab"),
+        Act::Unlock => line.extend_from_slice(b"unlock"),
+        Act::Send { item } => {
+            line.extend_from_slice(b"send ")?;
+            push_item(item, line)
+        }
+        Act::EndStep => line.extend_from_slice(b"end_step"),
+        _ => unreachable!(),
+    }
+}
+
+fn push_ask(port: &Name, how: How, line: &mut Vec<u8>) -> Result<(), AllocError>
+    ensures { OnOk result (line.new.items ≡ line.old.items ++ act_text (act.Ask port.now how)) }
+{
+    push_named(b"ask ", port, line)?;
+    push_two(b" ", how_text(how), line)
+}
+
+fn push_done(port: &Name, response: &Option<Item>, line: &mut Vec<u8>) -> Result<(), AllocError>
+    ensures { OnOk result (line.new.items ≡ line.old.items ++ act_text (act.ItemDone port.now response.now)) }
+{
+    push_named(b"item_done ", port, line)?;
+    line.push(b' ')?;
+    push_some_item(response, line)
+}
+
+fn push_start(
+    type_name: &Name,
+    name: &Name,
+    on: &Path,
+    priority: Option<u16>,
+    line: &mut Vec<u8>,
+) -> Result<(), AllocError>
+    ensures { OnOk result (line.new.items ≡ line.old.items ++ act_text (act.Start type_name.now name.now on.now priority)) }
+{
+    push_named(b"start ", type_name, line)?;
+    push_named(b" ", name, line)?;
+    line.extend_from_slice(b" (")?;
+    line.extend_from_slice(on.as_bytes())?;
+    push_priority(b") ", priority, line)
+}
+
+// A word, and a priority that may not be given.
+fn push_priority(word: &[u8], priority: Option<u16>, line: &mut Vec<u8>) -> Result<(), AllocError>
+    ensures { OnOk result (line.new.items ≡ line.old.items ++ (word.now ++ priority_text priority)) }
+{
+    match priority {
+        Some(priority) => push_ticks(word, u64::from(priority), line),
+        None => push_two(word, "none", line),
+    }
+}
+
+pub(crate) fn mode_text(mode: Mode) -> &'static str
+    ensures { result.now ≡ mode_text mode }
+{
+    match mode {
+        Mode::Fifo => "FIFO",
+        Mode::Weighted => "WEIGHTED",
+        Mode::Random => "RANDOM",
+        Mode::StrictFifo => "STRICT_FIFO",
+        Mode::StrictRandom => "STRICT_RANDOM",
+    }
+}
+
+fn how_text(how: How) -> &'static str
+    ensures { result.now ≡ how_text how }
+{
+    match how {
+        How::Next => "next",
+        How::Try => "try",
+        How::Get => "get",
+    }
+}

@@ -1,0 +1,5 @@
+pub mod Drained
+pub mod Lists
+pub mod Objected
+pub mod Told
+pub mod Written

@@ -1,0 +1,3 @@
+pub mod Tellings
+pub mod Objectings
+pub mod Agendas

@@ -1,0 +1,156 @@
+//! The events that are due: calls that entries cause, and the ends of drains.
+
+ghost use Rattle.std.specs.Prelude.{◌≡◌, ◌++◌, ℕ, List, not, filter, OnOk, ◌∷◌, [], true, ◌<◌, ◌≤◌, IsOk, Some};
+ghost use Rattle.std.specs.Option.{option_to_list};
+ghost use Rattle.uvm_phase.specs.Dues.{in_order};
+ghost use Rattle.bench_history.specs.Dues.{caused_at, is_of_one, event_in, calls_numbered};
+ghost use Rattle.bench_history.specs.History.{running};
+ghost use Rattle.bench_history.specs.Owners.{Event, is_drain_of};
+ghost use Rattle.uvm_object.specs.declared.acts.Act.TheVariants.{EndStep};
+ghost use Rattle.bench_history.specs.Refusals.{is_open_to};
+ghost use Rattle.uvm_phase.specs.declared.agendas.Due.{Due};
+ghost use Rattle.world_agenda.specs.Tellings.{if_told, living_numbered, is_told};
+
+use bench_history::{Owner, Stage};
+use std::alloc::AllocError;
+use uvm_object::{Call, Who};
+use uvm_phase::{Agenda, Cause, laws as agendas};
+use uvm_sequencer::Sequences;
+use uvm_tree::NodeId;
+
+/// Takes the end of a drain out of what is due, where a drain has ended: the node is the one that held something back.
+pub fn end_drain(agenda: &mut Agenda<Owner, Option<Call>>, ended: Option<NodeId>)
+    ensures { (caused : List Event) → agenda.old.dues ≡ in_order caused →
+        agenda.new.dues ≡ in_order (filter (λ event. not (is_drain_of (option_to_list ended) event.owner)) caused) }
+{
+    agendas::order_keeps_filters::<Owner, Option<Call>>();
+    if let Some(node) = ended {
+        agenda.cancel(&Owner::Drain(node));
+    }
+}
+
+/// Takes out of what is due all calls to a sequence, which has finished.
+pub fn cancel(agenda: &mut Agenda<Owner, Option<Call>>, performer: Who)
+    requires { is_open_to EndStep performer ≡ true }
+    ensures { (caused : List Event) → agenda.old.dues ≡ in_order caused →
+        agenda.new.dues ≡ in_order (filter (λ event. not (is_of_one (performer ∷ []) event.owner)) caused) }
+{
+    agendas::order_keeps_filters::<Owner, Option<Call>>();
+    agenda.cancel(&Owner::Object(performer));
+}
+
+/// The most ticks of a wait and of a drain time.
+pub const MAX_TICKS: u64 = 1_000_000_000_000_000;
+
+/// Answers the cause of the one call that the entry at a place of the log makes due.
+pub fn caused_at(place: usize) -> Cause
+    ensures { result ≡ caused_at place }
+{
+    Cause {
+        place: place as u64,
+        number: 0,
+    }
+}
+
+/// Adds an event that is due at a time, in ticks, while a phase runs; at another stage it adds nothing. Its error is want of
+/// memory. It does not come where the agenda has room.
+pub fn add_event<O: Drop, N: Drop>(
+    agenda: &mut Agenda<O, N>,
+    stage: Stage,
+    time: u64,
+    cause: Cause,
+    owner: O,
+    notice: N,
+) -> Result<(), AllocError>
+    ensures dues { OnOk result ((caused : List (Due O N)) → agenda.old.dues ≡ in_order caused →
+        agenda.new.dues ≡ in_order (event_in (running stage) time cause owner notice ++ caused)) }
+    ensures memory { 0 < agenda.old.spare → IsOk result }
+{
+    let Stage::During(phase) = stage else {
+        return Ok(());
+    };
+    agenda.due(time, cause, phase, owner, notice)
+}
+
+/// Makes calls due at a time, in ticks, while a phase runs, but for those to sequences that live no longer. The place of the
+/// entry is their cause, and they are numbered in their order. Its error is want of memory.
+pub fn tell_each(
+    agenda: &mut Agenda<Owner, Option<Call>>,
+    sequences: &Sequences,
+    stage: Stage,
+    time: u64,
+    place: usize,
+    calls: &[(Who, Call)],
+) -> Result<(), AllocError>
+    ensures { OnOk result ((caused : List Event) → agenda.old.dues ≡ in_order caused →
+        agenda.new.dues ≡ in_order (living_numbered (is_told sequences.now.steps) (running stage) time place 0 calls.now ++ caused)) }
+{
+    for (number, (who, call)) in calls.iter().enumerate() {
+        let cause = Cause {
+            place: place as u64,
+            number: number as u64,
+        };
+        tell_if(
+            agenda,
+            is_told(sequences, who),
+            stage,
+            time,
+            cause,
+            *who,
+            *call,
+        )?;
+    }
+    Ok(())
+}
+
+// A call of somebody is due, if he is told.
+fn tell_if(
+    agenda: &mut Agenda<Owner, Option<Call>>,
+    told: bool,
+    stage: Stage,
+    time: u64,
+    cause: Cause,
+    who: Who,
+    call: Call,
+) -> Result<(), AllocError>
+    ensures { OnOk result ((caused : List Event) → agenda.old.dues ≡ in_order caused →
+        agenda.new.dues ≡ in_order (if_told told (event_in (running stage) time cause (Owner.Object who) (Some call)) ++ caused)) }
+{
+    if told {
+        add_event(agenda, stage, time, cause, Owner::Object(who), Some(call))
+    } else {
+        Ok(())
+    }
+}
+
+/// Answers whether somebody is told what is due: a component, or a sequence that lives.
+pub fn is_told(sequences: &Sequences, who: &Who) -> bool
+    ensures { result ≡ is_told sequences.now.steps who.now }
+{
+    match who {
+        Who::Node(_) => true,
+        Who::Sequence { id, .. } => sequences.is_live(*id),
+    }
+}
+
+/// Makes calls due at a time, in ticks, while a phase runs. The place of the entry is their cause, and they are numbered in their
+/// order. Its error is want of memory.
+pub fn tell_all(
+    agenda: &mut Agenda<Owner, Option<Call>>,
+    stage: Stage,
+    time: u64,
+    place: usize,
+    calls: &[(Who, Call)],
+) -> Result<(), AllocError>
+    ensures { OnOk result ((caused : List Event) → agenda.old.dues ≡ in_order caused →
+        agenda.new.dues ≡ in_order (calls_numbered (running stage) time place 0 calls.now ++ caused)) }
+{
+    for (number, (who, call)) in calls.iter().enumerate() {
+        let cause = Cause {
+            place: place as u64,
+            number: number as u64,
+        };
+        add_event(agenda, stage, time, cause, Owner::Object(*who), Some(*call))?;
+    }
+    Ok(())
+}

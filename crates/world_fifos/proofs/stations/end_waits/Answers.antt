@@ -1,0 +1,10 @@
+use Rattle.std.proofs.Common.{◌∙◌, ap, nat_eq, rules}
+use Rattle.std.specs.Map.{lookup}
+use Rattle.std.proofs.lemmas.Map.Made.{lookup-map_values, map_same_pairs}
+use Rattle.world_fifos.specs.Stations.{without_waits}
+use Rattle.world_fifos.proofs.stations.end_waits.Goals as goal
+
+pub returns : goal.returns
+returns c = λ n.
+    ap (lookup (nat_eq n)) (map_same_pairs _ (without_waits c.args.phase) _ (λ k v b w f' t. search rules) _ _ c.retain.ensures.filtered)
+    ∙ lookup-map_values (without_waits c.args.phase) (nat_eq n) c.args.stations.now.entries

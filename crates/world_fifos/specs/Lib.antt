@@ -1,0 +1,2 @@
+pub mod Passings
+pub mod Stations

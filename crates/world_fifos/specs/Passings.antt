@@ -1,0 +1,36 @@
+-- What a world keeps of what goes through FIFOs, and that it is what the log says.
+use Rattle.std.specs.Prelude.{◌≡◌, ◌<◌, ◌≤◌, ℕ, Bool, true, false, nat_eq, ◌==◌, List, [], length, filter, All, AllPairs, Contains, Option, None}
+use Rattle.std.specs.HashMap.{get}
+use Rattle.uvm_tlm.specs.declared.items.Item.{Item}
+use Rattle.uvm_object.specs.declared.entries.Passage.{Passage}
+use Rattle.bench_history.specs.Passing.{Request, Station}
+use Rattle.world_fifos.specs.Stations.{Kept}
+
+-- the FIFO of each node is what the log says
+pub record AreStations (at : ℕ → Option Station) (kept : Kept) : Type 0 where
+  pub each : (n : ℕ) → get nat_eq kept n ≡ at n
+
+-- requests were asked for at places of their own, before this one, and so was what came to pass
+pub record AreAsked {Wish : Type 0} (count : ℕ) (asked : List (Request Wish)) (answered : List ℕ) : Type 0 where
+  pub apart : AllPairs (λ request other. (request.asker.place == other.asker.place) ≡ false) asked
+  pub within : All (λ request. request.asker.place < count) asked
+  pub answered_within : All (λ place. place < count) answered
+
+-- at each FIFO no more left than entered, and nothing was asked for where there is none
+pub record IsPassed (count : ℕ) (size : Option ℕ) (entered : List Item) (left : ℕ) (puts : List (Request Item)) (puts_answered : List ℕ) (takes : List (Request Bool)) (takes_answered : List ℕ) : Type 0 where
+  pub few : left ≤ length entered
+  pub are_puts : AreAsked count puts puts_answered
+  pub are_takes : AreAsked count takes takes_answered
+  pub no_item : size ≡ None → entered ≡ []
+  pub no_put : size ≡ None → puts ≡ []
+  pub no_take : size ≡ None → takes ≡ []
+
+pub record ArePassed (count : ℕ) (size : ℕ → Option ℕ) (entered : ℕ → List Item) (left : ℕ → ℕ) (puts : ℕ → List (Request Item)) (puts_answered : ℕ → List ℕ) (takes : ℕ → List (Request Bool)) (takes_answered : ℕ → List ℕ) : Type 0 where
+  pub each : (n : ℕ) → IsPassed count (size n) (entered n) (left n) (puts n) (puts_answered n) (takes n) (takes_answered n)
+
+-- the FIFOs at which something may pass are kept in path order: at no other node does anything
+pub record AreUnsettled (passing : ℕ → Option (ℕ × Passage)) (order kept : List ℕ) : Type 0 where
+  pub among : ℕ → Bool
+  pub kept_are : kept ≡ filter among order
+  pub others : (n : ℕ) → among n ≡ false → passing n ≡ None
+  pub held : (n : ℕ) → among n ≡ true → Contains order n

@@ -1,0 +1,60 @@
+use Rattle.std.proofs.Common.{◌≡◌, length, filter, Some, None, is_some, ◌∙◌, refl, rules}
+use Rattle.uvm_tlm.specs.declared.ends.PortKind.TheVariants.{Analysis}
+use Rattle.uvm_object.specs.declared.acts.Act.TheVariants.{Write}
+use Rattle.uvm_object.specs.declared.entries.Outcome.TheVariants.{Done}
+use Rattle.bench_history.specs.Sequences.{finished_of}
+use Rattle.bench_history.specs.Dues.{caused_of, heard_of, is_open, calls_told}
+use Rattle.bench_history.specs.History.{nodes_of, now_of, running, stage_of, ended_of}
+use Rattle.bench_history.specs.Objections.{objections_of}
+use Rattle.bench_history.specs.Ports.{imps_below, port_below}
+use Rattle.bench_history.specs.Refusals.{passing_refusal}
+use Rattle.world_services.proofs.Later.{acted, refused-here}
+use Rattle.world_port_acts.proofs.Outlets.{calls-are, outlet-does, outlet-open, outlet-refuses, written-kept}
+use Rattle.world_agenda.proofs.Written.{agenda-written, events-calls, written-open}
+use Rattle.world_port_acts.proofs.writes.write.Goals as goal
+
+pub returns-in-Err : goal.returns-in-Err
+returns-in-Err c =
+    let speaker = c.args.services.now.answer.speaker in
+    let why = rw c.in-Err.is at c.in_ok-port.ensures in
+    refused-here _ _ _ (Write c.args.name.now c.args.item) c.in-Err.fatal c.args.place c.refused.ensures.attempt c.refused.ensures.services (λ script history m.
+    let refuses : passing_refusal (running (stage_of history)) (is_some (port_below history speaker Analysis c.args.name.now)) ≡ Some c.in-Err.fatal = outlet-refuses m c.requires c.args.name.now c.in-Err.fatal why in
+    rw refuses refl)
+
+pub store_all-requires : goal.store_all-requires
+store_all-requires c =
+    let found = rw c.in-Ok.is at c.in_ok-port.ensures in
+    rw c.resolve-targets.ensures.targets (c.targets_are_reached.ensures c.args.services.now.wiring c.resolve-targets.ensures.wiring (c.requires.closed found.0) c.in-Ok.port).distinct
+
+pub returns : goal.returns
+returns c =
+    let services = c.args.services.now in
+    let speaker = services.answer.speaker in
+    let name = c.args.name.now in
+    let item = c.args.item in
+    let found = rw c.in-Ok.is at c.in_ok-port.ensures in
+    let reached = c.resolve-targets.ensures in
+    let stored = rw reached.targets at c.in_ok-store_all.ensures in
+    rw (c.done.ensures.attempt, c.done.ensures.services) (record {
+      comes = λ script history s.
+          let o = outlet-open s.known c.requires c.targets_accept_the_kind.ensures reached.wiring found in
+          let does : passing_refusal (running (stage_of history)) (is_some (port_below history speaker Analysis name)) ≡ None = outlet-does o in
+          rw does refl;
+      kept = record {
+        same_answer = refl;
+        with_entry = λ script history s.
+            let m = s.known in
+            let left = s.left in
+            let o = outlet-open m c.requires c.targets_accept_the_kind.ensures reached.wiring found in
+            let k = written-kept s item c.store_all.new.stations o stored (c.in_ok-look_at_all.ensures ∙ reached.targets) in
+            let stations = k.stations_are in
+            let passed = k.passed in
+            let unsettled = k.unsettled_are in
+            let written = calls_told history speaker Done (Write name item) in
+            let calls : c.as_slice.result.now ≡ written = c.as_slice.ensures.value ∙ c.in_ok-calls.ensures ∙ rw reached.targets (calls-are item m o) in
+            let dues = rw (m.stage, m.time, ← s.place_is, calls) at (c.in_ok-tell_all.ensures (filter (is_open (heard_of history) (ended_of history) (finished_of history)) (caused_of history)) m.agenda.are) in
+            let events = events-calls (objections_of history) (is_open (heard_of history) (ended_of history) (finished_of history)) (running (stage_of history)) (now_of history) (length history) 0 written (caused_of history) m.events in
+            let agenda = agenda-written (stage_of history) (now_of history) written (caused_of history) (heard_of history) (ended_of history) (finished_of history) (length history) _ _ o.task s.in_order (written-open (nodes_of history) item (finished_of history) (imps_below history speaker name)) m.agenda dues in
+            search (rules, acted);
+      };
+    })

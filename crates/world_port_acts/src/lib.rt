@@ -1,0 +1,5 @@
+//! The acts through ports: puts, takes, peeks and writes. A room below `bench_world`.
+#![tactic(auto)]
+
+pub mod passages;
+pub mod writes;

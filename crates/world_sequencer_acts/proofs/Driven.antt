@@ -1,0 +1,410 @@
+-- What drivers do at a sequencer, and what a sequence that finishes leaves there.
+use Rattle.std.proofs.Common.{◌≡◌, ℕ, suc, ◌<◌, ◌==◌, nat_eq, nat_lt, Bool, true, false, not, ◌&&◌, List, [], ◌∷◌, length, slice_get, All, Contains, Option, Some, None, IsSome, is_none, is_some, option_map, option_and_then, Ok, Err, refl, ap, sym, ◌∙◌, subst, arith, rules, if◌then◌else◌}
+use Rattle.std.specs.List.{list_any}
+use Rattle.std.specs.Option.{option_map_or}
+use Rattle.std.specs.HashMap.{get}
+use Rattle.std.proofs.lemmas.Bool.Decides.{nat_tests}
+use Rattle.std.proofs.lemmas.List.Elements.{All-cons, All-nil, All-weaker}
+use Rattle.uvm_glob.specs.Faults.{fault_if, unless}
+use Rattle.uvm_phase.specs.declared.phases.Phase.{Phase}
+use Rattle.uvm_phase.specs.Phases.{phase_number, same_phase}
+use Rattle.uvm_tree.specs.Sorted.{AreInPathOrder, path_order}
+use Rattle.uvm_tree.specs.Nodes.{Node}
+use Rattle.uvm_tlm.specs.declared.items.Item.{Item}
+use Rattle.uvm_tlm.specs.declared.ends.PortKind.TheVariants.{Seq}
+use Rattle.uvm_tlm.specs.Wirings.{WiringValue, is_closed, targets_of}
+use Rattle.uvm_sequencer.specs.declared.drivers.Asked.{Asked}
+use Rattle.uvm_sequencer.specs.declared.drivers.Driver.TheVariants.{Idle, Waiting}
+use Rattle.uvm_sequencer.specs.declared.drivers.How.{How}
+use Rattle.uvm_sequencer.specs.declared.modes.Mode.{Mode}
+use Rattle.uvm_sequencer.specs.declared.requests.Request.{Request}
+use Rattle.uvm_sequencer.specs.declared.starts.SeqStep.{SeqStep}
+use Rattle.uvm_sequencer.specs.Drivers.{grant_of, hand_of, is_try, left_by}
+use Rattle.uvm_sequencer.specs.Sequences.{numbered}
+use Rattle.uvm_sequencer.specs.Sequencers.{after_leave, answer, candidates_at, with_idle}
+use Rattle.uvm_object.specs.Objects.{same_who}
+use Rattle.uvm_object.specs.declared.acts.Who.{Who}
+use Rattle.uvm_object.specs.declared.acts.Call.{Call}
+use Rattle.uvm_object.specs.declared.acts.Act.{Act}
+use Rattle.uvm_object.specs.declared.acts.Act.TheVariants.{Ask, EndStep, ItemDone}
+use Rattle.uvm_object.specs.declared.fatals.Fatal.{Fatal}
+use Rattle.uvm_object.specs.declared.fatals.Fatal.TheVariants.{NoPort, NothingOut, OutsideTask}
+use Rattle.uvm_object.specs.declared.entries.Outcome.{Outcome}
+use Rattle.uvm_object.specs.declared.entries.Outcome.TheVariants.{Done, Finished, Refused, Waits}
+use Rattle.uvm_object.specs.declared.entries.Entry.{Entry}
+use Rattle.uvm_object.specs.declared.entries.Entry.TheVariants.{Did}
+use Rattle.bench_script.specs.Scripts.{ScriptValue}
+use Rattle.bench_history.specs.declared.askers.DriverPort.{DriverPort}
+use Rattle.bench_history.specs.declared.owners.Owner.TheVariants.{Object}
+use Rattle.bench_history.specs.declared.stages.Stage.{Stage}
+use Rattle.bench_history.specs.declared.stages.Stage.TheVariants.{Before, During, After, Ended}
+use Rattle.bench_history.specs.Arbitration.{Wanted, driver_asker, driver_state, if_arbitrated, mode_at, sequencer_at, sequencer_below}
+use Rattle.bench_history.specs.Cases.{Exactly, by_open, by_upshot}
+use Rattle.bench_history.specs.Dues.{calls_told, is_of_one, lapsed_by, told_done, told_item}
+use Rattle.bench_history.specs.History.{components_of, ended_of, left_of, nodes_of, rest_of, running, stage_of}
+use Rattle.bench_history.specs.Laws.{next_number, place_of}
+use Rattle.bench_history.specs.Ports.{port_below}
+use Rattle.bench_history.specs.Refusals.{ask_refusal, done_refusal, driving_refusal, in_task}
+use Rattle.bench_history.specs.Sequences.{Beginning, begun_of, finished_of, sequences_of}
+use Rattle.bench_history.specs.Upshots.{asked_upshot, driven_at}
+use Rattle.world_sequencers.specs.declared.arbiters.Reached.{Reached}
+use Rattle.world_services.specs.declared.services.Services.{Services}
+use Rattle.world_sequencers.specs.Arbiters.{ArbiterValue, ChangesAt, Kept, asked_at, asked_in, at_sequencer}
+use Rattle.world_sequencers.specs.Arbitratings.{IsArbitrated, IsArbitrating, Ledger, arbiter_of, arbiter_with, ledger_at, runs_on}
+use Rattle.world_sequencer_acts.specs.Drivings.{if_kept, lapsed_calls, reached_at, reached_in, waiting_outcome}
+use Rattle.world_wiring.specs.Ports.{port_in}
+use Rattle.world_agenda.specs.Tellings.{is_told}
+use Rattle.world_sequences.specs.Sequencings.{live_by, lives_by}
+use Rattle.world_services.specs.Attempts.{CanPerform, IsScene, one_done, unreported}
+use Rattle.world_services.specs.Services.{ServicesMatch}
+use Rattle.world_sequencers.proofs.Arbited.{alike-is, arbitrated-driver, arbitrated-more, arbiter-changed, left-is}
+use Rattle.world_sequencers.proofs.Contested.{arbitrating-one, none-locked, none-served, sequencer-is}
+use Rattle.world_services.proofs.Later.{acted}
+use Rattle.world_services.proofs.Passages.{closed-same, port-known}
+use Rattle.world_sequencer_acts.proofs.Seated.{itself, item-told, kept-there, placed}
+use Rattle.world_agenda.proofs.Told.{runs}
+use Rattle.uvm_sequencer.specs.declared.drivers.Asked.TheVariants as asked
+use Rattle.uvm_sequencer.specs.declared.drivers.How.TheVariants as how
+use Rattle.uvm_object.specs.declared.acts.Who.TheVariants as who
+use Rattle.uvm_object.specs.declared.acts.Call.TheVariants as call
+
+-- which sequencer is reached
+module _ {script : ScriptValue} {history : List Entry} {services : Services} (m : ServicesMatch script history services) (name : List ℕ) (closed : is_closed services.wiring ≡ true) where
+  node-reached : (port node : ℕ) → option_map (λ (r : Reached). r.sequencer) (if_kept services.arbiters port node) ≡ if_arbitrated history node
+  node-reached port node = rw (m.arbitrating.arbiters_are.each node) (by (mode_at history node))
+    where
+      by : (mode : Option Mode) → option_map (λ (r : Reached). r.sequencer) (if is_some (option_map (arbiter_with (live_by (begun_of history) (finished_of history) (ended_of history)) (ledger_at history node)) mode) then Some (record { port = port; sequencer = node }) else None) ≡ option_map (λ mode. node) mode
+      by None = refl
+      by (Some mode) = refl
+
+  target-reached : (port : ℕ) (target : Option ℕ) → option_map (λ (r : Reached). r.sequencer) (option_and_then (if_kept services.arbiters port) target) ≡ option_and_then (if_arbitrated history) target
+  target-reached port None = refl
+  target-reached port (Some node) = node-reached port node
+
+  port-reached : (port : Option ℕ) → option_map (λ (r : Reached). r.sequencer) (option_and_then (reached_at services.wiring services.arbiters) port) ≡ option_and_then (λ port. option_and_then (if_arbitrated history) (slice_get (targets_of services.wiring port) 0)) port
+  port-reached None = refl
+  port-reached (Some port) = target-reached port (slice_get (targets_of services.wiring port) 0)
+
+  pub reached-known : option_map (λ (r : Reached). r.sequencer) (reached_in services name) ≡ sequencer_below history services.answer.speaker name
+  unfolding sequencer_below
+  reached-known =
+      port-reached (port_in services.tree.nodes services.wiring services.answer.speaker Seq name)
+      ∙ ap (option_and_then (λ port. option_and_then (if_arbitrated history) (slice_get (targets_of services.wiring port) 0))) (sym (port-known m Seq name closed))
+      ∙ ap (λ (w : WiringValue). option_and_then (λ port. option_and_then (if_arbitrated history) (slice_get (targets_of w port) 0)) (port_below history services.answer.speaker Seq name)) (closed-same m.connecting closed)
+
+-- why it is refused to ask there
+pub driving-in : (phase : Option Phase) (refusal : Option Fatal) → in_task phase ≡ true → driving_refusal phase true refusal ≡ refusal
+unfolding driving_refusal
+driving-in phase None task = rw task refl
+driving-in phase (Some fatal) task = rw task refl
+
+pub driving-outside : (phase : Option Phase) (there : Bool) (refusal : Option Fatal) → in_task phase ≡ false → driving_refusal phase there refusal ≡ Some OutsideTask
+unfolding driving_refusal
+driving-outside phase there refusal outside = rw outside refl
+
+pub driving-nowhere : (phase : Option Phase) (there : Bool) (refusal : Option Fatal) → in_task phase ≡ true → there ≡ false → driving_refusal phase there refusal ≡ Some NoPort
+unfolding driving_refusal
+driving-nowhere phase there refusal task none = rw (task, none) refl
+
+driving-alike : (phase : Option Phase) (a b : Bool) (refusal : Option Fatal) → (in_task phase ≡ true → a ≡ b) → driving_refusal phase a refusal ≡ driving_refusal phase b refusal
+unfolding driving_refusal
+driving-alike phase a b refusal same = by (in_task phase) refl
+  where
+    by : (task : Bool) → in_task phase ≡ task → driving_refusal phase a refusal ≡ driving_refusal phase b refusal
+    by true is = rw (same is) refl
+    by false is = rw is refl
+
+some-mapped : {A B : Type 0} (f : A → B) (o : Option A) → is_some (option_map f o) ≡ is_some o
+some-mapped f None = refl
+some-mapped f (Some a) = refl
+
+pub driving-refuses :
+    {script : ScriptValue} {history : List Entry} {services : Services} → ServicesMatch script history services → CanPerform services → (name : List ℕ) (fatal : Fatal) (refusal : Option Fatal)
+    → driving_refusal (running services.stage) (is_some (reached_in services name)) refusal ≡ Some fatal → driving_refusal (running (stage_of history)) (is_some (sequencer_below history services.answer.speaker name)) refusal ≡ Some fatal
+driving-refuses {history = history} {services} m can name fatal refusal why =
+    ap (λ (stage : Stage). driving_refusal (running stage) (is_some (sequencer_below history services.answer.speaker name)) refusal) (sym m.stage)
+    ∙ driving-alike (running services.stage) (is_some (sequencer_below history services.answer.speaker name)) (is_some (reached_in services name)) refusal (λ task. ap is_some (sym (reached-known m name (can.closed task))) ∙ some-mapped (λ (r : Reached). r.sequencer) (reached_in services name))
+    ∙ why
+
+-- an act is refused where no sequencer is reached
+module _ (script : ScriptValue) (history : List Entry) (speaker : Who) (name : List ℕ) where
+  pub ask-unreached :
+      (way : How) (fatal : Fatal) → ((refusal : Option Fatal) → driving_refusal (running (stage_of history)) (is_some (sequencer_below history speaker name)) refusal ≡ Some fatal)
+      → by_open script history speaker (Ask name way) ≡ Exactly (Did speaker (Refused fatal) (Ask name way))
+  ask-unreached way fatal why = rw (why (option_and_then ask_refusal (driven_at history speaker name))) refl
+
+  pub done-unreached :
+      (response : Option Item) (fatal : Fatal) → ((refusal : Option Fatal) → driving_refusal (running (stage_of history)) (is_some (sequencer_below history speaker name)) refusal ≡ Some fatal)
+      → by_open script history speaker (ItemDone name response) ≡ Exactly (Did speaker (Refused fatal) (ItemDone name response))
+  done-unreached response fatal why = rw (why (option_and_then done_refusal (driven_at history speaker name))) refl
+
+-- a sequencer is reached after a log
+pub record IsReaching (history : List Entry) (speaker : Who) (name : List ℕ) (node : ℕ) : Type 0 where
+  pub task : in_task (running (stage_of history)) ≡ true
+  pub leads : sequencer_below history speaker name ≡ Some node
+  pub moded : IsSome (mode_at history node)
+  pub there : Contains (path_order (nodes_of history)) node
+
+moded-by : (history : List Entry) (node : ℕ) (mode : Option Mode) → IsSome (option_map (arbiter_with (live_by (begun_of history) (finished_of history) (ended_of history)) (ledger_at history node)) mode) → IsSome mode
+moded-by history node None some = some
+moded-by history node (Some mode) some = refl
+
+pub reaching :
+    {script : ScriptValue} {history : List Entry} {act : Act} {place : ℕ} {services : Services} (name : List ℕ) (reached : Reached) → IsScene script history act place services → CanPerform services → ((nodes : List Node) → AreInPathOrder nodes (path_order nodes))
+    → (in_task (running services.stage) ≡ true) × (reached_in services name ≡ Some reached) × IsSome (get nat_eq services.arbiters reached.sequencer) → IsReaching history services.answer.speaker name reached.sequencer
+reaching {history = history} {services = services} name reached s can order found =
+    let m = s.known in
+    let moded = moded-by history reached.sequencer (mode_at history reached.sequencer) (rw (m.arbitrating.arbiters_are.each reached.sequencer) at found.2) in
+    record {
+      task = ap (λ (stage : Stage). in_task (running stage)) (sym m.stage) ∙ found.0;
+      leads = sym (reached-known m name (can.closed found.0)) ∙ rw found.1 refl;
+      moded = moded;
+      there = placed s reached.sequencer order moded;
+    }
+
+-- what comes of asking there
+at-node : (history : List Entry) (node : ℕ) (kept : Option ArbiterValue) → kept ≡ arbiter_of (live_by (begun_of history) (finished_of history) (ended_of history)) (ledger_at history node) → sequencer_at history node ≡ option_map (λ a. a.sequencer) kept
+at-node history node kept is = sequencer-is history node ∙ ap (option_map (λ (a : ArbiterValue). a.sequencer)) (sym is)
+
+waits-comes : (performer : Who) (act : Act) (way : How) (requests : List Request) → answer way requests ≡ asked.Waits → by_upshot performer act (asked_upshot way (nat_lt 0 (length requests))) ≡ Exactly (Did performer (waiting_outcome way) act)
+waits-comes performer act how.Try [] e = cc
+waits-comes performer act how.Try (request ∷ requests) e = let some : nat_lt 0 (suc (length requests)) ≡ true = grind (arith, nat_tests) in rw some refl
+waits-comes performer act how.Next requests e = refl
+waits-comes performer act how.Get requests e = refl
+
+none-comes : (performer : Who) (act : Act) (way : How) (requests : List Request) → answer way requests ≡ asked.Nothing → by_upshot performer act (asked_upshot way (nat_lt 0 (length requests))) ≡ Exactly (Did performer (Waits false) act)
+none-comes performer act how.Try [] e = refl
+none-comes performer act how.Try (request ∷ requests) e = cc
+none-comes performer act how.Next requests e = cc
+none-comes performer act how.Get requests e = cc
+
+allowed : (refusal : Option Fatal) (a b : Asked) → unless refusal a ≡ Ok b → (refusal ≡ None) × (a ≡ b)
+allowed None a b e = (refl, cc)
+allowed (Some fatal) a b e = cc
+
+module _ (script : ScriptValue) (history : List Entry) (speaker : Who) (name : List ℕ) (node : ℕ) (r : IsReaching history speaker name node) (kept : Option ArbiterValue) (is : kept ≡ arbiter_of (live_by (begun_of history) (finished_of history) (ended_of history)) (ledger_at history node)) (some : IsSome kept) where
+  there-is : (a : ArbiterValue) × (kept ≡ Some a) × (sequencer_at history node ≡ Some a.sequencer)
+  there-is = by kept refl some
+    where
+      by : (o : Option ArbiterValue) → kept ≡ o → IsSome o → (a : ArbiterValue) × (kept ≡ Some a) × (sequencer_at history node ≡ Some a.sequencer)
+      by None e some = cc
+      by (Some a) e some = (a, e, at-node history node kept is ∙ ap (option_map (λ (a : ArbiterValue). a.sequencer)) e)
+
+  ask-open : (way : How) (a : ArbiterValue) → sequencer_at history node ≡ Some a.sequencer → ask_refusal a.sequencer ≡ None → by_open script history speaker (Ask name way) ≡ by_upshot speaker (Ask name way) (asked_upshot way (nat_lt 0 (length (candidates_at (sequences_of history) a.sequencer))))
+  ask-open way a at none =
+      let does : driving_refusal (running (stage_of history)) true (ask_refusal a.sequencer) ≡ None = driving-in (running (stage_of history)) (ask_refusal a.sequencer) r.task ∙ none in
+      rw (r.leads, at, does) refl
+
+  pub ask-waits : (way : How) → asked_in (sequences_of history) way kept ≡ Ok asked.Waits → by_open script history speaker (Ask name way) ≡ Exactly (Did speaker (waiting_outcome way) (Ask name way))
+  ask-waits way e =
+      let t = there-is in
+      let told = allowed (ask_refusal t.0.sequencer) (answer way (candidates_at (sequences_of history) t.0.sequencer)) asked.Waits (rw t.1 at e) in
+      ask-open way t.0 t.2 told.0 ∙ waits-comes speaker (Ask name way) way (candidates_at (sequences_of history) t.0.sequencer) told.1
+
+  pub ask-none : (way : How) → asked_in (sequences_of history) way kept ≡ Ok asked.Nothing → by_open script history speaker (Ask name way) ≡ Exactly (Did speaker (Waits false) (Ask name way))
+  ask-none way e =
+      let t = there-is in
+      let told = allowed (ask_refusal t.0.sequencer) (answer way (candidates_at (sequences_of history) t.0.sequencer)) asked.Nothing (rw t.1 at e) in
+      ask-open way t.0 t.2 told.0 ∙ none-comes speaker (Ask name way) way (candidates_at (sequences_of history) t.0.sequencer) told.1
+
+  refused-for : (refusal : Option Fatal) (value : Asked) (fatal : Fatal) → unless refusal value ≡ Err fatal → refusal ≡ Some fatal
+  refused-for None value fatal e = cc
+  refused-for (Some other) value fatal e = cc
+
+  pub ask-refused : (way : How) (fatal : Fatal) → asked_in (sequences_of history) way kept ≡ Err fatal → by_open script history speaker (Ask name way) ≡ Exactly (Did speaker (Refused fatal) (Ask name way))
+  ask-refused way fatal e =
+      let t = there-is in
+      let why = refused-for (ask_refusal t.0.sequencer) (answer way (candidates_at (sequences_of history) t.0.sequencer)) fatal (rw t.1 at e) in
+      let refuses : driving_refusal (running (stage_of history)) true (ask_refusal t.0.sequencer) ≡ Some fatal = driving-in (running (stage_of history)) (ask_refusal t.0.sequencer) r.task ∙ why in
+      rw (r.leads, t.2, refuses) refl
+
+  -- and of being done
+  done-allowed : (o : Option ℕ) (id : ℕ) → o ≡ Some id → fault_if (is_none o) NothingOut ≡ None
+  done-allowed None id e = cc
+  done-allowed (Some other) id e = refl
+
+  pub done-comes : (response : Option Item) (id : ℕ) → option_and_then (λ a. hand_of a.sequencer.driver) kept ≡ Some id → by_open script history speaker (ItemDone name response) ≡ Exactly (Did speaker Done (ItemDone name response))
+  done-comes response id e =
+      let t = there-is in
+      let hand : hand_of t.0.sequencer.driver ≡ Some id = rw t.1 at e in
+      let does : driving_refusal (running (stage_of history)) true (done_refusal t.0.sequencer) ≡ None = driving-in (running (stage_of history)) (done_refusal t.0.sequencer) r.task ∙ done-allowed (hand_of t.0.sequencer.driver) id hand in
+      rw (r.leads, t.2, does) refl
+
+  pub done-refused : (response : Option Item) (fatal : Fatal) → option_and_then (λ a. done_refusal a.sequencer) kept ≡ Some fatal → by_open script history speaker (ItemDone name response) ≡ Exactly (Did speaker (Refused fatal) (ItemDone name response))
+  done-refused response fatal e =
+      let t = there-is in
+      let why : done_refusal t.0.sequencer ≡ Some fatal = rw t.1 at e in
+      let refuses : driving_refusal (running (stage_of history)) true (done_refusal t.0.sequencer) ≡ Some fatal = driving-in (running (stage_of history)) (done_refusal t.0.sequencer) r.task ∙ why in
+      rw (r.leads, t.2, refuses) refl
+
+  -- whose item is in hand
+  hand-by : (mode : Option Mode) (id : ℕ) → option_and_then (λ a. hand_of a.sequencer.driver) (option_map (arbiter_with (live_by (begun_of history) (finished_of history) (ended_of history)) (ledger_at history node)) mode) ≡ Some id → hand_of (driver_state history node) ≡ Some id
+  hand-by None id e = cc
+  hand-by (Some mode) id e = e
+
+  pub hand-known : (id : ℕ) → option_and_then (λ a. hand_of a.sequencer.driver) kept ≡ Some id → hand_of (driver_state history node) ≡ Some id
+  hand-known id e = hand-by (mode_at history node) id (sym (ap (option_and_then (λ (a : ArbiterValue). hand_of a.sequencer.driver)) is) ∙ e)
+
+-- a driver waits from now on
+module _ {script : ScriptValue} {history : List Entry} {act : Act} {place : ℕ} {services : Services} (s : IsScene script history act place services) (name : List ℕ) (node : ℕ) (r : IsReaching history services.answer.speaker name node) where
+  one-there : IsArbitrated (length history) (length (nodes_of history)) (begun_of history) node (ledger_at history node)
+  one-there = s.known.arbitrating.arbitrated.each node
+
+  asked-kept :
+      (way : How) (outcome : Outcome) (more : Kept) → ((n : ℕ) → ledger_at (Did services.answer.speaker outcome (Ask name way) ∷ history) n ≡ record (ledger_at history n) {
+        driver = if option_map_or (λ other. other == n) (sequencer_below history services.answer.speaker name) false then Waiting way else driver_state history n;
+        asker = if option_map_or (λ other. other == n) (sequencer_below history services.answer.speaker name) false then Some (record { who = services.answer.speaker; name = name }) else driver_asker history n;
+      })
+      → ChangesAt node (asked_at (record { who = services.answer.speaker; name = name }) way asked.Waits) services.arbiters more
+      → IsArbitrating (suc (length history)) (nodes_of history) (begun_of history) (finished_of history) (ended_of history) (ledger_at (Did services.answer.speaker outcome (Ask name way) ∷ history)) more (Some node)
+  asked-kept way outcome more are changes =
+      let driver : DriverPort = record { who = services.answer.speaker; name = name } in
+      let l = ledger_at history node in
+      let live = live_by (begun_of history) (finished_of history) (ended_of history) in
+      let here : ledger_at (Did services.answer.speaker outcome (Ask name way) ∷ history) node ≡ record l { driver = Waiting way; asker = Some driver } = are node ∙ rw (r.leads, itself node) refl in
+      kept-there s node r.there (ledger_at (Did services.answer.speaker outcome (Ask name way) ∷ history)) more (asked_at driver way asked.Waits) (λ n other. are n ∙ rw (r.leads, other) refl)
+      (ap (arbiter_of live) here ∙ arbiter-changed live live l (record l { driver = Waiting way; asker = Some driver }) (asked_at driver way asked.Waits) refl (λ mode. refl))
+      (subst (λ (m : Ledger). IsArbitrated (suc (length history)) (length (nodes_of history)) (begun_of history) node m) (sym here) (arbitrated-driver one-there (Waiting way) (Some driver) r.moded)) changes
+
+  pub asked-goes :
+      (way : How) (more : Kept) → left_of script history ≡ Ask name way ∷ rest_of (left_of script history) → ChangesAt node (asked_at (record { who = services.answer.speaker; name = name }) way asked.Waits) services.arbiters more
+      → ServicesMatch script (Did services.answer.speaker (waiting_outcome way) (Ask name way) ∷ history) (one_done (unreported (record services { arbiters = more; contested = Some node })))
+  asked-goes how.Next more left changes = let m = s.known in let arbitrating = asked-kept how.Next Done more (λ n. refl) changes in search (rules, acted)
+  asked-goes how.Try more left changes = let m = s.known in let arbitrating = asked-kept how.Try (Waits true) more (λ n. refl) changes in search (rules, acted)
+  asked-goes how.Get more left changes = let m = s.known in let arbitrating = asked-kept how.Get Done more (λ n. refl) changes in search (rules, acted)
+
+  -- or is idle
+  pub done-kept :
+      (response : Option Item) (more : Kept) → ChangesAt node (at_sequencer with_idle) services.arbiters more
+      → IsArbitrating (suc (length history)) (nodes_of history) (begun_of history) (finished_of history) (ended_of history) (ledger_at (Did services.answer.speaker Done (ItemDone name response) ∷ history)) more (Some node)
+  done-kept response more changes =
+      let l = ledger_at history node in
+      let live = live_by (begun_of history) (finished_of history) (ended_of history) in
+      let here : ledger_at (Did services.answer.speaker Done (ItemDone name response) ∷ history) node ≡ record l { driver = Idle } = rw (r.leads, itself node) refl in
+      kept-there s node r.there (ledger_at (Did services.answer.speaker Done (ItemDone name response) ∷ history)) more (at_sequencer with_idle) (λ n other. rw (r.leads, other) refl)
+      (ap (arbiter_of live) here ∙ arbiter-changed live live l (record l { driver = Idle }) (at_sequencer with_idle) refl (λ mode. refl))
+      (subst (λ (m : Ledger). IsArbitrated (suc (length history)) (length (nodes_of history)) (begun_of history) node m) (sym here) (arbitrated-driver one-there Idle l.asker r.moded)) changes
+
+  -- whose item it was hears of it, if it lives
+  pub done-told : (response : Option Item) (id : ℕ) → hand_of (driver_state history node) ≡ Some id → All (λ (c : Who × Call). is_told services.sequences.steps c.0 ≡ not (is_of_one (finished_of history) (Object c.0))) (told_done response node (Some id))
+  done-told response id hand = All-cons (λ (c : Who × Call). is_told services.sequences.steps c.0 ≡ not (is_of_one (finished_of history) (Object c.0))) (who.Sequence id node, call.ItemDone response) [] (s.known.sequencing.living id ∙ lived (running (stage_of history)) refl r.task (s.driving.hands node id hand)) (All-nil _)
+    where
+      at-phase : (stage : Stage) (phase : Phase) → running stage ≡ Some phase → next_number stage ≡ phase_number phase
+      at-phase (During other) phase e = let same : other ≡ phase = cc in ap phase_number same
+      at-phase Before phase e = cc
+      at-phase (After other) phase e = cc
+      at-phase Ended phase e = cc
+
+      found-lives : (phase : Phase) (found : Option Beginning) → list_any (same_phase phase) (ended_of history) ≡ false → place_of found ≡ Some (node, Some phase) → option_map_or (lives_by (finished_of history) (ended_of history) id) found false ≡ not (list_any (same_who (who.Sequence id node)) (finished_of history))
+      found-lives phase None goes e = cc
+      found-lives phase (Some b) goes e =
+          let pair : (b.start.home, b.phase) ≡ (node, Some phase) = cc in
+          let at : b.start.home ≡ node = ap (λ (p : ℕ × Option Phase). p.0) pair in
+          let in_it : b.phase ≡ Some phase = ap (λ (p : ℕ × Option Phase). p.1) pair in
+          rw (at, in_it, goes) (and-true (not (list_any (same_who (who.Sequence id node)) (finished_of history))))
+        where
+          and-true : (b : Bool) → b && true ≡ b
+          and-true true = refl
+          and-true false = refl
+
+      lived : (phase : Option Phase) → running (stage_of history) ≡ phase → in_task phase ≡ true → place_of (numbered (begun_of history) id) ≡ Some (node, running (stage_of history)) → live_by (begun_of history) (finished_of history) (ended_of history) id ≡ not (list_any (same_who (who.Sequence id node)) (finished_of history))
+      lived None is task e = cc
+      lived (Some phase) is task e =
+          let before = subst (λ (n : ℕ). All (λ other. phase_number other < n) (ended_of history)) (at-phase (stage_of history) phase is) s.in_order in
+          found-lives phase (numbered (begun_of history) id) (runs (ended_of history) phase before) (rw is at e)
+
+  pub done-calls : (response : Option Item) (id : ℕ) → hand_of (driver_state history node) ≡ Some id → calls_told history services.answer.speaker Done (ItemDone name response) ≡ told_done response node (Some id)
+  done-calls response id hand = rw (r.leads, hand) refl
+
+-- a sequence that has finished leaves its sequencer
+module _ {script : ScriptValue} {history : List Entry} {act : Act} {place : ℕ} {services : Services} (s : IsScene script history act place services) (id : ℕ) (b : Beginning) (found : numbered (begun_of history) id ≡ Some b) (lives : lives_by (finished_of history) (ended_of history) id b ≡ true) (moded : IsSome (mode_at history b.start.home)) (there : Contains (path_order (nodes_of history)) b.start.home) where
+  abbrev home : ℕ
+  home = b.start.home
+
+  abbrev gone : ℕ → Bool
+  gone = live_by (begun_of history) (who.Sequence id b.start.home ∷ finished_of history) (ended_of history)
+
+  abbrev live : ℕ → Bool
+  live = live_by (begun_of history) (finished_of history) (ended_of history)
+
+  but-one : (n : ℕ) → gone n ≡ (live n && not (n == id))
+  but-one n = tested (n == id) refl
+    where
+      and-false : (v : Bool) → v && false ≡ false
+      and-false true = refl
+      and-false false = refl
+
+      and-true : (v : Bool) → v && true ≡ v
+      and-true true = refl
+      and-true false = refl
+
+      others : (one : Option Beginning) → (n == id) ≡ false → option_map_or (lives_by (who.Sequence id b.start.home ∷ finished_of history) (ended_of history) n) one false ≡ option_map_or (lives_by (finished_of history) (ended_of history) n) one false
+      others None e = refl
+      others (Some other) e = rw e refl
+
+      tested : (v : Bool) → (n == id) ≡ v → gone n ≡ (live n && not (n == id))
+      tested true is =
+          let same : n ≡ id = grind (arith, nat_tests) in
+          let dead : gone id ≡ false = rw (found, itself id, itself b.start.home) refl in
+          rw is (ap gone same ∙ dead ∙ sym (and-false (live n)))
+      tested false is = rw is (others (numbered (begun_of history) n) is ∙ sym (and-true (live n)))
+
+  other-id : (n m : ℕ) → (home == n) ≡ false → runs_on (begun_of history) n m → (m == id) ≡ false
+  other-id n m apart here = tested (m == id) refl
+    where
+      tested : (v : Bool) → (m == id) ≡ v → (m == id) ≡ false
+      tested false is = is
+      tested true is =
+          let same : m ≡ id = grind (arith, nat_tests) in
+          let at : option_map (λ (one : Beginning). one.start.home) (numbered (begun_of history) id) ≡ Some n = subst (λ (k : ℕ). runs_on (begun_of history) n k) same here in
+          let both : Some b.start.home ≡ Some n = sym (ap (option_map (λ (one : Beginning). one.start.home)) found) ∙ at in
+          let stands : b.start.home ≡ n = cc in
+          let clash : (b.start.home == n) ≡ true = grind (arith, nat_tests) in
+          cc
+
+  alike-at : (n : ℕ) → (home == n) ≡ false → (m : ℕ) → runs_on (begun_of history) n m → gone m ≡ live m
+  alike-at n apart m here = but-one m ∙ rw (other-id n m apart here) (and-true (live m))
+    where
+      and-true : (v : Bool) → v && true ≡ v
+      and-true true = refl
+      and-true false = refl
+
+  elsewhere : (n : ℕ) → (home == n) ≡ false → arbiter_of gone (ledger_at history n) ≡ arbiter_of live (ledger_at history n)
+  elsewhere n apart =
+      let one = s.known.arbitrating.arbitrated.each n in
+      alike-is live gone (ledger_at history n)
+      (All-weaker (λ (w : Wanted). runs_on (begun_of history) n w.request.seq) (λ (w : Wanted). gone w.request.seq ≡ live w.request.seq) (λ w here. alike-at n apart w.request.seq here) (ledger_at history n).wanted one.wanted_here)
+      (All-weaker (runs_on (begun_of history) n) (λ m. gone m ≡ live m) (λ m here. alike-at n apart m here) (ledger_at history n).held one.held_here)
+
+  pub finish-kept : (more : Kept) → ChangesAt b.start.home (at_sequencer (after_leave id)) services.arbiters more
+      → IsArbitrating (suc (length history)) (nodes_of history) (begun_of history) (who.Sequence id b.start.home ∷ finished_of history) (ended_of history) (ledger_at (Did (who.Sequence id b.start.home) Finished EndStep ∷ history)) more (Some b.start.home)
+  finish-kept more changes =
+      let l = ledger_at history b.start.home in
+      let m = s.known in
+      let here : ledger_at (Did (who.Sequence id b.start.home) Finished EndStep ∷ history) b.start.home ≡ record l { driver = left_by (grant_of id l.driver) l.driver } = rw (itself b.start.home) refl in
+      arbitrating-one m.arbitrating (who.Sequence id b.start.home ∷ finished_of history) (ledger_at (Did (who.Sequence id b.start.home) Finished EndStep ∷ history)) more b.start.home (at_sequencer (after_leave id))
+      (λ n apart. rw apart (elsewhere n apart)) (ap (arbiter_of gone) here ∙ left-is live gone l id but-one) changes (λ n. every n (b.start.home == n) refl) there
+      (none-locked history m.arbitrating.contested_is s.settled.unlocked) (none-served history m.arbitrating.contested_is s.settled.unserved)
+    where
+      every : (n : ℕ) (v : Bool) → (b.start.home == n) ≡ v → IsArbitrated (suc (length history)) (length (nodes_of history)) (begun_of history) n (ledger_at (Did (who.Sequence id b.start.home) Finished EndStep ∷ history) n)
+      every n false is = rw is (arbitrated-more (s.known.arbitrating.arbitrated.each n))
+      every n true is =
+          let same : b.start.home ≡ n = grind (arith, nat_tests) in
+          let l = ledger_at history b.start.home in
+          subst (λ (k : ℕ). IsArbitrated (suc (length history)) (length (nodes_of history)) (begun_of history) k (ledger_at (Did (who.Sequence id b.start.home) Finished EndStep ∷ history) k)) same
+          (rw (itself b.start.home) (arbitrated-driver (s.known.arbitrating.arbitrated.each b.start.home) (left_by (grant_of id l.driver) l.driver) l.asker moded))
+
+  -- the driver of a `try` that lapses is told
+  lapsed-by : (mode : Option Mode) → IsSome mode → lapsed_calls (option_map (arbiter_with live (ledger_at history b.start.home)) mode) id ≡ lapsed_by history b.start.home (Some id)
+  lapsed-by None moded = cc
+  lapsed-by (Some mode) moded = refl
+
+  pub lapsed-known : lapsed_calls (get nat_eq services.arbiters b.start.home) id ≡ lapsed_by history b.start.home (Some id)
+  lapsed-known = rw (s.known.arbitrating.arbiters_are.each b.start.home) (lapsed-by (mode_at history b.start.home) moded)
+
+  pub lapsed-told : (finished : List Who) (steps : List (Option SeqStep)) → All (λ (c : Who × Call). is_told steps c.0 ≡ not (is_of_one finished (Object c.0))) (lapsed_by history b.start.home (Some id))
+  lapsed-told finished steps = by (is_try (grant_of id (driver_state history b.start.home)))
+    where
+      by : (lapses : Bool) → All (λ (c : Who × Call). is_told steps c.0 ≡ not (is_of_one finished (Object c.0))) (if lapses then told_item (driver_asker history b.start.home) None else [])
+      by true = item-told finished steps (components_of history) (driver_asker history b.start.home) None (s.driving.drivers b.start.home)
+      by false = All-nil _

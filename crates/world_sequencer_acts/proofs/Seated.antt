@@ -1,0 +1,299 @@
+-- What drivers and sequences do at a sequencer.
+use Rattle.std.proofs.Common.{◌≡◌, ℕ, suc, ◌<◌, ◌-◌, ◌==◌, nat_eq, Bool, true, false, not, ◌&&◌, List, [], ◌∷◌, length, All, Contains, Option, Some, None, IsSome, option_map, option_and_then, Result, Ok, Err, IfOk, OnOk, IfSome, refl, ap, sym, ◌∙◌, subst, arith, rules, ◌⊎◌, inl, inr, if◌then◌else◌}
+use Rattle.std.specs.Option.{option_map_or}
+use Rattle.std.specs.HashMap.{get}
+use Rattle.std.specs.declared.alloc.AllocError.{AllocError}
+use Rattle.std.specs.List.{list_any}
+use Rattle.std.proofs.lemmas.Bool.Decides.{nat_tests}
+use Rattle.std.proofs.lemmas.List.Elements.{All-cons, All-nil, All-push}
+use Rattle.uvm_tree.specs.Nodes.{Node}
+use Rattle.uvm_tree.specs.Sorted.{AreInPathOrder, path_order}
+use Rattle.uvm_sequencer.specs.declared.modes.Mode.{Mode}
+use Rattle.uvm_sequencer.specs.declared.starts.SeqStep.{SeqStep}
+use Rattle.uvm_sequencer.specs.declared.drivers.How.{How}
+use Rattle.uvm_sequencer.specs.Drivers.{grant_of, sent}
+use Rattle.uvm_sequencer.specs.Queues.{item_request, lock_request}
+use Rattle.uvm_sequencer.specs.Sequences.{numbered}
+use Rattle.uvm_sequencer.specs.Sequencers.{SequencerValue, after_send, unlocked, with_grab, with_item, with_lock}
+use Rattle.uvm_tlm.specs.declared.items.Item.{Item}
+use Rattle.uvm_object.specs.Acts.{node_of}
+use Rattle.uvm_object.specs.declared.acts.Who.{Who}
+use Rattle.uvm_object.specs.Objects.{same_who}
+use Rattle.uvm_object.specs.declared.acts.Call.{Call}
+use Rattle.uvm_object.specs.declared.acts.Act.{Act}
+use Rattle.uvm_object.specs.declared.acts.Act.TheVariants.{Request, Lock, Grab, Unlock, Send}
+use Rattle.uvm_object.specs.declared.fatals.Fatal.{Fatal}
+use Rattle.uvm_object.specs.declared.fatals.Fatal.TheVariants.{NotGranted, OutOfRange}
+use Rattle.uvm_object.specs.declared.entries.Outcome.TheVariants.{Done, Refused}
+use Rattle.uvm_object.specs.declared.entries.Entry.{Entry}
+use Rattle.uvm_object.specs.declared.entries.Entry.TheVariants.{Did}
+use Rattle.bench_script.specs.Scripts.{ScriptValue}
+use Rattle.bench_history.specs.declared.askers.DriverPort.{DriverPort}
+use Rattle.bench_history.specs.declared.owners.Owner.TheVariants.{Object}
+use Rattle.bench_history.specs.Dues.{calls_told, is_of_one, told_item, told_sent}
+use Rattle.bench_history.specs.Arbitration.{driver_asker, driver_state, mode_at, request_priority, sequencer_at, sequencer_with}
+use Rattle.bench_history.specs.Cases.{Exactly, by_open}
+use Rattle.bench_history.specs.History.{components_of, ended_of, nodes_of, opening, speaker_of}
+use Rattle.bench_history.specs.Laws.{IsComponent, IsThere}
+use Rattle.bench_history.specs.Refusals.{is_none_at_all, request_refusal, send_refusal}
+use Rattle.bench_history.specs.Reports.{newest_fate, report_commands}
+use Rattle.bench_history.specs.Sequences.{Beginning, begun_of, finished_of, is_live, sequence_in, sequences_of}
+use Rattle.world_services.specs.declared.attempts.Attempt.{Attempt}
+use Rattle.world_services.specs.declared.attempts.Attempt.TheVariants.{Became}
+use Rattle.world_services.specs.declared.services.Services.{Services}
+use Rattle.world_sequencers.specs.Arbiters.{ArbiterValue, ChangesAt, Kept, at_sequencer, grabbed_if, locked_if, requested_if, sent_if, unlocked_if}
+use Rattle.world_sequencers.specs.Arbitratings.{IsArbitrated, IsArbitrating, Ledger, arbiter_of, arbiter_with, ledger_at, runs_on}
+use Rattle.world_agenda.specs.Tellings.{is_told}
+use Rattle.world_sequences.specs.Sequencings.{live_by, lives_by}
+use Rattle.world_services.specs.Attempts.{IsAttempt, IsRefusing, IsScene, TakesIn}
+use Rattle.world_services.specs.Services.{ServicesMatch}
+use Rattle.world_sequencers.proofs.Arbited.{arbitrated-before, arbitrated-behind, arbitrated-driver, arbitrated-more, arbitrated-unlocked, arbiter-changed, asked-before, asked-behind, unlocked-is}
+use Rattle.world_wiring.proofs.Connected.{permutation-contains, range-contains}
+use Rattle.world_sequencers.proofs.Contested.{arbitrating-one, none-locked, none-served, sequencer-is}
+use Rattle.world_services.proofs.Later.{acted}
+use Rattle.world_sequences.proofs.Numbered.{numbered-holds}
+use Rattle.uvm_sequencer.specs.declared.drivers.How.TheVariants as how
+use Rattle.uvm_object.specs.declared.acts.Who.TheVariants as who
+use Rattle.uvm_object.specs.declared.acts.Call.TheVariants as call
+
+pub itself : (n : ℕ) → (n == n) ≡ true
+itself n = grind (arith, nat_tests)
+
+-- each node below the top stands in the path order
+pub ordered : (nodes : List Node) (n : ℕ) → AreInPathOrder nodes (path_order nodes) → 0 < n → n < length nodes → Contains (path_order nodes) n
+ordered nodes n order low high = permutation-contains _ (path_order nodes) n order.whole (range-contains 1 (length nodes - 1) n low (omega (arith, high)))
+
+-- a sequence is there that acts: it lives, and runs on a sequencer
+pub record IsSeated (history : List Entry) (speaker : Who) (id home : ℕ) : Type 0 where
+  pub speaker_is : speaker ≡ who.Sequence id home
+  pub lives : live_by (begun_of history) (finished_of history) (ended_of history) id ≡ true
+  pub here : runs_on (begun_of history) home id
+  pub moded : IsSome (mode_at history home)
+  pub there : Contains (path_order (nodes_of history)) home
+
+home-of : (history : List Entry) (home : ℕ) (found : Option Beginning) (id : ℕ) → numbered (begun_of history) id ≡ found → option_map (λ beginning. beginning.start.home) found ≡ Some home → All (λ beginning. IsSome (mode_at history beginning.start.home)) (begun_of history) → IsSome (mode_at history home)
+home-of history home None id is e all = cc
+home-of history home (Some b) id is e all =
+    let same : b.start.home ≡ home = cc in
+    subst (λ (h : ℕ). IsSome (mode_at history h)) same (numbered-holds (λ (one : Beginning). IsSome (mode_at history one.start.home)) (begun_of history) id b all is)
+
+module _ {script : ScriptValue} {history : List Entry} {act : Act} {place : ℕ} {services : Services} (s : IsScene script history act place services) where
+  -- a sequencer is one of the nodes in path order
+  pub placed : (node : ℕ) → ((nodes : List Node) → AreInPathOrder nodes (path_order nodes)) → IsSome (mode_at history node) → Contains (path_order (nodes_of history)) node
+  placed node order moded =
+      let stands = (s.known.arbitrating.arbitrated.each node).stands moded in
+      ordered (nodes_of history) node (order (nodes_of history)) stands.0 stands.1
+
+  pub seated : (id home : ℕ) → (act ≡ opening script → ⊥) → ((nodes : List Node) → AreInPathOrder nodes (path_order nodes)) → sequence_in services.answer.speaker ≡ Some id → home ≡ node_of services.answer.speaker → IsSeated history services.answer.speaker id home
+  unfolding is_live
+  seated id home other order is at = by s.there
+    where
+      speaks : (speaker : Who) → sequence_in speaker ≡ Some id → home ≡ node_of speaker → speaker ≡ who.Sequence id home
+      speaks (who.Node node) e stands = cc
+      speaks (who.Sequence n h) e stands = let same : n ≡ id = cc in rw (same, stands) refl
+
+      by : (act ≡ opening script) ⊎ IsThere history (speaker_of history) → IsSeated history services.answer.speaker id home
+      by (inl opens) = absurd (other opens)
+      by (inr there) =
+          let same = speaks services.answer.speaker is at in
+          let living : IsThere history (who.Sequence id home) = subst (IsThere history) (sym s.known.answer.speaker ∙ same) there in
+          let moded = home-of history home (numbered (begun_of history) id) id refl living.home_is s.driving.homes in
+          record { speaker_is = same; lives = living.lives; here = living.home_is; moded = moded; there = placed home order moded }
+
+  -- something is done at one sequencer, where nothing was granted
+  pub kept-there :
+      (node : ℕ) → Contains (path_order (nodes_of history)) node → (new : ℕ → Ledger) (more : Kept) (change : ArbiterValue → ArbiterValue) → ((n : ℕ) → (node == n) ≡ false → new n ≡ ledger_at history n)
+      → arbiter_of (live_by (begun_of history) (finished_of history) (ended_of history)) (new node) ≡ option_map change (arbiter_of (live_by (begun_of history) (finished_of history) (ended_of history)) (ledger_at history node))
+      → IsArbitrated (suc (length history)) (length (nodes_of history)) (begun_of history) node (new node) → ChangesAt node change services.arbiters more
+      → IsArbitrating (suc (length history)) (nodes_of history) (begun_of history) (finished_of history) (ended_of history) new more (Some node)
+  kept-there node there new more change elsewhere here one changes =
+      let m = s.known in
+      arbitrating-one m.arbitrating (finished_of history) new more node change (λ n other. ap (arbiter_of (live_by (begun_of history) (finished_of history) (ended_of history))) (elsewhere n other)) here changes (λ n. every n (node == n) refl) there
+      (none-locked history m.arbitrating.contested_is s.settled.unlocked) (none-served history m.arbitrating.contested_is s.settled.unserved)
+    where
+      every : (n : ℕ) (b : Bool) → (node == n) ≡ b → IsArbitrated (suc (length history)) (length (nodes_of history)) (begun_of history) n (new n)
+      every n true is =
+          let same : node ≡ n = grind (arith, nat_tests) in
+          subst (λ (k : ℕ). IsArbitrated (suc (length history)) (length (nodes_of history)) (begun_of history) k (new k)) same one
+      every n false is = subst (λ (l : Ledger). IsArbitrated (suc (length history)) (length (nodes_of history)) (begun_of history) n l) (sym (elsewhere n is)) (arbitrated-more (s.known.arbitrating.arbitrated.each n))
+
+  module _ (id home : ℕ) (seat : IsSeated history services.answer.speaker id home) where
+    one-there : IsArbitrated (length history) (length (nodes_of history)) (begun_of history) home (ledger_at history home)
+    one-there = s.known.arbitrating.arbitrated.each home
+
+    abbrev Goes : Act → Kept → Type 0
+    Goes did more = IsArbitrating (suc (length history)) (nodes_of history) (begun_of history) (finished_of history) (ended_of history) (ledger_at (Did services.answer.speaker Done did ∷ history)) more (Some home)
+
+    -- a sequence requests, locks or grabs
+    pub request-kept : (priority : Option ℕ) (more : Kept) → ChangesAt home (requested_if None id (request_priority (sequences_of history) id priority)) services.arbiters more → Goes (Request priority) more
+    request-kept priority more changes =
+        let request = item_request id (request_priority (sequences_of history) id priority) in
+        let l = ledger_at history home in
+        let live = live_by (begun_of history) (finished_of history) (ended_of history) in
+        rw seat.speaker_is
+        (kept-there home seat.there (ledger_at (Did (who.Sequence id home) Done (Request priority) ∷ history)) more (at_sequencer (with_item id (request_priority (sequences_of history) id priority))) (λ n is. rw is refl)
+        (rw (itself home) (asked-behind live (length history) l one-there.grants_within one-there.locks_within request seat.lives))
+        (rw (itself home) (arbitrated-behind one-there request seat.here seat.moded)) changes)
+
+    pub lock-kept : (more : Kept) → ChangesAt home (locked_if None id) services.arbiters more → Goes Lock more
+    lock-kept more changes =
+        let l = ledger_at history home in
+        let live = live_by (begun_of history) (finished_of history) (ended_of history) in
+        rw seat.speaker_is
+        (kept-there home seat.there (ledger_at (Did (who.Sequence id home) Done Lock ∷ history)) more (at_sequencer (with_lock id)) (λ n is. rw is refl)
+        (rw (itself home) (asked-behind live (length history) l one-there.grants_within one-there.locks_within (lock_request id) seat.lives))
+        (rw (itself home) (arbitrated-behind one-there (lock_request id) seat.here seat.moded)) changes)
+
+    pub grab-kept : (more : Kept) → ChangesAt home (grabbed_if None id) services.arbiters more → Goes Grab more
+    grab-kept more changes =
+        let l = ledger_at history home in
+        let live = live_by (begun_of history) (finished_of history) (ended_of history) in
+        rw seat.speaker_is
+        (kept-there home seat.there (ledger_at (Did (who.Sequence id home) Done Grab ∷ history)) more (at_sequencer (with_grab id)) (λ n is. rw is refl)
+        (rw (itself home) (asked-before live (length history) l one-there.grants_within one-there.locks_within (lock_request id) seat.lives))
+        (rw (itself home) (arbitrated-before one-there (lock_request id) seat.here seat.moded)) changes)
+
+    -- it gives a lock back
+    pub unlock-kept : (more : Kept) → ChangesAt home (unlocked_if None id) services.arbiters more → Goes Unlock more
+    unlock-kept more changes =
+        let l = ledger_at history home in
+        let live = live_by (begun_of history) (finished_of history) (ended_of history) in
+        rw seat.speaker_is
+        (kept-there home seat.there (ledger_at (Did (who.Sequence id home) Done Unlock ∷ history)) more (at_sequencer (unlocked id)) (λ n is. rw is refl)
+        (rw (itself home) (unlocked-is live l id seat.lives))
+        (rw (itself home) (arbitrated-unlocked one-there id seat.moded)) changes)
+
+    -- it sends its item
+    pub send-kept : (item : Item) (way : How) (more : Kept) → grant_of id (ledger_at history home).driver ≡ Some way → ChangesAt home (sent_if (Some way) id) services.arbiters more → Goes (Send item) more
+    send-kept item way more granted changes =
+        let l = ledger_at history home in
+        let live = live_by (begun_of history) (finished_of history) (ended_of history) in
+        rw seat.speaker_is
+        (kept-there home seat.there (ledger_at (Did (who.Sequence id home) Done (Send item) ∷ history)) more (at_sequencer (after_send id way)) (λ n is. rw is refl)
+        (rw (itself home, granted) (arbiter-changed live live l (record l { driver = sent id way }) (at_sequencer (after_send id way)) refl (λ mode. refl)))
+        (rw (itself home, granted) (arbitrated-driver one-there (sent id way) l.asker seat.moded)) changes)
+
+-- what a sequencer says, as it is kept
+module _ {script : ScriptValue} {history : List Entry} {services : Services} (m : ServicesMatch script history services) (node : ℕ) where
+  pub said : {A : Type 0} (f : SequencerValue → Option A) → option_and_then (λ a. f a.sequencer) (get nat_eq services.arbiters node) ≡ option_and_then f (sequencer_at history node)
+  said {A} f = ap (option_and_then (λ (a : ArbiterValue). f a.sequencer)) (m.arbitrating.arbiters_are.each node) ∙ sym (ap (option_and_then f) (sequencer-is history node) ∙ mapped (arbiter_of (live_by (begun_of history) (finished_of history) (ended_of history)) (ledger_at history node)))
+    where
+      mapped : (o : Option ArbiterValue) → option_and_then f (option_map (λ a. a.sequencer) o) ≡ option_and_then (λ a. f a.sequencer) o
+      mapped None = refl
+      mapped (Some a) = refl
+
+-- a request is refused for its priority, or for what the sequencer says
+pub request-out : (priority : Option ℕ) (refusal : Option Fatal) → is_none_at_all priority ≡ true → request_refusal priority refusal ≡ Some OutOfRange
+unfolding request_refusal
+request-out priority refusal none = rw none refl
+
+pub request-in : (priority : Option ℕ) (refusal : Option Fatal) → is_none_at_all priority ≡ false → request_refusal priority refusal ≡ refusal
+unfolding request_refusal
+request-in priority None some = rw some refl
+request-in priority (Some fatal) some = rw some refl
+
+-- an act is refused, once nothing was done at a sequencer
+pub unchanged : (node : ℕ) (arbiters more : Kept) → ChangesAt node (λ a. a) arbiters more → (n : ℕ) → get nat_eq more n ≡ get nat_eq arbiters n
+unchanged node arbiters more changes n = changes n ∙ tested (node == n) (get nat_eq arbiters n)
+  where
+    tested : (b : Bool) (o : Option ArbiterValue) → (if b then option_map (λ a. a) o else o) ≡ o
+    tested true None = refl
+    tested true (Some a) = refl
+    tested false o = refl
+
+same-arbitrating : {script : ScriptValue} {history : List Entry} {services : Services} (more : Kept) → ((n : ℕ) → get nat_eq more n ≡ get nat_eq services.arbiters n) → ServicesMatch script history services
+    → IsArbitrating (length history) (nodes_of history) (begun_of history) (finished_of history) (ended_of history) (ledger_at history) more services.contested
+same-arbitrating more same m = record { arbiters_are = record { each = λ n. same n ∙ m.arbitrating.arbiters_are.each n }; arbitrated = m.arbitrating.arbitrated; contested_is = m.arbitrating.contested_is }
+
+pub with-arbiters : {script : ScriptValue} {history : List Entry} {services : Services} (more : Kept) → ((n : ℕ) → get nat_eq more n ≡ get nat_eq services.arbiters n) → ServicesMatch script history services → ServicesMatch script history (record services { arbiters = more })
+with-arbiters more same m = let arbitrating = same-arbitrating more same m in search (rules, arbitrating)
+
+pub refused-still :
+    (result : Result Attempt AllocError) (old new : Services) (more : Kept) (act : Act) (fatal : Fatal) (place : ℕ) → ((n : ℕ) → get nat_eq more n ≡ get nat_eq old.arbiters n) → IfOk result (λ attempt. attempt ≡ Became (Refused fatal)) → OnOk result (IsRefusing fatal (record old { arbiters = more }) new)
+    → ((script : ScriptValue) (history : List Entry) → IsScene script history act place old → by_open script history old.answer.speaker act ≡ Exactly (Did old.answer.speaker (Refused fatal) act))
+    → IfOk result (λ attempt. IsAttempt act attempt place old new)
+refused-still (Err fault) old new more act fatal place same is kept comes = tt
+refused-still (Ok attempt) old new more act fatal place same is kept comes = rw is (record {
+  comes = comes;
+  kept = subst (λ (after : Services). TakesIn act (Refused fatal) place old after) (sym kept.rest) (record {
+    same_answer = refl;
+    with_entry = λ script history s.
+        let m = with-arbiters more same s.known in
+        let left = s.left in
+        let reporting = rw m.tree at (kept.reporting (report_commands script history) (newest_fate script history) m.reporting) in
+        search (rules, acted);
+  });
+})
+
+pub refused-all :
+    (result : Result Attempt AllocError) (old new : Services) (more : Kept) (act : Act) (fatal : Fatal) → ((n : ℕ) → get nat_eq more n ≡ get nat_eq old.arbiters n) → IfOk result (λ attempt. attempt ≡ Became (Refused fatal)) → OnOk result (IsRefusing fatal (record old { arbiters = more }) new)
+    → ((script : ScriptValue) (history : List Entry) (place : ℕ) → IsScene script history act place old → by_open script history old.answer.speaker act ≡ Exactly (Did old.answer.speaker (Refused fatal) act))
+    → IfOk result (λ attempt. (place : ℕ) → IsAttempt act attempt place old new)
+refused-all (Err fault) old new more act fatal same is kept comes = tt
+refused-all (Ok attempt) old new more act fatal same is kept comes = λ place. refused-still (Ok attempt) old new more act fatal place same is kept (λ script history s. comes script history place s)
+
+-- a sequence may send where it was granted
+module _ {script : ScriptValue} {history : List Entry} {services : Services} (m : ServicesMatch script history services) (id home : ℕ) where
+  pub send-refused : IsSome (mode_at history home) → option_and_then (λ a. grant_of id a.sequencer.driver) (get nat_eq services.arbiters home) ≡ None → option_and_then (send_refusal id) (sequencer_at history home) ≡ Some NotGranted
+  send-refused moded none = by (mode_at history home) moded (sym (said m home (λ s. grant_of id s.driver)) ∙ none)
+    where
+      by : (mode : Option Mode) → IsSome mode → option_and_then (λ s. grant_of id s.driver) (option_map (sequencer_with history home) mode) ≡ None → option_and_then (send_refusal id) (option_map (sequencer_with history home) mode) ≡ Some NotGranted
+      by None moded e = cc
+      by (Some mode) moded e = rw e refl
+
+  pub send-allowed : (way : How) → option_and_then (λ a. grant_of id a.sequencer.driver) (get nat_eq services.arbiters home) ≡ Some way → option_and_then (send_refusal id) (sequencer_at history home) ≡ None
+  send-allowed way granted = by (mode_at history home) (sym (said m home (λ s. grant_of id s.driver)) ∙ granted)
+    where
+      by : (mode : Option Mode) → option_and_then (λ s. grant_of id s.driver) (option_map (sequencer_with history home) mode) ≡ Some way → option_and_then (send_refusal id) (option_map (sequencer_with history home) mode) ≡ None
+      by None e = cc
+      by (Some mode) e = rw e refl
+
+  -- who drives the sequencer of a mode
+  driver-by : (mode : Option Mode) → IsSome mode → option_and_then (λ a. a.driver) (option_map (arbiter_with (live_by (begun_of history) (finished_of history) (ended_of history)) (ledger_at history home)) mode) ≡ driver_asker history home
+  driver-by None moded = cc
+  driver-by (Some mode) moded = refl
+
+  pub driver-known : IsSome (mode_at history home) → option_and_then (λ a. a.driver) (get nat_eq services.arbiters home) ≡ driver_asker history home
+  driver-known moded = ap (option_and_then (λ (a : ArbiterValue). a.driver)) (m.arbitrating.arbiters_are.each home) ∙ driver-by (mode_at history home) moded
+
+  -- what is sent is told to the driver
+  pub granted-known : (way : How) → option_and_then (λ a. grant_of id a.sequencer.driver) (get nat_eq services.arbiters home) ≡ Some way → grant_of id (ledger_at history home).driver ≡ Some way
+  granted-known way granted = by (mode_at history home) (sym (said m home (λ s. grant_of id s.driver)) ∙ granted)
+    where
+      by : (mode : Option Mode) → option_and_then (λ s. grant_of id s.driver) (option_map (sequencer_with history home) mode) ≡ Some way → grant_of id (driver_state history home) ≡ Some way
+      by None e = cc
+      by (Some mode) e = e
+
+pub sent-calls : (history : List Entry) (speaker : Who) (id home : ℕ) (item : Item) (way : How) → speaker ≡ who.Sequence id home → grant_of id (driver_state history home) ≡ Some way → calls_told history speaker Done (Send item) ≡ told_sent speaker (driver_asker history home) item (Some way)
+sent-calls history speaker id home item way is granted = subst (λ (w : Who). calls_told history w Done (Send item) ≡ told_sent w (driver_asker history home) item (Some way)) (sym is) (rw granted refl)
+
+-- who is told of an item is a component, and hears of it
+pub item-told : (finished : List Who) (steps : List (Option SeqStep)) (components : List ℕ) (driver : Option DriverPort) (item : Option Item) → IfSome driver (λ driver. IsComponent components driver.who) → All (λ (c : Who × Call). is_told steps c.0 ≡ not (is_of_one finished (Object c.0))) (told_item driver item)
+item-told finished steps components None item has = All-nil _
+item-told finished steps components (Some driver) item has = All-cons (λ (c : Who × Call). is_told steps c.0 ≡ not (is_of_one finished (Object c.0))) (driver.who, call.NextItem driver.name item) [] (by driver.who has) (All-nil _)
+  where
+    by : (w : Who) → IsComponent components w → is_told steps w ≡ not (is_of_one finished (Object w))
+    by (who.Node node) has = refl
+    by (who.Sequence id home) has = absurd has
+
+module _ {script : ScriptValue} {history : List Entry} {act : Act} {place : ℕ} {services : Services} (s : IsScene script history act place services) (id home : ℕ) (seat : IsSeated history services.answer.speaker id home) where
+  performer-told : is_told services.sequences.steps services.answer.speaker ≡ not (is_of_one (finished_of history) (Object services.answer.speaker))
+  performer-told = rw seat.speaker_is (s.known.sequencing.living id ∙ lived (numbered (begun_of history) id) refl seat.here seat.lives)
+    where
+      lived : (found : Option Beginning) → numbered (begun_of history) id ≡ found → option_map (λ beginning. beginning.start.home) found ≡ Some home → option_map_or (lives_by (finished_of history) (ended_of history) id) found false ≡ true
+          → live_by (begun_of history) (finished_of history) (ended_of history) id ≡ not (list_any (same_who (who.Sequence id home)) (finished_of history))
+      lived None is here lives = cc
+      lived (Some b) is here lives =
+          let at : b.start.home ≡ home = cc in
+          rw (is, ← at) (both _ _ lives)
+        where
+          both : (a c : Bool) → not a && c ≡ true → (not a && c) ≡ not a
+          both true c e = cc
+          both false c e = e
+
+  pub sends-told : (item : Item) (way : How) → All (λ (c : Who × Call). is_told services.sequences.steps c.0 ≡ not (is_of_one (finished_of history) (Object c.0))) (told_sent services.answer.speaker (driver_asker history home) item (Some way))
+  sends-told item how.Next = item-told (finished_of history) services.sequences.steps (components_of history) (driver_asker history home) (Some item) (s.driving.drivers home)
+  sends-told item how.Try = item-told (finished_of history) services.sequences.steps (components_of history) (driver_asker history home) (Some item) (s.driving.drivers home)
+  sends-told item how.Get =
+      All-push (λ (c : Who × Call). is_told services.sequences.steps c.0 ≡ not (is_of_one (finished_of history) (Object c.0))) (told_item (driver_asker history home) (Some item)) (services.answer.speaker, call.ItemDone None)
+      (item-told (finished_of history) services.sequences.steps (components_of history) (driver_asker history home) (Some item) (s.driving.drivers home)) performer-told

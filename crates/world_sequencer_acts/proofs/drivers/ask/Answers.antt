@@ -1,0 +1,84 @@
+use Rattle.std.proofs.Common.{length, filter, sym, refl, rules, Some, None}
+use Rattle.uvm_object.specs.declared.acts.Act.TheVariants.{Ask}
+use Rattle.uvm_object.specs.declared.acts.Call.TheVariants as call
+use Rattle.bench_history.specs.declared.owners.Owner.TheVariants.{Object}
+use Rattle.bench_history.specs.Sequences.{finished_of}
+use Rattle.bench_history.specs.Dues.{caused_at, caused_of, heard_of, is_open}
+use Rattle.bench_history.specs.History.{ended_of, now_of, running, stage_of}
+use Rattle.bench_history.specs.Objections.{objections_of}
+use Rattle.world_sequencers.specs.Arbiters.{ChangesAt, asked_at}
+use Rattle.world_agenda.proofs.Drained.{events-told}
+use Rattle.world_services.proofs.Opened.{scene-open}
+use Rattle.world_services.proofs.Later.{acted, refused-here}
+use Rattle.world_sequencer_acts.proofs.Seated.{refused-still, unchanged, with-arbiters}
+use Rattle.world_sequencer_acts.proofs.Driven.{ask-none, ask-refused, ask-unreached, ask-waits, asked-goes, driving-refuses, reaching}
+use Rattle.world_agenda.proofs.Told.{agenda-event}
+use Rattle.world_sequencer_acts.proofs.drivers.ask.Goals as goal
+
+pub returns-in-Err : goal.returns-in-Err
+returns-in-Err c =
+    let why = rw c.in-Err.is at c.in_ok-reached.ensures in
+    refused-here _ _ _ (Ask c.args.name.now c.args.how) c.in-Err.fatal c.args.place c.refused.ensures.attempt c.refused.ensures.services (λ script history m. ask-unreached script history _ c.args.name.now c.args.how c.in-Err.fatal (λ refusal. driving-refuses m c.requires c.args.name.now c.in-Err.fatal refusal (why refusal)))
+
+pub returns-in-Ok-Waits : goal.returns-in-Ok-Waits
+returns-in-Ok-Waits c =
+    let name = c.args.name.now in
+    let how = c.args.how in
+    let reached = c.in-Ok.reached in
+    let found = rw c.in-Ok.is at c.in_ok-reached.ensures in
+    let asks : ChangesAt reached.sequencer (asked_at (record { who = c.args.services.now.answer.speaker; name = name }) how c.in-Ok-Waits.field-0) c.args.services.now.arbiters c.ask_at.new.arbiters = c.in-Ok-Waits.ensures.after in
+    let value = rw c.in-Ok-Waits.field-0-is at c.in-Ok-Waits.ensures.value in
+    let after = rw c.in-Ok-Waits.field-0-is at asks in
+    rw (c.waiting.ensures.attempt, c.waiting.ensures.services) (record {
+      comes = λ script history s.
+          let r = reaching name reached s c.requires c.path_order_is_in_order.ensures found in
+          ask-waits script history _ name reached.sequencer r _ (s.known.arbitrating.arbiters_are.each reached.sequencer) found.2 how (rw s.known.sequencing.started at (sym value));
+      kept = record {
+        same_answer = refl;
+        with_entry = λ script history s.
+            let r = reaching name reached s c.requires c.path_order_is_in_order.ensures found in
+            asked-goes s name reached.sequencer r how c.ask_at.new.arbiters s.left after;
+      };
+    })
+
+pub returns-in_ok-tell-in-Ok-Nothing : goal.returns-in_ok-tell-in-Ok-Nothing
+returns-in_ok-tell-in-Ok-Nothing c =
+    let services = c.args.services.now in
+    let speaker = services.answer.speaker in
+    let name = c.args.name.now in
+    let how = c.args.how in
+    let reached = c.in-Ok.reached in
+    let found = rw c.in-Ok.is at c.in_ok-reached.ensures in
+    let asks : ChangesAt reached.sequencer (asked_at (record { who = speaker; name = name }) how c.in-Ok-Nothing.field-0) services.arbiters c.ask_at.new.arbiters = c.in-Ok-Nothing.ensures.after in
+    let value = rw c.in-Ok-Nothing.field-0-is at c.in-Ok-Nothing.ensures.value in
+    let told = c.in_ok-tell-in-Ok-Nothing.ensures in
+    let same = unchanged reached.sequencer services.arbiters c.ask_at.new.arbiters (rw c.in-Ok-Nothing.field-0-is at asks) in
+    rw (c.waits.ensures, told.rest) (record {
+      comes = λ script history s.
+          let r = reaching name reached s c.requires c.path_order_is_in_order.ensures found in
+          ask-none script history speaker name reached.sequencer r _ (s.known.arbitrating.arbiters_are.each reached.sequencer) found.2 how (rw s.known.sequencing.started at (sym value));
+      kept = record {
+        same_answer = refl;
+        with_entry = λ script history s.
+            let m = with-arbiters c.ask_at.new.arbiters same s.known in
+            let left = s.left in
+            let dues = rw (m.stage, m.time, ← s.place_is) at (told.dues (filter (is_open (heard_of history) (ended_of history) (finished_of history)) (caused_of history)) m.agenda.are) in
+            let events = events-told (objections_of history) (is_open (heard_of history) (ended_of history) (finished_of history)) (running (stage_of history)) (now_of history) (caused_at (length history)) speaker (call.NextItem name None) (caused_of history) m.events in
+            let agenda = agenda-event (Object speaker) (Some (call.NextItem name None)) (now_of history) (stage_of history) (caused_of history) (heard_of history) (ended_of history) (finished_of history) _ _ _ s.in_order (scene-open s (λ opens. cc)) m.agenda dues in
+            search (rules, acted);
+      };
+    })
+
+pub returns-in-Err-ask_at : goal.returns-in-Err-ask_at
+returns-in-Err-ask_at c =
+    let services = c.args.services.now in
+    let name = c.args.name.now in
+    let how = c.args.how in
+    let reached = c.in-Ok.reached in
+    let fatal = c.in-Err-ask_at.fatal in
+    let found = rw c.in-Ok.is at c.in_ok-reached.ensures in
+    let same = unchanged reached.sequencer services.arbiters c.ask_at.new.arbiters c.in-Err-ask_at.ensures.unchanged in
+    let value = c.in-Err-ask_at.ensures.value in
+    refused-still c.refused-in-Err-ask_at.result services c.refused-in-Err-ask_at.new.services c.ask_at.new.arbiters (Ask name how) fatal c.args.place same c.refused-in-Err-ask_at.ensures.attempt c.refused-in-Err-ask_at.ensures.services (λ script history s.
+    let r = reaching name reached s c.requires c.path_order_is_in_order.ensures found in
+    ask-refused script history _ name reached.sequencer r _ (s.known.arbitrating.arbiters_are.each reached.sequencer) found.2 how fatal (rw s.known.sequencing.started at (sym value)))

@@ -1,0 +1,66 @@
+use Rattle.std.proofs.Common.{◌≡◌, not, length, filter, List, All, subst, sym, ◌∙◌, refl, rules}
+use Rattle.uvm_object.specs.declared.acts.Who.{Who}
+use Rattle.uvm_object.specs.declared.acts.Call.{Call}
+use Rattle.uvm_object.specs.declared.acts.Act.TheVariants.{ItemDone}
+use Rattle.uvm_object.specs.declared.entries.Outcome.TheVariants.{Done}
+use Rattle.bench_history.specs.Sequences.{finished_of}
+use Rattle.bench_history.specs.Dues.{calls_told, caused_of, heard_of, is_of_one, is_open}
+use Rattle.bench_history.specs.declared.owners.Owner.TheVariants.{Object}
+use Rattle.bench_history.specs.History.{ended_of, now_of, running, stage_of}
+use Rattle.bench_history.specs.Objections.{objections_of}
+use Rattle.world_agenda.specs.Tellings.{is_told}
+use Rattle.world_services.proofs.Later.{acted, refused-here}
+use Rattle.world_sequencer_acts.proofs.Seated.{refused-still, unchanged}
+use Rattle.world_sequencer_acts.proofs.Driven.{done-calls, done-comes, done-kept, done-refused, done-told, done-unreached, driving-refuses, hand-known, reaching}
+use Rattle.world_agenda.proofs.Written.{agenda-living, events-calls}
+use Rattle.world_sequencer_acts.proofs.drivers.item_done.Goals as goal
+
+pub returns-in-Err : goal.returns-in-Err
+returns-in-Err c =
+    let why = rw c.in-Err.is at c.in_ok-reached.ensures in
+    refused-here _ _ _ (ItemDone c.args.name.now c.args.response) c.in-Err.fatal c.args.place c.refused.ensures.attempt c.refused.ensures.services (λ script history m. done-unreached script history _ c.args.name.now c.args.response c.in-Err.fatal (λ refusal. driving-refuses m c.requires c.args.name.now c.in-Err.fatal refusal (why refusal)))
+
+pub returns-in_ok-tell_living-in-Ok-done_at : goal.returns-in_ok-tell_living-in-Ok-done_at
+returns-in_ok-tell_living-in-Ok-done_at c =
+    let services = c.args.services.now in
+    let speaker = services.answer.speaker in
+    let name = c.args.name.now in
+    let response = c.args.response in
+    let reached = c.in-Ok.reached in
+    let id = c.in-Ok-done_at.id in
+    let found = rw c.in-Ok.is at c.in_ok-reached.ensures in
+    let told = c.in_ok-tell_living-in-Ok-done_at.ensures in
+    rw (c.done.ensures.attempt, c.done.ensures.services, told.rest) (record {
+      comes = λ script history s.
+          let r = reaching name reached s c.requires c.path_order_is_in_order.ensures found in
+          done-comes script history speaker name reached.sequencer r _ (s.known.arbitrating.arbiters_are.each reached.sequencer) found.2 response id c.in-Ok-done_at.ensures.ok;
+      kept = record {
+        same_answer = refl;
+        with_entry = λ script history s.
+            let m = s.known in
+            let left = s.left in
+            let r = reaching name reached s c.requires c.path_order_is_in_order.ensures found in
+            let hand = hand-known script history speaker name reached.sequencer r _ (m.arbitrating.arbiters_are.each reached.sequencer) found.2 id c.in-Ok-done_at.ensures.ok in
+            let arbitrating = done-kept s name reached.sequencer r response c.done_at.new.arbiters c.in-Ok-done_at.ensures.after in
+            let is = done-calls s name reached.sequencer r response id hand in
+            let calls : c.as_slice.result.now ≡ calls_told history speaker Done (ItemDone name response) = c.as_slice.ensures.value ∙ c.in_ok-calls-in-Ok-done_at.ensures ∙ sym is in
+            let told_living = subst (λ (calls : List (Who × Call)). All (λ (c : Who × Call). is_told services.sequences.steps c.0 ≡ not (is_of_one (finished_of history) (Object c.0))) calls) (sym is) (done-told s name reached.sequencer r response id hand) in
+            let dues = rw (m.stage, m.time, ← s.place_is, calls) at (told.dues (filter (is_open (heard_of history) (ended_of history) (finished_of history)) (caused_of history)) m.agenda.are) in
+            let events = events-calls (objections_of history) (is_open (heard_of history) (ended_of history) (finished_of history)) (running (stage_of history)) (now_of history) (length history) 0 (calls_told history speaker Done (ItemDone name response)) (caused_of history) m.events in
+            let agenda = agenda-living (is_told services.sequences.steps) (stage_of history) (now_of history) (calls_told history speaker Done (ItemDone name response)) (caused_of history) (heard_of history) (ended_of history) (finished_of history) (length history) _ _ s.in_order told_living m.agenda dues in
+            search (rules, acted);
+      };
+    })
+
+pub returns-in-Err-done_at : goal.returns-in-Err-done_at
+returns-in-Err-done_at c =
+    let services = c.args.services.now in
+    let name = c.args.name.now in
+    let response = c.args.response in
+    let reached = c.in-Ok.reached in
+    let fatal = c.in-Err-done_at.fatal in
+    let found = rw c.in-Ok.is at c.in_ok-reached.ensures in
+    let same = unchanged reached.sequencer services.arbiters c.done_at.new.arbiters c.in-Err-done_at.ensures.unchanged in
+    refused-still c.refused-in-Err-done_at.result services c.refused-in-Err-done_at.new.services c.done_at.new.arbiters (ItemDone name response) fatal c.args.place same c.refused-in-Err-done_at.ensures.attempt c.refused-in-Err-done_at.ensures.services (λ script history s.
+    let r = reaching name reached s c.requires c.path_order_is_in_order.ensures found in
+    done-refused script history _ name reached.sequencer r _ (s.known.arbitrating.arbiters_are.each reached.sequencer) found.2 response fatal c.in-Err-done_at.ensures.err)

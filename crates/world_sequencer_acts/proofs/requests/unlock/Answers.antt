@@ -1,0 +1,48 @@
+use Rattle.std.proofs.Common.{◌≡◌, Some, None, option_and_then, refl, sym, ◌∙◌, rules}
+use Rattle.uvm_object.specs.declared.acts.Act.TheVariants.{Unlock}
+use Rattle.bench_history.specs.Refusals.{unlock_refusal}
+use Rattle.bench_history.specs.Upshots.{home_sequencer, id_in}
+use Rattle.bench_history.specs.Sequences.{sequence_in}
+use Rattle.world_services.proofs.Later.{acted}
+use Rattle.world_sequencer_acts.proofs.Seated.{unlock-kept, refused-all, said, seated, unchanged}
+use Rattle.world_sequencer_acts.proofs.requests.unlock.Goals as goal
+
+pub returns-in-None : goal.returns-in-None
+returns-in-None c =
+    let services = c.args.services.now in
+    let speaker = services.answer.speaker in
+    let id = c.in-Some.id in
+    let home = c.node-home.result in
+    let is : sequence_in speaker ≡ Some id = sym c.sequence_in.ensures ∙ c.in-Some.is in
+    let value = rw c.in-None.is at c.unlock_at.ensures.value in
+    let after = rw c.in-None.is at c.unlock_at.ensures.after in
+    λ place. rw (c.contested.ensures.attempt, c.contested.ensures.services) (record {
+      comes = λ script history s.
+          let seat = seated s id home (λ opens. cc) c.path_order_is_in_order.ensures is c.node-home.ensures in
+          let allows : option_and_then (unlock_refusal (id_in speaker)) (home_sequencer history speaker) ≡ None = rw seat.speaker_is (sym (said s.known home (unlock_refusal id)) ∙ sym value) in
+          rw allows refl;
+      kept = record {
+        same_answer = refl;
+        with_entry = λ script history s.
+            let m = s.known in
+            let left = s.left in
+            let seat = seated s id home (λ opens. cc) c.path_order_is_in_order.ensures is c.node-home.ensures in
+            let arbitrating = unlock-kept s id home seat c.unlock_at.new.arbiters after in
+            search (rules, acted);
+      };
+    })
+
+pub returns-in-Some-unlock_at : goal.returns-in-Some-unlock_at
+returns-in-Some-unlock_at c =
+    let services = c.args.services.now in
+    let speaker = services.answer.speaker in
+    let id = c.in-Some.id in
+    let home = c.node-home.result in
+    let fatal = c.in-Some-unlock_at.fatal in
+    let is : sequence_in speaker ≡ Some id = sym c.sequence_in.ensures ∙ c.in-Some.is in
+    let value = rw c.in-Some-unlock_at.is at c.unlock_at.ensures.value in
+    let after = rw c.in-Some-unlock_at.is at c.unlock_at.ensures.after in
+    refused-all c.refused.result services c.refused.new.services c.unlock_at.new.arbiters Unlock fatal (unchanged home services.arbiters c.unlock_at.new.arbiters after) c.refused.ensures.attempt c.refused.ensures.services (λ script history place s.
+    let seat = seated s id home (λ opens. cc) c.path_order_is_in_order.ensures is c.node-home.ensures in
+    let refuses : option_and_then (unlock_refusal (id_in speaker)) (home_sequencer history speaker) ≡ Some fatal = rw seat.speaker_is (sym (said s.known home (unlock_refusal id)) ∙ sym value) in
+    rw refuses refl)

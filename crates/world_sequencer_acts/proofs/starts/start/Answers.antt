@@ -1,0 +1,34 @@
+use Rattle.std.proofs.Common.{◌≡◌, suc, length, Some, ap, refl, sym, ◌∙◌}
+use Rattle.uvm_object.specs.declared.acts.Act.TheVariants.{Start}
+use Rattle.uvm_object.specs.declared.entries.Outcome.TheVariants.{Started}
+use Rattle.bench_history.specs.History.{overrides_of}
+use Rattle.bench_history.specs.Refusals.{starting_refusal}
+use Rattle.bench_history.specs.Sequences.{sequences_of}
+use Rattle.bench_history.specs.Upshots.{Needs, needed_sequence, starting_now, starting_upshot}
+use Rattle.world_sequencer_acts.proofs.Begun.{starting-known, unrefused-needs}
+use Rattle.world_services.proofs.Later.{refused-attempt}
+use Rattle.world_sequencer_acts.proofs.starts.start.Goals as goal
+
+pub returns-in-Ok : goal.returns-in-Ok
+returns-in-Ok c = λ place. record {
+  comes = λ script history s.
+      let m = s.known in
+      let speaker = c.args.services.now.answer.speaker in
+      let found = c.in-Ok.ensures.ok script.types (overrides_of script history) m.factory in
+      let same = starting-known m speaker c.args.type_name.now c.args.name.now c.args.on.now c.args.priority in
+      let is : starting_upshot (length (sequences_of history)) (starting_now script history speaker c.args.type_name.now c.args.name.now c.args.on.now c.args.priority) ≡ Needs _ (Started (suc (length (sequences_of history)))) =
+      unrefused-needs _ (length (sequences_of history)) (ap starting_refusal same ∙ found.0) (ap needed_sequence same ∙ found.1) in
+      (Started (suc (length (sequences_of history))), rw is refl);
+  home_is = sym c.in-Ok.ensures.home;
+  same = refl;
+}
+
+pub returns-in-Err-Refused : goal.returns-in-Err-Refused
+returns-in-Err-Refused c =
+    let speaker = c.args.services.now.answer.speaker in
+    let fatal = c.in-Err-Refused.fatal in
+    refused-attempt _ _ _ (Start c.args.type_name.now c.args.name.now c.args.on.now c.args.priority) fatal c.refused.ensures.attempt c.refused.ensures.services (λ script history m.
+    let why = rw c.in-Err-Refused.field-0-is at c.in-Err-Refused.ensures.err in
+    let refuses : starting_refusal (starting_now script history speaker c.args.type_name.now c.args.name.now c.args.on.now c.args.priority) ≡ Some fatal =
+    ap starting_refusal (starting-known m speaker c.args.type_name.now c.args.name.now c.args.on.now c.args.priority) ∙ why script.types (overrides_of script history) m.factory in
+    rw refuses refl)

@@ -1,0 +1,74 @@
+-- What drivers and sequences do at the sequencers that a world keeps.
+use Rattle.std.specs.Prelude.{◌≡◌, ℕ, true, nat_eq, is_some, List, [], ◌∷◌, ◌++◌, slice_get, filter, not, Option, Some, None, IsSome, option_and_then, Result, Ok, Err, if◌then◌else◌}
+use Rattle.std.specs.HashMap.{get}
+use Rattle.uvm_phase.specs.Dues.{in_order}
+use Rattle.uvm_tlm.specs.declared.ends.PortKind.TheVariants.{Seq}
+use Rattle.uvm_tlm.specs.Wirings.{WiringValue, targets_of}
+use Rattle.uvm_sequencer.specs.Drivers.{grant_of, is_try}
+use Rattle.uvm_sequencer.specs.Sequences.{finished, name_at}
+use Rattle.uvm_sequencer.specs.Sequencers.{after_leave}
+use Rattle.uvm_sequencer.specs.declared.drivers.How.{How}
+use Rattle.uvm_sequencer.specs.declared.drivers.How.TheVariants.{Try}
+use Rattle.uvm_object.specs.declared.acts.Who.{Who}
+use Rattle.uvm_object.specs.Acts.{node_of}
+use Rattle.uvm_object.specs.declared.acts.Call.{Call}
+use Rattle.uvm_object.specs.declared.fatals.Fatal.{Fatal}
+use Rattle.uvm_object.specs.declared.entries.Outcome.{Outcome}
+use Rattle.uvm_object.specs.declared.entries.Outcome.TheVariants.{Done, Waits}
+use Rattle.bench_history.specs.Dues.{is_of_one, told_item}
+use Rattle.bench_history.specs.History.{running}
+use Rattle.bench_history.specs.Owners.{Event}
+use Rattle.bench_history.specs.Refusals.{driving_refusal, in_task}
+use Rattle.world_sequencers.specs.declared.arbiters.Reached.{Reached}
+use Rattle.world_services.specs.declared.services.Services.{Services}
+use Rattle.world_sequences.specs.Sequencings.{beginning_at}
+use Rattle.world_agenda.specs.Tellings.{is_told, living_numbered}
+use Rattle.world_sequencers.specs.Arbiters.{ArbiterValue, ChangesAt, Kept, at_sequencer}
+use Rattle.world_wiring.specs.Ports.{port_in}
+use Rattle.uvm_object.specs.declared.acts.Call.TheVariants as call
+use Rattle.world_sequences.specs.declared.beginnings.Beginning as kept
+
+-- the sequencer to which a port leads
+abbrev pub if_kept : Kept → ℕ → ℕ → Option Reached
+if_kept arbiters port node = if is_some (get nat_eq arbiters node) then Some (record { port = port; sequencer = node }) else None
+
+abbrev pub reached_at : WiringValue → Kept → ℕ → Option Reached
+reached_at wiring arbiters port = option_and_then (if_kept arbiters port) (slice_get (targets_of wiring port) 0)
+
+abbrev pub reached_in : Services → List ℕ → Option Reached
+reached_in services name = option_and_then (reached_at services.wiring services.arbiters) (port_in services.tree.nodes services.wiring services.answer.speaker Seq name)
+
+-- it is reached, in a phase that takes time; or why it is not
+abbrev pub IsReached : Services → List ℕ → Result Reached Fatal → Type 0
+IsReached services name (Ok reached) = (in_task (running services.stage) ≡ true) × (reached_in services name ≡ Some reached) × IsSome (get nat_eq services.arbiters reached.sequencer)
+IsReached services name (Err fatal) = (refusal : Option Fatal) → driving_refusal (running services.stage) (is_some (reached_in services name)) refusal ≡ Some fatal
+
+-- the outcome where a driver waits
+abbrev pub waiting_outcome : How → Outcome
+waiting_outcome Try = Waits true
+waiting_outcome how = Done
+
+-- something was done at a sequencer, and nothing is reported
+abbrev pub contested_at : ℕ → Services → Services
+contested_at home services = record services { contested = Some home; reporting = record services.reporting { newest = None } }
+
+-- the call that tells who started a sequence that it has finished
+abbrev pub finished_calls : Option kept.Beginning → Option (List ℕ) → ℕ → List (Who × Call)
+finished_calls (Some beginning) (Some name) id = (beginning.starter, call.Finished name id) ∷ []
+finished_calls (Some beginning) None id = []
+finished_calls None name id = []
+
+-- and the one that tells the driver of its sequencer that there is no item, if the grant of a `try` lapses
+abbrev pub lapsed_calls : Option ArbiterValue → ℕ → List (Who × Call)
+lapsed_calls None id = []
+lapsed_calls (Some a) id = if is_try (grant_of id a.sequencer.driver) then told_item a.driver None else []
+
+-- the speaker, a sequence, finishes by an act whose entry will stand at a place: nothing is due to it any more, none of its acts is left, what it asked for
+-- and holds is gone, and the calls of that are due
+pub record IsFinished (id place : ℕ) (old new : Services) : Type 0 where
+  pub dues : (caused : List Event) → old.agenda.dues ≡ in_order caused → new.agenda.dues ≡
+      in_order (living_numbered (is_told (finished id old.sequences).steps) (running old.stage) old.time place 0
+      (finished_calls (beginning_at old.beginnings.items id) (name_at old.sequences.started id) id ++ lapsed_calls (get nat_eq old.arbiters (node_of old.answer.speaker)) id)
+      ++ filter (λ event. not (is_of_one (old.answer.speaker ∷ []) event.owner)) caused)
+  pub arbiters : ChangesAt (node_of old.answer.speaker) (at_sequencer (after_leave id)) old.arbiters new.arbiters
+  pub rest : new ≡ record old { agenda = new.agenda; sequences = finished id old.sequences; answer = record old.answer { noted = true }; arbiters = new.arbiters; contested = Some (node_of old.answer.speaker) }

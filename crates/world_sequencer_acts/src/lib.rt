@@ -1,0 +1,7 @@
+//! The acts of sequences and of drivers at sequencers. A room below `bench_world`.
+#![tactic(auto)]
+
+pub mod drivers;
+pub mod requests;
+pub mod starts;
+pub mod steps;

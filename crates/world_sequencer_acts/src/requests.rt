@@ -1,0 +1,180 @@
+//! What sequences ask of their sequencers (IEEE 1800.2-2020, Clause 15).
+
+ghost use Rattle.std.specs.Prelude.{◌≡◌, ◌<◌, ◌++◌, ℕ, Some, None, true, false, IfOk, OnOk};
+ghost use Rattle.uvm_object.specs.declared.acts.Act.TheVariants.{Request, Lock, Grab, Unlock, Send};
+ghost use Rattle.uvm_object.specs.declared.entries.Outcome.TheVariants.{Done};
+ghost use Rattle.bench_history.specs.Arbitration.{request_priority};
+ghost use Rattle.bench_history.specs.Dues.{told_item, told_sent};
+ghost use Rattle.bench_history.specs.Refusals.{is_none_at_all, is_open_to};
+ghost use Rattle.world_sequencer_acts.specs.Drivings.{contested_at};
+ghost use Rattle.world_services.specs.Attempts.{CanPerform, IsAttempt};
+
+use bench_history::DriverPort;
+use std::alloc::{AllocError, Global};
+use uvm_object::{Call, Fatal, Who};
+use uvm_sequencer::{How, SeqId, Sequences};
+use uvm_tlm::Item;
+use uvm_tree::{NodeId, laws as trees};
+use world_sequencers::arbiters::{driver_at, grab_for, lock_for, request_at, send_at, unlock_at};
+use world_sequences::beginnings::{is_none_at_all, sequence_in, start_priority};
+use world_services::attempts::{Attempt, done, refused};
+use world_services::services::Services;
+use world_services::tells::tell_living;
+
+/// Lets the speaker, a sequence, request to send an item, or refuses it. Its error is want of memory.
+pub fn request(
+    services: &mut Services,
+    alloc: Global,
+    priority: Option<u16>,
+) -> Result<Attempt, AllocError>
+    requires can { CanPerform services.old }
+    requires open { is_open_to (Request priority) services.old.answer.speaker ≡ true }
+    ensures { IfOk result (λ attempt. (place : ℕ) → IsAttempt (Request priority) attempt place services.old services.new) }
+{
+    trees::path_order_is_in_order();
+    if is_none_at_all(priority) {
+        return refused(services, alloc, Fatal::OutOfRange);
+    }
+    let performer = services.answer.speaker;
+    let home = performer.node();
+    let Some(id) = sequence_in(&performer) else {
+        unreachable!()
+    };
+    let priority = request_priority(&services.sequences, id, priority);
+    match request_at(&mut services.arbiters, home, id, priority)? {
+        None => Ok(contested(services, home)),
+        Some(fatal) => refused(services, alloc, fatal),
+    }
+}
+
+/// Lets the speaker, a sequence, ask for a lock, or refuses it. Its error is want of memory.
+pub fn lock(services: &mut Services, alloc: Global) -> Result<Attempt, AllocError>
+    requires can { CanPerform services.old }
+    requires open { is_open_to Lock services.old.answer.speaker ≡ true }
+    ensures { IfOk result (λ attempt. (place : ℕ) → IsAttempt Lock attempt place services.old services.new) }
+{
+    trees::path_order_is_in_order();
+    let performer = services.answer.speaker;
+    let home = performer.node();
+    let Some(id) = sequence_in(&performer) else {
+        unreachable!()
+    };
+    match lock_for(&mut services.arbiters, home, id)? {
+        None => Ok(contested(services, home)),
+        Some(fatal) => refused(services, alloc, fatal),
+    }
+}
+
+/// Lets the speaker, a sequence, ask for a lock before all that was asked for, or refuses it. Its error is want of memory.
+pub fn grab(services: &mut Services, alloc: Global) -> Result<Attempt, AllocError>
+    requires can { CanPerform services.old }
+    requires open { is_open_to Grab services.old.answer.speaker ≡ true }
+    ensures { IfOk result (λ attempt. (place : ℕ) → IsAttempt Grab attempt place services.old services.new) }
+{
+    trees::path_order_is_in_order();
+    let performer = services.answer.speaker;
+    let home = performer.node();
+    let Some(id) = sequence_in(&performer) else {
+        unreachable!()
+    };
+    match grab_for(&mut services.arbiters, home, id)? {
+        None => Ok(contested(services, home)),
+        Some(fatal) => refused(services, alloc, fatal),
+    }
+}
+
+/// Takes back the last lock of the speaker, a sequence, or refuses it. Its error is want of memory.
+pub fn unlock(services: &mut Services, alloc: Global) -> Result<Attempt, AllocError>
+    requires can { CanPerform services.old }
+    requires open { is_open_to Unlock services.old.answer.speaker ≡ true }
+    ensures { IfOk result (λ attempt. (place : ℕ) → IsAttempt Unlock attempt place services.old services.new) }
+{
+    trees::path_order_is_in_order();
+    let performer = services.answer.speaker;
+    let home = performer.node();
+    let Some(id) = sequence_in(&performer) else {
+        unreachable!()
+    };
+    match unlock_at(&mut services.arbiters, home, id) {
+        None => Ok(contested(services, home)),
+        Some(fatal) => refused(services, alloc, fatal),
+    }
+}
+
+/// Sends the item of the speaker, a sequence, to the driver, or refuses it. Its error is want of memory.
+pub fn send(
+    services: &mut Services,
+    alloc: Global,
+    place: usize,
+    item: Item,
+) -> Result<Attempt, AllocError>
+    requires can { CanPerform services.old }
+    requires open { is_open_to (Send item) services.old.answer.speaker ≡ true }
+    ensures { IfOk result (λ attempt. IsAttempt (Send item) attempt place services.old services.new) }
+{
+    trees::path_order_is_in_order();
+    let performer = services.answer.speaker;
+    let home = performer.node();
+    let Some(id) = sequence_in(&performer) else {
+        unreachable!()
+    };
+    let driver = driver_at(&services.arbiters, home);
+    match send_at(&mut services.arbiters, home, id) {
+        Some(how) => {
+            let calls = sent_calls(alloc, &performer, driver, item, how)?;
+            tell_living(services, place, calls.as_slice())?;
+            Ok(contested(services, home))
+        }
+        None => refused(services, alloc, Fatal::NotGranted),
+    }
+}
+
+// The calls of what is sent: to the driver, and where it asked by a `Get` to who sends, who is done.
+fn sent_calls(
+    alloc: Global,
+    performer: &Who,
+    driver: Option<DriverPort>,
+    item: Item,
+    how: How,
+) -> Result<Vec<(Who, Call)>, AllocError>
+    ensures { IfOk result (λ calls. calls.items ≡ told_sent performer.now driver item (Some how)) }
+{
+    let mut calls = Vec::new(alloc);
+    push_item(&mut calls, driver, Some(item))?;
+    if let How::Get = how {
+        calls.push((performer.copy(), Call::ItemDone { response: None }))?;
+    }
+    Ok(calls)
+}
+
+/// Adds the call that tells a driver of an item, or of none, where there is a driver. Its error is want of memory.
+pub fn push_item(
+    calls: &mut Vec<(Who, Call)>,
+    driver: Option<DriverPort>,
+    item: Option<Item>,
+) -> Result<(), AllocError>
+    ensures { OnOk result (calls.new.items ≡ calls.old.items ++ told_item driver item) }
+{
+    if let Some(DriverPort { who, name }) = driver {
+        calls.push((who, Call::NextItem { port: name, item }))?;
+    }
+    Ok(())
+}
+
+// An act is performed at a sequencer, and nothing is reported.
+fn contested(services: &mut Services, home: NodeId) -> Attempt
+    ensures attempt { result ≡ Attempt.Became Done }
+    ensures services { services.new ≡ contested_at home services.old }
+{
+    services.contested = Some(home);
+    done(services)
+}
+
+// The priority of a request: the one that is given, else its sequence's.
+fn request_priority(sequences: &Sequences, id: SeqId, given: Option<u16>) -> u16
+    requires { is_none_at_all given ≡ false }
+    ensures value { result ≡ request_priority sequences.now.started id given }
+    ensures positive { 0 < result }
+{
+    start_priority(sequences, Some(id), given)
+}

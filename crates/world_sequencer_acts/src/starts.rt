@@ -1,0 +1,203 @@
+//! Sequences that are started (IEEE 1800.2-2020, Clause 14).
+
+ghost use Rattle.std.specs.Prelude.{◌≡◌, ◌∷◌, ◌++◌, ◌+◌, ◌<◌, ℕ, suc, [], List, None, Some, IfOk, IfErr, IfSome, length, option_and_then};
+ghost use Rattle.uvm_glob.specs.Paths.{path_fault};
+ghost use Rattle.uvm_sequencer.specs.declared.starts.SeqStep.TheVariants.{PreStart};
+ghost use Rattle.uvm_factory.specs.declared.overrides.Override.{Override};
+ghost use Rattle.uvm_factory.specs.declared.types.Kind.TheVariants.{Sequence};
+ghost use Rattle.uvm_factory.specs.Faults.{Types, type_named};
+ghost use Rattle.uvm_factory.specs.Observed.{types_of};
+ghost use Rattle.uvm_tree.specs.Nodes.{path_at};
+ghost use Rattle.uvm_object.specs.declared.acts.Act.TheVariants.{Start};
+ghost use Rattle.uvm_object.specs.declared.entries.Outcome.TheVariants.{Started};
+ghost use Rattle.bench_history.specs.Refusals.{is_none_at_all, sequence_named, starting_refusal};
+ghost use Rattle.bench_history.specs.Sequences.{home_asked, if_sequencer, parent_names};
+ghost use Rattle.bench_history.specs.Upshots.{needed_sequence};
+ghost use Rattle.world_reports.specs.Reportings.{CanReport};
+ghost use Rattle.world_services.specs.Makings.{CanBegin};
+ghost use Rattle.world_sequences.specs.Sequencings.{MayFail, name_started, priority_given};
+ghost use Rattle.world_services.specs.Attempts.{IsAttempt, TakesIn};
+ghost use Rattle.world_services.specs.Services.{IsFactory};
+ghost use Rattle.world_services.specs.Creations.{IsUnstarted, starting_in};
+
+use bench_history::{Need, laws};
+use std::alloc::{AllocError, Global};
+use uvm_factory::{Factory, Kind, TypeId};
+use uvm_glob::{Name, Path, PathFault};
+use uvm_object::{Act, Call, Fatal, Who};
+use uvm_sequencer::{SeqId, laws as sequencers};
+use uvm_tree::{NodeId, NodeKind, Tree};
+use world_agenda::stages::{in_task, phase_of};
+use world_sequences::beginnings::{
+    is_none_at_all, name_started, parent_names, path_below, priority_given, push, start_under,
+};
+use world_services::attempts::{Attempt, refused};
+use world_services::creations::{Uncreated, made_name};
+use world_services::services::Services;
+use world_services::tells::tell_to;
+use world_wiring::connections::node_below;
+
+/// Answers which sequence the start by the speaker needs, with its sequencer, or refuses it. Its error is want of memory.
+pub fn start(
+    services: &mut Services,
+    alloc: Global,
+    type_name: &Name,
+    name: &Name,
+    on: &Path,
+    priority: Option<u16>,
+) -> Result<Attempt, AllocError>
+    requires { CanReport services.old.reporting }
+    ensures { IfOk result (λ attempt. (place : ℕ) → IsAttempt (Start type_name.now name.now on.now priority) attempt place services.old services.new) }
+{
+    let performer = services.answer.speaker;
+    match what_is_started(services, alloc, &performer, type_name, name, on, priority) {
+        Ok((need, home)) => Ok(Attempt::Needed {
+            need,
+            home: Some(home),
+        }),
+        Err(Uncreated::Refused(fatal)) => refused(services, alloc, fatal),
+        Err(Uncreated::Memory) => Err(AllocError),
+    }
+}
+
+/// Answers which sequence the start by somebody needs, with its sequencer. Its error is why the act is refused, or want of
+/// memory, which may be told before the refusals of its sequencer, its path and a loop of overrides.
+#[tactic(auto, unfolding(bench_history::specs::Refusals::starting_refusal))]
+pub fn what_is_started(
+    services: &Services,
+    alloc: Global,
+    performer: &Who,
+    type_name: &Name,
+    name: &Name,
+    on: &Path,
+    priority: Option<u16>,
+) -> Result<(Need, NodeId), Uncreated>
+    ensures ok { IfOk result (λ found. (types : Types) (overrides : List Override) → IsFactory types overrides services.now.factory →
+        (starting_refusal (starting_in types overrides services.now performer.now type_name.now name.now on.now priority) ≡ None)
+        × (needed_sequence (starting_in types overrides services.now performer.now type_name.now name.now on.now priority) ≡ found.0)) }
+    ensures home { IfOk result (λ found. home_asked services.now.tree.nodes performer.now on.now ≡ Some found.1) }
+    ensures err { IfErr result (λ fault. (types : Types) (overrides : List Override) → IsFactory types overrides services.now.factory →
+        IsUnstarted (starting_refusal (starting_in types overrides services.now performer.now type_name.now name.now on.now priority)) fault) }
+{
+    if !in_task(services.stage) {
+        return Err(Uncreated::Refused(Fatal::OutsideTask));
+    }
+    if is_none_at_all(priority) {
+        return Err(Uncreated::Refused(Fatal::OutOfRange));
+    }
+    let Some(type_id) = sequence_named(&services.factory, type_name) else {
+        return Err(Uncreated::Refused(Fatal::InvalidType));
+    };
+    let home = match home_asked(&services.tree, alloc, performer, on) {
+        Ok(Some(home)) => home,
+        Ok(None) => return Err(Uncreated::Refused(Fatal::NoSequencer)),
+        Err(_) => return Err(Uncreated::Memory),
+    };
+    let path = match started_path(services, alloc, performer, home, name) {
+        Ok(path) => path,
+        Err(PathFault::Memory) => return Err(Uncreated::Memory),
+        Err(_) => return Err(Uncreated::Refused(Fatal::TreeLimit)),
+    };
+    match made_name(&services.factory, type_id, type_name, &path) {
+        Some(type_name) => Ok((needed(type_name, path), home)),
+        None => Err(Uncreated::Refused(Fatal::OverrideLoop)),
+    }
+}
+
+// The sequence of a type that is needed.
+fn needed(type_name: Name, path: Path) -> Need
+    ensures { result ≡ record { kind = Sequence; type_name = type_name; path = path } }
+{
+    Need {
+        kind: Kind::Sequence,
+        type_name,
+        path,
+    }
+}
+
+// The type of a name, if it is a sequence's.
+fn sequence_named(factory: &Factory, name: &Name) -> Option<TypeId>
+    ensures named { result ≡ sequence_named (types_of factory.now) name.now }
+    ensures known { IfSome result (λ type_id. type_named (types_of factory.now) name.now ≡ Some type_id) }
+    ensures within { IfSome result (λ type_id. type_id < length (types_of factory.now)) }
+{
+    let type_id = factory.find(name)?;
+    match factory.kind_of(type_id) {
+        Some(Kind::Sequence) => Some(type_id),
+        _ => None,
+    }
+}
+
+// The sequencer on which somebody starts a sequence, if it is there.
+fn home_asked(
+    tree: &Tree,
+    alloc: Global,
+    performer: &Who,
+    on: &Path,
+) -> Result<Option<NodeId>, AllocError>
+    ensures { IfOk result (λ home. home ≡ home_asked tree.now.nodes performer.now on.now) }
+{
+    match performer {
+        Who::Node(_) => Ok(if_sequencer(tree, node_below(tree, alloc, performer, on)?)),
+        Who::Sequence { home, .. } if on.depth() == 0 => Ok(Some(*home)),
+        Who::Sequence { .. } => Ok(None),
+    }
+}
+
+// A node, if a sequencer stands there.
+fn if_sequencer(tree: &Tree, node: Option<NodeId>) -> Option<NodeId>
+    ensures { result ≡ option_and_then (if_sequencer tree.now.nodes) node }
+{
+    let node = node?;
+    match tree.kind(node) {
+        Some(NodeKind::Sequencer) => Some(node),
+        _ => None,
+    }
+}
+
+// The path by which the factory knows a sequence.
+fn started_path(
+    services: &Services,
+    alloc: Global,
+    performer: &Who,
+    home: NodeId,
+    name: &Name,
+) -> Result<Path, PathFault>
+    ensures ok { IfOk result (λ path. (path_fault (path_at services.now.tree.nodes home ++ parent_names services.now.sequences.started performer.now ++ name.now ∷ []) ≡ None)
+        × (path ≡ path_at services.now.tree.nodes home ++ parent_names services.now.sequences.started performer.now ++ name.now ∷ [])) }
+    ensures err { IfErr result (λ fault. MayFail (path_fault (path_at services.now.tree.nodes home ++ parent_names services.now.sequences.started performer.now ++ name.now ∷ [])) fault) }
+{
+    let names = parent_names(&services.sequences, alloc, performer)?;
+    match services.tree.path(home) {
+        Some(above) => path_below(above, names.as_slice(), name),
+        None => path_below(&Path::top(alloc), names.as_slice(), name),
+    }
+}
+
+/// Starts a sequence for the speaker, in the room for it, makes its first step due, and answers its number. Takes no memory.
+pub fn begin(services: &mut Services, act: &Act, home: &NodeId, place: usize) -> SeqId
+    requires { CanBegin act.now home.now services.old }
+    ensures id { result ≡ length services.old.sequences.started + 1 }
+    ensures kept { TakesIn act.now (Started (suc (length services.old.sequences.started))) place services.old services.new }
+{
+    // Who starts it runs in the phase in which it is started. For those that wait at a sequencer nothing changes.
+    laws::living_run();
+    sequencers::starts_change_nothing();
+    let starter = services.answer.speaker;
+    let name = name_started(act);
+    let given = priority_given(act);
+    let Ok(id) = start_under(&mut services.sequences, *home, &starter, name, given) else {
+        unreachable!()
+    };
+    let who = Who::Sequence { id, home: *home };
+    let phase = phase_of(services.stage);
+    let Ok(()) = push(&mut services.beginnings, &who, &starter, phase) else {
+        unreachable!()
+    };
+    let time = services.time;
+    let Ok(()) = tell_to(services, who.copy(), Call::PreStart, time, place) else {
+        unreachable!()
+    };
+    services.reporting.newest = None;
+    id
+}

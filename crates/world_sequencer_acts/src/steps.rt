@@ -1,0 +1,86 @@
+//! The steps of sequences (IEEE 1800.2-2020, Clause 14).
+
+ghost use Rattle.std.specs.Prelude.{◌≡◌, ◌∷◌, ◌++◌, [], true, OnOk, IfOk};
+ghost use Rattle.uvm_sequencer.specs.Sequences.{finished, name_at};
+ghost use Rattle.uvm_object.specs.declared.acts.Act.TheVariants.{EndStep};
+ghost use Rattle.bench_history.specs.Dues.{step_call};
+ghost use Rattle.bench_history.specs.Refusals.{is_open_to};
+ghost use Rattle.world_sequencer_acts.specs.Drivings.{IsFinished, finished_calls};
+ghost use Rattle.world_sequences.specs.Sequencings.{beginning_at};
+ghost use Rattle.world_services.specs.Attempts.{IsAttempt};
+
+use crate::requests::push_item;
+use std::alloc::{AllocError, Global};
+use uvm_object::{Call, LoggedOutcome, Who};
+use uvm_sequencer::{SeqId, laws};
+use uvm_tree::laws as trees;
+use world_agenda::events::cancel;
+use world_sequencers::arbiters::{driver_at, leave_at};
+use world_sequences::beginnings::{beginning_at, sequence_in, step_call};
+use world_services::attempts::{Attempt, done};
+use world_services::services::Services;
+use world_services::tells::{tell, tell_living};
+
+/// Ends the step at which the speaker, a sequence, is, and tells it the next one; or ends the sequence, and tells who started it.
+/// Its error is want of memory.
+pub fn end_step(services: &mut Services, alloc: Global, place: usize) -> Result<Attempt, AllocError>
+    requires { is_open_to EndStep services.old.answer.speaker ≡ true }
+    ensures { IfOk result (λ attempt. IsAttempt EndStep attempt place services.old services.new) }
+{
+    trees::path_order_is_in_order();
+    // No other sequence comes to another step.
+    laws::steps_change_alone();
+    let performer = services.answer.speaker;
+    let Some(id) = sequence_in(&performer) else {
+        unreachable!()
+    };
+    let time = services.time;
+    match services.sequences.step(id) {
+        Some(step) => {
+            tell(services, step_call(step), time, place)?;
+            Ok(done(services))
+        }
+        None => {
+            finish(services, alloc, place, id)?;
+            services.reporting.newest = None;
+            Ok(Attempt::Became(LoggedOutcome::finished()))
+        }
+    }
+}
+
+// A sequence finishes: nothing is due to it any more, none of its acts is left, what it asked for and holds is gone, and who started it
+// is told, as is a driver whose `Try` it lets lapse.
+fn finish(services: &mut Services, alloc: Global, place: usize, id: SeqId) -> Result<(), AllocError>
+    requires { is_open_to EndStep services.old.answer.speaker ≡ true }
+    ensures { OnOk result (IsFinished id place services.old services.new) }
+{
+    let performer = services.answer.speaker;
+    let home = performer.node();
+    services.sequences.finish(id);
+    services.answer.noted = true;
+    services.contested = Some(home);
+    cancel(&mut services.agenda, performer);
+    let lapses = leave_at(&mut services.arbiters, home, id);
+    let driver = driver_at(&services.arbiters, home);
+    let mut calls = finished_calls(alloc, services, id)?;
+    if lapses {
+        push_item(&mut calls, driver, None)?;
+    }
+    tell_living(services, place, calls.as_slice())
+}
+
+// The call that tells who started a sequence that it has finished.
+fn finished_calls(
+    alloc: Global,
+    services: &Services,
+    id: SeqId,
+) -> Result<Vec<(Who, Call)>, AllocError>
+    ensures { IfOk result (λ calls. calls.items ≡ finished_calls (beginning_at services.now.beginnings.items id) (name_at services.now.sequences.started id) id) }
+{
+    let mut calls = Vec::new(alloc);
+    let beginning = beginning_at(services.beginnings.as_slice(), id);
+    if let (Some(beginning), Some(name)) = (beginning, services.sequences.name(id)) {
+        calls.push((beginning.starter, Call::Finished { name: *name, id }))?;
+    }
+    Ok(calls)
+}

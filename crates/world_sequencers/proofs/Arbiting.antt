@@ -1,0 +1,295 @@
+-- What is kept of sequencers, where nodes are added, sequences are started and end, and a phase ends.
+use Rattle.std.proofs.Common.{◌≡◌, ℕ, suc, ◌<◌, ◌≤◌, ◌==◌, nat_eq, Bool, true, false, not, ◌&&◌, ◌||◌, List, [], ◌∷◌, ◌++◌, length, map, find, All, Option, Some, None, IsSome, IsTrue, option_map, option_and_then, option_to_list, refl, ap, sym, ◌∙◌, subst, arith, if◌then◌else◌}
+use Rattle.std.specs.List.{list_any}
+use Rattle.std.specs.Option.{option_map_or, option_or}
+use Rattle.std.specs.HashMap.{get}
+use Rattle.std.proofs.lemmas.Bool.Decides.{nat_tests}
+use Rattle.std.specs.Map.{lookup}
+use Rattle.std.proofs.lemmas.List.Elements.{All-nil, All-weaker}
+use Rattle.uvm_phase.specs.declared.phases.Phase.{Phase}
+use Rattle.uvm_phase.specs.Phases.{same_phase}
+use Rattle.uvm_tree.specs.Nodes.{Node}
+use Rattle.uvm_sequencer.specs.declared.modes.Mode.{Mode}
+use Rattle.uvm_sequencer.specs.declared.starts.SeqStep.{SeqStep}
+use Rattle.uvm_sequencer.specs.Choices.{readiness}
+use Rattle.uvm_sequencer.specs.Drivers.{wait_of}
+use Rattle.uvm_sequencer.specs.Laws.{StartsChangeNothing, are_known}
+use Rattle.uvm_sequencer.specs.Sequences.{numbered}
+use Rattle.uvm_sequencer.specs.Sequencers.{after_phase, is_live_at}
+use Rattle.uvm_object.specs.declared.acts.Who.{Who}
+use Rattle.uvm_object.specs.declared.acts.What.{What}
+use Rattle.uvm_object.specs.declared.acts.Act.TheVariants.{Add}
+use Rattle.uvm_object.specs.declared.entries.Outcome.TheVariants.{Done}
+use Rattle.uvm_object.specs.declared.entries.Entry.{Entry}
+use Rattle.uvm_object.specs.declared.entries.Entry.TheVariants.{Did, End}
+use Rattle.bench_script.specs.Scripts.{ScriptValue}
+use Rattle.bench_history.specs.declared.stages.Stage.TheVariants.{During, Ended}
+use Rattle.bench_history.specs.Arbitration.{Wanted, mode_at, mode_in, modes_of, waits_by}
+use Rattle.bench_history.specs.History.{ended_of, nodes_of, running, stage_of}
+use Rattle.bench_history.specs.Laws.{LivingRun}
+use Rattle.bench_history.specs.Next.{EachIsNext}
+use Rattle.bench_history.specs.Sequences.{Beginning, begun_of, finished_of, is_live, is_over_phase, starts_in}
+use Rattle.world_sequencers.specs.Arbiters.{AddsArbiter, ChangesEach, Kept, at_sequencer, lock_in, mode_of, new_arbiter, ready_in}
+use Rattle.world_sequencers.specs.Arbitratings.{IsArbitrated, IsArbitrating, Ledger, arbiter_of, arbiter_with, ledger_at, queue_of, runs_on}
+use Rattle.world_sequences.specs.Sequencings.{live_by, lives_by}
+use Rattle.world_sequencers.proofs.Arbited.{added-is, alike-is, arbitrated-added, arbitrated-begun, arbitrated-grown, arbitrated-idle, ended-is, filter-empty, known-all}
+use Rattle.world_sequences.proofs.Numbered.{numbered-more}
+use Rattle.uvm_object.specs.declared.acts.What.TheVariants as what
+
+-- which sequences live after a log
+abbrev live_in : List Entry → ℕ → Bool
+live_in history = live_by (begun_of history) (finished_of history) (ended_of history)
+
+-- before any entry
+arbitrated-first : (nodes n : ℕ) → IsArbitrated 0 nodes [] n (ledger_at [] n)
+arbitrated-first nodes n = record {
+  wanted_within = All-nil _;
+  grants_within = All-nil _;
+  locks_within = All-nil _;
+  wanted_here = All-nil _;
+  held_here = All-nil _;
+  stands = λ some. cc;
+  nothing = λ none. (refl, refl, refl, refl);
+}
+
+pub arbitrating-first : {kept : Kept} (nodes : List Node) → kept.entries ≡ [] → IsArbitrating 0 nodes [] [] [] (ledger_at []) kept None
+arbitrating-first nodes empty = record {
+  arbiters_are = record { each = λ n. ap (lookup (nat_eq n)) empty };
+  arbitrated = record { each = λ n. arbitrated-first (length nodes) n };
+  contested_is = record { unlocked = λ n other. refl; unserved = λ n other. refl; among = λ k e. cc };
+}
+
+-- where nothing is granted anywhere, nothing is with more nodes
+pub arbitrating-grown :
+    {count : ℕ} {nodes : List Node} {begun : List Beginning} {finished : List Who} {ended : List Phase} {ledger : ℕ → Ledger} {arbiters : Kept} {contested : Option ℕ} (more : List Node) → length nodes ≤ length more
+    → ((n : ℕ) → lock_in (starts_in begun) (arbiter_of (live_by begun finished ended) (ledger n)) ≡ None) → ((n : ℕ) → ready_in (starts_in begun) (arbiter_of (live_by begun finished ended) (ledger n)) ≡ None)
+    → IsArbitrating count nodes begun finished ended ledger arbiters contested → IsArbitrating (suc count) more begun finished ended ledger arbiters None
+arbitrating-grown more le unlocked unserved a = record {
+  arbiters_are = a.arbiters_are;
+  arbitrated = record { each = λ n. arbitrated-grown (a.arbitrated.each n) (length more) le };
+  contested_is = record { unlocked = λ n other. unlocked n; unserved = λ n other. unserved n; among = λ k e. cc };
+}
+
+-- one of them may be a sequencer
+found-added : (count n : ℕ) (adds : What) (name : List ℕ) (nodes : List Node) (modes : List (ℕ × Mode)) → length nodes ≡ count
+    → option_map {U = Mode} (λ (found : ℕ × Mode). found.1) (find (λ found. found.0 == n) (option_to_list (mode_in nodes Done (Add name adds)) ++ modes))
+    ≡ (if count == n then option_or (mode_of adds) (option_map (λ found. found.1) (find (λ found. found.0 == n) modes)) else option_map (λ found. found.1) (find (λ found. found.0 == n) modes))
+found-added count n (what.Sequencer mode) name nodes modes is = rw is (tested (count == n))
+  where
+    tested : (b : Bool) → option_map {U = Mode} (λ (found : ℕ × Mode). found.1) (if b then Some (count, mode) else find (λ found. found.0 == n) modes)
+        ≡ (if b then Some mode else option_map (λ found. found.1) (find (λ found. found.0 == n) modes))
+    tested true = refl
+    tested false = refl
+found-added count n (what.Fifo size) name nodes modes is = same (count == n) _
+  where
+    same : (b : Bool) (m : Option Mode) → m ≡ (if b then option_or None m else m)
+    same true None = refl
+    same true (Some m) = refl
+    same false m = refl
+found-added count n (what.Port kind) name nodes modes is = same (count == n) _
+  where
+    same : (b : Bool) (m : Option Mode) → m ≡ (if b then option_or None m else m)
+    same true None = refl
+    same true (Some m) = refl
+    same false m = refl
+found-added count n (what.Export kind) name nodes modes is = same (count == n) _
+  where
+    same : (b : Bool) (m : Option Mode) → m ≡ (if b then option_or None m else m)
+    same true None = refl
+    same true (Some m) = refl
+    same false m = refl
+found-added count n what.Imp name nodes modes is = same (count == n) _
+  where
+    same : (b : Bool) (m : Option Mode) → m ≡ (if b then option_or None m else m)
+    same true None = refl
+    same true (Some m) = refl
+    same false m = refl
+
+none-moded : {A : Type 0} (o : Option A) (n : ℕ) → (IsSome o → n < n) → o ≡ None
+none-moded None n stands = refl
+none-moded (Some a) n stands = let lt = stands refl in absurd (omega (arith, lt))
+
+module _ (history : List Entry) (performer : Who) (name : List ℕ) (adds : What) where
+  abbrev grown : List Entry
+  grown = Did performer Done (Add name adds) ∷ history
+
+  pub arbitrating-added :
+      {arbiters new : Kept} {contested : Option ℕ} → 0 < length (nodes_of history) → length (nodes_of grown) ≡ suc (length (nodes_of history)) → AddsArbiter (mode_of adds) (length (nodes_of history)) arbiters new
+      → ((n : ℕ) → lock_in (starts_in (begun_of history)) (arbiter_of (live_by (begun_of history) (finished_of history) (ended_of history)) (ledger_at history n)) ≡ None)
+      → ((n : ℕ) → ready_in (starts_in (begun_of history)) (arbiter_of (live_by (begun_of history) (finished_of history) (ended_of history)) (ledger_at history n)) ≡ None)
+      → IsArbitrating (length history) (nodes_of history) (begun_of history) (finished_of history) (ended_of history) (ledger_at history) arbiters contested
+      → IsArbitrating (length grown) (nodes_of grown) (begun_of history) (finished_of history) (ended_of history) (ledger_at grown) new None
+  arbitrating-added {arbiters} {new} some longer adding unlocked unserved a = record {
+    arbiters_are = record { each = λ n. adding n ∙ at n (length (nodes_of history) == n) refl };
+    arbitrated = record { each = λ n. every n (length (nodes_of history) == n) refl };
+    contested_is = record { unlocked = λ n other. locks n (length (nodes_of history) == n) refl; unserved = λ n other. serves n (length (nodes_of history) == n) refl; among = λ k e. cc };
+  }
+    where
+      count : ℕ
+      count = length (nodes_of history)
+
+      mode-is : (n : ℕ) → mode_at grown n ≡ (if length (nodes_of history) == n then option_or (mode_of adds) (mode_at history n) else mode_at history n)
+      mode-is n = found-added (length (nodes_of history)) n adds name (nodes_of history) (modes_of history) refl
+
+      here : (n : ℕ) → (length (nodes_of history) == n) ≡ true → length (nodes_of history) ≡ n
+      here n e = grind (arith, nat_tests)
+
+      unmoded : (n : ℕ) → (length (nodes_of history) == n) ≡ true → mode_at history n ≡ None
+      unmoded n is = let same = here n is in none-moded (mode_at history n) n (λ moded. let s = (a.arbitrated.each n).stands moded in omega (arith, s.1, same))
+
+      or-none : {A : Type 0} (o : Option A) → option_or o None ≡ o
+      or-none None = refl
+      or-none (Some x) = refl
+
+      mode-there : (n : ℕ) → (length (nodes_of history) == n) ≡ true → mode_at grown n ≡ mode_of adds
+      mode-there n is = mode-is n ∙ rw (is, unmoded n is) (or-none (mode_of adds))
+
+      mode-else : (n : ℕ) → (length (nodes_of history) == n) ≡ false → mode_at grown n ≡ mode_at history n
+      mode-else n is = mode-is n ∙ rw is refl
+
+      arbiter-there : (n : ℕ) → (length (nodes_of history) == n) ≡ true → arbiter_of (live_in history) (ledger_at grown n) ≡ option_map new_arbiter (mode_of adds)
+      arbiter-there n is = rw (mode-there n is) (added-is (live_in history) (ledger_at history n) (mode_of adds) ((a.arbitrated.each n).nothing (unmoded n is)))
+
+      arbiter-else : (n : ℕ) → (length (nodes_of history) == n) ≡ false → arbiter_of (live_in history) (ledger_at grown n) ≡ arbiter_of (live_in history) (ledger_at history n)
+      arbiter-else n is = rw (mode-else n is) refl
+
+      at : (n : ℕ) (b : Bool) → (length (nodes_of history) == n) ≡ b → option_or (if length (nodes_of history) == n then option_map new_arbiter (mode_of adds) else None) (get nat_eq arbiters n) ≡ arbiter_of (live_in history) (ledger_at grown n)
+      at n true is =
+          let before : get nat_eq arbiters n ≡ None = a.arbiters_are.each n ∙ rw (unmoded n is) refl in
+          rw (is, before) (or-none (option_map new_arbiter (mode_of adds)) ∙ sym (arbiter-there n is))
+      at n false is = rw is (a.arbiters_are.each n ∙ sym (arbiter-else n is))
+
+      every : (n : ℕ) (b : Bool) → (length (nodes_of history) == n) ≡ b → IsArbitrated (suc (length history)) (length (nodes_of grown)) (begun_of history) n (ledger_at grown n)
+      every n true is =
+          let same = here n is in
+          rw (mode-there n is) (arbitrated-added (a.arbitrated.each n) (mode_of adds) (length (nodes_of grown)) (unmoded n is) (λ moded. (omega (arith, some, same), omega (arith, longer, same))))
+      every n false is = rw (mode-else n is) (arbitrated-grown (a.arbitrated.each n) (length (nodes_of grown)) (omega (arith, longer)))
+
+      new-lock : (mode : Option Mode) → lock_in (starts_in (begun_of history)) (option_map new_arbiter mode) ≡ None
+      new-lock None = refl
+      new-lock (Some mode) = refl
+
+      new-ready : (mode : Option Mode) → ready_in (starts_in (begun_of history)) (option_map new_arbiter mode) ≡ None
+      new-ready None = refl
+      new-ready (Some mode) = refl
+
+      locks : (n : ℕ) (b : Bool) → (length (nodes_of history) == n) ≡ b → lock_in (starts_in (begun_of history)) (arbiter_of (live_in history) (ledger_at grown n)) ≡ None
+      locks n true is = ap (lock_in (starts_in (begun_of history))) (arbiter-there n is) ∙ new-lock (mode_of adds)
+      locks n false is = ap (lock_in (starts_in (begun_of history))) (arbiter-else n is) ∙ unlocked n
+
+      serves : (n : ℕ) (b : Bool) → (length (nodes_of history) == n) ≡ b → ready_in (starts_in (begun_of history)) (arbiter_of (live_in history) (ledger_at grown n)) ≡ None
+      serves n true is = ap (ready_in (starts_in (begun_of history))) (arbiter-there n is) ∙ new-ready (mode_of adds)
+      serves n false is = ap (ready_in (starts_in (begun_of history))) (arbiter-else n is) ∙ unserved n
+
+-- one more sequence is started: for those that wait nothing changes
+module _ {count : ℕ} {nodes : List Node} {begun : List Beginning} {finished : List Who} {ended : List Phase} {ledger : ℕ → Ledger} {arbiters : Kept} {contested : Option ℕ} (a : IsArbitrating count nodes begun finished ended ledger arbiters contested) (changes : StartsChangeNothing) (x : Beginning) where
+  begun-alike : (node id : ℕ) → runs_on begun node id → live_by (x ∷ begun) finished ended id ≡ live_by begun finished ended id
+  begun-alike node id here = by (numbered begun id) refl here
+    where
+      by : (found : Option Beginning) → numbered begun id ≡ found → option_map (λ beginning. beginning.start.home) found ≡ Some node → live_by (x ∷ begun) finished ended id ≡ live_by begun finished ended id
+      by None is e = cc
+      by (Some b) is e = rw (numbered-more x begun id b is, is) refl
+
+  begun-same : (n : ℕ) → arbiter_of (live_by (x ∷ begun) finished ended) (ledger n) ≡ arbiter_of (live_by begun finished ended) (ledger n)
+  begun-same n =
+      let one = a.arbitrated.each n in
+      alike-is (live_by begun finished ended) (live_by (x ∷ begun) finished ended) (ledger n)
+      (All-weaker (λ (w : Wanted). runs_on begun n w.request.seq) (λ (w : Wanted). live_by (x ∷ begun) finished ended w.request.seq ≡ live_by begun finished ended w.request.seq) (λ w here. begun-alike n w.request.seq here) (ledger n).wanted one.wanted_here)
+      (All-weaker (runs_on begun n) (λ id. live_by (x ∷ begun) finished ended id ≡ live_by begun finished ended id) (λ id here. begun-alike n id here) (ledger n).held one.held_here)
+
+  abbrev known : ℕ → Type 0
+  known n = IsTrue (are_known (starts_in begun) (queue_of (live_by begun finished ended) (ledger n)))
+
+  locks-still : (n : ℕ) (mode : Option Mode) → lock_in (starts_in (x ∷ begun)) (option_map (arbiter_with (live_by begun finished ended) (ledger n)) mode) ≡ lock_in (starts_in begun) (option_map (arbiter_with (live_by begun finished ended) (ledger n)) mode)
+  locks-still n None = refl
+  locks-still n (Some mode) = changes.locks x.start (starts_in begun) (arbiter_with (live_by begun finished ended) (ledger n) mode).sequencer (known-all (a.arbitrated.each n) (live_by begun finished ended))
+
+  ready-still : (n : ℕ) (mode : Option Mode) → ready_in (starts_in (x ∷ begun)) (option_map (arbiter_with (live_by begun finished ended) (ledger n)) mode) ≡ ready_in (starts_in begun) (option_map (arbiter_with (live_by begun finished ended) (ledger n)) mode)
+  ready-still n None = refl
+  ready-still n (Some mode) =
+      ap (readiness mode (wait_of (ledger n).driver)) (changes.items x.start (starts_in begun) (arbiter_with (live_by begun finished ended) (ledger n) mode).sequencer (known-all (a.arbitrated.each n) (live_by begun finished ended)))
+
+  pub arbitrating-begun : IsArbitrating (suc count) nodes (x ∷ begun) finished ended ledger arbiters contested
+  arbitrating-begun = record {
+    arbiters_are = record { each = λ n. a.arbiters_are.each n ∙ sym (begun-same n) };
+    arbitrated = record { each = λ n. arbitrated-begun (a.arbitrated.each n) x };
+    contested_is = record {
+      unlocked = λ n other. ap (lock_in (starts_in (x ∷ begun))) (begun-same n) ∙ locks-still n (ledger n).mode ∙ a.contested_is.unlocked n other;
+      unserved = λ n other. ap (ready_in (starts_in (x ∷ begun))) (begun-same n) ∙ ready-still n (ledger n).mode ∙ a.contested_is.unserved n other;
+      among = a.contested_is.among;
+    };
+  }
+
+-- a phase ends: all sequences that live were started in it
+still-before : (f a b : Bool) → f && not (a || b) ≡ true → f && not b ≡ true
+still-before true true b e = cc
+still-before true false b e = e
+still-before false a b e = cc
+
+over-before : (f : Bool) (phase : Phase) (ended : List Phase) (started : Option Phase) → f && not (is_over_phase (phase ∷ ended) started) ≡ true → f && not (is_over_phase ended started) ≡ true
+over-before f phase ended None e = e
+over-before f phase ended (Some other) e = still-before f (same_phase other phase) (list_any (same_phase other) ended) e
+
+live-before : (begun : List Beginning) (finished : List Who) (ended : List Phase) (phase : Phase) (id : ℕ) → live_by begun finished (phase ∷ ended) id ≡ true → live_by begun finished ended id ≡ true
+live-before begun finished ended phase id e = by (numbered begun id) e
+  where
+    by : (found : Option Beginning) → option_map_or (lives_by finished (phase ∷ ended) id) found false ≡ true → option_map_or (lives_by finished ended id) found false ≡ true
+    by None e = cc
+    by (Some b) e = over-before _ phase ended b.phase e
+
+same-itself : (phase : Phase) → same_phase phase phase ≡ true
+same-itself phase = grind (arith, nat_tests)
+
+second : (a b : Bool) → a && b ≡ true → b ≡ true
+second true b e = e
+second false b e = cc
+
+module _ (script : ScriptValue) (history : List Entry) (phase : Phase) (run : LivingRun) (each : EachIsNext script history) (runs : stage_of history ≡ During phase) where
+  none-live : (node id : ℕ) → runs_on (begun_of history) node id → live_by (begun_of history) (finished_of history) (phase ∷ ended_of history) id ≡ false
+  unfolding is_live
+  none-live node id here = by (live_by (begun_of history) (finished_of history) (phase ∷ ended_of history) id) refl
+    where
+      goes : stage_of history ≡ Ended → ⊥
+      goes over = let clash : During phase ≡ Ended = sym runs ∙ over in cc
+
+      dead : (found : Option Beginning) → numbered (begun_of history) id ≡ found → option_and_then (λ beginning. beginning.phase) found ≡ Some phase → option_map_or (lives_by (finished_of history) (phase ∷ ended_of history) id) found false ≡ true → ⊥
+      dead None is ran e = cc
+      dead (Some b) is ran e =
+          let over : is_over_phase (phase ∷ ended_of history) b.phase ≡ true = rw (ran, same-itself phase) refl in
+          let clash = subst (λ (v : Bool). not v ≡ true) over (second _ _ e) in
+          cc
+
+      by : (b : Bool) → live_by (begun_of history) (finished_of history) (phase ∷ ended_of history) id ≡ b → b ≡ false
+      by false is = refl
+      by true is =
+          let lived = live-before (begun_of history) (finished_of history) (ended_of history) phase id is in
+          let ran = run script history id node each goes (record { lives = lived; home_is = here }) in
+          absurd (dead (numbered (begun_of history) id) refl (ran ∙ ap running runs) is)
+
+  nobody : (n : ℕ) (l : Ledger) → All (λ (w : Wanted). runs_on (begun_of history) n w.request.seq) l.wanted → queue_of (live_by (begun_of history) (finished_of history) (phase ∷ ended_of history)) l ≡ []
+  nobody n l here =
+      ap (map (λ (w : Wanted). w.request))
+      (filter-empty (waits_by (live_by (begun_of history) (finished_of history) (phase ∷ ended_of history)) l.grants l.locks) l.wanted
+      (All-weaker (λ (w : Wanted). runs_on (begun_of history) n w.request.seq) (λ w. waits_by (live_by (begun_of history) (finished_of history) (phase ∷ ended_of history)) l.grants l.locks w ≡ false) (λ w runs_here. rw (none-live n w.request.seq runs_here) refl) l.wanted here))
+
+  pub arbitrating-ended :
+      (steps : List (Option SeqStep)) → ((n : ℕ) → is_live_at steps n ≡ live_by (begun_of history) (finished_of history) (phase ∷ ended_of history) n) → {arbiters new : Kept} {contested : Option ℕ} → ChangesEach (at_sequencer (after_phase steps)) arbiters new
+      → IsArbitrating (length history) (nodes_of history) (begun_of history) (finished_of history) (ended_of history) (ledger_at history) arbiters contested
+      → IsArbitrating (suc (length history)) (nodes_of history) (begun_of history) (finished_of history) (phase ∷ ended_of history) (ledger_at (End phase ∷ history)) new None
+  arbitrating-ended steps known changes a = record {
+    arbiters_are = record {
+      each = λ n.
+          changes n ∙ ap (option_map (at_sequencer (after_phase steps))) (a.arbiters_are.each n)
+          ∙ sym (ended-is (live_by (begun_of history) (finished_of history) (ended_of history)) (live_by (begun_of history) (finished_of history) (phase ∷ ended_of history)) (ledger_at history n) steps known (λ id. live-before (begun_of history) (finished_of history) (ended_of history) phase id));
+    };
+    arbitrated = record { each = λ n. arbitrated-idle (a.arbitrated.each n) };
+    contested_is = record { unlocked = λ n other. locks n (ledger_at history n).mode; unserved = λ n other. serves n (ledger_at history n).mode; among = λ k e. cc };
+  }
+    where
+      locks : (n : ℕ) (mode : Option Mode) → lock_in (starts_in (begun_of history)) (option_map (arbiter_with (live_by (begun_of history) (finished_of history) (phase ∷ ended_of history)) (ledger_at (End phase ∷ history) n)) mode) ≡ None
+      locks n None = refl
+      locks n (Some mode) = rw (nobody n (ledger_at history n) (a.arbitrated.each n).wanted_here) refl
+
+      serves : (n : ℕ) (mode : Option Mode) → ready_in (starts_in (begun_of history)) (option_map (arbiter_with (live_by (begun_of history) (finished_of history) (phase ∷ ended_of history)) (ledger_at (End phase ∷ history) n)) mode) ≡ None
+      serves n None = refl
+      serves n (Some mode) = refl

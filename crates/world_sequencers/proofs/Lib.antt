@@ -1,0 +1,3 @@
+pub mod Arbited
+pub mod Arbiting
+pub mod Contested

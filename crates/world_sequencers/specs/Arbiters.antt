@@ -1,0 +1,95 @@
+-- The sequencers that a world keeps, with those who drive them, and what is done at them.
+use Rattle.std.specs.Prelude.{◌≡◌, ℕ, Bool, ◌==◌, nat_eq, List, Option, Some, None, option_map, option_and_then, Result, Ok, if◌then◌else◌}
+use Rattle.std.specs.Option.{option_or}
+use Rattle.std.specs.declared.hash.FoldHasher.{FoldHasher}
+use Rattle.std.specs.declared.hash.BuildHasherDefault.{BuildHasherDefault}
+use Rattle.std.specs.HashMap.{HashMap, get}
+use Rattle.uvm_glob.specs.Faults.{unless}
+use Rattle.uvm_sequencer.specs.declared.modes.Mode.{Mode}
+use Rattle.uvm_sequencer.specs.declared.drivers.Asked.{Asked}
+use Rattle.uvm_sequencer.specs.declared.drivers.How.{How}
+use Rattle.uvm_sequencer.specs.Sequences.{Start}
+use Rattle.uvm_sequencer.specs.Sequencers.{SequencerValue, after_ask, after_send, answer, candidates_at, lock_at, new_sequencer, ready_at, unlocked, with_grab, with_item, with_lock}
+use Rattle.uvm_object.specs.declared.acts.What.{What}
+use Rattle.uvm_object.specs.declared.fatals.Fatal.{Fatal}
+use Rattle.bench_history.specs.declared.askers.DriverPort.{DriverPort}
+use Rattle.bench_history.specs.Refusals.{ask_refusal}
+use Rattle.uvm_sequencer.specs.declared.drivers.Asked.TheVariants as asked
+use Rattle.uvm_object.specs.declared.acts.What.TheVariants as what
+
+-- a sequencer, as the service has it, and who drives it. Which port drives it is known from the wiring, and not kept here
+pub record ArbiterValue : Type 0 where
+  pub sequencer : SequencerValue
+  pub driver : Option DriverPort
+
+-- the sequencers by their nodes
+abbrev pub Kept : Type 0
+Kept = HashMap ℕ ArbiterValue (BuildHasherDefault FoldHasher)
+
+-- one that nobody drives, and of which nobody asked anything
+abbrev pub new_arbiter : Mode → ArbiterValue
+new_arbiter mode = record { sequencer = new_sequencer mode; driver = None }
+
+abbrev pub mode_of : What → Option Mode
+mode_of (what.Sequencer mode) = Some mode
+mode_of other = None
+
+-- one is added at a node, if it is one
+abbrev pub AddsArbiter : Option Mode → ℕ → Kept → Kept → Type 0
+AddsArbiter mode node old new = (n : ℕ) → get nat_eq new n ≡ option_or (if node == n then option_map new_arbiter mode else None) (get nat_eq old n)
+
+-- something is done at one of them
+abbrev pub ChangesAt : ℕ → (ArbiterValue → ArbiterValue) → Kept → Kept → Type 0
+ChangesAt node change old new = (n : ℕ) → get nat_eq new n ≡ (if node == n then option_map change (get nat_eq old n) else get nat_eq old n)
+
+-- and at each
+abbrev pub ChangesEach : (ArbiterValue → ArbiterValue) → Kept → Kept → Type 0
+ChangesEach change old new = (n : ℕ) → get nat_eq new n ≡ option_map change (get nat_eq old n)
+
+-- what is done at the sequencer alone
+abbrev pub at_sequencer : (SequencerValue → SequencerValue) → ArbiterValue → ArbiterValue
+at_sequencer change a = record a { sequencer = change a.sequencer }
+
+-- a driver asks: it waits, unless it has its answer
+abbrev pub asked_at : DriverPort → How → Asked → ArbiterValue → ArbiterValue
+asked_at driver how asked.Waits a = record { sequencer = after_ask how asked.Waits a.sequencer; driver = Some driver }
+asked_at driver how asked.Nothing a = a
+
+-- a sequence asks for something, unless that is refused; it gives back a lock, or sends, if it may
+abbrev pub requested_if : Option Fatal → ℕ → ℕ → ArbiterValue → ArbiterValue
+requested_if None id priority a = at_sequencer (with_item id priority) a
+requested_if (Some fatal) id priority a = a
+
+abbrev pub locked_if : Option Fatal → ℕ → ArbiterValue → ArbiterValue
+locked_if None id a = at_sequencer (with_lock id) a
+locked_if (Some fatal) id a = a
+
+abbrev pub grabbed_if : Option Fatal → ℕ → ArbiterValue → ArbiterValue
+grabbed_if None id a = at_sequencer (with_grab id) a
+grabbed_if (Some fatal) id a = a
+
+abbrev pub unlocked_if : Option Fatal → ℕ → ArbiterValue → ArbiterValue
+unlocked_if None id a = at_sequencer (unlocked id) a
+unlocked_if (Some fatal) id a = a
+
+abbrev pub sent_if : Option How → ℕ → ArbiterValue → ArbiterValue
+sent_if None id a = a
+sent_if (Some how) id a = at_sequencer (after_send id how) a
+
+-- what comes of asking at a sequencer
+abbrev pub asked_in : List Start → How → Option ArbiterValue → Result Asked Fatal
+asked_in started how None = Ok asked.Waits
+asked_in started how (Some a) = unless (ask_refusal a.sequencer) (answer how (candidates_at started a.sequencer))
+
+-- whose lock leads at a node, and whether its driver can be served, with a word or not
+abbrev pub lock_in : List Start → Option ArbiterValue → Option ℕ
+lock_in started a = option_and_then (λ a. lock_at started a.sequencer) a
+
+abbrev pub ready_in : List Start → Option ArbiterValue → Option Bool
+ready_in started a = option_and_then (λ a. ready_at started a.sequencer) a
+
+abbrev pub locked_in : List Start → Kept → ℕ → Option (ℕ × ℕ)
+locked_in started arbiters node = option_map (λ id. (node, id)) (lock_in started (get nat_eq arbiters node))
+
+abbrev pub served_in : List Start → Kept → ℕ → Option (ℕ × Bool)
+served_in started arbiters node = option_map (λ drawn. (node, drawn)) (ready_in started (get nat_eq arbiters node))

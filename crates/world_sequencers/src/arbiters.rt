@@ -1,0 +1,414 @@
+//! Sequencers with who drives them (IEEE 1800.2-2020, Clause 15).
+
+ghost use Rattle.std.specs.Prelude.{◌≡◌, nat_eq, length, Some, None, OnOk, OnErr, IfOk, IfErr, option_and_then, ◌<◌, IsSome, is_some};
+ghost use Rattle.std.specs.HashMap.{get};
+ghost use Rattle.std.specs.Option.{option_map_or};
+ghost use Rattle.uvm_glob.specs.Faults.{unless};
+ghost use Rattle.uvm_sequencer.specs.Drivers.{grant_of, hand_of, is_try};
+ghost use Rattle.uvm_sequencer.specs.Sequencers.{after_leave, after_phase, answer, candidates_at, choice_at, granted, lock_at, locked, ready_at, with_idle};
+ghost use Rattle.bench_history.specs.Refusals.{ask_refusal, done_refusal, item_refusal, lock_refusal, unlock_refusal};
+ghost use Rattle.world_sequencers.specs.Arbiters.{AddsArbiter, ChangesAt, ChangesEach, at_sequencer, asked_at, asked_in, grabbed_if, locked_if, locked_in, lock_in, mode_of, new_arbiter, ready_in, requested_if, sent_if, served_in, unlocked_if};
+
+use bench_history::DriverPort;
+use std::alloc::{AllocError, Global};
+use std::collections::HashMap;
+use std::marker::Model;
+use uvm_object::{Fatal, What};
+use uvm_sequencer::{Asked, How, Mode, SeqFault, SeqId, Sequencer, Sequences};
+use uvm_tree::NodeId;
+
+/// A port, and the sequencer that is reached through it.
+#[derive(Clone, Copy)]
+pub struct Reached {
+    pub port: NodeId,
+    pub sequencer: NodeId,
+}
+
+/// A sequencer, and who drives it: who asked there last, and through which port of its own (IEEE 1800.2-2020, Clause 15). Which
+/// port that is shows nowhere: the wiring says it.
+#[derive(Drop)]
+pub struct Arbiter {
+    sequencer: Sequencer,
+    driver: Option<DriverPort>,
+}
+
+impl Model for Arbiter {
+    ghost use Rattle.std.specs.Prelude.{None};
+    ghost use Rattle.world_sequencers.specs.Arbiters.{ArbiterValue};
+
+    ghost Value = { ArbiterValue };
+
+    ghost view = { λ a. record { sequencer = record a.sequencer { port = None }; driver = a.driver } };
+}
+
+impl Arbiter {
+    // A sequencer that nobody drives. Takes no memory.
+    fn new(alloc: Global, mode: Mode) -> Arbiter
+        ensures { result ≡ new_arbiter mode }
+    {
+        Arbiter {
+            sequencer: Sequencer::new(alloc, mode),
+            driver: None,
+        }
+    }
+
+    // The driver asks for an item through its port, or why it may not. Takes no memory.
+    fn ask(
+        &mut self,
+        sequences: &Sequences,
+        port: NodeId,
+        driver: DriverPort,
+        how: How,
+    ) -> Result<Asked, Fatal>
+        ensures value { result ≡ unless (ask_refusal self.old.sequencer) (answer how (candidates_at sequences.now.started self.old.sequencer)) }
+        ensures after { IfOk result (λ asked. self.new ≡ asked_at driver how asked self.old) }
+        ensures unchanged { OnErr result (self.new ≡ self.old) }
+    {
+        self.sequencer.set_driver(port);
+        match self.sequencer.ask(sequences, port, how) {
+            Ok(Asked::Waits) => {
+                self.driver = Some(driver);
+                Ok(Asked::Waits)
+            }
+            Ok(Asked::Nothing) => Ok(Asked::Nothing),
+            Err(_) => Err(Fatal::AskedTwice),
+        }
+    }
+
+    // The driver is done with its item: whose that is, or why it is not. Takes no memory.
+    fn done(&mut self, port: NodeId) -> Result<SeqId, Fatal>
+        ensures ok { IfOk result (λ id. hand_of self.old.sequencer.driver ≡ Some id) }
+        ensures after { OnOk result (self.new ≡ at_sequencer with_idle self.old) }
+        ensures err { IfErr result (λ fatal. done_refusal self.old.sequencer ≡ Some fatal) }
+        ensures unchanged { OnErr result (self.new ≡ self.old) }
+    {
+        self.sequencer.set_driver(port);
+        match self.sequencer.done(port) {
+            Ok(id) => Ok(id),
+            Err(_) => Err(Fatal::NothingOut),
+        }
+    }
+
+    // A sequence requests to send an item, or why it may not.
+    fn request(&mut self, id: SeqId, priority: u16) -> Result<Option<Fatal>, AllocError>
+        requires { 0 < priority }
+        ensures value { IfOk result (λ refusal. refusal ≡ item_refusal id self.old.sequencer) }
+        ensures after { IfOk result (λ refusal. self.new ≡ requested_if refusal id priority self.old) }
+    {
+        match self.sequencer.request(id, priority) {
+            Ok(()) => Ok(None),
+            Err(SeqFault::Memory) => Err(AllocError),
+            Err(_) => Ok(Some(Fatal::AskedTwice)),
+        }
+    }
+
+    // It asks for a lock, or why it may not.
+    fn lock(&mut self, id: SeqId) -> Result<Option<Fatal>, AllocError>
+        ensures value { IfOk result (λ refusal. refusal ≡ lock_refusal id self.old.sequencer) }
+        ensures after { IfOk result (λ refusal. self.new ≡ locked_if refusal id self.old) }
+    {
+        match self.sequencer.lock(id) {
+            Ok(()) => Ok(None),
+            Err(SeqFault::Memory) => Err(AllocError),
+            Err(_) => Ok(Some(Fatal::AskedTwice)),
+        }
+    }
+
+    // And for one before all that was asked for.
+    fn grab(&mut self, id: SeqId) -> Result<Option<Fatal>, AllocError>
+        ensures value { IfOk result (λ refusal. refusal ≡ lock_refusal id self.old.sequencer) }
+        ensures after { IfOk result (λ refusal. self.new ≡ grabbed_if refusal id self.old) }
+    {
+        match self.sequencer.grab(id) {
+            Ok(()) => Ok(None),
+            Err(SeqFault::Memory) => Err(AllocError),
+            Err(_) => Ok(Some(Fatal::AskedTwice)),
+        }
+    }
+
+    // It gives back its last lock, or why it may not. Takes no memory.
+    fn unlock(&mut self, id: SeqId) -> Option<Fatal>
+        ensures value { result ≡ unlock_refusal id self.old.sequencer }
+        ensures after { self.new ≡ unlocked_if result id self.old }
+    {
+        match self.sequencer.unlock(id) {
+            Ok(()) => None,
+            Err(_) => Some(Fatal::NotHeld),
+        }
+    }
+
+    // A granted sequence sends its item: how the driver had asked, if it may. Takes no memory.
+    fn send(&mut self, id: SeqId) -> Option<How>
+        ensures value { result ≡ grant_of id self.old.sequencer.driver }
+        ensures after { self.new ≡ sent_if result id self.old }
+    {
+        match self.sequencer.send(id) {
+            Ok(how) => Some(how),
+            Err(_) => None,
+        }
+    }
+
+    // A sequence ends: whether the grant of a `Try` lapses. Takes no memory.
+    fn leave(&mut self, id: SeqId) -> bool
+        ensures value { result ≡ is_try (grant_of id self.old.sequencer.driver) }
+        ensures after { self.new ≡ at_sequencer (after_leave id) self.old }
+    {
+        self.sequencer.leave(id)
+    }
+
+    // A phase ends, and with it all sequences that live no longer. Takes no memory.
+    fn end_phase(&mut self, sequences: &Sequences)
+        ensures { self.new ≡ at_sequencer (after_phase sequences.now.steps) self.old }
+    {
+        self.sequencer.end_phase(sequences);
+    }
+
+    // The lock that leads is granted. Takes no memory.
+    fn settle(&mut self, sequences: &Sequences, id: SeqId)
+        requires { lock_at sequences.now.started self.old.sequencer ≡ Some id }
+        ensures { self.new ≡ at_sequencer (locked id) self.old }
+    {
+        let _ = self.sequencer.settle(sequences);
+    }
+
+    // An item is granted, by the word where one decides. Takes no memory.
+    fn choose(&mut self, sequences: &Sequences, word: Option<u64>) -> SeqId
+        requires { ready_at sequences.now.started self.old.sequencer ≡ Some (is_some word) }
+        ensures value { choice_at sequences.now.started self.old.sequencer word ≡ Some result }
+        ensures after { self.new ≡ at_sequencer (granted result) self.old }
+    {
+        self.sequencer.choose(sequences, word)
+    }
+}
+
+/// The sequencers of a testbench, by their nodes.
+pub type Arbiters = HashMap<NodeId, Arbiter>;
+
+/// Adds the sequencer that stands at a node, where what is added there is one. Its error is want of memory.
+pub fn add_arbiter(
+    arbiters: &mut Arbiters,
+    alloc: Global,
+    node: NodeId,
+    what: What,
+) -> Result<(), AllocError>
+    ensures { OnOk result (AddsArbiter (mode_of what) node arbiters.old arbiters.new) }
+{
+    let What::Sequencer { mode } = what else {
+        return Ok(());
+    };
+    match arbiters.insert(node, Arbiter::new(alloc, mode)) {
+        Ok(_) => Ok(()),
+        Err(_) => Err(AllocError),
+    }
+}
+
+// Whose lock leads at a node.
+fn lock_at(arbiters: &Arbiters, sequences: &Sequences, node: NodeId) -> Option<SeqId>
+    ensures { result ≡ lock_in sequences.now.started (get nat_eq arbiters.now node) }
+{
+    arbiters.get(&node)?.sequencer.leading_lock(sequences)
+}
+
+/// Answers whose lock leads at the sequencer that was changed last, if one does there.
+pub fn first_locked(
+    arbiters: &Arbiters,
+    sequences: &Sequences,
+    contested: Option<NodeId>,
+) -> Option<(NodeId, SeqId)>
+    ensures { result ≡ option_and_then (locked_in sequences.now.started arbiters.now) contested }
+{
+    let node = contested?;
+    let id = lock_at(arbiters, sequences, node)?;
+    Some((node, id))
+}
+
+// Whether the driver at a node can be served, and a word decides then.
+fn ready_at(arbiters: &Arbiters, sequences: &Sequences, node: NodeId) -> Option<bool>
+    ensures { result ≡ ready_in sequences.now.started (get nat_eq arbiters.now node) }
+{
+    arbiters.get(&node)?.sequencer.ready(sequences)
+}
+
+/// Answers whether the driver of the sequencer that was changed last can be served, and whether a word decides then.
+pub fn first_served(
+    arbiters: &Arbiters,
+    sequences: &Sequences,
+    contested: Option<NodeId>,
+) -> Option<(NodeId, bool)>
+    ensures { result ≡ option_and_then (served_in sequences.now.started arbiters.now) contested }
+{
+    let node = contested?;
+    let drawn = ready_at(arbiters, sequences, node)?;
+    Some((node, drawn))
+}
+
+/// Answers how many item requests and locks wait at a node; 0 where no sequencer stands there.
+pub fn requests_at(arbiters: &Arbiters, node: NodeId) -> usize
+    ensures { result ≡ option_map_or (λ a. length a.sequencer.queue) (get nat_eq arbiters.now node) 0 }
+{
+    match arbiters.get(&node) {
+        Some(arbiter) => arbiter.sequencer.waiting(),
+        None => 0,
+    }
+}
+
+/// Answers who drives a sequencer, and through which port; none where nobody asked there.
+pub fn driver_at(arbiters: &Arbiters, node: NodeId) -> Option<DriverPort>
+    ensures { result ≡ option_and_then (λ a. a.driver) (get nat_eq arbiters.now node) }
+{
+    arbiters.get(&node)?.driver
+}
+
+/// Lets a driver ask for an item. Its error is why it may not: it has asked already. Takes no memory.
+pub fn ask_at(
+    arbiters: &mut Arbiters,
+    sequences: &Sequences,
+    reached: &Reached,
+    driver: DriverPort,
+    how: How,
+) -> Result<Asked, Fatal>
+    requires { IsSome (get nat_eq arbiters.old reached.now.sequencer) }
+    ensures value { result ≡ asked_in sequences.now.started how (get nat_eq arbiters.old reached.now.sequencer) }
+    ensures after { IfOk result (λ asked. ChangesAt reached.now.sequencer (asked_at driver how asked) arbiters.old arbiters.new) }
+    ensures unchanged { OnErr result (ChangesAt reached.now.sequencer (λ a. a) arbiters.old arbiters.new) }
+{
+    match arbiters.get_mut(&reached.sequencer) {
+        Some(arbiter) => arbiter.ask(sequences, reached.port, driver, how),
+        None => unreachable!(),
+    }
+}
+
+/// Takes back the item in the driver's hand, and answers whose it is. Its error is why there is none. Takes no memory.
+pub fn done_at(arbiters: &mut Arbiters, reached: &Reached) -> Result<SeqId, Fatal>
+    requires { IsSome (get nat_eq arbiters.old reached.now.sequencer) }
+    ensures ok { IfOk result (λ id. option_and_then (λ a. hand_of a.sequencer.driver) (get nat_eq arbiters.old reached.now.sequencer) ≡ Some id) }
+    ensures after { OnOk result (ChangesAt reached.now.sequencer (at_sequencer with_idle) arbiters.old arbiters.new) }
+    ensures err { IfErr result (λ fatal. option_and_then (λ a. done_refusal a.sequencer) (get nat_eq arbiters.old reached.now.sequencer) ≡ Some fatal) }
+    ensures unchanged { OnErr result (ChangesAt reached.now.sequencer (λ a. a) arbiters.old arbiters.new) }
+{
+    match arbiters.get_mut(&reached.sequencer) {
+        Some(arbiter) => arbiter.done(reached.port),
+        None => unreachable!(),
+    }
+}
+
+/// Lets a sequence request to send an item, or answers why it may not: it waits already. Its error is want of memory.
+pub fn request_at(
+    arbiters: &mut Arbiters,
+    node: NodeId,
+    id: SeqId,
+    priority: u16,
+) -> Result<Option<Fatal>, AllocError>
+    requires { 0 < priority }
+    ensures value { IfOk result (λ refusal. refusal ≡ option_and_then (λ a. item_refusal id a.sequencer) (get nat_eq arbiters.old node)) }
+    ensures after { IfOk result (λ refusal. ChangesAt node (requested_if refusal id priority) arbiters.old arbiters.new) }
+{
+    match arbiters.get_mut(&node) {
+        Some(arbiter) => arbiter.request(id, priority),
+        None => Ok(None),
+    }
+}
+
+/// Lets a sequence ask for a lock, or answers why it may not: it waits already. Its error is want of memory.
+pub fn lock_for(
+    arbiters: &mut Arbiters,
+    node: NodeId,
+    id: SeqId,
+) -> Result<Option<Fatal>, AllocError>
+    ensures value { IfOk result (λ refusal. refusal ≡ option_and_then (λ a. lock_refusal id a.sequencer) (get nat_eq arbiters.old node)) }
+    ensures after { IfOk result (λ refusal. ChangesAt node (locked_if refusal id) arbiters.old arbiters.new) }
+{
+    match arbiters.get_mut(&node) {
+        Some(arbiter) => arbiter.lock(id),
+        None => Ok(None),
+    }
+}
+
+/// Lets a sequence ask for a lock before all that was asked for, or answers why it may not: it waits already. Its error is want
+/// of memory.
+pub fn grab_for(
+    arbiters: &mut Arbiters,
+    node: NodeId,
+    id: SeqId,
+) -> Result<Option<Fatal>, AllocError>
+    ensures value { IfOk result (λ refusal. refusal ≡ option_and_then (λ a. lock_refusal id a.sequencer) (get nat_eq arbiters.old node)) }
+    ensures after { IfOk result (λ refusal. ChangesAt node (grabbed_if refusal id) arbiters.old arbiters.new) }
+{
+    match arbiters.get_mut(&node) {
+        Some(arbiter) => arbiter.grab(id),
+        None => Ok(None),
+    }
+}
+
+/// Takes back the last lock of a sequence, or answers why there is none. Takes no memory.
+pub fn unlock_at(arbiters: &mut Arbiters, node: NodeId, id: SeqId) -> Option<Fatal>
+    ensures value { result ≡ option_and_then (λ a. unlock_refusal id a.sequencer) (get nat_eq arbiters.old node) }
+    ensures after { ChangesAt node (unlocked_if result id) arbiters.old arbiters.new }
+{
+    match arbiters.get_mut(&node) {
+        Some(arbiter) => arbiter.unlock(id),
+        None => None,
+    }
+}
+
+/// Hands over the item of a sequence that was granted it, and answers how the driver had asked; none where it was not granted.
+/// Takes no memory.
+pub fn send_at(arbiters: &mut Arbiters, node: NodeId, id: SeqId) -> Option<How>
+    ensures value { result ≡ option_and_then (λ a. grant_of id a.sequencer.driver) (get nat_eq arbiters.old node) }
+    ensures after { ChangesAt node (sent_if result id) arbiters.old arbiters.new }
+{
+    match arbiters.get_mut(&node) {
+        Some(arbiter) => arbiter.send(id),
+        None => None,
+    }
+}
+
+/// Takes a sequence that ends out of all that waits and is held, and answers whether the grant of a `Try` lapses. Takes no
+/// memory.
+pub fn leave_at(arbiters: &mut Arbiters, node: NodeId, id: SeqId) -> bool
+    ensures value { result ≡ is_try (option_and_then (λ a. grant_of id a.sequencer.driver) (get nat_eq arbiters.old node)) }
+    ensures after { ChangesAt node (at_sequencer (after_leave id)) arbiters.old arbiters.new }
+{
+    match arbiters.get_mut(&node) {
+        Some(arbiter) => arbiter.leave(id),
+        None => false,
+    }
+}
+
+/// Grants the lock that leads at a node. Takes no memory.
+pub fn settle_at(arbiters: &mut Arbiters, sequences: &Sequences, node: NodeId, id: SeqId)
+    requires { lock_in sequences.now.started (get nat_eq arbiters.old node) ≡ Some id }
+    ensures { ChangesAt node (at_sequencer (locked id)) arbiters.old arbiters.new }
+{
+    if let Some(arbiter) = arbiters.get_mut(&node) {
+        arbiter.settle(sequences, id);
+    }
+}
+
+/// Grants an item at a node, by the word where one decides, and answers whose. Takes no memory.
+pub fn choose_at(
+    arbiters: &mut Arbiters,
+    sequences: &Sequences,
+    node: NodeId,
+    word: Option<u64>,
+) -> SeqId
+    requires { ready_in sequences.now.started (get nat_eq arbiters.old node) ≡ Some (is_some word) }
+    ensures value { option_and_then (λ a. choice_at sequences.now.started a.sequencer word) (get nat_eq arbiters.old node) ≡ Some result }
+    ensures after { ChangesAt node (at_sequencer (granted result)) arbiters.old arbiters.new }
+{
+    match arbiters.get_mut(&node) {
+        Some(arbiter) => arbiter.choose(sequences, word),
+        None => unreachable!(),
+    }
+}
+
+/// Ends at each sequencer what sequences asked for and hold that live no longer, and what its driver asked. Takes no memory; the
+/// time is that of a look at each wait.
+pub fn end_phase(arbiters: &mut Arbiters, sequences: &Sequences)
+    ensures { ChangesEach (at_sequencer (after_phase sequences.now.steps)) arbiters.old arbiters.new }
+{
+    arbiters.retain(|_, arbiter| {
+        arbiter.end_phase(sequences);
+        true
+    });
+}

@@ -1,0 +1,5 @@
+pub mod Ending
+pub mod Longer
+pub mod Numbered
+pub mod Sequenced
+pub mod Starters

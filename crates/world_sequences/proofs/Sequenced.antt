@@ -1,0 +1,261 @@
+-- The sequences that were started, with one more entry.
+use Rattle.std.proofs.Common.{◌≡◌, ◌≤◌, ◌==◌, ℕ, suc, zero, Bool, true, false, not, ◌&&◌, List, [], ◌∷◌, ◌++◌, length, filter, slice_get, All, Option, Some, None, is_some, option_map, option_and_then, refl, ap, sym, ◌∙◌, subst, arith, if◌then◌else◌}
+use Rattle.std.specs.List.{list_any}
+use Rattle.std.specs.Option.{option_map_or}
+use Rattle.std.proofs.lemmas.Bool.Decides.{nat_tests}
+use Rattle.std.proofs.lemmas.List.Elements.{All-nil, All-cons, All-head, All-tail, All-weaker}
+use Rattle.std.proofs.lemmas.List.Folds.{list_any_none}
+use Rattle.uvm_phase.specs.declared.phases.Phase.{Phase}
+use Rattle.uvm_sequencer.specs.declared.starts.SeqStep.{SeqStep}
+use Rattle.uvm_sequencer.specs.declared.starts.SeqStep.TheVariants.{PreStart, Body, PostStart}
+use Rattle.uvm_sequencer.specs.Laws.{StepsChangeAlone}
+use Rattle.uvm_sequencer.specs.Sequences.{SequencesValue, Start, numbered, step_after, step_at, with_step}
+use Rattle.uvm_object.specs.declared.acts.Who.{Who}
+use Rattle.bench_history.specs.Sequences.{Beginning, all_steps, is_over_phase, is_sequence, sequence_in}
+use Rattle.bench_history.specs.declared.owners.Owner.TheVariants.{Object}
+use Rattle.bench_history.specs.Dues.{is_of_one}
+use Rattle.uvm_object.specs.Objects.{same_who}
+use Rattle.bench_history.specs.Laws.{number_of}
+use Rattle.world_sequences.proofs.Starters.{has-parent}
+use Rattle.world_sequences.specs.Sequencings.{IsSequencing, IsStarter, live_by, lives_by, step_by, steps_ended}
+use Rattle.world_agenda.specs.Tellings.{is_told}
+use Rattle.world_sequences.proofs.Numbered.{numbered-within}
+use Rattle.uvm_sequencer.specs.Sequences as service
+use Rattle.uvm_object.specs.declared.acts.Who.TheVariants as who
+use Rattle.world_sequences.specs.declared.beginnings.Beginning as kept
+
+-- no sequence was started yet
+pub sequencing-first : {sequences : SequencesValue} → sequences.started ≡ [] → sequences.steps ≡ [] → IsSequencing [] [] [] [] sequences []
+sequencing-first started steps = record {
+  started = started;
+  many = ap length steps;
+  are = refl;
+  steps = λ id. ap (λ (list : List (Option SeqStep)). step_at list id) steps;
+  living = λ id. ap (λ (list : List (Option SeqStep)). is_some (step_at list id)) steps;
+  finished_within = All-nil _;
+  enders_within = All-nil _;
+  starters = tt;
+}
+
+-- what has the same sequences is as good
+pub sequencing-same :
+    {begun : List Beginning} {finished : List Who} {ended : List Phase} {enders : List Who} {old : SequencesValue} {beginnings : List kept.Beginning} (new : SequencesValue) (others : List kept.Beginning)
+    → (new.started ≡ old.started) × (new.steps ≡ old.steps) → others ≡ beginnings
+    → IsSequencing begun finished ended enders old beginnings → IsSequencing begun finished ended enders new others
+sequencing-same new others same items s = record {
+  started = same.0 ∙ s.started;
+  many = ap length same.1 ∙ s.many;
+  are = items ∙ s.are;
+  steps = λ id. ap (λ (steps : List (Option SeqStep)). step_at steps id) same.1 ∙ s.steps id;
+  living = λ id. ap (λ (steps : List (Option SeqStep)). is_some (step_at steps id)) same.1 ∙ s.living id;
+  finished_within = s.finished_within;
+  enders_within = s.enders_within;
+  starters = s.starters;
+}
+
+pub length-step : (id : ℕ) (step : Option SeqStep) (steps : List (Option SeqStep)) → length (with_step id step steps) ≡ length steps
+length-step id step [] = refl
+length-step id step (other ∷ older) = tested (id == length (other ∷ older)) (length-step id step older)
+  where
+    tested : (same : Bool) → length (with_step id step older) ≡ length older → length (if same then step ∷ older else other ∷ with_step id step older) ≡ length (other ∷ older)
+    tested true e = refl
+    tested false e = ap suc e
+
+-- the step of a sequence, where one has come to another
+pub step-changed : StepsChangeAlone → (steps : List (Option SeqStep)) (id : ℕ) (step : Option SeqStep) (other : ℕ) → step_at (with_step id step steps) other ≡ (if other == id then option_and_then (λ _. step) (numbered steps other) else step_at steps other)
+step-changed alone steps id step other = ap (option_and_then (λ step. step)) (alone steps id step other) ∙ tested (other == id)
+  where
+    mapped : (found : Option (Option SeqStep)) → option_and_then (λ step. step) (option_map (λ _. step) found) ≡ option_and_then (λ _. step) found
+    mapped None = refl
+    mapped (Some old) = refl
+
+    tested : (same : Bool) → option_and_then (λ step. step) (if same then option_map (λ _. step) (numbered steps other) else numbered steps other) ≡ (if same then option_and_then (λ _. step) (numbered steps other) else step_at steps other)
+    tested true = mapped (numbered steps other)
+    tested false = refl
+
+found-step : (found : Option (Option SeqStep)) (old : SeqStep) (step : Option SeqStep) → option_and_then (λ step. step) found ≡ Some old → option_and_then (λ _. step) found ≡ step
+found-step None old step e = cc
+found-step (Some before) old step e = refl
+
+next-listed : (n : ℕ) (old : SeqStep) → slice_get all_steps n ≡ Some old → slice_get all_steps (suc n) ≡ step_after old
+next-listed zero old e = let same : PreStart ≡ old = cc in ap step_after same
+next-listed (suc zero) old e = let same : Body ≡ old = cc in ap step_after same
+next-listed (suc (suc zero)) old e = let same : PostStart ≡ old = cc in ap step_after same
+next-listed (suc (suc (suc n))) old e = cc
+
+-- one of the steps of a sequence has ended
+module _ {begun : List Beginning} {finished : List Who} {ended : List Phase} {enders : List Who} {old : SequencesValue} {beginnings : List kept.Beginning} (s : IsSequencing begun finished ended enders old beginnings) where
+  pub sequencing-stepped :
+      StepsChangeAlone → (id home : ℕ) (before step : SeqStep) → step_at old.steps id ≡ Some before → step_after before ≡ Some step → id ≤ length begun
+      → IsSequencing begun finished ended (who.Sequence id home ∷ enders) (record old { steps = with_step id (Some step) old.steps }) beginnings
+  sequencing-stepped alone id home before step at next low = record {
+    started = s.started;
+    many = length-step id (Some step) old.steps ∙ s.many;
+    are = s.are;
+    steps = λ other. step-changed alone old.steps id (Some step) other ∙ changed other (other == id) refl;
+    living = λ other. ap is_some (step-changed alone old.steps id (Some step) other) ∙ lives other (other == id) refl;
+    finished_within = s.finished_within;
+    enders_within = All-cons (λ (who : Who). number_of who ≤ length begun) (who.Sequence id home) enders low s.enders_within;
+    starters = s.starters;
+  }
+    where
+      at-it : (other : ℕ) → (other == id) ≡ true → other ≡ id
+      at-it other e = grind (arith, nat_tests)
+
+      lived : live_by begun finished ended id ≡ true
+      lived = sym (s.living id) ∙ ap is_some at
+
+      listed : slice_get all_steps (steps_ended enders id) ≡ Some before
+      listed = let e : step_by begun finished ended enders id ≡ Some before = sym (s.steps id) ∙ at in (rw lived at e)
+
+      more : (b : Bool) → b ≡ true → length (if b then who.Sequence id home ∷ filter (is_sequence id) enders else filter (is_sequence id) enders) ≡ suc (steps_ended enders id)
+      more true e = refl
+      more false e = cc
+
+      itself : (n : ℕ) → (n == n) ≡ true
+      itself n = grind (arith, nat_tests)
+
+      here : Some step ≡ step_by begun finished ended (who.Sequence id home ∷ enders) id
+      here = rw (lived, more (id == id) (itself id)) (sym (next-listed (steps_ended enders id) before listed ∙ next))
+
+      fewer : (other : ℕ) → (id == other) ≡ false → steps_ended (who.Sequence id home ∷ enders) other ≡ steps_ended enders other
+      fewer other e = rw e refl
+
+      changed : (other : ℕ) (same : Bool) → (other == id) ≡ same → (if same then option_and_then (λ _. Some step) (numbered old.steps other) else step_at old.steps other) ≡ step_by begun finished ended (who.Sequence id home ∷ enders) other
+      changed other true e =
+          let is : id ≡ other = sym (at-it other e) in
+          subst (λ (n : ℕ). option_and_then (λ _. Some step) (numbered old.steps n) ≡ step_by begun finished ended (who.Sequence id home ∷ enders) n) is (found-step (numbered old.steps id) before (Some step) at ∙ here)
+      changed other false e =
+          let apart : (id == other) ≡ false = grind (arith, nat_tests) in
+          s.steps other ∙ ap (λ (n : ℕ). if live_by begun finished ended other then slice_get all_steps n else None) (sym (fewer other apart))
+
+      lives : (other : ℕ) (same : Bool) → (other == id) ≡ same → is_some (if same then option_and_then (λ _. Some step) (numbered old.steps other) else step_at old.steps other) ≡ live_by begun finished ended other
+      lives other true e =
+          let is : id ≡ other = sym (at-it other e) in
+          subst (λ (n : ℕ). is_some (option_and_then (λ _. Some step) (numbered old.steps n)) ≡ live_by begun finished ended n) is (ap is_some (found-step (numbered old.steps id) before (Some step) at) ∙ sym lived)
+      lives other false e = s.living other
+
+  -- who lives was started
+  pub started-within : (id : ℕ) (step : SeqStep) → step_at old.steps id ≡ Some step → (beginning : Beginning) × (numbered begun id ≡ Some beginning) × (lives_by finished ended id beginning ≡ true)
+  started-within id step at = found (numbered begun id) refl (sym (s.living id) ∙ ap is_some at)
+    where
+      found : (one : Option Beginning) → numbered begun id ≡ one → option_map_or (lives_by finished ended id) one false ≡ true → (beginning : Beginning) × (numbered begun id ≡ Some beginning) × (lives_by finished ended id beginning ≡ true)
+      found None is e = cc
+      found (Some beginning) is e = (beginning, is, e)
+
+  pub sequencing-step :
+      StepsChangeAlone → (speaker : Who) (id : ℕ) (step : SeqStep) → sequence_in speaker ≡ Some id → option_and_then step_after (step_at old.steps id) ≡ Some step
+      → IsSequencing begun finished ended (speaker ∷ enders) (record old { steps = with_step id (Some step) old.steps }) beginnings
+  sequencing-step alone (who.Node node) id step e next = cc
+  sequencing-step alone (who.Sequence other home) id step e next =
+      let same : other ≡ id = cc in
+      subst (λ (n : ℕ). IsSequencing begun finished ended (who.Sequence n home ∷ enders) (record old { steps = with_step id (Some step) old.steps }) beginnings) (sym same) (was (step_at old.steps id) refl next)
+    where
+      was : (found : Option SeqStep) → step_at old.steps id ≡ found → option_and_then step_after found ≡ Some step → IsSequencing begun finished ended (who.Sequence id home ∷ enders) (record old { steps = with_step id (Some step) old.steps }) beginnings
+      was None is e = cc
+      was (Some before) is e =
+          let b = started-within id before is in
+          sequencing-stepped alone id home before step is e (numbered-within begun id b.0 b.1)
+
+  -- one has finished
+  module _ (alone : StepsChangeAlone) (id : ℕ) (beginning : Beginning) (found : numbered begun id ≡ Some beginning) (lives : lives_by finished ended id beginning ≡ true) where
+    itself-is : (n : ℕ) → (n == n) ≡ true
+    itself-is n = grind (arith, nat_tests)
+
+    dead : live_by begun (who.Sequence id beginning.start.home ∷ finished) ended id ≡ false
+    dead = rw (found, itself-is id, itself-is beginning.start.home) refl
+
+    others-live : (other : ℕ) → (other == id) ≡ false → (one : Option Beginning) → option_map_or (lives_by (who.Sequence id beginning.start.home ∷ finished) ended other) one false ≡ option_map_or (lives_by finished ended other) one false
+    others-live other e None = refl
+    others-live other e (Some b) = rw e refl
+
+    none-there : (one : Option (Option SeqStep)) (step : Option SeqStep) → step ≡ None → option_and_then (λ _. step) one ≡ None
+    none-there None step e = refl
+    none-there (Some old) step e = e
+
+    pub sequencing-finished : IsSequencing begun (who.Sequence id beginning.start.home ∷ finished) ended enders (service.finished id old) beginnings
+    sequencing-finished = record {
+      started = s.started;
+      many = length-step id None old.steps ∙ s.many;
+      are = s.are;
+      steps = λ other. step-changed alone old.steps id None other ∙ changed other (other == id) refl;
+      living = λ other. ap is_some (step-changed alone old.steps id None other) ∙ left other (other == id) refl;
+      finished_within = All-cons (λ (who : Who). number_of who ≤ length begun) (who.Sequence id beginning.start.home) finished (numbered-within begun id beginning found) s.finished_within;
+      enders_within = s.enders_within;
+      starters = s.starters;
+    }
+      where
+        changed : (other : ℕ) (same : Bool) → (other == id) ≡ same → (if same then option_and_then (λ _. None) (numbered old.steps other) else step_at old.steps other) ≡ step_by begun (who.Sequence id beginning.start.home ∷ finished) ended enders other
+        changed other true e =
+            let is : id ≡ other = grind (arith, nat_tests) in
+            subst (λ (n : ℕ). option_and_then (λ _. None) (numbered old.steps n) ≡ step_by begun (who.Sequence id beginning.start.home ∷ finished) ended enders n) is (none-there (numbered old.steps id) None refl ∙ rw dead refl)
+        changed other false e = s.steps other ∙ ap (λ (b : Bool). if b then slice_get all_steps (steps_ended enders other) else None) (sym (others-live other e (numbered begun other)))
+
+        left : (other : ℕ) (same : Bool) → (other == id) ≡ same → is_some {T = SeqStep} (if same then option_and_then (λ _. None) (numbered old.steps other) else step_at old.steps other) ≡ live_by begun (who.Sequence id beginning.start.home ∷ finished) ended other
+        left other true e =
+            let is : id ≡ other = grind (arith, nat_tests) in
+            subst (λ (n : ℕ). is_some {T = SeqStep} (option_and_then (λ _. None) (numbered old.steps n)) ≡ live_by begun (who.Sequence id beginning.start.home ∷ finished) ended n) is (ap (is_some {T = SeqStep}) (none-there (numbered old.steps id) None refl) ∙ sym dead)
+        left other false e = s.living other ∙ sym (others-live other e (numbered begun other))
+
+    runs-on : (a b : Bool) → a && not b ≡ true → b ≡ false
+    runs-on true true e = cc
+    runs-on true false e = refl
+    runs-on false b e = cc
+
+    -- who started it is told, unless he has finished
+    pub starter-open : (starter : Who) → beginning.starter ≡ starter → is_told (service.finished id old).steps starter ≡ not (is_of_one (who.Sequence id beginning.start.home ∷ finished) (Object starter))
+    starter-open (who.Node node) is = refl
+    starter-open (who.Sequence parent home) is =
+        let p = has-parent begun id beginning parent home s.starters found is in
+        let other : (parent == id) ≡ false = grind (arith, nat_tests, p.before) in
+        let same : step_at (with_step id None old.steps) parent ≡ step_at old.steps parent = rw other at (step-changed alone old.steps id None parent) in
+        let goes : is_over_phase ended beginning.phase ≡ false = runs-on _ _ lives in
+        let lived : live_by begun finished ended parent ≡ not (list_any (same_who (who.Sequence parent home)) finished) = rw (p.found, p.home_is, p.phase_is, goes) (and-true _) in
+        ap is_some same ∙ s.living parent ∙ lived ∙ rw other refl
+      where
+        and-true : (b : Bool) → b && true ≡ b
+        and-true true = refl
+        and-true false = refl
+
+  -- one more is started
+  pub sequencing-begun :
+      (b : Beginning) (new : SequencesValue) → new.started ≡ b.start ∷ old.started → new.steps ≡ Some PreStart ∷ old.steps → is_over_phase ended b.phase ≡ false → IsStarter begun b.phase b.starter
+      → IsSequencing (b ∷ begun) finished ended enders new (beginnings ++ record { who = who.Sequence (suc (length begun)) b.start.home; starter = b.starter; phase = b.phase } ∷ [])
+  sequencing-begun b new starts steps goes starter = record {
+    started = starts ∙ ap (λ (l : List Start). b.start ∷ l) s.started;
+    many = ap length steps ∙ ap suc s.many;
+    are = ap (λ (l : List kept.Beginning). l ++ record { who = who.Sequence (suc (length begun)) b.start.home; starter = b.starter; phase = b.phase } ∷ []) s.are;
+    steps = λ id. ap (λ (l : List (Option SeqStep)). step_at l id) steps ∙ rw s.many (step id (id == suc (length begun)) refl);
+    living = λ id. ap (λ (l : List (Option SeqStep)). is_some (step_at l id)) steps ∙ rw s.many (live id (id == suc (length begun)) refl);
+    finished_within = All-weaker (λ (one : Who). number_of one ≤ length begun) (λ (one : Who). number_of one ≤ suc (length begun)) (λ one low. omega (arith, low)) finished s.finished_within;
+    enders_within = All-weaker (λ (one : Who). number_of one ≤ length begun) (λ (one : Who). number_of one ≤ suc (length begun)) (λ one low. omega (arith, low)) enders s.enders_within;
+    starters = (starter, s.starters);
+  }
+    where
+      not-same : (id home : ℕ) (one : Who) → id ≡ suc (length begun) → number_of one ≤ length begun → same_who (who.Sequence id home) one ≡ false
+      not-same id home (who.Node node) is low = refl
+      not-same id home (who.Sequence other there) is low = let differs : (id == other) ≡ false = grind (arith, nat_tests, is, low) in rw differs refl
+
+      not-of : (id : ℕ) (one : Who) → id ≡ suc (length begun) → number_of one ≤ length begun → is_sequence id one ≡ false
+      not-of id (who.Node node) is low = refl
+      not-of id (who.Sequence other there) is low = grind (arith, nat_tests, is, low)
+
+      unfinished : (id home : ℕ) → id ≡ suc (length begun) → list_any (same_who (who.Sequence id home)) finished ≡ false
+      unfinished id home is = list_any_none (same_who (who.Sequence id home)) finished (All-weaker (λ (one : Who). number_of one ≤ length begun) (λ (one : Who). same_who (who.Sequence id home) one ≡ false) (λ one low. not-same id home one is low) finished s.finished_within)
+
+      none-ended : (id : ℕ) (whos : List Who) → id ≡ suc (length begun) → All (λ who. number_of who ≤ length begun) whos → filter (is_sequence id) whos ≡ []
+      none-ended id [] is all = refl
+      none-ended id (one ∷ whos) is all =
+          let here : is_sequence id one ≡ false = not-of id one is (All-head (λ (one : Who). number_of one ≤ length begun) one whos all) in
+          rw here (none-ended id whos is (All-tail (λ (one : Who). number_of one ≤ length begun) one whos all))
+
+      at-last : (id : ℕ) → (id == suc (length begun)) ≡ true → id ≡ suc (length begun)
+      at-last id e = grind (arith, nat_tests)
+
+      step : (id : ℕ) (same : Bool) → (id == suc (length begun)) ≡ same → option_and_then (λ step. step) (if id == suc (length begun) then Some (Some PreStart) else numbered old.steps id) ≡ step_by (b ∷ begun) finished ended enders id
+      step id true e = rw (e, unfinished id b.start.home (at-last id e), goes, none-ended id enders (at-last id e) s.enders_within) refl
+      step id false e = rw e (s.steps id)
+
+      live : (id : ℕ) (same : Bool) → (id == suc (length begun)) ≡ same → is_some (option_and_then (λ step. step) (if id == suc (length begun) then Some (Some PreStart) else numbered old.steps id)) ≡ live_by (b ∷ begun) finished ended id
+      live id true e = rw (e, unfinished id b.start.home (at-last id e), goes) refl
+      live id false e = rw e (s.living id)

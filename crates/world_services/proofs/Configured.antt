@@ -1,0 +1,29 @@
+-- One more setting.
+use Rattle.std.proofs.Common.{◌≡◌, ℕ, ◌+◌, List, [], ◌∷◌, option_map, ap, sym, ◌∙◌, arith, None}
+use Rattle.uvm_glob.specs.Paths.{path_text}
+use Rattle.uvm_config.specs.Answers.{Setting, config_answer, AnswersAreGiven, NoneSetNoAnswer}
+use Rattle.uvm_config.specs.Choice.{answer_after}
+use Rattle.uvm_config.specs.Observed.{Kept, answer_at, value_at, accepted}
+use Rattle.world_services.specs.Services.{IsSettings}
+
+-- the settings give what one more gives
+pub settings-more :
+    {given : List Setting} {old new : Kept} (setting : Setting) → AnswersAreGiven
+    → ((path : List (List ℕ)) (asked : List ℕ) → answer_at new path asked ≡ answer_after setting.scope setting.field setting.precedence setting.value (path_text path) asked (answer_at old path asked))
+    → accepted new ≡ accepted old + 1
+    → IsSettings given old → IsSettings (setting ∷ given) new
+settings-more {given} setting answers steps more s = record {
+  answers = λ path asked.
+      steps path asked
+      ∙ ap (answer_after setting.scope setting.field setting.precedence setting.value (path_text path) asked) (s.answers path asked)
+      ∙ sym (answers setting given (path_text path) asked);
+  count = omega (arith, more, s.count);
+}
+
+-- no setting was made
+pub settings-none : {kept : Kept} → NoneSetNoAnswer → ((path : List (List ℕ)) (asked : List ℕ) → answer_at kept path asked ≡ None) → accepted kept ≡ 0 → IsSettings [] kept
+settings-none nothing none count = record { answers = λ path asked. none path asked ∙ sym (nothing (path_text path) asked); count = count }
+
+-- the value that is found
+pub value-found : {given : List Setting} {kept : Kept} (path : List (List ℕ)) (asked : List ℕ) → IsSettings given kept → value_at kept path asked ≡ config_answer given (path_text path) asked
+value-found path asked s = ap (option_map (λ answer. answer.value)) (s.answers path asked)

@@ -1,0 +1,46 @@
+-- What the services know of sequencers is what the log says.
+use Rattle.std.proofs.Common.{◌≡◌, ℕ, nat_eq, Bool, List, length, Option, Some, None, option_map, option_and_then, refl, ap, sym, ◌∙◌}
+use Rattle.std.specs.Option.{option_map_or}
+use Rattle.std.specs.HashMap.{get}
+use Rattle.uvm_tlm.specs.Fifos.{waiting_count}
+use Rattle.uvm_object.specs.declared.entries.Entry.{Entry}
+use Rattle.bench_script.specs.Scripts.{ScriptValue}
+use Rattle.bench_history.specs.Arbitration.{next_locked, next_served, requests_at, waiters_at}
+use Rattle.bench_history.specs.History.{ended_of}
+use Rattle.bench_history.specs.Passing.{Station, station_at}
+use Rattle.bench_history.specs.Sequences.{begun_of, finished_of}
+use Rattle.world_services.specs.declared.services.Services.{Services}
+use Rattle.world_sequencers.specs.Arbiters.{ArbiterValue, lock_in, locked_in, ready_in, served_in}
+use Rattle.world_sequencers.specs.Arbitratings.{arbiter_of, ledger_at}
+use Rattle.world_sequences.specs.Sequencings.{live_by}
+use Rattle.world_services.specs.Services.{ServicesMatch}
+use Rattle.world_sequencers.proofs.Contested.{sequencer-is, locked-first, served-first}
+
+module _ {script : ScriptValue} {history : List Entry} {services : Services} (m : ServicesMatch script history services) where
+  pub locked-known : option_and_then (locked_in services.sequences.started services.arbiters) services.contested ≡ next_locked history
+  locked-known =
+      ap (λ (f : ℕ → Option (ℕ × ℕ)). option_and_then f services.contested) (λ i n. option_map {U = ℕ × ℕ} (λ id. (n, id)) (lock_in (m.sequencing.started i) (m.arbitrating.arbiters_are.each n i)))
+      ∙ sym (locked-first history m.arbitrating.contested_is)
+
+  pub served-known : option_and_then (served_in services.sequences.started services.arbiters) services.contested ≡ next_served history
+  served-known =
+      ap (λ (f : ℕ → Option (ℕ × Bool)). option_and_then f services.contested) (λ i n. option_map {U = ℕ × Bool} (λ drawn. (n, drawn)) (ready_in (m.sequencing.started i) (m.arbitrating.arbiters_are.each n i)))
+      ∙ sym (served-first history m.arbitrating.contested_is)
+
+  -- how many wait there
+  pub requests-known : (n : ℕ) → option_map_or (λ a. length a.sequencer.queue) (get nat_eq services.arbiters n) 0 ≡ requests_at history n
+  requests-known n =
+      ap (λ (a : Option ArbiterValue). option_map_or (λ a. length a.sequencer.queue) a 0) (m.arbitrating.arbiters_are.each n)
+      ∙ sym (ap (λ s. option_map_or (λ s. length s.queue) s 0) (sequencer-is history n) ∙ sized (arbiter_of (live_by (begun_of history) (finished_of history) (ended_of history)) (ledger_at history n)))
+    where
+      sized : (a : Option ArbiterValue) → option_map_or (λ s. length s.queue) (option_map (λ a. a.sequencer) a) 0 ≡ option_map_or (λ a. length a.sequencer.queue) a 0
+      sized None = refl
+      sized (Some a) = refl
+
+  -- where no FIFO stands
+  pub waiters-known : (n : ℕ) → option_map (λ (station : Station). waiting_count station.fifo) (get nat_eq services.stations n) ≡ None → requests_at history n ≡ waiters_at history n
+  waiters-known n none = by (station_at history n) (rw (m.stations.each n) at none)
+    where
+      by : (station : Option Station) → option_map (λ (station : Station). waiting_count station.fifo) station ≡ None → requests_at history n ≡ option_map_or (λ (station : Station). waiting_count station.fifo) station (requests_at history n)
+      by None e = refl
+      by (Some station) e = cc

@@ -1,0 +1,12 @@
+pub mod Acting
+pub mod Answered
+pub mod Configured
+pub mod Creating
+pub mod Entered
+pub mod Kept
+pub mod Known
+pub mod Later
+pub mod Marks
+pub mod Opened
+pub mod Overriding
+pub mod Passages

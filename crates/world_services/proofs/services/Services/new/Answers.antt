@@ -1,0 +1,42 @@
+use Rattle.std.proofs.Common.{[], refl, arith, rules}
+use Rattle.uvm_tree.specs.Sorted.{path_order}
+use Rattle.bench_history.specs.History.{nodes_of}
+use Rattle.bench_history.specs.Passing.{passing_at}
+use Rattle.world_fifos.specs.Passings.{AreUnsettled}
+use Rattle.world_sequencers.proofs.Arbiting.{arbitrating-first}
+use Rattle.world_agenda.proofs.Objected.{objecting-first}
+use Rattle.world_services.proofs.Passages.{passed-first, stations-first, unsettled-none}
+use Rattle.world_sequences.specs.Sequencings.{IsSequencing}
+use Rattle.world_sequences.proofs.Sequenced.{sequencing-first}
+use Rattle.world_services.proofs.services.Services.new.Goals as goal
+
+pub returns : goal.returns
+returns c = λ script factory settings reporting.
+    let unsettled : AreUnsettled (passing_at []) (path_order (nodes_of [])) [] = unsettled-none (path_order (nodes_of [])) (λ n. refl) in
+    let sequencing : IsSequencing [] [] [] [] c.new-7.result [] = sequencing-first c.new-7.ensures.started c.new-7.ensures.steps in
+    record {
+      stage = refl;
+      time = refl;
+      early = omega arith;
+      tree = search rules;
+      past_connect = refl;
+      connecting = search rules;
+      closing = search rules;
+      closed_past = record { is = λ e. cc };
+      stations = stations-first c.new-4.ensures.empty;
+      passed = passed-first;
+      unsettled = search (rules, unsettled);
+      arbitrating = arbitrating-first (nodes_of []) c.new-6.ensures.empty;
+      sequencing = search (rules, sequencing);
+      objections = objecting-first c.new-2.result c.nodes_grow.ensures.0 c.new-2.ensures;
+      factory = factory;
+      turns = search rules;
+      answer = search rules;
+      speaks = omega arith;
+      built = refl;
+      reporting = reporting;
+      settings = settings;
+      agenda = search rules;
+      events = search rules;
+      test_refused = refl;
+    }

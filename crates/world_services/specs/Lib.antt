@@ -1,0 +1,5 @@
+pub mod OpenPorts
+pub mod Makings
+pub mod Services
+pub mod Creations
+pub mod Attempts

@@ -1,0 +1,55 @@
+-- What has to be there before an object is made, and who it is then.
+use Rattle.std.specs.Prelude.{◌≡◌, ◌<◌, ℕ, suc, true, false, List, length, Option, Some, None, IsSome, vec_len, vec_capacity}
+use Rattle.std.specs.Option.{ForSome}
+use Rattle.uvm_sequencer.specs.Sequences.{numbered}
+use Rattle.uvm_tree.specs.Nodes.{Node}
+use Rattle.uvm_object.specs.declared.acts.Who.{Who}
+use Rattle.uvm_object.specs.declared.acts.Act.{Act}
+use Rattle.uvm_object.specs.declared.entries.Outcome.{Outcome}
+use Rattle.uvm_object.specs.declared.entries.Outcome.TheVariants.{Made, Started}
+use Rattle.uvm_object.specs.Acts.{node_of}
+use Rattle.bench_history.specs.Sequences.{sequence_in}
+use Rattle.bench_history.specs.History.{created_name, running}
+use Rattle.bench_history.specs.Refusals.{child_refusal, in_task, is_none_at_all}
+use Rattle.bench_history.specs.Laws.{IsCreation}
+use Rattle.world_services.specs.declared.services.Services.{Services}
+use Rattle.world_agenda.specs.Objectings.{AreNumbered}
+use Rattle.world_sequences.specs.Sequencings.{IsStart, priority_given, home_for}
+use Rattle.uvm_object.specs.declared.acts.Who.TheVariants as who
+
+-- a sequence is started by an act: on this sequencer, in a phase that takes time, with a priority of at least 1, by a component or a sequence that was
+-- started, and in the room for it
+pub record CanBegin (act : Act) (home : ℕ) (services : Services) : Type 0 where
+  pub starts : IsStart act
+  pub home_is : home_for services.tree.nodes services.answer.speaker act ≡ Some home
+  pub task : in_task (running services.stage) ≡ true
+  pub positive : is_none_at_all (priority_given act) ≡ false
+  pub parent : ForSome (sequence_in services.answer.speaker) (λ above. IsSome (numbered services.sequences.started above))
+  pub sequence_spare : 0 < services.sequences.spare
+  pub beginnings : vec_len services.beginnings < vec_capacity services.beginnings
+  pub agenda_spare : 0 < services.agenda.spare
+
+-- an object is created by an act: under a name that is free, before the end of build, and in the room for it
+pub record CanGrow (act : Act) (services : Services) : Type 0 where
+  pub creates : IsCreation act
+  pub free : child_refusal services.tree.nodes (node_of services.answer.speaker) (created_name act) ≡ None
+  pub building : services.built ≡ false
+  pub tree_spare : services.tree.spare ≡ Some (node_of services.answer.speaker)
+  pub speaks : node_of services.answer.speaker < length services.tree.nodes
+  pub numbered : AreNumbered services.objection.nodes (length services.tree.nodes)
+  pub objection_spare : 0 < services.objection.spare
+  pub components : vec_len services.components < vec_capacity services.components
+
+-- the one or the other
+abbrev pub CanMake : Act → Option ℕ → Services → Type 0
+CanMake act None services = CanGrow act services
+CanMake act (Some home) services = CanBegin act home services
+
+-- who it is then, and the outcome
+abbrev pub who_made : Services → Option ℕ → Who
+who_made services None = who.Node (length services.tree.nodes)
+who_made services (Some home) = who.Sequence (suc (length services.sequences.started)) home
+
+abbrev pub outcome_made : Services → List ℕ → Option ℕ → Outcome
+outcome_made services type_name None = Made type_name
+outcome_made services type_name (Some home) = Started (suc (length services.sequences.started))

@@ -1,0 +1,119 @@
+-- What a world keeps beside its log, and that it is what the log says.
+use Rattle.std.specs.Prelude.{◌≡◌, ℕ, ◌<◌, ◌≤◌, Bool, true, false, ◌==◌, ◌||◌, ◌^◌, List, [], ◌∷◌, length, drop, map, reverse, slice_get, Option, Some, None, All, if◌then◌else◌}
+use Rattle.std.specs.Option.{ForSome}
+use Rattle.std.specs.List.{list_any}
+use Rattle.uvm_glob.specs.Paths.{path_text}
+use Rattle.uvm_factory.specs.declared.overrides.Override.{Override}
+use Rattle.uvm_factory.specs.Faults.{Types}
+use Rattle.uvm_factory.specs.Overrides.{type_step}
+use Rattle.uvm_factory.specs.Observed.{Kept, types_of, step_at}
+use Rattle.uvm_config.specs.Answers.{Setting, strongest_answer}
+use Rattle.uvm_object.specs.Acts.{node_of}
+use Rattle.uvm_object.specs.declared.acts.Who.{Who}
+use Rattle.uvm_object.specs.declared.acts.Act.{Act}
+use Rattle.uvm_object.specs.declared.entries.Entry.{Entry}
+use Rattle.uvm_object.specs.declared.entries.Entry.TheVariants.{Heard}
+use Rattle.bench_script.specs.Scripts.{ScriptValue}
+use Rattle.world_services.specs.declared.services.LastAnswer.{LastAnswer}
+use Rattle.world_services.specs.declared.services.Component.{Component}
+use Rattle.world_services.specs.declared.services.Services.{Services}
+use Rattle.bench_history.specs.Configuration.{settings_of}
+use Rattle.bench_history.specs.Dues.{caused_of, heard_of, due_events}
+use Rattle.bench_history.specs.History.{stage_of, now_of, nodes_of, components_of, called_of, had_call, opening, left_of, speaker_of, overrides_of, ends_build, ended_of}
+use Rattle.bench_history.specs.Objections.{objections_of}
+use Rattle.bench_history.specs.Reports.{report_commands, newest_fate, refuses_test}
+use Rattle.world_reports.specs.Reportings.{IsReporting}
+use Rattle.world_agenda.specs.Objectings.{IsObjecting, AreEvents}
+use Rattle.uvm_tlm.specs.Wirings.{is_closed}
+use Rattle.bench_history.specs.Wires.{ends_connect, wiring_of}
+use Rattle.world_wiring.specs.Connectings.{IsClosedPast, IsClosing, IsConnecting}
+use Rattle.world_fifos.specs.Passings.{AreStations, ArePassed, AreUnsettled}
+use Rattle.uvm_tree.specs.Sorted.{path_order}
+use Rattle.bench_history.specs.Sequences.{begun_of, finished_of}
+use Rattle.world_sequences.specs.Sequencings.{IsSequencing, enders_of}
+use Rattle.world_sequencers.specs.Arbitratings.{IsArbitrating, ledger_at}
+use Rattle.bench_history.specs.Ports.{fifo_size}
+use Rattle.bench_history.specs.Passing.{answered_at, is_no_put, is_put, items_entered, items_left, passing_at, puts_asked, station_at, takes_asked}
+use Rattle.world_agenda.specs.Agendas.{IsAgenda}
+use Rattle.uvm_config.specs.Observed as config
+
+-- the factory has the types, and gives what the overrides give
+pub record IsFactory (types : Types) (overrides : List Override) (kept : Kept) : Type 0 where
+  pub types_are : types_of kept ≡ types
+  pub steps : (type_id : ℕ) (path : List (List ℕ)) → step_at kept type_id path ≡ type_step overrides type_id (path_text path)
+
+-- each component, and whether it had its call
+abbrev pub marked : List ℕ → ℕ → Component
+marked called node = record { node = node; called = had_call called node }
+
+-- before any call of a phase, and after the call of a node
+abbrev pub cleared : Component → Component
+cleared component = record component { called = false }
+
+abbrev pub with_call : ℕ → Component → Component
+with_call node component = record component { called = node == component.node || component.called }
+
+-- the components that had no call
+abbrev pub waiting_in : List Component → List ℕ
+waiting_in [] = []
+waiting_in (component ∷ rest) = if component.called then waiting_in rest else component.node ∷ waiting_in rest
+
+pub record AreTurns (components called : List ℕ) (count : ℕ) (kept : List Component) : Type 0 where
+  pub are : kept ≡ map (marked called) components
+  pub within : All (λ node. node < count) components
+  pub called_within : All (λ node. node < count) called
+
+-- the acts of the answer at a place, or the opening
+abbrev pub acts_in : Option Entry → List Act
+acts_in (Some (Heard performer call cause acts)) = acts
+acts_in entry = []
+
+abbrev pub acts_at : Act → List Entry → Option ℕ → List Act
+acts_at opening history None = opening ∷ []
+acts_at opening history (Some place) = acts_in (slice_get (reverse history) place)
+
+-- none are left after a note, nor once a sequence has finished
+abbrev pub unless_noted : Bool → List Act → List Act
+unless_noted true acts = []
+unless_noted false acts = acts
+
+-- who gave the last answer, where it stands, how many acts it has and how many have their entry, and whether it ended with a note, or its speaker has
+-- finished: else the others are left
+pub record IsAnswer (opening : Act) (history : List Entry) (left : List Act) (last : Who) (kept : LastAnswer) : Type 0 where
+  pub speaker : kept.speaker ≡ last
+  pub rest : unless_noted kept.noted (drop kept.done (acts_at opening history kept.place)) ≡ left
+  pub within : ForSome kept.place (λ place. place < length history)
+  pub count : kept.count ≡ length (acts_at opening history kept.place)
+  pub few : kept.done ≤ kept.count
+
+-- the settings give what the list of them gives
+pub record IsSettings (settings : List Setting) (kept : config.Kept) : Type 0 where
+  pub answers : (path : List (List ℕ)) (asked : List ℕ) → config.answer_at kept path asked ≡ strongest_answer settings (path_text path) asked
+  pub count : config.accepted kept ≡ length settings
+
+-- each thing that is kept is what the history says
+pub record ServicesMatch (script : ScriptValue) (history : List Entry) (services : Services) : Type 0 where
+  pub stage : services.stage ≡ stage_of history
+  pub time : services.time ≡ now_of history
+  pub early : services.time ≤ 10 ^ 18
+  pub tree : services.tree.nodes ≡ nodes_of history
+  pub past_connect : services.past_connect ≡ list_any ends_connect history
+  pub connecting : IsConnecting (nodes_of history) (wiring_of history) services.wiring
+  pub closing : IsClosing script history (is_closed services.wiring)
+  pub closed_past : IsClosedPast (list_any ends_connect history) (is_closed services.wiring)
+  pub stations : AreStations (station_at history) services.stations
+  pub passed : ArePassed (length history) (fifo_size (wiring_of history)) (items_entered history) (items_left history) (puts_asked history) (answered_at is_put history) (takes_asked history) (answered_at is_no_put history)
+  pub unsettled : AreUnsettled (passing_at history) (path_order (nodes_of history)) services.unsettled.items
+  pub arbitrating : IsArbitrating (length history) (nodes_of history) (begun_of history) (finished_of history) (ended_of history) (ledger_at history) services.arbiters services.contested
+  pub sequencing : IsSequencing (begun_of history) (finished_of history) (ended_of history) (enders_of history) services.sequences services.beginnings.items
+  pub objections : IsObjecting (objections_of history) (length (nodes_of history)) (length history) services.objection
+  pub factory : IsFactory script.types (overrides_of script history) services.factory
+  pub turns : AreTurns (components_of history) (called_of history) (length (nodes_of history)) services.components.items
+  pub answer : IsAnswer (opening script) history (left_of script history) (speaker_of history) services.answer
+  pub speaks : node_of (speaker_of history) < length (nodes_of history)
+  pub built : services.built ≡ list_any ends_build history
+  pub reporting : IsReporting (report_commands script history) (newest_fate script history) services.reporting
+  pub settings : IsSettings (settings_of script history) services.settings
+  pub agenda : IsAgenda (caused_of history) (heard_of history) (ended_of history) (finished_of history) (length history) services.agenda.dues
+  pub events : AreEvents (objections_of history) (due_events history)
+  pub test_refused : services.test_refused ≡ list_any refuses_test history

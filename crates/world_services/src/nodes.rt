@@ -1,0 +1,57 @@
+//! What acts ask of the tree: the depth of a node, globs under its path, and a child of it.
+
+ghost use Rattle.std.specs.Prelude.{◌≡◌, ℕ, ◌∷◌, ◌++◌, ◌≤◌, ◌<◌, OnOk, IfOk, length, [], None, Some, IsOk};
+ghost use Rattle.uvm_glob.specs.Limits.{most_names};
+ghost use Rattle.uvm_tree.specs.Nodes.{path_at, child};
+ghost use Rattle.uvm_glob.specs.Paths.{path_text, dotted};
+ghost use Rattle.bench_history.specs.Refusals.{child_refusal};
+
+use std::alloc::{AllocError, Global};
+use uvm_glob::{Glob, Name};
+use uvm_tree::{NodeId, NodeKind, Tree};
+
+/// Answers how deep a node lies below the top.
+pub fn depth_of(tree: &Tree, node: NodeId) -> u8
+    ensures depth { result ≡ length (path_at tree.now.nodes node) }
+    ensures most { result ≤ most_names }
+{
+    match tree.path(node) {
+        Some(path) => path.depth() as u8,
+        None => 0,
+    }
+}
+
+/// Answers the glob under the path of a node. Its error is want of memory.
+pub fn scope_under(
+    alloc: Global,
+    tree: &Tree,
+    node: NodeId,
+    glob: &Glob,
+) -> Result<Glob, AllocError>
+    ensures { IfOk result (λ scope. scope ≡ dotted (path_text (path_at tree.now.nodes node)) glob.now) }
+{
+    match tree.path(node) {
+        Some(path) => Glob::under(alloc, path, glob),
+        None => glob.copy(),
+    }
+}
+
+/// Adds a child whose name is free, and answers its node. Its error is want of memory. It does not come where there is room for a
+/// child of that node.
+#[tactic(auto, unfolding(uvm_tree::specs::Nodes::add_fault))]
+pub fn add_child(
+    tree: &mut Tree,
+    parent: NodeId,
+    name: Name,
+    kind: NodeKind,
+) -> Result<NodeId, AllocError>
+    requires { child_refusal tree.old.nodes parent name ≡ None }
+    ensures id { IfOk result (λ id. id ≡ length tree.old.nodes) }
+    ensures nodes { OnOk result (tree.new.nodes ≡ tree.old.nodes ++ child tree.old.nodes parent name kind ∷ []) }
+    ensures memory { tree.old.spare ≡ Some parent → IsOk result }
+{
+    match tree.add(parent, name, kind) {
+        Ok(id) => Ok(id),
+        Err(_) => Err(AllocError),
+    }
+}

@@ -1,0 +1,172 @@
+//! What a world keeps beside its log.
+
+ghost use Rattle.std.specs.Prelude.{◌≡◌, [], IfOk, None, map};
+ghost use Rattle.bench_script.specs.Factories.{IsFactoryOf};
+ghost use Rattle.bench_script.specs.Scripts.{ScriptValue};
+ghost use Rattle.bench_history.specs.Configuration.{settings_of};
+ghost use Rattle.bench_history.specs.History.{overrides_of};
+ghost use Rattle.bench_history.specs.Reports.{script_commands};
+ghost use Rattle.world_reports.specs.Reportings.{IsReporting};
+ghost use Rattle.world_services.specs.Services.{IsFactory, IsSettings, ServicesMatch, cleared, with_call};
+
+use crate::settings::given_settings;
+use bench_history::{Owner, Stage};
+use bench_script::Script;
+use std::alloc::{AllocError, Global};
+use uvm_config::Settings;
+use uvm_factory::Factory;
+use uvm_object::{Call, Who};
+use uvm_objection::{Objection, laws as objections};
+use uvm_phase::Agenda;
+use uvm_sequencer::Sequences;
+use uvm_tlm::Wiring;
+use uvm_tree::{NodeId, Tree};
+use world_fifos::stations::Stations;
+use world_reports::reporting::{Reporting, given_reporting};
+use world_sequencers::arbiters::Arbiters;
+use world_sequences::beginnings::Beginning;
+
+/// A node that holds an object, and whether it had its call in the running phase.
+#[derive(Clone, Copy)]
+pub struct Component {
+    pub node: NodeId,
+    pub called: bool,
+}
+
+impl Component {
+    // Whether it had its call, once a node has.
+    fn is_called_with(&self, node: NodeId) -> bool
+        ensures { result ≡ (with_call node self.now).called }
+    {
+        node == self.node || self.called
+    }
+}
+
+/// How far the last answer is done.
+#[derive(Drop)]
+pub struct LastAnswer {
+    /// Who gave it.
+    pub speaker: Who,
+    /// The place of its entry; none for the script's.
+    pub place: Option<usize>,
+    /// How many acts it has.
+    pub count: usize,
+    /// How many of them are done.
+    pub done: usize,
+    /// Whether none of the others are left: a note has ended it, or the speaker has finished.
+    pub noted: bool,
+}
+
+/// All that is kept beside the log.
+#[derive(Drop)]
+pub struct Services {
+    pub stage: Stage,
+    /// The present time in ticks.
+    pub time: u64,
+    pub tree: Tree,
+    pub objection: Objection,
+    pub wiring: Wiring,
+    pub stations: Stations,
+    /// Some nodes in path order, all FIFOs among them at which something may pass.
+    pub unsettled: Vec<NodeId>,
+    pub arbiters: Arbiters,
+    /// The sequencer that was changed last: at no other does a lock lead, or can a driver be served.
+    pub contested: Option<NodeId>,
+    pub sequences: Sequences,
+    /// Of the sequences, by their numbers.
+    pub beginnings: Vec<Beginning>,
+    pub factory: Factory,
+    pub settings: Settings,
+    pub reporting: Reporting,
+    /// The events that are due.
+    pub agenda: Agenda<Owner, Option<Call>>,
+    /// In the order in which they were made.
+    pub components: Vec<Component>,
+    pub answer: LastAnswer,
+    pub built: bool,
+    pub past_connect: bool,
+    pub test_refused: bool,
+}
+
+impl Services {
+    /// Makes what is kept of a script before the first entry, with its factory. Its error is want of memory.
+    pub fn given(alloc: Global, script: &Script, factory: Factory) -> Result<Services, AllocError>
+        requires { IsFactoryOf script.now factory }
+        ensures { IfOk result (ServicesMatch script.now []) }
+    {
+        let settings = given_settings(alloc, script.settings())?;
+        let reporting = given_reporting(alloc, script)?;
+        Ok(Services::new(alloc, factory, settings, reporting))
+    }
+
+    /// Makes what is kept before the first entry. Takes no memory.
+    pub fn new(
+        alloc: Global,
+        factory: Factory,
+        settings: Settings,
+        reporting: Reporting,
+    ) -> Services
+        ensures { (script : ScriptValue) → IsFactory script.types (overrides_of script []) factory → IsSettings (settings_of script []) settings
+            → IsReporting (script_commands script) None reporting → ServicesMatch script [] result }
+    {
+        objections::nodes_grow();
+        Services {
+            stage: Stage::Before,
+            time: 0,
+            tree: Tree::new(alloc),
+            objection: Objection::new(alloc),
+            wiring: Wiring::new(alloc),
+            stations: Stations::new(alloc),
+            unsettled: Vec::new(alloc),
+            arbiters: Arbiters::new(alloc),
+            contested: None,
+            sequences: Sequences::new(alloc),
+            beginnings: Vec::new(alloc),
+            factory,
+            settings,
+            reporting,
+            agenda: Agenda::new(alloc),
+            components: Vec::new(alloc),
+            answer: LastAnswer {
+                speaker: Who::Node(NodeId::TOP),
+                place: None,
+                count: 1,
+                done: 0,
+                noted: false,
+            },
+            built: false,
+            past_connect: false,
+            test_refused: false,
+        }
+    }
+}
+
+/// Keeps that no component had its call, as a phase begins.
+pub fn clear_calls(components: &mut Vec<Component>)
+    ensures { components.new.items ≡ map cleared components.old.items }
+{
+    clear_all(components.as_mut_slice());
+}
+
+/// Keeps that a component had its call.
+pub fn mark_call(components: &mut Vec<Component>, node: NodeId)
+    ensures { components.new.items ≡ map (with_call node) components.old.items }
+{
+    mark_all(components.as_mut_slice(), node);
+}
+
+fn clear_all(components: &mut [Component])
+    ensures { components.new ≡ map cleared components.old }
+{
+    for component in components.iter_mut() {
+        component.called = false;
+    }
+}
+
+fn mark_all(components: &mut [Component], node: NodeId)
+    ensures { components.new ≡ map (with_call node) components.old }
+{
+    for component in components.iter_mut() {
+        component.called = component.is_called_with(node);
+    }
+}

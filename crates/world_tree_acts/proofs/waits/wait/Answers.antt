@@ -1,0 +1,39 @@
+use Rattle.std.proofs.Common.{length, ◌≡◌, ◌+◌, Some, None, refl, sym, ◌∙◌, filter, rules}
+use Rattle.uvm_object.specs.declared.acts.Act.TheVariants.{Wait}
+use Rattle.uvm_object.specs.declared.acts.Call.TheVariants as call
+use Rattle.bench_history.specs.Sequences.{finished_of}
+use Rattle.bench_history.specs.Dues.{caused_of, heard_of, is_open}
+use Rattle.bench_history.specs.History.{now_of, stage_of, running, ended_of}
+use Rattle.bench_history.specs.Refusals.{wait_refusal}
+use Rattle.world_services.proofs.Opened.{scene-open}
+use Rattle.world_services.proofs.Later.{acted, refused-here}
+use Rattle.world_agenda.proofs.Told.{agenda-event}
+use Rattle.world_agenda.proofs.Drained.{events-told}
+use Rattle.bench_history.specs.declared.owners.Owner.TheVariants.{Object}
+use Rattle.bench_history.specs.Dues.{caused_at}
+use Rattle.bench_history.specs.Objections.{objections_of}
+use Rattle.world_tree_acts.proofs.waits.wait.Goals as goal
+
+pub returns-in-Some : goal.returns-in-Some
+returns-in-Some c = refused-here _ _ _ (Wait c.args.ticks c.args.tag) c.in-Some.fatal c.args.place c.refused.ensures.attempt c.refused.ensures.services (λ script history m.
+    let refuses : wait_refusal (running (stage_of history)) c.args.ticks ≡ Some c.in-Some.fatal = rw (← m.stage) (sym c.wait_refusal.ensures.refusal ∙ c.in-Some.is) in
+    rw refuses refl)
+
+pub returns : goal.returns
+returns c =
+    let told = c.in_ok-tell.ensures in
+    rw (c.done.ensures.attempt, c.done.ensures.services, told.rest) (record {
+      comes = λ script history s.
+          let does : wait_refusal (running (stage_of history)) c.args.ticks ≡ None = rw (← s.known.stage) (sym c.in_default.ensures.refusal) in
+          rw does refl;
+      kept = record {
+        same_answer = refl;
+        with_entry = λ script history s.
+            let m = s.known in
+            let left = s.left in
+            let dues = rw (m.stage, m.time, ← s.place_is) at (told.dues (filter (is_open (heard_of history) (ended_of history) (finished_of history)) (caused_of history)) m.agenda.are) in
+            let events = events-told (objections_of history) (is_open (heard_of history) (ended_of history) (finished_of history)) (running (stage_of history)) (now_of history + c.args.ticks) (caused_at (length history)) c.args.services.now.answer.speaker (call.Wake c.args.tag) (caused_of history) m.events in
+            let agenda = agenda-event (Object c.args.services.now.answer.speaker) (Some (call.Wake c.args.tag)) (now_of history + c.args.ticks) (stage_of history) (caused_of history) (heard_of history) (ended_of history) (finished_of history) _ _ _ s.in_order (scene-open s (λ opens. cc)) m.agenda dues in
+            search (rules, acted);
+      };
+    })

@@ -1,0 +1,73 @@
+//! The act that adds a node to the tree.
+
+ghost use Rattle.std.specs.Prelude.{◌≡◌, ℕ, ◌∷◌, ◌++◌, [], false, None, Some, IfOk, IfNone};
+ghost use Rattle.uvm_object.specs.Acts.{node_of};
+ghost use Rattle.uvm_object.specs.declared.acts.Act.TheVariants.{Add};
+ghost use Rattle.bench_history.specs.History.{kind_of};
+ghost use Rattle.bench_history.specs.Refusals.{addition_refusal, child_refusal};
+ghost use Rattle.world_services.specs.Attempts.{CanPerform, IsAttempt};
+
+use std::alloc::{AllocError, Global};
+use uvm_glob::Name;
+use uvm_object::{Fatal, What};
+use uvm_objection::laws as objections;
+use uvm_tree::NodeKind;
+use world_fifos::stations::add_station;
+use world_sequencers::arbiters::add_arbiter;
+use world_services::attempts::{Attempt, done, refused};
+use world_services::creations::child_refusal;
+use world_services::nodes::add_child;
+use world_services::services::Services;
+use world_wiring::connections::add_end;
+
+/// Adds a node below the speaker's, or refuses it. Its error is want of memory.
+pub fn add(
+    services: &mut Services,
+    alloc: Global,
+    name: Name,
+    what: What,
+) -> Result<Attempt, AllocError>
+    requires { CanPerform services.old }
+    ensures { IfOk result (λ attempt. (place : ℕ) → IsAttempt (Add name what) attempt place services.old services.new) }
+{
+    if let Some(fatal) = addition_refusal(services, &name) {
+        return refused(services, alloc, fatal);
+    }
+    objections::nodes_grow();
+    let parent = services.answer.speaker.node();
+    let node = add_child(&mut services.tree, parent, name, kind_of(what))?;
+    services.objection.add(node, parent)?;
+    add_end(&mut services.wiring, node, what)?;
+    add_station(&mut services.stations, alloc, node, what)?;
+    add_arbiter(&mut services.arbiters, alloc, node, what)?;
+    // Nothing passes and nothing is granted anywhere, nor in what is new.
+    services.unsettled.clear();
+    services.contested = None;
+    Ok(done(services))
+}
+
+// Why nothing is added under a name, if so.
+#[tactic(auto, unfolding(bench_history::specs::Refusals::addition_refusal))]
+fn addition_refusal(services: &Services, name: &Name) -> Option<Fatal>
+    ensures refusal { result ≡ addition_refusal services.now.built services.now.tree.nodes (node_of services.now.answer.speaker) name.now }
+    ensures building { IfNone result (services.now.built ≡ false) }
+    ensures free { IfNone result (child_refusal services.now.tree.nodes (node_of services.now.answer.speaker) name.now ≡ None) }
+{
+    if services.built {
+        return Some(Fatal::CreatedAfterBuild);
+    }
+    child_refusal(&services.tree, services.answer.speaker.node(), name)
+}
+
+// What an addition adds to the tree.
+fn kind_of(what: What) -> NodeKind
+    ensures { result ≡ kind_of what }
+{
+    match what {
+        What::Sequencer { .. } => NodeKind::Sequencer,
+        What::Fifo { .. } => NodeKind::Fifo,
+        What::Port { .. } => NodeKind::Port,
+        What::Export { .. } => NodeKind::Export,
+        What::Imp => NodeKind::Imp,
+    }
+}

@@ -1,0 +1,35 @@
+//! The act that connects two ends (IEEE 1800.2-2020, Clause 12).
+
+ghost use Rattle.std.specs.Prelude.{◌≡◌, ℕ, [], Some, None, IfOk};
+ghost use Rattle.uvm_object.specs.declared.acts.Act.TheVariants.{Connect};
+ghost use Rattle.bench_history.specs.Wires.{node_below};
+ghost use Rattle.world_services.specs.Attempts.{CanPerform, IsAttempt};
+
+use std::alloc::{AllocError, Global};
+use uvm_glob::Path;
+use uvm_object::Fatal;
+use world_services::attempts::{Attempt, done, refused};
+use world_services::services::Services;
+use world_wiring::connections::{connect_ends, node_below};
+
+/// Connects a port or an export to another end, or refuses it. Its error is want of memory.
+pub fn connect(
+    services: &mut Services,
+    alloc: Global,
+    from: &Path,
+    to: &Path,
+) -> Result<Attempt, AllocError>
+    requires { CanPerform services.old }
+    ensures { IfOk result (λ attempt. (place : ℕ) → IsAttempt (Connect from.now to.now) attempt place services.old services.new) }
+{
+    if services.past_connect {
+        return refused(services, alloc, Fatal::ConnectedTooLate);
+    }
+    let performer = services.answer.speaker;
+    let from = node_below(&services.tree, alloc, &performer, from)?;
+    let to = node_below(&services.tree, alloc, &performer, to)?;
+    match connect_ends(&mut services.wiring, from, to)? {
+        Some(fatal) => refused(services, alloc, fatal),
+        None => Ok(done(services)),
+    }
+}

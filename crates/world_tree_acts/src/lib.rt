@@ -1,0 +1,11 @@
+//! The acts on the tree: additions, connections, overrides, fields, reports, objections and waits. A room below `bench_world`.
+#![tactic(auto)]
+
+pub mod additions;
+pub mod components;
+pub mod connections;
+pub mod fields;
+pub mod objections;
+pub mod overrides;
+pub mod reports;
+pub mod waits;

@@ -1,0 +1,51 @@
+//! The act that waits for some ticks.
+
+ghost use Rattle.std.specs.Prelude.{◌≡◌, ◌<◌, ◌≤◌, ◌++◌, IfOk, IfNone, Some};
+ghost use Rattle.uvm_object.specs.declared.acts.Act.TheVariants.{Wait};
+ghost use Rattle.bench_history.specs.History.{running};
+ghost use Rattle.bench_history.specs.Limits.{most_ticks};
+ghost use Rattle.bench_history.specs.Refusals.{wait_refusal};
+ghost use Rattle.world_services.specs.Attempts.{CanPerform, IsAttempt};
+
+use bench_history::Stage;
+use std::alloc::{AllocError, Global};
+use uvm_object::{Call, Fatal};
+use world_agenda::events::MAX_TICKS;
+use world_agenda::stages::in_task;
+use world_services::attempts::{Attempt, done, refused};
+use world_services::services::Services;
+use world_services::tells::tell;
+
+/// Makes the call due that wakes the speaker after some ticks, or refuses it. Its error is want of memory.
+pub fn wait(
+    services: &mut Services,
+    alloc: Global,
+    place: usize,
+    ticks: u64,
+    tag: u32,
+) -> Result<Attempt, AllocError>
+    requires { CanPerform services.old }
+    ensures { IfOk result (λ attempt. IsAttempt (Wait ticks tag) attempt place services.old services.new) }
+{
+    if let Some(fatal) = wait_refusal(services.stage, ticks) {
+        return refused(services, alloc, fatal);
+    }
+    let time = services.time + ticks;
+    tell(services, Call::Wake { tag }, time, place)?;
+    Ok(done(services))
+}
+
+// Why nobody waits, if so.
+#[tactic(auto, unfolding(bench_history::specs::Refusals::wait_refusal))]
+fn wait_refusal(stage: Stage, ticks: u64) -> Option<Fatal>
+    ensures refusal { result ≡ wait_refusal (running stage) ticks }
+    ensures few { IfNone result (ticks ≤ most_ticks) }
+{
+    if ticks > 0 && !in_task(stage) {
+        return Some(Fatal::OutsideTask);
+    }
+    if ticks > MAX_TICKS {
+        return Some(Fatal::OutOfRange);
+    }
+    None
+}

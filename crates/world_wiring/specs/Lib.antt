@@ -1,0 +1,2 @@
+pub mod Connectings
+pub mod Ports

@@ -1,0 +1,12 @@
+-- Ports as they are kept.
+use Rattle.std.specs.Prelude.{ℕ, List, [], ◌∷◌, Option, option_and_then}
+use Rattle.uvm_tree.specs.Nodes.{Node}
+use Rattle.uvm_tlm.specs.declared.ends.PortKind.{PortKind}
+use Rattle.uvm_tlm.specs.Wirings.{WiringValue}
+use Rattle.uvm_object.specs.declared.acts.Who.{Who}
+use Rattle.bench_history.specs.Wires.{node_below}
+use Rattle.bench_history.specs.Ports.{if_sound}
+
+-- a port, and the gate through which it leads, as the services know them
+abbrev pub port_in : List Node → WiringValue → Who → PortKind → List ℕ → Option ℕ
+port_in nodes wiring performer kind name = option_and_then (if_sound wiring kind) (node_below nodes performer (name ∷ []))

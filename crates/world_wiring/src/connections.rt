@@ -1,0 +1,176 @@
+//! Connections, when they are closed, and the ports that are unsound (IEEE 1800.2-2020, Clause 12).
+
+ghost use Rattle.std.specs.Prelude.{◌≡◌, ℕ, [], unwrap_or, false, Some, None, OnOk, OnErr, OnSome, IfOk, IfNone, option_and_then, map};
+ghost use Rattle.std.specs.Option.{option_copied};
+ghost use Rattle.uvm_glob.specs.Lists.{first_given};
+ghost use Rattle.uvm_tree.specs.Sorted.{path_order};
+ghost use Rattle.uvm_tlm.specs.Wirings.{end_at, late_fault, with_end, IsPathOrder};
+ghost use Rattle.uvm_object.specs.declared.acts.Act.TheVariants.{Connect};
+ghost use Rattle.bench_history.specs.Refusals.{connection_refusal};
+ghost use Rattle.bench_history.specs.Wires.{behind, end_of, node_below, port_fatal, port_noted, unsound_port, with_both};
+ghost use Rattle.world_wiring.specs.Connectings.{closed_after, closed_by};
+
+use std::alloc::{AllocError, Global};
+use uvm_glob::{Path, PathFault};
+use uvm_object::{Entry, Fatal, What, Who};
+use uvm_phase::Phase;
+use uvm_tlm::{WireFault, Wiring};
+use uvm_tree::{NodeId, Tree};
+
+/// Closes the wiring by the path order of all nodes, unless it is closed already. Its error is want of memory.
+pub fn close_wiring(wiring: &mut Wiring, tree: &Tree, alloc: Global) -> Result<(), AllocError>
+    requires { IsPathOrder (path_order tree.now.nodes) wiring.old.ends }
+    ensures ok { OnOk result (wiring.new ≡ closed_by tree.now.nodes wiring.old) }
+    ensures err { OnErr result (wiring.new ≡ wiring.old) }
+{
+    if wiring.is_closed() {
+        return Ok(());
+    }
+    let order = tree.path_order(alloc)?;
+    match wiring.close(order.as_slice()) {
+        Ok(()) => Ok(()),
+        Err(_) => Err(AllocError),
+    }
+}
+
+/// Closes the wiring once connect has ended, unless it is closed already. Its error is want of memory.
+pub fn close_after(
+    wiring: &mut Wiring,
+    tree: &Tree,
+    alloc: Global,
+    phase: Phase,
+) -> Result<(), AllocError>
+    requires { IsPathOrder (path_order tree.now.nodes) wiring.old.ends }
+    ensures { OnOk result (wiring.new ≡ closed_after phase tree.now.nodes wiring.old) }
+{
+    match phase {
+        Phase::Connect => close_wiring(wiring, tree, alloc),
+        _ => Ok(()),
+    }
+}
+
+/// Answers the first unsound port behind the one that an entry reports, or of all where it reports none, with what is reported of
+/// it.
+pub fn unsound_behind(entry: Option<&Entry>, wiring: &Wiring) -> Option<(NodeId, Fatal)>
+    ensures { result ≡ first_given (map (unsound_port wiring.now) (behind (option_and_then port_noted (option_copied entry.entry)) (unwrap_or wiring.now.order []))) }
+{
+    let noted = match entry {
+        Some(entry) => port_noted(entry),
+        None => None,
+    };
+    first_unsound(wiring, behind(noted, wiring.order()))
+}
+
+// The port that an entry reports.
+fn port_noted(entry: &Entry) -> Option<NodeId>
+    ensures { result ≡ port_noted entry.now }
+{
+    match entry {
+        Entry::Note {
+            fatal: Fatal::TooFewConnections | Fatal::TooManyConnections,
+            node,
+        } => Some(*node),
+        _ => None,
+    }
+}
+
+// The nodes behind one, or all of them.
+fn behind(node: Option<NodeId>, order: &[NodeId]) -> &[NodeId]
+    ensures { result.now ≡ behind node order.now }
+{
+    let Some(node) = node else {
+        return order;
+    };
+    for (place, other) in order.iter().enumerate() {
+        if node == *other {
+            return &order[place + 1..];
+        }
+    }
+    &[]
+}
+
+// Of some nodes the first that is an unsound port, with what is reported of it.
+fn first_unsound(wiring: &Wiring, nodes: &[NodeId]) -> Option<(NodeId, Fatal)>
+    ensures { result ≡ first_given (map (unsound_port wiring.now) nodes.now) }
+{
+    for node in nodes {
+        if let Some(fatal) = port_fatal(wiring.fault_of(*node)) {
+            return Some((*node, fatal));
+        }
+    }
+    None
+}
+
+// What is reported of a port, if something is wrong with it.
+fn port_fatal(fault: Option<WireFault>) -> Option<Fatal>
+    ensures { result ≡ port_fatal fault }
+{
+    match fault? {
+        WireFault::TooFew => Some(Fatal::TooFewConnections),
+        _ => Some(Fatal::TooManyConnections),
+    }
+}
+
+/// Answers the node at a path below somebody; none where no node has that path. Its error is want of memory.
+#[tactic(auto, unfolding(bench_history::specs::Wires::node_below))]
+pub fn node_below(
+    tree: &Tree,
+    alloc: Global,
+    performer: &Who,
+    path: &Path,
+) -> Result<Option<NodeId>, AllocError>
+    ensures { IfOk result (λ node. node ≡ node_below tree.now.nodes performer.now path.now) }
+{
+    let whole = match tree.path(performer.node()) {
+        Some(above) => above.join(path),
+        None => Path::top(alloc).join(path),
+    };
+    match whole {
+        Ok(whole) => Ok(tree.find(&whole)),
+        Err(PathFault::Memory) => Err(AllocError),
+        Err(_) => Ok(None),
+    }
+}
+
+/// Connects two ends, or answers why it does not: one of them is not there, or they pass on different things. Its error is want
+/// of memory.
+#[tactic(auto, unfolding(uvm_tlm::specs::Wirings::connect_fault, bench_history::specs::Refusals::connection_refusal))]
+pub fn connect_ends(
+    wiring: &mut Wiring,
+    from: Option<NodeId>,
+    to: Option<NodeId>,
+) -> Result<Option<Fatal>, AllocError>
+    requires { late_fault wiring.old ≡ None }
+    ensures refusal { IfOk result (λ fatal. fatal ≡ connection_refusal false (option_and_then (end_at wiring.old.ends) from) (option_and_then (end_at wiring.old.ends) to)) }
+    ensures connected { IfOk result (λ fatal. IfNone fatal (wiring.new ≡ with_both from to wiring.old)) }
+    ensures refused { IfOk result (λ fatal. OnSome fatal (wiring.new ≡ wiring.old)) }
+{
+    let (Some(from), Some(to)) = (from, to) else {
+        return Ok(Some(Fatal::UnknownNode));
+    };
+    match wiring.connect(from, to) {
+        Ok(()) => Ok(None),
+        Err(WireFault::KindDiffers) => Ok(Some(Fatal::KindsDiffer)),
+        Err(WireFault::Memory) => Err(AllocError),
+        Err(_) => Ok(Some(Fatal::UnknownNode)),
+    }
+}
+
+/// Adds the end that stands at a node to an open wiring. Its error is want of memory.
+pub fn add_end(wiring: &mut Wiring, node: NodeId, what: What) -> Result<(), AllocError>
+    requires open { late_fault wiring.old ≡ None }
+    requires new { end_at wiring.old.ends node ≡ None }
+    ensures { OnOk result (wiring.new ≡ with_end node (end_of what) wiring.old) }
+{
+    let added = match what {
+        What::Sequencer { .. } => wiring.sequencer(node),
+        What::Fifo { size } => wiring.fifo(node, size),
+        What::Port { kind } => wiring.port(node, kind),
+        What::Export { kind } => wiring.export(node, kind),
+        What::Imp => wiring.imp(node),
+    };
+    match added {
+        Ok(()) => Ok(()),
+        Err(_) => Err(AllocError),
+    }
+}

@@ -1,0 +1,96 @@
+//! What ports reach (IEEE 1800.2-2020, Clause 12).
+
+ghost use Rattle.std.specs.Prelude.{◌≡◌, ◌++◌, [], ◌∷◌, Some, OnSome, IfOk, option_and_then, filter};
+ghost use Rattle.uvm_tlm.specs.Wirings.{IsWiring};
+ghost use Rattle.bench_history.specs.Ports.{gate_at, if_sound, is_imp_at};
+ghost use Rattle.world_wiring.specs.Ports.{port_in};
+ghost use Rattle.std.specs.List.{filter_map};
+ghost use Rattle.bench_history.specs.Dues.{written_to};
+
+use bench_history::Gate;
+use std::alloc::{AllocError, Global};
+use uvm_glob::{Name, Path, PathFault};
+use uvm_object::{Call, Who};
+use uvm_tlm::{End, Item, PortKind, Wiring};
+use uvm_tree::{NodeId, Tree};
+
+/// Answers the port of a name below somebody, where it is of a kind and nothing is wrong with it. Its error is want of memory.
+#[tactic(auto, unfolding(bench_history::specs::Wires::node_below))]
+pub fn port_below(
+    tree: &Tree,
+    wiring: &Wiring,
+    alloc: Global,
+    performer: &Who,
+    kind: PortKind,
+    name: &Name,
+) -> Result<Option<NodeId>, AllocError>
+    ensures { IfOk result (λ port. port ≡ port_in tree.now.nodes wiring.now performer.now kind name.now) }
+{
+    let whole = match tree.path(performer.node()) {
+        Some(above) => above.child(name),
+        None => Path::top(alloc).child(name),
+    };
+    let node = match whole {
+        Ok(whole) => tree.find(&whole),
+        Err(PathFault::Memory) => return Err(AllocError),
+        Err(_) => None,
+    };
+    Ok(if_sound(wiring, kind, node))
+}
+
+// A node, if it is a port of a kind with which nothing is wrong.
+fn if_sound(wiring: &Wiring, kind: PortKind, node: Option<NodeId>) -> Option<NodeId>
+    ensures { result ≡ option_and_then (if_sound wiring.now kind) node }
+{
+    let node = node?;
+    if wiring.port_kind(node)? == kind && wiring.fault_of(node).is_none() {
+        Some(node)
+    } else {
+        None
+    }
+}
+
+/// Answers the gate through which a port leads: the port with its first target, where that is a FIFO.
+pub fn gate_of(wiring: &Wiring, port: Option<NodeId>) -> Option<Gate>
+    ensures gate { result ≡ option_and_then (gate_at wiring.now) port }
+    ensures wiring { OnSome result (IsWiring wiring.now) }
+{
+    let port = port?;
+    let fifo = *wiring.resolve(port).first()?;
+    match wiring.end(fifo)? {
+        End::Fifo(_) => Some(Gate { port, fifo }),
+        _ => None,
+    }
+}
+
+/// Answers the calls to who owns the imps among some nodes, in their order. Its error is want of memory.
+pub fn written_calls(
+    alloc: Global,
+    tree: &Tree,
+    wiring: &Wiring,
+    targets: &[NodeId],
+    item: Item,
+) -> Result<Vec<(Who, Call)>, AllocError>
+    ensures { IfOk result (λ calls. calls.items ≡ filter_map (written_to tree.now.nodes item) (filter (is_imp_at wiring.now) targets.now)) }
+{
+    targets
+        .iter()
+        .filter(|target| is_imp(wiring, **target))
+        .filter_map(|target| written_to(tree, item, *target))
+        .collect(alloc)
+}
+
+// Whether an imp stands at a node.
+fn is_imp(wiring: &Wiring, node: NodeId) -> bool
+    ensures { result ≡ is_imp_at wiring.now node }
+{
+    matches!(wiring.end(node), Some(End::Imp))
+}
+
+// The call to who owns an imp.
+fn written_to(tree: &Tree, item: Item, imp: NodeId) -> Option<(Who, Call)>
+    ensures { result ≡ written_to tree.now.nodes item imp }
+{
+    let (owner, imp) = tree.under(imp)?;
+    Some((Who::Node(owner), Call::Written { imp, item }))
+}

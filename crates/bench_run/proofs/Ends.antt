@@ -13,7 +13,7 @@ use Rattle.bench_history.specs.History.{is_over}
 use Rattle.bench_history.specs.Limits.{log_limit}
 use Rattle.bench_run.specs.declared.endings.Ending.{Ending}
 use Rattle.bench_run.specs.declared.faults.RunFault.{RunFault}
-use Rattle.bench_run.specs.declared.faults.RunFault.TheVariants.{Memory, LogFull, Output}
+use Rattle.bench_run.specs.declared.faults.RunFault.TheVariants.{Memory, LogFull, Output, NoTest}
 use Rattle.bench_run.specs.Laws.{EndsAreDetermined, IsDecided, IsRunLog, IsSpent, RunsAreFunctions}
 use Rattle.bench_run.specs.Running.{IsEnding, IsRun, summary_of, transcript}
 
@@ -76,6 +76,7 @@ module _ {O : Type 0} (view : O → View) (name : O → List ℕ) (says : O → 
   }
   came-of given words left script trace held new (Err Memory) run decided = absurd decided
   came-of given words left script trace held new (Err Output) run decided = absurd decided
+  came-of given words left script trace held new (Err NoTest) run decided = absurd decided
 
   pub ends-are-determined : RunsAreFunctions view name says → EndsAreDetermined view name says
   ends-are-determined law one_answer given words left remains script trace held first second one other run again decided decides =

@@ -74,6 +74,7 @@ breaks-off (Err given) why trace old new script first half last told grown same 
     }
     go fault.LogFull bad missed = absurd bad
     go fault.Output done missed = tt
+    go fault.NoTest bad missed = absurd bad
 
 -- no more entry
 pub halts :
@@ -105,6 +106,7 @@ halts (Err given) why trace failed old new script first last told halted same ro
       record { legal = subst (λ (s : ScriptValue). IsLegal s old.history) is legal; wrote = rw append-nil wrote },
     )
     go fault.Output halted = absurd halted
+    go fault.NoTest halted = absurd halted
 
 -- one more who has ended was told
 pub told-more : {O : Type 0} (view : O → View) (name : O → List ℕ) (says : O → Says) (who : Who) (object : O) (first old new : KernelValue O) → HasTold first old → IsBack view name says who object old new → HasTold first new
@@ -140,6 +142,7 @@ unsummed (Err given) why trace old new script first half last told same over leg
     }
     go fault.LogFull bad = absurd bad
     go fault.Output done = tt
+    go fault.NoTest bad = absurd bad
 
 -- nothing is written
 Appends-none : (held : Option (List ℕ)) → Appends held held []

@@ -55,6 +55,7 @@ took-unwritten (Err given) why old new script held holds first half last told gr
     }
     go fault.LogFull unwritten kept = absurd unwritten
     go fault.Output unwritten kept = tt
+    go fault.NoTest unwritten kept = absurd unwritten
 
 -- no more entry
 pub took-halted :
@@ -81,6 +82,7 @@ took-halted (Err given) why failed old script first last told halted room legal 
         let full : length old.history ≡ log_limit script = omega (arith, halted.0, legal.few) in
         subst (λ (count : ℕ). TookMore count first last) full some
     go fault.Output halted = absurd halted
+    go fault.NoTest halted = absurd halted
 
 -- the run is over, and its summary was not taken
 pub took-unsummed :
@@ -101,3 +103,4 @@ took-unsummed (Err given) why old script held holds first half last told over le
     }
     go fault.LogFull unwritten kept = absurd unwritten
     go fault.Output unwritten kept = tt
+    go fault.NoTest unwritten kept = absurd unwritten

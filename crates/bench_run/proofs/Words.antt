@@ -9,7 +9,7 @@ use Rattle.bench_kernel.specs.Steps.{IsSameLog}
 use Rattle.bench_run.specs.Running.{Grows}
 use Rattle.bench_run.specs.declared.endings.Ending.{Ending}
 use Rattle.bench_run.specs.declared.faults.RunFault.{RunFault}
-use Rattle.bench_run.specs.declared.faults.RunFault.TheVariants.{Memory, LogFull, Output}
+use Rattle.bench_run.specs.declared.faults.RunFault.TheVariants.{Memory, LogFull, Output, NoTest}
 use Rattle.bench_run.specs.Words.{AreDrawn, HasGiven, HasLost, HasWordsOf, lost_at, may_lose, word_made, stream_after, words_drawn, log_words}
 
 module _ {Words : Type 0} (stream : Words → Stream) where
@@ -71,6 +71,7 @@ module _ {Words : Type 0} (stream : Words → Stream) where
           record { lost = 1; few = lit≤ tt; left = ap (λ (p : ℕ × Stream). p.1) from ∙ ap (λ (n : ℕ). stream_after n (stream first)) one_more }
   given-lost LogFull history first half last were same = given-all 0 history first last (subst (λ w. AreDrawn stream history first w) (sym same) were)
   given-lost Output history first half last were same = given-all 0 history first last (subst (λ w. AreDrawn stream history first w) (sym same) were)
+  given-lost NoTest history first half last were same = given-all 0 history first last (subst (λ w. AreDrawn stream history first w) (sym same) were)
 
 -- the fault is that of the run
 pub given-broken : (result : Result Ending RunFault) (why : RunFault) (old new : CoreValue) (first last : Stream) → IsErrAnd result (λ told. told ≡ why) → IsSameLog old new → HasGiven (lost_at why) old.history first last → HasGiven (may_lose result) new.history first last

@@ -1,9 +1,10 @@
 -- The texts of the faults.
 use Rattle.std.specs.Prelude.{ℕ, List, codes}
 use Rattle.bench_run.specs.declared.faults.RunFault.{RunFault}
-use Rattle.bench_run.specs.declared.faults.RunFault.TheVariants.{Memory, LogFull, Output}
+use Rattle.bench_run.specs.declared.faults.RunFault.TheVariants.{Memory, LogFull, Output, NoTest}
 
 abbrev pub fault_text : RunFault → List ℕ
 fault_text Memory = codes "out of memory"
 fault_text LogFull = codes "log full"
 fault_text Output = codes "output fault"
+fault_text NoTest = codes "no test"

@@ -14,7 +14,7 @@ use Rattle.bench_run.specs.Lives.{HaveLived}
 use Rattle.bench_run.specs.Running.{IsRun}
 use Rattle.bench_run.specs.declared.endings.Ending.{Ending}
 use Rattle.bench_run.specs.declared.faults.RunFault.{RunFault}
-use Rattle.bench_run.specs.declared.faults.RunFault.TheVariants.{Memory, LogFull, Output}
+use Rattle.bench_run.specs.declared.faults.RunFault.TheVariants.{Memory, LogFull, Output, NoTest}
 
 -- one answer and one next view are allowed at most
 abbrev pub AllowsOneAtMost : (List Act → View → Type 0) → Type 0
@@ -24,12 +24,13 @@ AllowsOneAtMost allowed = (acts others : List Act) (after next : View) → allow
 abbrev pub IsSpent : ScriptValue → List Entry → Type 0
 IsSpent script history = (is_over history ≡ true) ⊎ (log_limit script ≤ length history)
 
--- neither memory nor the output was wanting
+-- there was a run, and neither memory nor the output was wanting
 abbrev pub IsDecided : Result Ending RunFault → Type 0
 IsDecided (Ok ending) = Unit {0}
 IsDecided (Err Memory) = ⊥
 IsDecided (Err LogFull) = Unit {0}
 IsDecided (Err Output) = ⊥
+IsDecided (Err NoTest) = ⊥
 
 module _ {O : Type 0} (view : O → View) (name : O → List ℕ) (says : O → Says) where
   -- the log of a run on some words, over the objects that are given for the names of types

@@ -1,5 +1,5 @@
 -- What a run of a script does.
-use Rattle.std.specs.Prelude.{◌≡◌, ◌≢◌, ◌<◌, ◌≤◌, ℕ, Bool, false, List, [], ◌∷◌, ◌++◌, length, IfSome, IsSome, Option, Some, Result, Ok, Err}
+use Rattle.std.specs.Prelude.{◌≡◌, ◌≢◌, ◌<◌, ◌≤◌, ℕ, Bool, false, List, [], ◌∷◌, ◌++◌, length, IfSome, IsSome, Option, Some, None, Result, Ok, Err}
 use Rattle.std.specs.Io.KnownBytes.{Appends, Keeps}
 use Rattle.rand_core.specs.Stream.{Stream}
 use Rattle.uvm_glob.specs.Lists.{newest}
@@ -20,7 +20,7 @@ use Rattle.bench_run.specs.Words.{HasGiven, HasWordsOf, may_lose}
 use Rattle.bench_run.specs.Lives.{HaveLived}
 use Rattle.bench_run.specs.declared.endings.Ending.{Ending}
 use Rattle.bench_run.specs.declared.faults.RunFault.{RunFault}
-use Rattle.bench_run.specs.declared.faults.RunFault.TheVariants.{Memory, LogFull, Output}
+use Rattle.bench_run.specs.declared.faults.RunFault.TheVariants.{Memory, LogFull, Output, NoTest}
 
 -- the texts of the entries of a log, in order: the line of each, where it is asked for, and that of its report, where it is displayed
 abbrev pub transcript : Bool → ScriptValue → List Entry → List ℕ
@@ -60,11 +60,13 @@ pub record WroteSoFar (script : ScriptValue) (trace : Bool) (history : List Entr
   pub room : is_over written ≡ false → length written < log_limit script
   pub wrote : WroteLog script trace old new written []
 
--- where a run broke off, by the log that is left: so far as memory was there; with a full log that is not over; or where a write failed
+-- where a run broke off, by the log that is left: so far as memory was there; with a full log that is not over; or where a write failed. Without a
+-- test there was none
 abbrev pub BrokeOffRun : RunFault → ScriptValue → Bool → List Entry → Option (List ℕ) → Option (List ℕ) → Type 0
 BrokeOffRun Memory script trace history old new = WroteSoFar script trace history old new
 BrokeOffRun LogFull script trace history old new = (log_limit script ≤ length history) × (is_over history ≡ false) × WroteLog script trace old new history []
 BrokeOffRun Output script trace history old new = Unit {0}
+BrokeOffRun NoTest script trace history old new = (script.test ≡ None) × (history ≡ []) × Keeps old new
 
 -- what a run of a script comes to, by the log that it leaves
 abbrev pub LeavesRun : ScriptValue → Bool → List Entry → Option (List ℕ) → Option (List ℕ) → Result Ending RunFault → Type 0
@@ -97,6 +99,7 @@ abbrev pub IsHalted : RunFault → Bool → CoreValue → Type 0
 IsHalted Memory failed core = failed ≡ false → length core.history < log_limit core.script
 IsHalted LogFull failed core = (log_limit core.script ≤ length core.history) × (is_over core.history ≡ false)
 IsHalted Output failed core = ⊥
+IsHalted NoTest failed core = ⊥
 
 -- the needed object was declined
 pub record IsDeclined {O : Type 0} (old new : KernelValue O) : Type 0 where
@@ -108,3 +111,4 @@ abbrev pub IsUnwritten : RunFault → Option (List ℕ) → Option (List ℕ) �
 IsUnwritten Memory old new = Keeps old new
 IsUnwritten LogFull old new = ⊥
 IsUnwritten Output old new = Unit {0}
+IsUnwritten NoTest old new = ⊥

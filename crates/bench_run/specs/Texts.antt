@@ -9,7 +9,7 @@ use Rattle.bench_history.specs.Next.{IsLegal}
 use Rattle.bench_run.specs.Sinks.{TookMore}
 use Rattle.bench_run.specs.declared.endings.Ending.{Ending}
 use Rattle.bench_run.specs.declared.faults.RunFault.{RunFault}
-use Rattle.bench_run.specs.declared.faults.RunFault.TheVariants.{Memory, LogFull, Output}
+use Rattle.bench_run.specs.declared.faults.RunFault.TheVariants.{Memory, LogFull, Output, NoTest}
 
 -- one for each entry of a legal log that is over, and the summary
 pub record TookAll (script : ScriptValue) (before after : Option ℕ) : Type 0 where
@@ -31,6 +31,7 @@ TookTexts script before after (Ok ending) = TookAll script before after
 TookTexts script before after (Err Memory) = TookSome script before after
 TookTexts script before after (Err LogFull) = TookMore (log_limit script) before after
 TookTexts script before after (Err Output) = Unit {0}
+TookTexts script before after (Err NoTest) = after ≡ before
 
 -- before the first entry
 took-none : (count : Option ℕ) → TookMore 0 count count

@@ -1,8 +1,9 @@
 //! How a run is over.
 
 ghost use Rattle.std.specs.Prelude.{◌≡◌};
-ghost use Rattle.bench_run.specs.Endings.{is_clean};
+ghost use Rattle.bench_run.specs.Endings.{exit_status, is_clean};
 
+use crate::faults::RunFault;
 use uvm_object::Reason;
 
 /// How a run is over.
@@ -22,5 +23,18 @@ impl Ending {
         ensures { result ≡ is_clean self.now }
     {
         matches!(self.reason, Reason::Finished) && self.errors == 0 && self.fatals == 0
+    }
+}
+
+/// The status by which a program tells how a run went: 0 where it is clean, 1 where it is over otherwise, 2 where the script has no
+/// test, and 3 where the run broke off.
+pub fn exit_status(ended: &Result<Ending, RunFault>) -> u8
+    ensures { result ≡ exit_status ended.now }
+{
+    match ended {
+        Ok(ending) if ending.is_clean() => 0,
+        Ok(_) => 1,
+        Err(RunFault::NoTest) => 2,
+        Err(_) => 3,
     }
 }

@@ -3,7 +3,7 @@
 use std::error::Error;
 use std::fmt;
 
-/// Why a run breaks off before it is over.
+/// Why there is no run, or it breaks off before it is over.
 #[derive(Clone, Copy, Debug, PartialEq, Eq)]
 pub enum RunFault {
     /// Memory was refused.
@@ -12,6 +12,8 @@ pub enum RunFault {
     LogFull,
     /// A line could not be written.
     Output,
+    /// The script has no test.
+    NoTest,
 }
 
 impl fmt::Display for RunFault {
@@ -25,6 +27,7 @@ impl fmt::Display for RunFault {
             RunFault::Memory => "out of memory",
             RunFault::LogFull => "log full",
             RunFault::Output => "output fault",
+            RunFault::NoTest => "no test",
         })
     }
 }

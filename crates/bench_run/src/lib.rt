@@ -18,7 +18,7 @@ pub mod laws;
 mod running;
 mod sinks;
 
-pub use endings::Ending;
+pub use endings::{Ending, exit_status};
 pub use faults::RunFault;
 pub use running::{run_kernel, run_script};
 pub use sinks::Sink;

@@ -41,7 +41,8 @@ use uvm_report::{Reports, Severity};
 ///
 /// Once the run is over the summary of its reports is written. Answers how it is over. The error is `LogFull` where the log has
 /// 1,000,000 entries and is not over, `Memory` where memory was refused, also to `make`, and `Output` where the sink refused a text, as a
-/// writer does that fails, after which nothing is said of what was written.
+/// writer does that fails, after which nothing is said of what was written. A script without a test is refused before all else, as
+/// `NoTest`.
 ///
 /// The sink takes a text for each entry, an empty one where there is nothing to write, and then the summary.
 pub fn run_script<
@@ -57,12 +58,16 @@ pub fn run_script<
     make: F,
     out: &mut S,
 ) -> Result<Ending, RunFault>
-    requires callable { F.IsAlwaysCallable make }
-    requires tested { IsSome script.test }
+    requires { F.IsAlwaysCallable make }
     ensures run { IsRun O.view O.name O.says (MayGive F.Fn make) (R.stream words.old) (R.stream words.new) script trace (S.contents out.old) (S.contents out.new) result }
     ensures texts { TookTexts script (S.taken out.old) (S.taken out.new) result }
     ensures output { result ≡ Err RunFault.Output → S.refuses out.old }
+    ensures untested { script.test ≡ None → result ≡ Err RunFault.NoTest }
+    ensures tested { IsSome script.test → IfErr result (λ fault. fault ≢ RunFault.NoTest) }
 {
+    let Some(_) = script.test() else {
+        return Err(RunFault::NoTest);
+    };
     let mut kernel: Kernel<O> = match Kernel::new(alloc, script) {
         Ok(kernel) => kernel,
         Err(_) => return Err(RunFault::Memory),

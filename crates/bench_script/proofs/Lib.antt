@@ -1,3 +1,1 @@
-pub mod TableKeys
-pub mod Rows
 pub mod Register

@@ -7,12 +7,12 @@ use Rattle.uvm_factory.specs.declared.types.Kind.{Kind}
 use Rattle.uvm_factory.specs.declared.types.Kind.TheVariants.{Component, Sequence}
 use Rattle.uvm_factory.specs.Faults.{Types, type_named}
 use Rattle.bench_script.specs.declared.heads.Head.{Head}
-use Rattle.bench_script.specs.declared.faults.ScriptFault.{ScriptFault}
-use Rattle.bench_script.specs.declared.faults.ScriptFault.TheVariants.{NotText, NotToml, WrongKind, UnknownType, Version, TooLong}
-use Rattle.bench_script.specs.Reading.{and_then}
-use Rattle.bench_script.specs.Values.{integer_in, number_in, name_in}
+use Rattle.script_values.specs.declared.faults.ScriptFault.{ScriptFault}
+use Rattle.script_values.specs.declared.faults.ScriptFault.TheVariants.{NotText, NotToml, WrongKind, UnknownType, Version, TooLong}
+use Rattle.script_values.specs.Reading.{and_then}
+use Rattle.script_values.specs.Values.{integer_in, number_in, name_in}
 use Rattle.bench_script.specs.Limits.{most_time, most_quit_limit, most_script_bytes}
-use Rattle.bench_script.specs.Keys.{only_keys, required, optional, some_of}
+use Rattle.script_values.specs.Keys.{only_keys, required, optional, some_of}
 use Rattle.bench_script.specs.Scripts.{ScriptValue}
 use Rattle.bench_script.specs.Tables.{types_in, overrides_in, settings_in, probes_in}
 use Rattle.bench_script.specs.ReportTables.{verbosities_in, actions_in, severities_in}

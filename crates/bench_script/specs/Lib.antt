@@ -1,14 +1,10 @@
 pub mod Documents
 pub mod Factories
-pub mod FaultTexts
-pub mod Keys
 pub mod Limits
-pub mod Reading
 pub mod ReportTables
 pub mod Scripts
 pub mod Sound
 pub mod Tables
-pub mod Values
 pub use Rattle.uvm_config.specs.Answers
 pub use Rattle.uvm_factory.specs.Faults
 pub use Rattle.uvm_factory.specs.Overrides

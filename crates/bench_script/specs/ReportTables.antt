@@ -8,16 +8,16 @@ use Rattle.uvm_report.specs.declared.severities.Severity.TheVariants.{Info, Warn
 use Rattle.uvm_report.specs.declared.settings.Which.{Which}
 use Rattle.uvm_report.specs.declared.settings.Which.TheVariants as which
 use Rattle.uvm_report.specs.Severities.{severity_name}
-use Rattle.bench_script.specs.declared.faults.ScriptFault.{ScriptFault}
-use Rattle.bench_script.specs.declared.faults.ScriptFault.TheVariants.{OutOfRange}
+use Rattle.script_values.specs.declared.faults.ScriptFault.{ScriptFault}
+use Rattle.script_values.specs.declared.faults.ScriptFault.TheVariants.{OutOfRange}
 use Rattle.bench_script.specs.declared.report_settings.VerbositySetting.{VerbositySetting}
 use Rattle.bench_script.specs.declared.report_settings.ActionSetting.{ActionSetting}
 use Rattle.bench_script.specs.declared.report_settings.SeverityChange.{SeverityChange}
 use Rattle.bench_script.specs.Limits.{most_level}
-use Rattle.bench_script.specs.Reading.{and_then}
-use Rattle.bench_script.specs.Values.{is_same_text, items_in, text_in, number_in, name_in, glob_in}
-use Rattle.bench_script.specs.Keys.{required, optional, some_of}
-use Rattle.bench_script.specs.Tables.{rows_from, elements_at, table_in}
+use Rattle.script_values.specs.Reading.{and_then}
+use Rattle.script_values.specs.Values.{is_same_text, items_in, text_in, number_in, name_in, glob_in}
+use Rattle.script_values.specs.Keys.{required, optional, some_of}
+use Rattle.script_values.specs.Elements.{rows_from, elements_at, table_in}
 
 -- the severity of a name
 abbrev pub severity_named : List ℕ → Option Severity

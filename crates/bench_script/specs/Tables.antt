@@ -1,6 +1,6 @@
 -- The arrays of tables of a script.
-use Rattle.std.specs.Prelude.{ℕ, suc, Bool, true, List, [], ◌∷◌, ◌++◌, Option, Some, None, Result, Ok, Err, ok_or, is_some, is_none, nat_le, codes, if◌then◌else◌}
-use Rattle.toml.specs.Data.{Data, Items, no_items, item, Members}
+use Rattle.std.specs.Prelude.{ℕ, Bool, true, List, [], ◌∷◌, Option, Some, None, Result, Ok, Err, ok_or, is_some, is_none, codes, if◌then◌else◌}
+use Rattle.toml.specs.Data.{Data, Members}
 use Rattle.uvm_factory.specs.declared.types.Kind.{Kind}
 use Rattle.uvm_factory.specs.declared.overrides.Override.{Override}
 use Rattle.uvm_factory.specs.declared.overrides.Override.TheVariants.{Instance, Whole}
@@ -8,35 +8,12 @@ use Rattle.uvm_factory.specs.Faults.{Types, most_types, type_named, override_fau
 use Rattle.uvm_config.specs.Answers.{most_settings}
 use Rattle.bench_script.specs.declared.scripts.Probe.{Probe}
 use Rattle.bench_script.specs.declared.scripts.Setting.{Setting}
-use Rattle.bench_script.specs.declared.faults.ScriptFault.{ScriptFault}
-use Rattle.bench_script.specs.declared.faults.ScriptFault.TheVariants.{WrongKind, OutOfRange, BadName, UnknownType}
-use Rattle.bench_script.specs.Reading.{and_then}
-use Rattle.bench_script.specs.Values.{items_in, members_in, integer_in, flag_in, name_in, glob_in, path_in, kind_in}
-use Rattle.bench_script.specs.Keys.{only_keys, required, optional, some_of}
-
--- rows, one for each element; an element may be read in the light of the rows before it
-abbrev pub rows_from : {Row : Type 0} → (List Row → Data → Result Row ScriptFault) → List Row → Items → Result (List Row) ScriptFault
-rows_from read rows no_items = Ok rows
-rows_from read rows (item element rest) = and_then (read rows element) (λ row. rows_from read (rows ++ row ∷ []) rest)
-
--- the elements of the array at a key, none where it is absent
-abbrev pub elements_at : List ℕ → Members → Result Items ScriptFault
-elements_at key root = optional key no_items items_in root
-
-abbrev pub count_of : Items → ℕ
-count_of no_items = 0
-count_of (item element rest) = suc (count_of rest)
-
-abbrev pub up_to : ℕ → Items → Result Items ScriptFault
-up_to most elements = if nat_le (count_of elements) most then Ok elements else Err OutOfRange
-
--- the elements of the array at a key, of which there are at most so many
-abbrev pub few_elements_at : ℕ → List ℕ → Members → Result Items ScriptFault
-few_elements_at most key root = and_then (elements_at key root) (up_to most)
-
--- an element is a table that has these keys alone
-abbrev pub table_in : List (List ℕ) → Data → Result Members ScriptFault
-table_in keys element = and_then (members_in element) (λ table. and_then (only_keys keys table) (λ _. Ok table))
+use Rattle.script_values.specs.declared.faults.ScriptFault.{ScriptFault}
+use Rattle.script_values.specs.declared.faults.ScriptFault.TheVariants.{WrongKind, BadName, UnknownType}
+use Rattle.script_values.specs.Reading.{and_then}
+use Rattle.script_values.specs.Values.{integer_in, flag_in, name_in, glob_in, path_in, kind_in}
+use Rattle.script_values.specs.Keys.{required, optional, some_of}
+use Rattle.script_values.specs.Elements.{rows_from, elements_at, few_elements_at, table_in}
 
 -- the name of one more type
 abbrev pub new_name_in : Types → Data → Result (List ℕ) ScriptFault

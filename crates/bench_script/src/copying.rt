@@ -2,13 +2,13 @@
 
 ghost use Rattle.std.specs.Prelude.{◌≡◌, IfOk, IfErr};
 ghost use Rattle.uvm_factory.specs.Faults.{type_named};
-ghost use Rattle.bench_script.specs.Reading.{IsFaultOf};
+ghost use Rattle.script_values.specs.Reading.{IsFaultOf};
 ghost use Rattle.bench_script.specs.Documents.{test_among};
 ghost use Rattle.bench_script.specs.Sound.{IsComponentAt};
 
-use crate::faults::ScriptFault;
 use crate::report_settings::{ActionSetting, SeverityChange, VerbositySetting};
 use crate::scripts::{Probe, Script, Setting};
+use script_values::ScriptFault;
 use std::alloc::{AllocError, Global};
 use uvm_factory::{Kind, Override, TypeId};
 use uvm_glob::Name;

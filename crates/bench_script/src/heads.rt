@@ -5,9 +5,9 @@ ghost use Rattle.toml.specs.View.{view, table_view};
 ghost use Rattle.bench_script.specs.Limits.{most_time, most_quit_limit};
 ghost use Rattle.bench_script.specs.Documents.{version_in, head_in};
 
-use crate::faults::ScriptFault;
-use crate::keys::{member, only_keys, required};
-use crate::values::{integer, name, number};
+use script_values::ScriptFault;
+use script_values::keys::{member, only_keys, required};
+use script_values::values::{integer, name, number};
 use toml::{Table, Value};
 use uvm_glob::Name;
 

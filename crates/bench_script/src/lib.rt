@@ -3,18 +3,15 @@
 
 mod copying;
 mod factories;
-mod faults;
 mod heads;
-mod keys;
 mod reading;
 mod report_settings;
 mod report_tables;
 mod scripts;
 mod tables;
 mod type_tables;
-mod values;
 
-pub use faults::ScriptFault;
 pub use reading::{read, read_document, read_table};
 pub use report_settings::{ActionSetting, SeverityChange, VerbositySetting};
+pub use script_values::ScriptFault;
 pub use scripts::{Probe, Script, Setting};

@@ -3,16 +3,16 @@
 ghost use Rattle.std.specs.Prelude.{◌≡◌, ◌≢◌, Ok, Err, IfOk, MatchResult, map};
 ghost use Rattle.toml.specs.View.{table_view};
 ghost use Rattle.toml.specs.Parse.{parse_document};
-ghost use Rattle.bench_script.specs.Reading.{IsReading};
+ghost use Rattle.script_values.specs.Reading.{IsReading};
 ghost use Rattle.bench_script.specs.Sound.{IsComponentAt};
 ghost use Rattle.bench_script.specs.Documents.{IsReadable, script_beside, script_of_bytes, test_among, tree_in, tree_of_bytes};
 
-use crate::faults::ScriptFault;
 use crate::heads::read_head;
 use crate::report_tables::{read_actions, read_severities, read_verbosities};
 use crate::scripts::Script;
 use crate::tables::{read_overrides, read_probes, read_settings, read_types};
 use crate::type_tables::TypeTable;
+use script_values::ScriptFault;
 use std::alloc::Global;
 use std::str;
 use toml::Table;

@@ -3,14 +3,14 @@
 ghost use Rattle.std.specs.Prelude.{◌≡◌, ◌≢◌, MatchResult, IfOk, All, map, option_map};
 ghost use Rattle.std.specs.List.{list_all};
 ghost use Rattle.toml.specs.View.{view, table_view};
-ghost use Rattle.bench_script.specs.Reading.{IsReading};
+ghost use Rattle.script_values.specs.Reading.{IsReading};
 ghost use Rattle.bench_script.specs.Sound.{HasLevelInRange};
 ghost use Rattle.bench_script.specs.ReportTables.{severity_in, severity_named, id_in, which_in, texts_in, is_one_of, action_words, actions_named, action_set_in, verbosity_row, action_row, severity_row, verbosities_in, actions_in, severities_in};
 
-use crate::faults::ScriptFault;
-use crate::keys::{elements, is_listed, member, required, table};
 use crate::report_settings::{ActionSetting, SeverityChange, VerbositySetting};
-use crate::values::{glob, name, number, text};
+use script_values::ScriptFault;
+use script_values::keys::{elements, is_listed, member, required, table};
+use script_values::values::{glob, name, number, text};
 use std::alloc::Global;
 use toml::{Table, Value};
 use uvm_glob::Name;

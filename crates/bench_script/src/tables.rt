@@ -4,15 +4,15 @@ ghost use Rattle.std.specs.Prelude.{◌≡◌, ◌≢◌, ◌<◌, ◌≤◌, Ma
 ghost use Rattle.toml.specs.View.{view, table_view};
 ghost use Rattle.uvm_factory.specs.Faults.{type_named};
 ghost use Rattle.uvm_config.specs.Answers.{most_settings};
-ghost use Rattle.bench_script.specs.Reading.{IsReading};
+ghost use Rattle.script_values.specs.Reading.{IsReading};
 ghost use Rattle.bench_script.specs.Sound.{CanOverride, CanProbe};
 ghost use Rattle.bench_script.specs.Tables.{new_name_in, type_id_in, type_row, override_row, setting_row, probe_row, types_in, overrides_in, settings_in, probes_in};
 
-use crate::faults::ScriptFault;
-use crate::keys::{elements, few_elements, member, required, table};
 use crate::scripts::{Probe, Setting};
 use crate::type_tables::TypeTable;
-use crate::values::{flag, glob, integer, kind, name, path};
+use script_values::ScriptFault;
+use script_values::keys::{elements, few_elements, member, required, table};
+use script_values::values::{flag, glob, integer, kind, name, path};
 use std::alloc::Global;
 use toml::{Table, Value};
 use uvm_config::Settings;

@@ -6,8 +6,8 @@ ghost use Rattle.indexmap.specs.IndexMap.{get};
 ghost use Rattle.uvm_factory.specs.Faults.{type_named, register_fault, override_fault};
 ghost use Rattle.bench_script.specs.Sound.{CanRegister};
 
-use crate::faults::ScriptFault;
 use indexmap::IndexMap;
+use script_values::ScriptFault;
 use std::alloc::{AllocError, Global};
 use std::marker::Model;
 use uvm_factory::{Kind, TypeId};

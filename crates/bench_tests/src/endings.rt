@@ -97,6 +97,7 @@ fn faults_are_printed(rt: HostRuntime) {
     assert!(rt; prints(rt.alloc(), RunFault::Memory, "out of memory"));
     assert!(rt; prints(rt.alloc(), RunFault::LogFull, "log full"));
     assert!(rt; prints(rt.alloc(), RunFault::Output, "output fault"));
+    assert!(rt; prints(rt.alloc(), RunFault::NoTest, "no test"));
 }
 
 fn prints(alloc: Global, fault: RunFault, shown: &str) -> bool {

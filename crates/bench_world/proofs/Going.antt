@@ -8,8 +8,9 @@ use Rattle.bench_script.specs.Scripts.{ScriptValue}
 use Rattle.world_services.specs.declared.services.Services.{Services}
 use Rattle.bench_history.specs.Limits.{log_limit}
 use Rattle.bench_history.specs.Sequences.{leaving_of, leaving_after}
-use Rattle.bench_history.specs.Next.{IsNext, IsLegal, next_of, IsAct}
+use Rattle.bench_history.specs.Next.{Allows, EachIsNext, IsNext, IsLegal, next_of, IsAct}
 use Rattle.world_services.specs.Services.{ServicesMatch}
+use Rattle.world_entries.specs.Coming.{Comes, GoesOn, IsComing, IsDue}
 use Rattle.bench_world.specs.Worlds.{IsWorld}
 use Rattle.uvm_object.specs.declared.entries.Entry.TheVariants.{Did}
 use Rattle.uvm_object.specs.declared.entries.Outcome.{Outcome}
@@ -17,7 +18,7 @@ use Rattle.bench_world.specs.declared.making.Waiting.{Waiting}
 use Rattle.bench_history.specs.History.{left_of, rest_of, speaker_of}
 use Rattle.bench_history.specs.Upshots.{Upshot, Needs, Does, Finds, Stores, Takes, Asks, Finishes, Refuses, upshot_of}
 use Rattle.bench_history.specs.Cases.{by_act, by_upshot}
-use Rattle.bench_history.specs.Laws.{DriversAreThere, IsSettled, PerformersAreThere, PhasesGoInOrder, StaysWired, WiringStays}
+use Rattle.bench_history.specs.Laws.{DriversAreThere, IsSettled, PerformersAreThere, PhasesGoInOrder}
 use Rattle.world_services.specs.Attempts.{TakesIn, IsPerformed, one_done}
 use Rattle.world_services.proofs.Later.{acted, scene-of}
 
@@ -31,6 +32,15 @@ pub sound-again :
     → log.entries ≡ entries → log.limit ≡ log_limit script → IsLegal script entries → leaving ≡ leaving_of entries → ServicesMatch script entries services → IsWorld true script log services None leaving
 sound-again {script} {log} {services} {leaving} entries is limit legal leaves match = record { limit = limit; legal = rw is legal; services_match = λ _. rw is match; leaves = λ _. rw is leaves; waits = λ _ e. cc; ready = λ _ e. cc }
 
+-- what comes next in the log that there is
+pub here : {script : ScriptValue} {history : List Entry} (comes : Comes) → EachIsNext script history → next_of script history ≡ comes history → IsComing script history comes (length history)
+here comes each next = record { each = each; next = next; place_is = refl }
+
+pub due-here :
+    {P : Type 0} {sound : Bool} {script : ScriptValue} {log : LogValue} {services : Services} {waiting : Option Waiting} {left : List Who} (comes : Comes)
+    → P × IsWorld sound script log services waiting left → sound ≡ true → next_of script log.entries ≡ comes log.entries → IsDue comes (length log.entries) services
+due-here {script = script} {log} comes p sound next = record { script = script; history = log.entries; coming = here comes p.1.legal.each next; known = p.1.services_match sound }
+
 -- a world goes on with an entry that is next
 goes-on :
     {P : Type 0} {sound : Bool} {script : ScriptValue} {log more : LogValue} {old services : Services} {waiting : Option Waiting} {left leaving : List Who} (entry : Entry)
@@ -43,12 +53,12 @@ goes-on {log} entry p sound room next is limit leaves match =
 
 -- with what the machine enters by itself, or somebody's answer
 pub entered :
-    {P : Type 0} {sound : Bool} {script : ScriptValue} {log more : LogValue} {old services : Services} {waiting : Option Waiting} {left leaving : List Who} (entry : Entry)
-    → P × IsWorld sound script log old waiting left → sound ≡ true → length log.entries < log_limit script → IsNext script log.entries entry
-    → more.entries ≡ entry ∷ log.entries → more.limit ≡ log.limit → leaving ≡ leaving_of (entry ∷ log.entries) → WiringStays
-    → (ServicesMatch script log.entries old → StaysWired script log.entries entry → ServicesMatch script (entry ∷ log.entries) services)
+    {P : Type 0} {sound : Bool} {script : ScriptValue} {log more : LogValue} {old services : Services} {waiting : Option Waiting} {left leaving : List Who} (comes : Comes) (entry : Entry)
+    → P × IsWorld sound script log old waiting left → sound ≡ true → length log.entries < log_limit script → next_of script log.entries ≡ comes log.entries → Allows (comes log.entries) entry
+    → more.entries ≡ entry ∷ log.entries → more.limit ≡ log.limit → (ServicesMatch script log.entries old → leaving ≡ leaving_of (entry ∷ log.entries)) → GoesOn comes entry (length log.entries) old services
     → P × IsWorld true script more services None leaving
-entered {script = script} {log} entry p sound room next is limit leaves stay match = goes-on entry p sound room next is limit leaves (λ m. match m (stay script log.entries entry next))
+entered {script = script} {log} comes entry p sound room next allowed is limit leaves goes_on =
+    goes-on entry p sound room (rw next allowed) is limit (leaves (p.1.services_match sound)) (λ m. goes_on script log.entries (here comes p.1.legal.each next) m)
 
 -- what an act comes to is the entry of an act, or a need
 act-is : (performer : Who) (act : Act) (upshot : Upshot) → IsAct (by_upshot performer act upshot)

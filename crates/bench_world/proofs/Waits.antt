@@ -115,3 +115,12 @@ acted-waits script before more sound waiting {need} {kept} next same is_sound is
     let old : WorldValue = record { script = script; history = before; sound = sound; waiting = waiting } in
     let new : WorldValue = record { script = script; history = more; sound = true; waiting = Some kept } in
     subst (λ (n : Next). IsActed n old new) (sym next) (rw (same, is_sound, is) refl)
+
+-- by what an act of the speaker comes to
+pub acted-needs :
+    (script : ScriptValue) (before more : List Entry) (sound : Bool) (waiting : Option needs.Need) {need kept : needs.Need} {speaker performer : Who} {act : Act}
+    → next_of script before ≡ by_act script before speaker act → performer ≡ speaker → (made : Outcome) × (by_act script before performer act ≡ Need need made performer act)
+    → more ≡ before → sound ≡ true → kept ≡ need
+    → IsActed (next_of script before) (record { script = script; history = before; sound = sound; waiting = waiting }) (record { script = script; history = more; sound = true; waiting = Some kept })
+acted-needs script before more sound waiting {need} {kept} {speaker} {performer} {act} next speaks comes same is_sound is =
+    acted-waits script before more sound waiting {need = need} {kept = kept} {made = comes.0} {performer = speaker} {act = act} (next ∙ need-by script before act {need = need} {made = comes.0} performer speaker speaks comes.1) same is_sound is

@@ -1,10 +1,9 @@
 //! The entries of a log that are no act's: one call for each kind.
 
-ghost use Rattle.std.specs.Prelude.{◌≡◌, ◌||◌, ◌∷◌, ◌<◌, length, true, OnOk, OnErr, IsOk, Some, None};
+ghost use Rattle.std.specs.Prelude.{◌≡◌, ◌∷◌, ◌<◌, length, true, OnOk, OnErr, IsOk, Some, None};
 ghost use Rattle.uvm_object.specs.declared.entries.Entry.TheVariants.{Begin, End, Time, Heard, Locked, Passed, Drained, Note, Over};
-ghost use Rattle.bench_history.specs.History.{next_call, phase_order, ends_build};
+ghost use Rattle.bench_history.specs.History.{next_call, phase_order};
 ghost use Rattle.bench_history.specs.Reports.{noted_end, reason_of};
-ghost use Rattle.bench_history.specs.Wires.{ends_connect};
 ghost use Rattle.uvm_glob.specs.Orders.{order_of};
 ghost use Rattle.uvm_tree.specs.Cursors.{is_before, least, sooner};
 ghost use Rattle.world_services.specs.Services.{waiting_in};
@@ -12,23 +11,17 @@ ghost use Rattle.bench_history.specs.Cases.{Exactly, Answer};
 ghost use Rattle.bench_world.specs.Worlds.{IsGranted, MayEnter, MayGrant, world_after, broken};
 
 use crate::worlds::World;
-use bench_history::{Owner, Stage, laws};
+use bench_history::laws;
 use std::alloc::AllocError;
 use uvm_glob::Direction;
 use uvm_object::{
     Acts, Call, Entry, Fatal, Grant, Log, LoggedGrant, LoggedPassage, Passage, Reason, Who,
 };
-use uvm_objection::laws as objections;
-use uvm_phase::{Cause, Phase, laws as agenda};
+use uvm_phase::{Cause, Phase};
 use uvm_sequencer::SeqId;
-use uvm_tree::{NodeId, Tree, laws as trees};
-use world_fifos::stations::{end_waits, pass};
-use world_sequencers::arbiters::{choose_at, end_phase, settle_at};
-use world_sequences::ends::{finish_all, leaving_with};
-use world_services::attempts::report_at;
-use world_services::services::{Component, LastAnswer, clear_calls, mark_call};
-use world_services::tells::{move_drains, tell_passed, tell_to};
-use world_wiring::connections::close_after;
+use uvm_tree::{NodeId, Tree};
+use world_entries::{answers, grants, phases};
+use world_services::services::Component;
 
 impl World {
     /// A phase begins (IEEE 1800.2-2020, Clause 9). The world is sound, its log is not full, and this entry is next. The error is
@@ -38,14 +31,11 @@ impl World {
         ensures ok { OnOk result (self.new ≡ world_after (Begin phase) self.old) }
         ensures err { OnErr result (self.new ≡ broken self.old) }
     {
-        laws::wiring_stays();
         self.sound = false;
         self.waiting = None;
         self.leaving.clear();
         push(&mut self.log, Entry::Begin(phase))?;
-        self.services.reporting.newest = None;
-        self.services.stage = Stage::During(phase);
-        clear_calls(&mut self.services.components);
+        phases::begin(&mut self.services, phase);
         self.sound = true;
         Ok(())
     }
@@ -57,35 +47,10 @@ impl World {
         ensures ok { OnOk result (self.new ≡ world_after (End phase) self.old) }
         ensures err { OnErr result (self.new ≡ broken self.old) }
     {
-        agenda::order_keeps_filters::<Owner, Option<Call>>();
-        laws::wiring_stays();
-        // What is closed with connect was built, and each of its nodes stands in the order once.
-        laws::connect_follows_build();
-        trees::path_order_is_in_order();
-        // All sequences that live were started in it, as it runs.
-        laws::living_run();
-        laws::running_phases_end();
         self.sound = false;
         self.waiting = None;
-        let services = &self.services;
-        let beginnings = services.beginnings.as_slice();
-        self.leaving = leaving_with(self.alloc, &services.sequences, beginnings, phase)?;
-        close_after(
-            &mut self.services.wiring,
-            &self.services.tree,
-            self.alloc,
-            phase,
-        )?;
+        self.leaving = phases::end(&mut self.services, self.alloc, phase)?;
         push(&mut self.log, Entry::End(phase))?;
-        self.services.reporting.newest = None;
-        self.services.stage = Stage::After(phase);
-        self.services.agenda.clear(phase);
-        end_waits(&mut self.services.stations, phase);
-        finish_all(&mut self.services.sequences, self.leaving.as_slice());
-        end_phase(&mut self.services.arbiters, &self.services.sequences);
-        self.services.contested = None;
-        self.services.built = is_built_with(phase, self.services.built);
-        self.services.past_connect = is_past_connect_with(phase, self.services.past_connect);
         self.sound = true;
         Ok(())
     }
@@ -100,13 +65,11 @@ impl World {
         // It passes no limit, so that a wait can be added to it.
         laws::time_stays_within_its_limit();
         let _limit = self.script.time_limit();
-        laws::wiring_stays();
         self.sound = false;
         self.waiting = None;
         self.leaving.clear();
         push(&mut self.log, Entry::Time(time))?;
-        self.services.reporting.newest = None;
-        self.services.time = time;
+        phases::pass_time(&mut self.services, time);
         self.sound = true;
         Ok(())
     }
@@ -118,26 +81,13 @@ impl World {
         ensures ok { OnOk result (self.new ≡ world_after (Heard who call None acts) self.old) }
         ensures err { OnErr result (self.new ≡ broken self.old) }
     {
-        // Who is asked is there, and stands at a node: a sequence at its home.
-        laws::asked_are_there();
-        laws::homes_are_nodes();
-        laws::wiring_stays();
         self.sound = false;
         self.waiting = None;
         self.leaving.clear();
         let (place, count) = (self.log.len(), acts.len());
-        let node = who.node();
         let entry = Entry::heard(self.alloc, who.copy(), call, None, acts)?;
         push(&mut self.log, entry)?;
-        self.services.reporting.newest = None;
-        mark_call(&mut self.services.components, node);
-        self.services.answer = LastAnswer {
-            speaker: who,
-            place: Some(place),
-            count,
-            done: 0,
-            noted: false,
-        };
+        answers::hear(&mut self.services, place, who, count);
         self.sound = true;
         Ok(())
     }
@@ -156,29 +106,13 @@ impl World {
         ensures ok { OnOk result (self.new ≡ world_after (Heard who call (Some cause) acts) self.old) }
         ensures err { OnErr result (self.new ≡ broken self.old) }
     {
-        // The call is the first of the agenda, which is then taken from it.
-        laws::due_calls_go_in_order();
-        // Its owner is there, and stands at a node: a sequence at its home.
-        laws::asked_are_there();
-        laws::homes_are_nodes();
-        agenda::order_keeps_all::<Owner, Option<Call>>();
-        agenda::order_loses_first::<Owner, Option<Call>>();
-        laws::wiring_stays();
         self.sound = false;
         self.waiting = None;
         self.leaving.clear();
         let (place, count) = (self.log.len(), acts.len());
         let entry = Entry::heard(self.alloc, who.copy(), call, Some(cause), acts)?;
         push(&mut self.log, entry)?;
-        self.services.reporting.newest = None;
-        let _ = self.services.agenda.take_first();
-        self.services.answer = LastAnswer {
-            speaker: who,
-            place: Some(place),
-            count,
-            done: 0,
-            noted: false,
-        };
+        answers::hear_due(&mut self.services, place, who, count);
         self.sound = true;
         Ok(())
     }
@@ -191,24 +125,12 @@ impl World {
         ensures ok { OnOk result (self.new ≡ world_after (Locked sequencer id) self.old) }
         ensures err { OnErr result (self.new ≡ broken self.old) }
     {
-        // It is the lock that leads first, and its sequence lives.
-        laws::locks_go_in_order();
-        laws::lockers_are_there();
-        laws::phases_go_in_order();
-        laws::wiring_stays();
         self.sound = false;
         self.waiting = None;
         self.leaving.clear();
-        let (place, time) = (self.log.len(), self.services.time);
-        let who = Who::Sequence {
-            id,
-            home: sequencer,
-        };
-        tell_to(&mut self.services, who, Call::Held, time, place)?;
+        let place = self.log.len();
+        grants::lock(&mut self.services, place, sequencer, id)?;
         push(&mut self.log, Entry::Locked { sequencer, id })?;
-        let services = &mut self.services;
-        settle_at(&mut services.arbiters, &services.sequences, sequencer, id);
-        self.services.reporting.newest = None;
         self.sound = true;
         Ok(())
     }
@@ -221,25 +143,13 @@ impl World {
         ensures ok { OnOk result (IsGranted sequencer word self.old self.new) }
         ensures err { OnErr result (self.new ≡ broken self.old) }
     {
-        // It is the first whose driver can be served, and the one that is chosen lives.
-        laws::grants_go_in_order();
-        laws::chosen_are_there();
-        laws::phases_go_in_order();
-        laws::wiring_stays();
         self.sound = false;
         self.waiting = None;
         self.leaving.clear();
-        let (place, time) = (self.log.len(), self.services.time);
-        let services = &mut self.services;
-        let id = choose_at(&mut services.arbiters, &services.sequences, sequencer, word);
-        let who = Who::Sequence {
-            id,
-            home: sequencer,
-        };
-        tell_to(&mut self.services, who, Call::Grant, time, place)?;
+        let place = self.log.len();
+        let id = grants::grant(&mut self.services, place, sequencer, word)?;
         let grant = LoggedGrant::new(self.alloc, Grant { id, word })?;
         push(&mut self.log, Entry::Granted { sequencer, grant })?;
-        self.services.reporting.newest = None;
         self.sound = true;
         Ok(())
     }
@@ -252,25 +162,13 @@ impl World {
         ensures ok { OnOk result (self.new ≡ world_after (Passed fifo passage) self.old) }
         ensures err { OnErr result (self.new ≡ broken self.old) }
     {
-        // It is what is next to pass.
-        laws::passages_go_in_order();
-        // The call is due in a phase that has not ended, to a component.
-        laws::phases_go_in_order();
-        laws::waiters_are_components();
-        laws::wiring_stays();
         self.sound = false;
         self.waiting = None;
         self.leaving.clear();
         let place = self.log.len();
-        let logged = LoggedPassage::new(self.alloc, passage)?;
-        tell_passed(&mut self.services, place, &passage)?;
-        let entry = Entry::Passed {
-            fifo,
-            passage: logged,
-        };
-        push(&mut self.log, entry)?;
-        pass(&mut self.services.stations, fifo);
-        self.services.reporting.newest = None;
+        grants::pass_item(&mut self.services, place, fifo, &passage)?;
+        let passage = LoggedPassage::new(self.alloc, passage)?;
+        push(&mut self.log, Entry::Passed { fifo, passage })?;
         self.sound = true;
         Ok(())
     }
@@ -282,24 +180,12 @@ impl World {
         ensures ok { OnOk result (self.new ≡ world_after (Drained node cause) self.old) }
         ensures err { OnErr result (self.new ≡ broken self.old) }
     {
-        // It is the first event of the agenda, so that something is held back, and due now.
-        laws::drains_go_in_order();
-        agenda::order_keeps_all::<Owner, Option<Call>>();
-        // What it begins is due in a phase that has not ended.
-        laws::phases_go_in_order();
-        objections::places_stay();
-        objections::nodes_grow();
-        objections::settled_go_by_totals();
-        objections::begun_drains_are_held();
-        laws::wiring_stays();
         self.sound = false;
         self.waiting = None;
         self.leaving.clear();
         let place = self.log.len();
-        let began = self.services.objection.drained(node);
-        move_drains(&mut self.services, place, began, Some(node))?;
+        phases::end_drain(&mut self.services, place, node)?;
         push(&mut self.log, Entry::Drained { node, cause })?;
-        self.services.reporting.newest = None;
         self.sound = true;
         Ok(())
     }
@@ -312,14 +198,11 @@ impl World {
         ensures err { OnErr result (self.new ≡ broken self.old) }
     {
         laws::reports_are_few();
-        laws::wiring_stays();
         self.sound = false;
         self.waiting = None;
         self.leaving.clear();
-        let report = fatal.report(self.alloc)?;
-        report_at(&mut self.services, self.alloc, node, &report)?;
+        phases::note(&mut self.services, self.alloc, fatal, node)?;
         push(&mut self.log, Entry::Note { fatal, node })?;
-        self.services.answer.noted = true;
         self.sound = true;
         Ok(())
     }
@@ -331,13 +214,11 @@ impl World {
         ensures ok { OnOk result (self.new ≡ world_after (Over reason) self.old) }
         ensures err { OnErr result (self.new ≡ broken self.old) }
     {
-        laws::wiring_stays();
         self.sound = false;
         self.waiting = None;
         self.leaving.clear();
         push(&mut self.log, Entry::Over(reason))?;
-        self.services.reporting.newest = None;
-        self.services.stage = Stage::Ended;
+        phases::finish(&mut self.services);
         self.sound = true;
         Ok(())
     }
@@ -375,20 +256,6 @@ impl World {
             direction_of(phase),
         )
     }
-}
-
-// Whether build has ended, once a phase has.
-fn is_built_with(phase: Phase, built: bool) -> bool
-    ensures { result ≡ (ends_build (End phase) || built) }
-{
-    matches!(phase, Phase::Build) || built
-}
-
-// Whether connect has ended, once a phase has.
-fn is_past_connect_with(phase: Phase, past: bool) -> bool
-    ensures { result ≡ (ends_connect (End phase) || past) }
-{
-    matches!(phase, Phase::Connect) || past
 }
 
 // Why the run is given up, if an entry notes it.

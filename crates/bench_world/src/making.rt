@@ -29,6 +29,7 @@ use uvm_tree::{NodeId, NodeKind};
 use world_sequencer_acts::starts::begin;
 use world_services::attempts::refused_by;
 use world_services::nodes::add_child;
+use world_services::rooms::{reserve_component, reserve_sequence};
 use world_services::services::{Component, Services};
 
 /// A creation or a start that waits for its object: what it needs, the act, the sequencer of a sequence, room for the name of the
@@ -163,12 +164,8 @@ pub(crate) fn make_room(log: &mut Log, services: &mut Services, id: &Name) -> Re
     ensures tree_spare { OnOk result (IsSome (node_at services.old.tree.nodes (node_of services.old.answer.speaker)) → services.new.tree.spare ≡ Some (node_of services.old.answer.speaker)) }
     ensures components { OnOk result (vec_len services.new.components < vec_capacity services.new.components) }
 {
-    services.tree.reserve(services.answer.speaker.node())?;
-    services.objection.reserve()?;
-    services.components.reserve(1)?;
-    services.sequences.reserve()?;
-    services.beginnings.reserve(1)?;
-    services.agenda.reserve()?;
+    reserve_component(services)?;
+    reserve_sequence(services)?;
     services.reporting.reserve_id(id)?;
     log.reserve()
 }

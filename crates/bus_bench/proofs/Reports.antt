@@ -4,7 +4,7 @@ use Rattle.std.specs.Io.KnownBytes.{Keeps}
 use Rattle.std.proofs.KnownBytes.{Appends-kept, Keeps-trans}
 use Rattle.uvm_object.specs.declared.entries.Entry.{Entry}
 use Rattle.bench_run.specs.declared.endings.Ending.{Ending}
-use Rattle.bench_script.specs.declared.faults.ScriptFault.{ScriptFault}
+use Rattle.script_values.specs.declared.faults.ScriptFault.{ScriptFault}
 use Rattle.bench_script.specs.Scripts.{ScriptValue}
 use Rattle.rand_core.specs.Stream.{Stream}
 use Rattle.bench_run.specs.Running.{LeavesRun, WroteLog}
@@ -50,6 +50,7 @@ leaves_run-kept script trace history old mid new (Err ran.Memory) broke kept = r
 }
 leaves_run-kept script trace history old mid new (Err ran.LogFull) broke kept = (broke.0, broke.1, wrote_log-kept script trace old mid new history [] broke.2 kept)
 leaves_run-kept script trace history old mid new (Err ran.Output) broke kept = broke
+leaves_run-kept script trace history old mid new (Err ran.NoTest) broke kept = (broke.0, broke.1, Keeps-trans old mid new broke.2 kept)
 
 run-kept : (words : Stream) (script : ScriptValue) (trace : Bool) (old mid new : Option (List ℕ)) (result : Result Ending RunFault) → IsBusRun words script trace old mid result → Keeps mid new → IsBusRun words script trace old new result
 run-kept words script trace old mid new result left kept =

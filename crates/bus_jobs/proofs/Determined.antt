@@ -4,7 +4,7 @@ use Rattle.std.specs.Io.KnownBytes.{Keeps}
 use Rattle.rand_core.specs.Stream.{Stream}
 use Rattle.uvm_object.specs.Objects.{View}
 use Rattle.uvm_object.specs.declared.acts.Call.{Call}
-use Rattle.bench_script.specs.declared.faults.ScriptFault.{ScriptFault}
+use Rattle.script_values.specs.declared.faults.ScriptFault.{ScriptFault}
 use Rattle.bench_script.specs.Scripts.{ScriptValue}
 use Rattle.bench_run.specs.declared.endings.Ending.{Ending}
 use Rattle.bench_run.specs.declared.faults.RunFault.{RunFault}
@@ -33,26 +33,28 @@ kept : (held : List ℕ) (new : Option (List ℕ)) → Keeps (Some held) new →
 kept held None keeps = absurd keeps
 kept held (Some bytes) keeps = ap Some keeps
 
--- the verdict on a run
+-- the verdict on a run that is over, or whose log is full
 verdict_of : Result Ending RunFault → Verdict
 verdict_of (Ok ending) = if is_clean ending then Clean else Faulty
-verdict_of (Err fault) = Broken (breakage_of fault)
+verdict_of (Err fault) = Broken LogFull
 
 -- what became of a run: the script was refused, or it ended
 data Came (asked : Result ScriptValue ScriptFault) (words : Stream) (trace : Bool) (held : List ℕ) (new : Option (List ℕ)) (verdict : Verdict) : Type 0 where
   WasRefused : (fault : ScriptFault) → asked ≡ Err fault → new ≡ Some held → verdict ≡ Refused fault → Came asked words trace held new verdict
   Ran : (script : ScriptValue) → asked ≡ Ok script → (result : Result Ending RunFault) → has_ended result → IsBusRun words script trace (Some held) new result → verdict ≡ verdict_of result → Came asked words trace held new verdict
 
-full-fault : (fault : RunFault) → LogFull ≡ breakage_of fault → fault ≡ ran.LogFull
+full-fault : (fault : RunFault) → Some LogFull ≡ breakage_of fault → fault ≡ ran.LogFull
 full-fault ran.Memory is = cc
 full-fault ran.LogFull is = refl
 full-fault ran.Output is = cc
+full-fault ran.NoTest is = cc
 
 full-came : (asked : Result ScriptValue ScriptFault) (words : Stream) (trace : Bool) (held : List ℕ) (new : Option (List ℕ)) (script : ScriptValue) (fault : RunFault)
     → asked ≡ Ok script → fault ≡ ran.LogFull → IsBusRun words script trace (Some held) new (Err fault) → Came asked words trace held new (Broken LogFull)
 unfolding verdict_of
 full-came asked words trace held new script ran.Memory is bad run = cc
 full-came asked words trace held new script ran.Output is bad run = cc
+full-came asked words trace held new script ran.NoTest is bad run = cc
 full-came asked words trace held new script ran.LogFull is full run = Ran script is (Err ran.LogFull) tt run refl
 
 came-of : (asked : Result ScriptValue ScriptFault) (words : Stream) (trace : Bool) (held : List ℕ) (new : Option (List ℕ)) (verdict : Verdict) → IsBenchRun asked words trace (Some held) new verdict → IsDecided verdict → Came asked words trace held new verdict

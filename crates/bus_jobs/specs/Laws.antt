@@ -1,7 +1,7 @@
 -- What holds of all runs of the bench.
 use Rattle.std.specs.Prelude.{◌≡◌, ℕ, Bool, List, Option, Some, Result}
 use Rattle.rand_core.specs.Stream.{Stream}
-use Rattle.bench_script.specs.declared.faults.ScriptFault.{ScriptFault}
+use Rattle.script_values.specs.declared.faults.ScriptFault.{ScriptFault}
 use Rattle.bench_script.specs.Scripts.{ScriptValue}
 use Rattle.bus_jobs.specs.Runs.{IsBenchRun}
 use Rattle.bus_jobs.specs.declared.verdicts.Breakage.TheVariants.{Memory, LogFull, Output, Unread}

@@ -7,9 +7,9 @@ use Rattle.rand_core.specs.Steps.{stream_of, steps_u64_low}
 use Rattle.rand_pcg.specs.Pcg.{pcg64, pcg64_of_seed}
 use Rattle.bus_objects.specs.Objects.{name_of, object_named, says_of, view_of}
 use Rattle.bus_objects.specs.declared.objects.BusObject.{BusObject}
-use Rattle.bench_script.specs.declared.faults.ScriptFault.{ScriptFault}
-use Rattle.bench_script.specs.declared.faults.ScriptFault.TheVariants as faults
-use Rattle.bench_script.specs.Reading.{and_then}
+use Rattle.script_values.specs.declared.faults.ScriptFault.{ScriptFault}
+use Rattle.script_values.specs.declared.faults.ScriptFault.TheVariants as faults
+use Rattle.script_values.specs.Reading.{and_then}
 use Rattle.bench_script.specs.Documents.{script_of_bytes, test_among}
 use Rattle.bench_script.specs.Scripts.{ScriptValue}
 use Rattle.bench_run.specs.Endings.{is_clean}
@@ -53,4 +53,4 @@ IsBenchRun asked words trace old new Faulty = (script : ScriptValue) × (asked �
 IsBenchRun asked words trace old new (Refused fault) = (asked ≡ Err fault) × (fault ≢ faults.Memory) × Keeps old new
 IsBenchRun asked words trace old new (Broken breakage) =
     ((breakage ≡ Memory) × Keeps old new)
-    ⊎ ((script : ScriptValue) × (asked ≡ Ok script) × (fault : RunFault) × (breakage ≡ breakage_of fault) × IsBusRun words script trace old new (Err fault))
+    ⊎ ((script : ScriptValue) × (asked ≡ Ok script) × (fault : RunFault) × (Some breakage ≡ breakage_of fault) × IsBusRun words script trace old new (Err fault))

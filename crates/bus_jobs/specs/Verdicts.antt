@@ -1,7 +1,7 @@
 -- How a run of the program ends.
-use Rattle.std.specs.Prelude.{◌≡◌, ◌≢◌, ◌⊎◌, ℕ, List, [], ◌∷◌, ◌++◌, Option, codes}
+use Rattle.std.specs.Prelude.{◌≡◌, ◌≢◌, ◌⊎◌, ℕ, List, [], ◌∷◌, ◌++◌, Option, Some, None, codes}
 use Rattle.std.specs.Io.KnownBytes.{Consumes}
-use Rattle.bench_script.specs.FaultTexts.{fault_text}
+use Rattle.script_values.specs.FaultTexts.{fault_text}
 use Rattle.bench_run.specs.declared.faults.RunFault.{RunFault}
 use Rattle.bench_run.specs.declared.faults.RunFault.TheVariants as run
 use Rattle.bus_jobs.specs.declared.verdicts.Breakage.{Breakage}
@@ -16,11 +16,12 @@ status_of Faulty = 1
 status_of (Refused fault) = 2
 status_of (Broken breakage) = 3
 
--- the breakage of a run that broke off
-abbrev pub breakage_of : RunFault → Breakage
-breakage_of run.Memory = Memory
-breakage_of run.LogFull = LogFull
-breakage_of run.Output = Output
+-- the breakage of a run that broke off; without a test there is no run
+abbrev pub breakage_of : RunFault → Option Breakage
+breakage_of run.Memory = Some Memory
+breakage_of run.LogFull = Some LogFull
+breakage_of run.Output = Some Output
+breakage_of run.NoTest = None
 
 -- what is written to standard error in place of each breakage
 abbrev pub message_of : Breakage → List ℕ

@@ -42,7 +42,7 @@ pub fn run_bench<S: Sink>(
             let mut words = Pcg64::seed_from_u64(seed);
             match run_objects(alloc, script, &mut words, trace, out) {
                 Ok(ending) => verdict_on(&ending),
-                Err(fault) => Verdict::Broken(Breakage::from(fault)),
+                Err(fault) => Verdict::Broken(Breakage::of(fault)),
             }
         }
         Err(ScriptFault::Memory) => Verdict::Broken(Breakage::Memory),
@@ -91,6 +91,7 @@ fn run_objects<R: Rng, S: Sink>(
     ensures run { IsBusRun (R.stream words.old) script trace (S.contents out.old) (S.contents out.new) result }
     ensures texts { TookTexts script (S.taken out.old) (S.taken out.new) result }
     ensures output { result ≡ Err RunFault.Output → S.refuses out.old }
+    ensures tested { IfErr result (λ fault. fault ≢ RunFault.NoTest) }
 {
     run_script(
         alloc,

@@ -1,5 +1,5 @@
 //! How a run of the program ends.
-ghost use Rattle.std.specs.Prelude.{◌≡◌, OnOk};
+ghost use Rattle.std.specs.Prelude.{◌≡◌, ◌≢◌, OnOk, Some};
 ghost use Rattle.std.specs.Io.KnownBytes.{Appends, Keeps};
 ghost use Rattle.bus_jobs.specs.Verdicts.{breakage_of, fault_line, message_of, status_of};
 ghost use Rattle.bus_jobs.specs.declared.verdicts.Verdict.TheVariants.{Broken as broken};
@@ -37,6 +37,19 @@ pub enum Breakage {
 }
 
 impl Breakage {
+    /// What broke off a run that had a test.
+    pub fn of(fault: RunFault) -> Breakage
+        requires { fault ≢ RunFault.NoTest }
+        ensures { Some result ≡ breakage_of fault }
+    {
+        match fault {
+            RunFault::Memory => Breakage::Memory,
+            RunFault::LogFull => Breakage::LogFull,
+            RunFault::Output => Breakage::Output,
+            RunFault::NoTest => unreachable!(),
+        }
+    }
+
     /// Tells what broke off, in a few words.
     pub fn message(self) -> &'static str
         ensures { result.now ≡ message_of self }
@@ -55,18 +68,6 @@ impl From<AllocError> for Verdict {
 
     fn from(_error: AllocError) -> Verdict {
         Verdict::Broken(Breakage::Memory)
-    }
-}
-
-impl From<RunFault> for Breakage {
-    ghost from_gives = { λ fault breakage. breakage ≡ breakage_of fault };
-
-    fn from(fault: RunFault) -> Breakage {
-        match fault {
-            RunFault::Memory => Breakage::Memory,
-            RunFault::LogFull => Breakage::LogFull,
-            RunFault::Output => Breakage::Output,
-        }
     }
 }
 

@@ -11,7 +11,7 @@ use Rattle.uvm_object.specs.declared.acts.Call.TheVariants.{Phase, Config}
 use Rattle.uvm_object.specs.declared.acts.Act.{Act}
 use Rattle.uvm_object.specs.declared.acts.Act.TheVariants.{Create, Add, Get}
 use Rattle.bus_objects.specs.declared.bus_agent.BusAgent.{BusAgent}
-use Rattle.bus_objects.specs.Acts.{connect_act}
+use Rattle.uvm_object.specs.Answers.{connecting}
 
 -- it shows nothing of itself
 abbrev pub bus_agent_view : BusAgent → View
@@ -35,7 +35,7 @@ agent_parts mode = Add (codes "sqr") (Sequencer mode) ∷ Create (codes "bus_dri
 abbrev pub bus_agent_acts : Call → List Act
 bus_agent_acts (Phase phase.Build) = Get (codes "arb") ∷ []
 bus_agent_acts (Config field value) = agent_parts (mode_of value)
-bus_agent_acts (Phase phase.Connect) = connect_act (codes "drv.sqp") (codes "sqr") ∷ connect_act (codes "drv.ap") (codes "mon.bus") ∷ []
+bus_agent_acts (Phase phase.Connect) = connecting (codes "drv.sqp") (codes "sqr") ∷ connecting (codes "drv.ap") (codes "mon.bus") ∷ []
 bus_agent_acts call = []
 
 abbrev pub BusAgentSays : View → Call → List Act → View → Type 0

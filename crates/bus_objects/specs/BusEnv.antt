@@ -8,7 +8,7 @@ use Rattle.uvm_object.specs.declared.acts.Call.TheVariants.{Phase}
 use Rattle.uvm_object.specs.declared.acts.Act.{Act}
 use Rattle.uvm_object.specs.declared.acts.Act.TheVariants.{Create, Add}
 use Rattle.bus_objects.specs.declared.bus_env.BusEnv.{BusEnv}
-use Rattle.bus_objects.specs.Acts.{connect_act}
+use Rattle.uvm_object.specs.Answers.{connecting}
 
 -- it shows nothing of itself
 abbrev pub bus_env_view : BusEnv → View
@@ -27,11 +27,11 @@ parts =
 -- to connect the driver and the memory to the FIFOs, and the monitor to the scoreboard
 abbrev pub connections : List Act
 connections =
-    connect_act (codes "agent.drv.req") (codes "reqf")
-    ∷ connect_act (codes "agent.drv.rsp") (codes "rspf")
-    ∷ connect_act (codes "mem.req") (codes "reqf")
-    ∷ connect_act (codes "mem.rsp") (codes "rspf")
-    ∷ connect_act (codes "agent.mon.ap") (codes "sb.seen")
+    connecting (codes "agent.drv.req") (codes "reqf")
+    ∷ connecting (codes "agent.drv.rsp") (codes "rspf")
+    ∷ connecting (codes "mem.req") (codes "reqf")
+    ∷ connecting (codes "mem.rsp") (codes "rspf")
+    ∷ connecting (codes "agent.mon.ap") (codes "sb.seen")
     ∷ []
 
 abbrev pub bus_env_acts : Call → List Act

@@ -1,4 +1,3 @@
-pub mod Acts
 pub mod BusAgent
 pub mod BusDriver
 pub mod BusEnv

@@ -3,11 +3,9 @@
 ghost use Rattle.std.specs.Prelude.{◌≡◌};
 ghost use Rattle.bus_objects.specs.BusAgent.{mode_of};
 
-use crate::acts::{connect_act, create_act};
-use crate::texts::name_of;
 use std::alloc::{AllocError, Global};
 use uvm_glob::Name;
-use uvm_object::{Act, Acts, Call, UvmObject, What};
+use uvm_object::{Acts, Call, UvmObject};
 use uvm_phase::Phase;
 use uvm_sequencer::Mode;
 
@@ -51,25 +49,18 @@ impl UvmObject for BusAgent {
         &self.type_name
     }
 
-    #[tactic(auto, unfolding(uvm_glob::specs::Names::name_fault, uvm_glob::specs::Paths::path_fault))]
     fn hear(&mut self, alloc: Global, call: &Call) -> Result<Acts, AllocError> {
         let mut acts = Acts::new(alloc);
         match call {
-            Call::Phase(Phase::Build) => acts.push(Act::Get {
-                field: name_of(b"arb"),
-            })?,
+            Call::Phase(Phase::Build) => acts.get_config("arb")?,
             Call::Config { value, .. } => {
-                let mode = mode_of(*value);
-                acts.push(Act::Add {
-                    name: name_of(b"sqr"),
-                    what: What::Sequencer { mode },
-                })?;
-                acts.push(create_act(b"bus_driver", b"drv"))?;
-                acts.push(create_act(b"bus_monitor", b"mon"))?;
+                acts.sequencer("sqr", mode_of(*value))?;
+                acts.create("bus_driver", "drv")?;
+                acts.create("bus_monitor", "mon")?;
             }
             Call::Phase(Phase::Connect) => {
-                acts.push(connect_act(alloc, b"drv.sqp", b"sqr")?)?;
-                acts.push(connect_act(alloc, b"drv.ap", b"mon.bus")?)?;
+                acts.connect("drv.sqp", "sqr")?;
+                acts.connect("drv.ap", "mon.bus")?;
             }
             _ => (),
         }

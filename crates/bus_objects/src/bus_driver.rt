@@ -3,10 +3,9 @@
 ghost use Rattle.std.specs.Prelude.{◌≡◌};
 
 use crate::driver::driver_acts;
-use crate::texts::name_of;
 use std::alloc::{AllocError, Global};
 use uvm_glob::Name;
-use uvm_object::{Act, Acts, Call, UvmObject};
+use uvm_object::{Acts, Call, UvmObject};
 
 /// A driver of the bus (IEEE 1800.2-2020, Clause 15). It adds the seq port `sqp`, the put port `req`, the get port `rsp` and the analysis
 /// port `ap` when it builds. In run it asks for an item through `sqp`. An item that comes it puts through `req`, and when that is
@@ -47,7 +46,6 @@ impl UvmObject for BusDriver {
         &self.type_name
     }
 
-    #[tactic(auto, unfolding(uvm_glob::specs::Names::name_fault))]
     fn hear(&mut self, alloc: Global, call: &Call) -> Result<Acts, AllocError> {
         let mut acts = driver_acts(alloc, call)?;
         if let Call::NextItem {
@@ -55,10 +53,7 @@ impl UvmObject for BusDriver {
             ..
         } = call
         {
-            acts.push(Act::Put {
-                port: name_of(b"req"),
-                item: *item,
-            })?;
+            acts.put("req", *item)?;
         }
         Ok(acts)
     }

@@ -2,11 +2,9 @@
 
 ghost use Rattle.std.specs.Prelude.{◌≡◌};
 
-use crate::acts::{connect_act, create_act};
-use crate::texts::name_of;
 use std::alloc::{AllocError, Global};
 use uvm_glob::Name;
-use uvm_object::{Act, Acts, Call, UvmObject, What};
+use uvm_object::{Acts, Call, UvmObject};
 use uvm_phase::Phase;
 
 /// The environment of the bus bench. It creates a `bus_agent` as `agent`, a `bus_mem` as `mem` and a `bus_scoreboard` as `sb` when it
@@ -48,29 +46,22 @@ impl UvmObject for BusEnv {
         &self.type_name
     }
 
-    #[tactic(auto, unfolding(uvm_glob::specs::Names::name_fault, uvm_glob::specs::Paths::path_fault))]
     fn hear(&mut self, alloc: Global, call: &Call) -> Result<Acts, AllocError> {
         let mut acts = Acts::new(alloc);
         match call {
             Call::Phase(Phase::Build) => {
-                acts.push(create_act(b"bus_agent", b"agent"))?;
-                acts.push(create_act(b"bus_mem", b"mem"))?;
-                acts.push(create_act(b"bus_scoreboard", b"sb"))?;
-                acts.push(Act::Add {
-                    name: name_of(b"reqf"),
-                    what: What::Fifo { size: 1 },
-                })?;
-                acts.push(Act::Add {
-                    name: name_of(b"rspf"),
-                    what: What::Fifo { size: 1 },
-                })?;
+                acts.create("bus_agent", "agent")?;
+                acts.create("bus_mem", "mem")?;
+                acts.create("bus_scoreboard", "sb")?;
+                acts.fifo("reqf", 1)?;
+                acts.fifo("rspf", 1)?;
             }
             Call::Phase(Phase::Connect) => {
-                acts.push(connect_act(alloc, b"agent.drv.req", b"reqf")?)?;
-                acts.push(connect_act(alloc, b"agent.drv.rsp", b"rspf")?)?;
-                acts.push(connect_act(alloc, b"mem.req", b"reqf")?)?;
-                acts.push(connect_act(alloc, b"mem.rsp", b"rspf")?)?;
-                acts.push(connect_act(alloc, b"agent.mon.ap", b"sb.seen")?)?;
+                acts.connect("agent.drv.req", "reqf")?;
+                acts.connect("agent.drv.rsp", "rspf")?;
+                acts.connect("mem.req", "reqf")?;
+                acts.connect("mem.rsp", "rspf")?;
+                acts.connect("agent.mon.ap", "sb.seen")?;
             }
             _ => (),
         }

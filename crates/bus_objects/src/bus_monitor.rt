@@ -1,16 +1,14 @@
 //! The object `bus_monitor`.
 
-ghost use Rattle.std.specs.Prelude.{◌≡◌, IfOk};
-ghost use Rattle.bus_objects.specs.BusMonitor.{report_act, write_act};
+ghost use Rattle.std.specs.Prelude.{◌≡◌};
 
 use crate::items::transfer_text;
-use crate::texts::name_of;
 use std::alloc::{AllocError, Global};
 use uvm_glob::Name;
-use uvm_object::{Act, Acts, Call, UvmObject, What};
+use uvm_object::{Acts, Call, UvmObject};
 use uvm_phase::Phase;
-use uvm_report::{Report, Severity, verbosity};
-use uvm_tlm::{Item, PortKind};
+use uvm_report::verbosity;
+use uvm_tlm::PortKind;
 
 /// A monitor of the bus (IEEE 1800.2-2020, Clause 12). It adds the imp `bus` and the analysis port `ap` when it builds. Each item that is
 /// written to it it reports (Clause 6), as an INFO of medium verbosity with the id MON and the text `write A D` or `read A D`, and
@@ -50,54 +48,19 @@ impl UvmObject for BusMonitor {
         &self.type_name
     }
 
-    #[tactic(auto, unfolding(uvm_glob::specs::Names::name_fault))]
     fn hear(&mut self, alloc: Global, call: &Call) -> Result<Acts, AllocError> {
         let mut acts = Acts::new(alloc);
         match call {
             Call::Phase(Phase::Build) => {
-                acts.push(Act::Add {
-                    name: name_of(b"bus"),
-                    what: What::Imp,
-                })?;
-                acts.push(Act::Add {
-                    name: name_of(b"ap"),
-                    what: What::Port {
-                        kind: PortKind::Analysis,
-                    },
-                })?;
+                acts.imp("bus")?;
+                acts.port("ap", PortKind::Analysis)?;
             }
             Call::Written { item, .. } => {
-                acts.push(report_act(alloc, item)?)?;
-                acts.push(write_act(item))?;
+                acts.info("MON", transfer_text(alloc, item)?, verbosity::MEDIUM)?;
+                acts.write("ap", *item)?;
             }
             _ => (),
         }
         Ok(acts)
-    }
-}
-
-// To report an item.
-#[tactic(auto, unfolding(uvm_glob::specs::Names::name_fault))]
-fn report_act(alloc: Global, item: &Item) -> Result<Act, AllocError>
-    ensures { IfOk result (λ act. act ≡ report_act item.now) }
-{
-    Ok(Act::Report {
-        report: Report {
-            severity: Severity::Info,
-            id: name_of(b"MON"),
-            text: transfer_text(alloc, item)?,
-            verbosity: verbosity::MEDIUM,
-        },
-    })
-}
-
-// To write an item on.
-#[tactic(auto, unfolding(uvm_glob::specs::Names::name_fault))]
-fn write_act(item: &Item) -> Act
-    ensures { result ≡ write_act item.now }
-{
-    Act::Write {
-        port: name_of(b"ap"),
-        item: *item,
     }
 }

@@ -1,16 +1,15 @@
 //! The object `bus_scoreboard`.
 
 ghost use Rattle.std.specs.Prelude.{◌≡◌, IfOk, OnOk, OnErr};
-ghost use Rattle.bus_objects.specs.BusScoreboard.{bus_scoreboard_acts, is_bad, mismatch_text, new_score, one_more, score_act, score_after, score_text, score_with};
+ghost use Rattle.bus_objects.specs.BusScoreboard.{bus_scoreboard_acts, is_bad, mismatch_text, new_score, one_more, score_after, score_text, score_with};
 
 use crate::items::{address_of, data_of, is_write};
-use crate::texts::{name_of, text_of};
 use crate::words::WordMap;
 use std::alloc::{AllocError, Global};
 use uvm_glob::Name;
-use uvm_object::{Act, Acts, Call, UvmObject, What};
+use uvm_object::{Acts, Call, UvmObject};
 use uvm_phase::Phase;
-use uvm_report::{Report, Severity, Text, verbosity};
+use uvm_report::{Text, verbosity};
 use uvm_tlm::Item;
 
 /// A scoreboard of the bus (IEEE 1800.2-2020, Clause 12). It adds the imp `seen` when it builds. Of the items that are written to it it
@@ -87,24 +86,16 @@ impl Score {
     }
 
     // The acts that answer a call.
-    #[tactic(auto, unfolding(uvm_glob::specs::Names::name_fault))]
     fn acts(&self, alloc: Global, call: &Call) -> Result<Acts, AllocError>
         ensures { IfOk result (λ acts. acts ≡ bus_scoreboard_acts self.now call.now) }
     {
         let mut acts = Acts::new(alloc);
         match call {
-            Call::Phase(Phase::Build) => acts.push(Act::Add {
-                name: name_of(b"seen"),
-                what: What::Imp,
-            })?,
+            Call::Phase(Phase::Build) => acts.imp("seen")?,
             Call::Written { item, .. } if self.is_bad(item) => {
-                let text = self.mismatch_text(alloc, item)?;
-                acts.push(report_act(Severity::Error, text, verbosity::NONE))?;
+                acts.error("SB", self.mismatch_text(alloc, item)?)?;
             }
-            Call::Phase(Phase::Report) => {
-                let text = self.text(alloc)?;
-                acts.push(report_act(Severity::Info, text, verbosity::MEDIUM))?;
-            }
+            Call::Phase(Phase::Report) => acts.info("SB", self.text(alloc)?, verbosity::MEDIUM)?,
             _ => (),
         }
         Ok(acts)
@@ -150,7 +141,7 @@ impl Score {
         let datum = data_of(item);
         let word = self.words.at(address);
         let text = format!(in alloc; "read {address} gave {datum} not {word}")?;
-        text_of(alloc, text.as_bytes())
+        Text::lossy(alloc, text.as_str())
     }
 
     // What is told of both counts.
@@ -160,7 +151,7 @@ impl Score {
         let seen = self.seen;
         let bad = self.bad;
         let text = format!(in alloc; "{seen} seen {bad} bad")?;
-        text_of(alloc, text.as_bytes())
+        Text::lossy(alloc, text.as_str())
     }
 }
 
@@ -169,19 +160,4 @@ fn one_more(count: u64) -> u64
     ensures { result ≡ one_more count }
 {
     count.saturating_add(1).min(Score::MOST)
-}
-
-// To report something with the id SB.
-#[tactic(auto, unfolding(uvm_glob::specs::Names::name_fault))]
-fn report_act(severity: Severity, text: Text, verbosity: u16) -> Act
-    ensures { result ≡ score_act severity text verbosity }
-{
-    Act::Report {
-        report: Report {
-            severity,
-            id: name_of(b"SB"),
-            text,
-            verbosity,
-        },
-    }
 }

@@ -2,11 +2,9 @@
 
 ghost use Rattle.std.specs.Prelude.{◌≡◌};
 
-use crate::acts::create_act;
-use crate::texts::{name_of, path_of};
 use std::alloc::{AllocError, Global};
 use uvm_glob::Name;
-use uvm_object::{Act, Acts, Call, UvmObject};
+use uvm_object::{Acts, Call, UvmObject};
 use uvm_phase::Phase;
 
 /// The test of the bus bench. It creates a `bus_env` as `env` when it builds. In run it raises an objection and starts a `seq_smoke` as
@@ -47,21 +45,15 @@ impl UvmObject for BusTest {
         &self.type_name
     }
 
-    #[tactic(auto, unfolding(uvm_glob::specs::Names::name_fault, uvm_glob::specs::Paths::path_fault))]
     fn hear(&mut self, alloc: Global, call: &Call) -> Result<Acts, AllocError> {
         let mut acts = Acts::new(alloc);
         match call {
-            Call::Phase(Phase::Build) => acts.push(create_act(b"bus_env", b"env"))?,
+            Call::Phase(Phase::Build) => acts.create("bus_env", "env")?,
             Call::Phase(Phase::Run) => {
-                acts.push(Act::RaiseObjection { count: 1 })?;
-                acts.push(Act::Start {
-                    type_name: name_of(b"seq_smoke"),
-                    name: name_of(b"seq"),
-                    on: path_of(alloc, b"env.agent.sqr")?,
-                    priority: None,
-                })?;
+                acts.raise_objection(1)?;
+                acts.start("seq_smoke", "seq", "env.agent.sqr", None)?;
             }
-            Call::Finished { .. } => acts.push(Act::DropObjection { count: 1 })?,
+            Call::Finished { .. } => acts.drop_objection(1)?,
             _ => (),
         }
         Ok(acts)

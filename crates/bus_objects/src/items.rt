@@ -3,7 +3,6 @@
 ghost use Rattle.std.specs.Prelude.{◌≡◌, IfOk};
 ghost use Rattle.bus_objects.specs.Items.{address_of, data_of, is_write, operation_text, transfer_text, with_data};
 
-use crate::texts::text_of;
 use std::alloc::{AllocError, Global};
 use uvm_report::Text;
 use uvm_tlm::Item;
@@ -47,7 +46,7 @@ pub(crate) fn transfer_text(alloc: Global, item: &Item) -> Result<Text, AllocErr
     let address = address_of(item);
     let datum = data_of(item);
     let text = format!(in alloc; "{operation} {address} {datum}")?;
-    text_of(alloc, text.as_bytes())
+    Text::lossy(alloc, text.as_str())
 }
 
 fn operation_text(item: &Item) -> &'static str

@@ -1,7 +1,6 @@
 //! The objects of the bus bench: each in a file of its own, with what it says in a file of `specs/`.
 #![tactic(auto)]
 
-mod acts;
 mod bus_agent;
 mod bus_driver;
 mod bus_env;
@@ -24,7 +23,6 @@ mod seq_smoke;
 mod sleeper;
 mod slow_driver;
 mod spinner;
-mod texts;
 mod words;
 
 pub use bus_agent::BusAgent;

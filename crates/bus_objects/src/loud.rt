@@ -1,14 +1,12 @@
 //! The object `loud`.
 
-ghost use Rattle.std.specs.Prelude.{◌≡◌, None, IfOk};
-ghost use Rattle.uvm_report.specs.Texts.{text_fault};
-ghost use Rattle.bus_objects.specs.Loud.{error_act};
+ghost use Rattle.std.specs.Prelude.{◌≡◌};
 
 use std::alloc::{AllocError, Global};
 use uvm_glob::Name;
-use uvm_object::{Act, Acts, Call, UvmObject};
+use uvm_object::{Acts, Call, UvmObject};
 use uvm_phase::Phase;
-use uvm_report::{Report, Severity, Text, verbosity};
+use uvm_report::Text;
 
 /// Reports three errors when it builds, and answers each other call with no acts. It shows nothing of itself.
 #[derive(Drop)]
@@ -46,36 +44,13 @@ impl UvmObject for Loud {
         &self.type_name
     }
 
-    #[tactic(auto, unfolding(uvm_report::specs::Texts::text_fault))]
     fn hear(&mut self, alloc: Global, call: &Call) -> Result<Acts, AllocError> {
         let mut acts = Acts::new(alloc);
         if let Call::Phase(Phase::Build) = call {
-            acts.push(error_act(alloc, b"one")?)?;
-            acts.push(error_act(alloc, b"two")?)?;
-            acts.push(error_act(alloc, b"three")?)?;
+            acts.error("E", Text::literal(alloc, "one")?)?;
+            acts.error("E", Text::literal(alloc, "two")?)?;
+            acts.error("E", Text::literal(alloc, "three")?)?;
         }
         Ok(acts)
     }
-}
-
-// To report an error.
-#[tactic(auto, unfolding(uvm_glob::specs::Names::name_fault))]
-fn error_act(alloc: Global, text: &[u8]) -> Result<Act, AllocError>
-    requires { text_fault text.now ≡ None }
-    ensures { IfOk result (λ act. act ≡ error_act text.now) }
-{
-    let Ok(id) = Name::new(b"E") else {
-        unreachable!()
-    };
-    let Ok(text) = Text::new(alloc, text) else {
-        return Err(AllocError);
-    };
-    Ok(Act::Report {
-        report: Report {
-            severity: Severity::Error,
-            id,
-            text,
-            verbosity: verbosity::NONE,
-        },
-    })
 }

@@ -3,12 +3,10 @@
 ghost use Rattle.std.specs.Prelude.{◌≡◌, IfOk, OnOk, OnErr};
 ghost use Rattle.bus_objects.specs.Memory.{MemorySays, data_read, memory_acts, memory_after, memory_view, new_memory, result_of, waits_kept};
 
-use crate::acts::port_act;
 use crate::items::{address_of, is_write, with_data};
-use crate::texts::name_of;
 use crate::words::WordMap;
 use std::alloc::{AllocError, Global};
-use uvm_object::{Act, Acts, Call};
+use uvm_object::{Acts, Call};
 use uvm_phase::Phase;
 use uvm_tlm::{Item, PortKind};
 
@@ -73,30 +71,19 @@ impl Memory {
     }
 
     // The acts that answer a call.
-    #[tactic(auto, unfolding(uvm_glob::specs::Names::name_fault))]
     fn acts(&self, alloc: Global, reading: Reading, call: &Call) -> Result<Acts, AllocError>
         ensures { IfOk result (λ acts. acts ≡ memory_acts reading self.now call.now) }
     {
         let mut acts = Acts::new(alloc);
         match call {
             Call::Phase(Phase::Build) => {
-                acts.push(port_act(b"req", PortKind::Get))?;
-                acts.push(port_act(b"rsp", PortKind::Put))?;
-                acts.push(Act::Get {
-                    field: name_of(b"waits"),
-                })?;
+                acts.port("req", PortKind::Get)?;
+                acts.port("rsp", PortKind::Put)?;
+                acts.get_config("waits")?;
             }
-            Call::Phase(Phase::Run) | Call::Stored { .. } => acts.push(Act::Take {
-                port: name_of(b"req"),
-            })?,
-            Call::Taken { .. } => acts.push(Act::Wait {
-                ticks: self.waits,
-                tag: 1,
-            })?,
-            Call::Wake { .. } => acts.push(Act::Put {
-                port: name_of(b"rsp"),
-                item: self.result(reading),
-            })?,
+            Call::Phase(Phase::Run) | Call::Stored { .. } => acts.take("req")?,
+            Call::Taken { .. } => acts.wait(self.waits, 1)?,
+            Call::Wake { .. } => acts.put("rsp", self.result(reading))?,
             _ => (),
         }
         Ok(acts)

@@ -4,7 +4,7 @@ ghost use Rattle.std.specs.Prelude.{◌≡◌};
 
 use std::alloc::{AllocError, Global};
 use uvm_glob::Name;
-use uvm_object::{Act, Acts, Call, UvmObject};
+use uvm_object::{Acts, Call, UvmObject};
 use uvm_phase::Phase;
 
 /// Under a drain time of 5 ticks it raises an objection in run and drops it after 10; it raises another 2 ticks later, before the first has
@@ -48,19 +48,19 @@ impl UvmObject for Pulse {
         let mut acts = Acts::new(alloc);
         match call {
             Call::Phase(Phase::Run) => {
-                acts.push(Act::SetDrain { ticks: 5 })?;
-                acts.push(Act::RaiseObjection { count: 1 })?;
-                acts.push(Act::Wait { ticks: 10, tag: 1 })?;
+                acts.set_drain(5)?;
+                acts.raise_objection(1)?;
+                acts.wait(10, 1)?;
             }
             Call::Wake { tag: 1 } => {
-                acts.push(Act::DropObjection { count: 1 })?;
-                acts.push(Act::Wait { ticks: 2, tag: 2 })?;
+                acts.drop_objection(1)?;
+                acts.wait(2, 2)?;
             }
             Call::Wake { tag: 2 } => {
-                acts.push(Act::RaiseObjection { count: 1 })?;
-                acts.push(Act::Wait { ticks: 8, tag: 3 })?;
+                acts.raise_objection(1)?;
+                acts.wait(8, 3)?;
             }
-            Call::Wake { tag: 3 } => acts.push(Act::DropObjection { count: 1 })?,
+            Call::Wake { tag: 3 } => acts.drop_objection(1)?,
             _ => (),
         }
         Ok(acts)

@@ -61,21 +61,21 @@ impl UvmObject for SeqBurst {
     fn hear(&mut self, alloc: Global, call: &Call) -> Result<Acts, AllocError> {
         let mut acts = Acts::new(alloc);
         match call {
-            Call::PreStart | Call::PostStart => acts.push(Act::EndStep)?,
+            Call::PreStart | Call::PostStart => acts.end_step()?,
             Call::Body => acts.push(Act::Lock)?,
-            Call::Held => acts.push(Act::Request { priority: None })?,
+            Call::Held => acts.request(None)?,
             Call::Grant => {
                 if let Some(item) = ITEMS.get(self.sent) {
-                    acts.push(Act::Send { item: *item })?;
+                    acts.send(*item)?;
                     self.sent += 1;
                 }
             }
             Call::ItemDone { .. } => {
                 if self.sent < ITEMS.len() {
-                    acts.push(Act::Request { priority: None })?;
+                    acts.request(None)?;
                 } else {
                     acts.push(Act::Unlock)?;
-                    acts.push(Act::EndStep)?;
+                    acts.end_step()?;
                 }
             }
             _ => (),

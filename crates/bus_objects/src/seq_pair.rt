@@ -2,10 +2,9 @@
 
 ghost use Rattle.std.specs.Prelude.{◌≡◌};
 
-use crate::texts::name_of;
 use std::alloc::{AllocError, Global};
-use uvm_glob::{Name, Path};
-use uvm_object::{Act, Acts, Call, UvmObject};
+use uvm_glob::Name;
+use uvm_object::{Acts, Call, UvmObject};
 
 // How many sequences it starts.
 const CHILDREN: u8 = 2;
@@ -51,28 +50,17 @@ impl UvmObject for SeqPair {
         &self.type_name
     }
 
-    #[tactic(auto, unfolding(uvm_glob::specs::Names::name_fault))]
     fn hear(&mut self, alloc: Global, call: &Call) -> Result<Acts, AllocError> {
         let mut acts = Acts::new(alloc);
         match call {
-            Call::PreStart | Call::PostStart => acts.push(Act::EndStep)?,
+            Call::PreStart | Call::PostStart => acts.end_step()?,
             Call::Body => {
-                acts.push(Act::Start {
-                    type_name: name_of(b"seq_smoke"),
-                    name: name_of(b"a"),
-                    on: Path::top(alloc),
-                    priority: None,
-                })?;
-                acts.push(Act::Start {
-                    type_name: name_of(b"seq_burst"),
-                    name: name_of(b"b"),
-                    on: Path::top(alloc),
-                    priority: Some(200),
-                })?;
+                acts.start("seq_smoke", "a", "", None)?;
+                acts.start("seq_burst", "b", "", Some(200))?;
             }
             Call::Finished { .. } if self.finished < CHILDREN => {
                 if self.finished + 1 == CHILDREN {
-                    acts.push(Act::EndStep)?;
+                    acts.end_step()?;
                 }
                 self.finished += 1;
             }

@@ -4,7 +4,7 @@ ghost use Rattle.std.specs.Prelude.{◌≡◌};
 
 use std::alloc::{AllocError, Global};
 use uvm_glob::Name;
-use uvm_object::{Act, Acts, Call, UvmObject};
+use uvm_object::{Acts, Call, UvmObject};
 use uvm_tlm::Item;
 
 // It writes a word and reads it back.
@@ -55,19 +55,19 @@ impl UvmObject for SeqSmoke {
     fn hear(&mut self, alloc: Global, call: &Call) -> Result<Acts, AllocError> {
         let mut acts = Acts::new(alloc);
         match call {
-            Call::PreStart | Call::PostStart => acts.push(Act::EndStep)?,
-            Call::Body => acts.push(Act::Request { priority: None })?,
+            Call::PreStart | Call::PostStart => acts.end_step()?,
+            Call::Body => acts.request(None)?,
             Call::Grant => {
                 if let Some(item) = ITEMS.get(self.sent) {
-                    acts.push(Act::Send { item: *item })?;
+                    acts.send(*item)?;
                     self.sent += 1;
                 }
             }
             Call::ItemDone { .. } => {
                 if self.sent < ITEMS.len() {
-                    acts.push(Act::Request { priority: None })?;
+                    acts.request(None)?;
                 } else {
-                    acts.push(Act::EndStep)?;
+                    acts.end_step()?;
                 }
             }
             _ => (),

@@ -1,11 +1,11 @@
 //! The object `sleeper`.
 
-ghost use Rattle.std.specs.Prelude.{◌≡◌, IfOk};
-ghost use Rattle.bus_objects.specs.Sleeper.{shown, ticks_kept, at_act};
+ghost use Rattle.std.specs.Prelude.{◌≡◌};
+ghost use Rattle.bus_objects.specs.Sleeper.{shown, ticks_kept};
 
 use std::alloc::{AllocError, Global};
 use uvm_glob::Name;
-use uvm_object::{Act, Acts, Call, UvmObject};
+use uvm_object::{Acts, Call, UvmObject};
 use uvm_phase::Phase;
 
 /// Asks for the field `at` when it builds, and keeps its value, which is 0 where there is none. In run it raises an objection, and where the
@@ -52,30 +52,19 @@ impl UvmObject for Sleeper {
     fn hear(&mut self, alloc: Global, call: &Call) -> Result<Acts, AllocError> {
         let mut acts = Acts::new(alloc);
         match call {
-            Call::Phase(Phase::Build) => acts.push(at_act())?,
+            Call::Phase(Phase::Build) => acts.get_config("at")?,
             Call::Phase(Phase::Run) => {
-                acts.push(Act::RaiseObjection { count: 1 })?;
+                acts.raise_objection(1)?;
                 if let Some(ticks) = self.ticks {
-                    acts.push(Act::Wait { ticks, tag: 1 })?;
+                    acts.wait(ticks, 1)?;
                 }
             }
             Call::Config { value, .. } => self.ticks = ticks_kept(*value),
-            Call::Wake { .. } => acts.push(Act::DropObjection { count: 1 })?,
+            Call::Wake { .. } => acts.drop_objection(1)?,
             _ => (),
         }
         Ok(acts)
     }
-}
-
-// To ask for the field `at`.
-#[tactic(auto, unfolding(uvm_glob::specs::Names::name_fault))]
-fn at_act() -> Act
-    ensures { result ≡ at_act }
-{
-    let Ok(field) = Name::new(b"at") else {
-        unreachable!()
-    };
-    Act::Get { field }
 }
 
 // The ticks for a value, unless it is negative.

@@ -3,10 +3,9 @@
 ghost use Rattle.std.specs.Prelude.{◌≡◌};
 
 use crate::driver::driver_acts;
-use crate::texts::name_of;
 use std::alloc::{AllocError, Global};
 use uvm_glob::Name;
-use uvm_object::{Act, Acts, Call, UvmObject};
+use uvm_object::{Acts, Call, UvmObject};
 use uvm_tlm::Item;
 
 /// As `BusDriver`, but it keeps an item that comes, waits for 3 ticks, and puts it when it wakes. A new one keeps an item of zeros. It
@@ -49,7 +48,6 @@ impl UvmObject for SlowDriver {
         &self.type_name
     }
 
-    #[tactic(auto, unfolding(uvm_glob::specs::Names::name_fault))]
     fn hear(&mut self, alloc: Global, call: &Call) -> Result<Acts, AllocError> {
         let mut acts = driver_acts(alloc, call)?;
         match call {
@@ -57,13 +55,10 @@ impl UvmObject for SlowDriver {
                 item: Some(item),
                 ..
             } => {
-                acts.push(Act::Wait { ticks: 3, tag: 1 })?;
+                acts.wait(3, 1)?;
                 self.item = *item;
             }
-            Call::Wake { .. } => acts.push(Act::Put {
-                port: name_of(b"req"),
-                item: self.item,
-            })?,
+            Call::Wake { .. } => acts.put("req", self.item)?,
             _ => (),
         }
         Ok(acts)

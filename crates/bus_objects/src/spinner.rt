@@ -4,7 +4,7 @@ ghost use Rattle.std.specs.Prelude.{◌≡◌};
 
 use std::alloc::{AllocError, Global};
 use uvm_glob::Name;
-use uvm_object::{Act, Acts, Call, UvmObject};
+use uvm_object::{Acts, Call, UvmObject};
 use uvm_phase::Phase;
 
 /// Waits for no ticks in run, and again whenever that is over: time never passes. Answers each other call with no acts, and shows
@@ -47,8 +47,8 @@ impl UvmObject for Spinner {
     fn hear(&mut self, alloc: Global, call: &Call) -> Result<Acts, AllocError> {
         let mut acts = Acts::new(alloc);
         match call {
-            Call::Phase(Phase::Run) => acts.push(Act::Wait { ticks: 0, tag: 1 })?,
-            Call::Wake { .. } => acts.push(Act::Wait { ticks: 0, tag: 1 })?,
+            Call::Phase(Phase::Run) => acts.wait(0, 1)?,
+            Call::Wake { .. } => acts.wait(0, 1)?,
             _ => (),
         }
         Ok(acts)

@@ -7,7 +7,7 @@ use Rattle.rand_core.specs.Stream.{Stream}
 use Rattle.uvm_object.specs.Objects.{View}
 use Rattle.uvm_object.specs.declared.acts.Call.{Call}
 use Rattle.bench_script.specs.Documents.{tree_of_bytes}
-use Rattle.bench_script.specs.declared.faults.ScriptFault.{ScriptFault}
+use Rattle.script_values.specs.declared.faults.ScriptFault.{ScriptFault}
 use Rattle.bench_script.specs.Scripts.{ScriptValue}
 use Rattle.bench_run.specs.declared.endings.Ending.{Ending}
 use Rattle.bench_run.specs.declared.faults.RunFault.{RunFault}
@@ -53,10 +53,10 @@ same-types tell (Some answers) types others holds also =
     let same : also.0 ≡ holds.0 = cc in
     tell holds.0 types others holds.2 (subst (λ table. AreTypesOf table others) same also.2)
 
--- the verdict on a run
+-- the verdict on a run that is over, or whose log is full
 verdict_of : Result Ending RunFault → Verdict
 verdict_of (Ok ending) = if is_clean ending then Clean else Faulty
-verdict_of (Err fault) = Broken (breakage_of fault)
+verdict_of (Err fault) = Broken LogFull
 
 -- what became of the tree of a document: it was refused, or its script ran over its answers
 data OfTree (root : Members) (test : Option (List ℕ)) (words : Stream) (trace : Bool) (held : List ℕ) (new : Option (List ℕ)) (verdict : Verdict) : Type 0 where
@@ -71,16 +71,18 @@ data Came (bytes : List ℕ) (test : Option (List ℕ)) (words : Stream) (trace 
   NoTree : (fault : ScriptFault) → tree_of_bytes bytes ≡ Err fault → new ≡ Some held → verdict ≡ Refused (Script fault) → Came bytes test words trace held new verdict
   OfRoot : (root : Members) → tree_of_bytes bytes ≡ Ok root → OfTree root test words trace held new verdict → Came bytes test words trace held new verdict
 
-full-fault : (fault : RunFault) → LogFull ≡ breakage_of fault → fault ≡ ran.LogFull
+full-fault : (fault : RunFault) → Some LogFull ≡ breakage_of fault → fault ≡ ran.LogFull
 full-fault ran.Memory is = cc
 full-fault ran.LogFull is = refl
 full-fault ran.Output is = cc
+full-fault ran.NoTest is = cc
 
 broke-came : (root : Members) (test : Option (List ℕ)) (words : Stream) (trace : Bool) (held : List ℕ) (new : Option (List ℕ)) (fault : RunFault)
     → fault ≡ ran.LogFull → RanTo root test words trace (Some held) new (Err fault) → OfTree root test words trace held new (Broken LogFull)
 unfolding verdict_of
 broke-came root test words trace held new ran.Memory bad run = cc
 broke-came root test words trace held new ran.Output bad run = cc
+broke-came root test words trace held new ran.NoTest bad run = cc
 broke-came root test words trace held new ran.LogFull full run = Ran (Err ran.LogFull) tt run refl
 
 tree-came : (root : Members) (test : Option (List ℕ)) (words : Stream) (trace : Bool) (held : List ℕ) (new : Option (List ℕ)) (verdict : Verdict) → IsTreeRun root test words trace (Some held) new verdict → IsDecided verdict

@@ -4,9 +4,9 @@ use Rattle.std.specs.List.{list_any}
 use Rattle.std.specs.Io.KnownBytes.{Keeps}
 use Rattle.toml.specs.Data.{Data, Members, as_table, get_member}
 use Rattle.rand_core.specs.Stream.{Stream}
-use Rattle.bench_script.specs.declared.faults.ScriptFault.{ScriptFault}
-use Rattle.bench_script.specs.declared.faults.ScriptFault.TheVariants as faults
-use Rattle.bench_script.specs.Reading.{and_then}
+use Rattle.script_values.specs.declared.faults.ScriptFault.{ScriptFault}
+use Rattle.script_values.specs.declared.faults.ScriptFault.TheVariants as faults
+use Rattle.script_values.specs.Reading.{and_then}
 use Rattle.bench_script.specs.Documents.{script_beside, tree_of_bytes}
 use Rattle.bench_script.specs.Scripts.{ScriptValue}
 use Rattle.uvm_factory.specs.Faults.{Types}
@@ -101,7 +101,7 @@ IsTreeRun root test words trace old new Faulty = (ending : Ending) × (is_clean 
 IsTreeRun root test words trace old new (Refused (Script fault)) = (script_to_run root test ≡ Err fault) × (fault ≢ faults.Memory) × Keeps old new
 IsTreeRun root test words trace old new (Refused refusal) = IsRefused root test old new (Refused refusal)
 IsTreeRun root test words trace old new (Broken breakage) =
-    ((breakage ≡ broke.Memory) × Keeps old new) ⊎ ((fault : RunFault) × (breakage ≡ breakage_of fault) × RanTo root test words trace old new (Err fault))
+    ((breakage ≡ broke.Memory) × Keeps old new) ⊎ ((fault : RunFault) × (Some breakage ≡ breakage_of fault) × RanTo root test words trace old new (Err fault))
 
 -- the verdict on a script's fault
 abbrev pub refused_by : ScriptFault → Verdict

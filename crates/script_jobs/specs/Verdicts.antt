@@ -1,6 +1,6 @@
 -- How a run of a document ends, and what is told of it.
 use Rattle.std.specs.Prelude.{ℕ, List, [], ◌∷◌, ◌++◌, codes, string_bytes}
-use Rattle.bench_script.specs.FaultTexts.{fault_text}
+use Rattle.script_values.specs.FaultTexts.{fault_text}
 use Rattle.bus_jobs.specs.Verdicts.{message_of}
 use Rattle.script_jobs.specs.declared.verdicts.Refusal.{Refusal}
 use Rattle.script_jobs.specs.declared.verdicts.Refusal.TheVariants.{Script, NoTable, UnknownType, Answers}

@@ -83,7 +83,7 @@ fn run_tree<S: Sink>(
     let mut words = Pcg64::seed_from_u64(seed);
     match run_objects(alloc, script, &answers, &mut words, trace, out) {
         Ok(ending) => verdict_on(&ending),
-        Err(fault) => Verdict::Broken(Breakage::from(fault)),
+        Err(fault) => Verdict::Broken(Breakage::of(fault)),
     }
 }
 
@@ -128,6 +128,7 @@ fn run_objects<R: Rng, S: Sink>(
     ensures run { IsScriptRun answers.now (R.stream words.old) script trace (S.contents out.old) (S.contents out.new) result }
     ensures texts { TookTexts script (S.taken out.old) (S.taken out.new) result }
     ensures output { result ≡ Err RunFault.Output → S.refuses out.old }
+    ensures tested { IfErr result (λ fault. fault ≢ RunFault.NoTest) }
 {
     run_script(
         alloc,

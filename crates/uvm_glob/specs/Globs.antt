@@ -1,5 +1,5 @@
 -- Which texts a glob matches.
-use Rattle.std.specs.Prelude.{◌≡◌, ◌≢◌, ℕ, Bool, true, false, not, ◌&&◌, ◌==◌, List, [], ◌∷◌, ◌++◌, length, nat_le, nat_lt, Option, if◌then◌else◌, MatchBool}
+use Rattle.std.specs.Prelude.{◌≡◌, ◌≢◌, ℕ, Bool, true, false, not, ◌&&◌, ◌==◌, List, [], ◌∷◌, ◌++◌, length, nat_le, nat_lt, Option, is_none, if◌then◌else◌, MatchBool}
 use Rattle.std.specs.List.{list_any, list_all}
 use Rattle.uvm_glob.specs.declared.faults.PathFault.{PathFault}
 use Rattle.uvm_glob.specs.Limits.{most_text_bytes}
@@ -44,10 +44,14 @@ matches (c ∷ rest) text =
 abbrev pub is_glob_byte : ℕ → Bool
 is_glob_byte b = nat_le 33 b && nat_le b 126 && not (b == 47)
 
+-- the faults that a text may have as a glob, in their order
+abbrev pub glob_faults : List ℕ → List (Option PathFault)
+glob_faults text = fault_if (nat_lt most_text_bytes (length text)) TooLong ∷ fault_if (not (list_all is_glob_byte text)) BadByte ∷ []
+
 -- the first fault of a text as a glob
 unfoldable pub glob_fault : List ℕ → Option PathFault
-glob_fault text =
-    first_given (
-    fault_if (nat_lt most_text_bytes (length text)) TooLong
-    ∷ fault_if (not (list_all is_glob_byte text)) BadByte
-    ∷ [])
+glob_fault text = first_given (glob_faults text)
+
+-- the text is a glob, as a test that computes: so a literal is shown to be one by itself
+abbrev pub is_glob : List ℕ → Bool
+is_glob text = is_none (first_given (glob_faults text))

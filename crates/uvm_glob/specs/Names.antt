@@ -1,5 +1,5 @@
 -- Which texts are names.
-use Rattle.std.specs.Prelude.{ℕ, Bool, not, ◌&&◌, ◌||◌, ◌==◌, List, [], ◌∷◌, length, nat_le, nat_lt, Option}
+use Rattle.std.specs.Prelude.{ℕ, Bool, not, ◌&&◌, ◌||◌, ◌==◌, List, [], ◌∷◌, length, nat_le, nat_lt, Option, is_none}
 use Rattle.std.specs.List.{list_all}
 use Rattle.uvm_glob.specs.declared.faults.PathFault.{PathFault}
 use Rattle.uvm_glob.specs.Limits.{most_name_bytes}
@@ -15,11 +15,18 @@ is_separator_or_wildcard b = b == 42 || b == 43 || b == 46 || b == 47 || b == 63
 abbrev pub is_name_byte : ℕ → Bool
 is_name_byte b = nat_le 33 b && nat_le b 126 && not (is_separator_or_wildcard b)
 
--- the first fault of a text as a name
-unfoldable pub name_fault : List ℕ → Option PathFault
-name_fault text =
-    first_given (
+-- the faults that a text may have as a name, in their order
+abbrev pub name_faults : List ℕ → List (Option PathFault)
+name_faults text =
     fault_if (length text == 0) Empty
     ∷ fault_if (nat_lt most_name_bytes (length text)) TooLong
     ∷ fault_if (not (list_all is_name_byte text)) BadByte
-    ∷ [])
+    ∷ []
+
+-- the first fault of a text as a name
+unfoldable pub name_fault : List ℕ → Option PathFault
+name_fault text = first_given (name_faults text)
+
+-- the text is a name, as a test that computes: so a literal is shown to be one by itself
+abbrev pub is_name : List ℕ → Bool
+is_name text = is_none (first_given (name_faults text))

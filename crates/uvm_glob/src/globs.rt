@@ -3,7 +3,7 @@
 ghost use Rattle.std.specs.Prelude.{◌≡◌, ◌↔◌, IsTrue, IfOk, IfErr, None};
 ghost use Rattle.std.specs.List.{list_all};
 ghost use Rattle.uvm_glob.specs.Faults.{refusal};
-ghost use Rattle.uvm_glob.specs.Globs.{Matches, matches, glob_fault, is_glob_byte};
+ghost use Rattle.uvm_glob.specs.Globs.{Matches, matches, glob_fault, is_glob, is_glob_byte};
 ghost use Rattle.uvm_glob.specs.Paths.{dotted, path_text};
 
 use crate::faults::PathFault;
@@ -48,6 +48,20 @@ impl Glob {
             None => Ok(Glob {
                 text: Vec::from_slice(alloc, text)?,
             }),
+        }
+    }
+
+    /// The glob that a literal spells. It is shown to have no fault where the call stands; the error is want of memory.
+    #[tactic(auto, using(crate::proofs::Literals::glob_sound))]
+    pub fn literal(alloc: Global, text: &str) -> Result<Glob, AllocError>
+        requires { IsTrue (is_glob text.now) }
+        ensures { IfOk result (λ glob. glob ≡ text.now) }
+    {
+        match Glob::new(alloc, text.as_bytes()) {
+            Ok(glob) => Ok(glob),
+            Err(PathFault::Memory) => Err(AllocError),
+            Err(PathFault::Empty | PathFault::TooLong | PathFault::BadByte | PathFault::TooDeep) =>
+                { unreachable!("{text} is no glob") }
         }
     }
 

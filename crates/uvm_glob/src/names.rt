@@ -1,6 +1,6 @@
 //! Names of components, types and fields.
 
-ghost use Rattle.std.specs.Prelude.{◌≡◌, ◌≤◌, ◌-◌, ◌++◌, length, replicate, None, IfNone, nat_eq, refl};
+ghost use Rattle.std.specs.Prelude.{◌≡◌, ◌≤◌, ◌-◌, ◌++◌, length, replicate, None, IfNone, IsTrue, nat_eq, refl};
 ghost use Rattle.std.specs.List.{list_all};
 ghost use Rattle.std.specs.Cmp.{partial_equiv_from_equiv};
 ghost use Rattle.std.specs.Cmp.Lexicographic.{pointwise, slice_cmp, nat_list_eq_equiv, nat_list_cmp_total, texts_po, texts_ties};
@@ -10,7 +10,7 @@ ghost use Rattle.std.specs.Ordering.{nat_cmp, as_partial_cmp};
 ghost use Rattle.std.proofs.Common.{rules};
 ghost use Rattle.uvm_glob.specs.Faults.{unless};
 ghost use Rattle.uvm_glob.specs.Limits.{most_name_bytes};
-ghost use Rattle.uvm_glob.specs.Names.{name_fault, is_name_byte};
+ghost use Rattle.uvm_glob.specs.Names.{name_fault, is_name, is_name_byte};
 
 use crate::faults::PathFault;
 use crate::texts::as_text;
@@ -64,6 +64,18 @@ impl Name {
                 bytes: padded(bytes),
             }),
         }
+    }
+
+    /// The name that a literal spells. It is shown to have no fault where the call stands, and no fault comes when it runs.
+    #[tactic(auto, using(crate::proofs::Literals::name_sound))]
+    pub fn literal(text: &str) -> Name
+        requires { IsTrue (is_name text.now) }
+        ensures { result ≡ text.now }
+    {
+        let Ok(name) = Name::new(text.as_bytes()) else {
+            unreachable!("{text} is no name")
+        };
+        name
     }
 
     /// The bytes of the name.

@@ -1,6 +1,6 @@
 //! Paths of names.
 
-ghost use Rattle.std.specs.Prelude.{count_by, ◌≡◌, ◌+◌, ◌≤◌, [], ◌∷◌, ◌++◌, length, None, IfOk, IfErr, OnOk, OnErr, nat_lt, nat_eq, ◌==◌, refl, true};
+ghost use Rattle.std.specs.Prelude.{count_by, ◌≡◌, ◌+◌, ◌≤◌, [], ◌∷◌, ◌++◌, length, None, IfOk, IfErr, OnOk, OnErr, nat_lt, nat_eq, ◌==◌, refl, true, IsTrue};
 ghost use Rattle.std.specs.Cmp.{partial_equiv_from_equiv, po};
 ghost use Rattle.std.specs.Cmp.Lexicographic.{pointwise, slice_cmp, lists_equiv, lists_total, lists_ties, nat_list_eq_equiv, nat_list_cmp_total, texts_ties};
 ghost use Rattle.std.specs.List.{list_any, list_all};
@@ -10,7 +10,7 @@ ghost use Rattle.uvm_glob.specs.Globs.{is_glob_byte};
 ghost use Rattle.uvm_glob.specs.Limits.{most_name_bytes, most_names, most_text_bytes};
 ghost use Rattle.uvm_glob.specs.Names.{is_name_byte};
 ghost use Rattle.uvm_glob.specs.Orders.{down_cmp, up_cmp, order_of};
-ghost use Rattle.uvm_glob.specs.Paths.{path_text, path_fault, between_dots, names_of, dotted, size_fault};
+ghost use Rattle.uvm_glob.specs.Paths.{path_text, path_fault, is_path, between_dots, names_of, dotted, size_fault};
 
 use crate::faults::PathFault;
 use crate::names::{Name, are_name_bytes};
@@ -69,6 +69,24 @@ impl Path {
             None => Ok(Path {
                 text: Vec::from_slice(alloc, text)?,
             }),
+        }
+    }
+
+    /// The path that a literal spells, the top's where it is empty. It is shown to have no fault where the call stands; the error
+    /// is want of memory.
+    #[tactic(auto, using(crate::proofs::Literals::path_sound))]
+    pub fn literal(alloc: Global, text: &str) -> Result<Path, AllocError>
+        requires { IsTrue (is_path text.now) }
+        ensures { IfOk result (λ path. path ≡ names_of text.now) }
+    {
+        if text.is_empty() {
+            return Ok(Path::top(alloc));
+        }
+        match Path::parse(alloc, text.as_bytes()) {
+            Ok(path) => Ok(path),
+            Err(PathFault::Memory) => Err(AllocError),
+            Err(PathFault::Empty | PathFault::TooLong | PathFault::BadByte | PathFault::TooDeep) =>
+                { unreachable!("{text} is no path") }
         }
     }
 

@@ -1,4 +1,5 @@
 pub mod Acts
+pub mod Answers
 pub mod Copies
 pub mod Fatals
 pub mod Logs

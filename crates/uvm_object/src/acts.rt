@@ -512,7 +512,7 @@ enum Deeds {
 /// The acts of one answer, in order. Contracts see the list of them.
 #[derive(Drop)]
 pub struct Acts {
-    alloc: Global,
+    pub(crate) alloc: Global,
     deeds: Deeds,
 }
 

@@ -2,6 +2,7 @@
 #![tactic(auto)]
 
 mod acts;
+mod answers;
 mod entries;
 mod fatals;
 mod logs;
@@ -14,4 +15,4 @@ pub use entries::{
 };
 pub use fatals::Fatal;
 pub use logs::{Log, LogFault};
-pub use objects::UvmObject;
+pub use objects::{Answers, Object, UvmObject};

@@ -50,3 +50,53 @@ impl UvmObject for Box<dyn UvmObject> {
         self.as_mut().hear(alloc, call)
     }
 }
+
+/// What answers the calls to an object, of whichever type: `Object` makes an object of it. What it means is written as that of an
+/// object is, in a `view` and a relation `says`. Where they are left out it shows nothing and its relation always holds: then its
+/// answers are recorded, and nothing else is known of them.
+pub trait Answers: Drop {
+    ghost use Rattle.std.specs.Prelude.{[], ⊤};
+
+    ghost view: { Self → List ℕ } = { λ _. [] };
+
+    ghost says: { Self → List ℕ → Call → List Act → List ℕ → Type 0 } = { λ _ _ _ _ _. ⊤ };
+
+    /// Answers a call. The error is want of memory: its view is unknown then. Its relation stays, whatever it answers.
+    fn answer(&mut self, alloc: Global, call: &Call) -> Result<Acts, AllocError>
+        ensures same_says { SameSays (says self.new) (says self.old) }
+        ensures said { IfOk result (λ acts. says self.old (view self.old) call.now acts (view self.new)) };
+}
+
+/// An object of the type of a name, which shows and answers what its part does.
+#[derive(Drop)]
+pub struct Object<T> {
+    /// The name of its type.
+    pub type_name: Name,
+    /// What answers.
+    pub part: T,
+}
+
+impl<T> Object<T> {
+    /// An object of the type of this name.
+    pub fn new(type_name: Name, part: T) -> Object<T>
+        ensures { result ≡ record { type_name = type_name; part = part } }
+    {
+        Object { type_name, part }
+    }
+}
+
+impl<T: Answers> UvmObject for Object<T> {
+    ghost view = { λ object. T.view object.part };
+
+    ghost name = { λ object. object.type_name };
+
+    ghost says = { λ object. T.says object.part };
+
+    fn type_name(&self) -> &Name {
+        &self.type_name
+    }
+
+    fn hear(&mut self, alloc: Global, call: &Call) -> Result<Acts, AllocError> {
+        self.part.answer(alloc, call)
+    }
+}

@@ -1,6 +1,7 @@
 pub mod Given
 pub mod Counted
 pub mod Judged
+pub mod Literals
 pub mod OneMore
 pub mod Ids
 pub mod Commanded

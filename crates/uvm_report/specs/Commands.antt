@@ -1,7 +1,6 @@
 -- What some commands to reports come to, the newest command first.
-use Rattle.std.specs.Prelude.{ℕ, Bool, true, false, ◌||◌, List, [], ◌∷◌, ◌++◌, length, Option, Some, None, nat_eq, filter, map, unwrap_or, if◌then◌else◌}
+use Rattle.std.specs.Prelude.{ℕ, Bool, true, false, List, [], ◌∷◌, ◌++◌, length, Option, Some, None, nat_eq, filter, map, unwrap_or, if◌then◌else◌}
 use Rattle.std.specs.List.{filter_map, cons_option, list_any}
-use Rattle.std.specs.Option.{option_map_or}
 use Rattle.std.specs.Cmp.Lexicographic.{pointwise}
 use Rattle.uvm_glob.specs.Paths.{path_text}
 use Rattle.uvm_glob.specs.Lists.{newest}

@@ -1,5 +1,5 @@
 -- Which texts a report may have.
-use Rattle.std.specs.Prelude.{ℕ, Bool, not, ◌&&◌, List, length, nat_le, nat_lt, Option, Some, None, codes, if◌then◌else◌}
+use Rattle.std.specs.Prelude.{ℕ, Bool, not, ◌&&◌, List, length, nat_le, nat_lt, map, take, Option, Some, None, codes, if◌then◌else◌}
 use Rattle.std.specs.List.{list_all}
 use Rattle.uvm_report.specs.declared.faults.TextFault.{TextFault}
 use Rattle.uvm_report.specs.declared.faults.TextFault.TheVariants.{TooLong, BadByte, Memory}
@@ -14,6 +14,18 @@ text_fault bytes =
     if nat_lt 200 (length bytes) then Some TooLong
     else if not (list_all is_text_byte bytes) then Some BadByte
     else None
+
+-- the bytes are a text, as a test that computes: so a literal is shown to be one by itself
+abbrev pub is_text : List ℕ → Bool
+is_text bytes = not (nat_lt 200 (length bytes)) && list_all is_text_byte bytes
+
+-- a byte as a text shows it: for one that may not stand there a question mark (63)
+abbrev pub byte_shown : ℕ → ℕ
+byte_shown b = if is_text_byte b then b else 63
+
+-- the text that comes nearest to some bytes: the first 200, each as a text shows it
+abbrev pub lossy : List ℕ → List ℕ
+lossy bytes = map byte_shown (take 200 bytes)
 
 -- what a fault says of the bytes: want of memory says that nothing is wrong with them
 abbrev pub refusal : TextFault → Option TextFault

@@ -1,8 +1,8 @@
 //! The texts of reports.
 
-ghost use Rattle.std.specs.Prelude.{◌≡◌, None, Some, IfSome, IfOk, IfErr};
+ghost use Rattle.std.specs.Prelude.{◌≡◌, None, Some, IfSome, IfOk, IfErr, IsTrue};
 ghost use Rattle.std.specs.List.{list_all};
-ghost use Rattle.uvm_report.specs.Texts.{is_text_byte, text_fault, refusal};
+ghost use Rattle.uvm_report.specs.Texts.{byte_shown, is_text, is_text_byte, lossy, text_fault, refusal};
 
 use crate::faults::TextFault;
 use std::alloc::{AllocError, Global};
@@ -40,6 +40,29 @@ impl Text {
                 bytes: Vec::from_slice(alloc, bytes)?,
             }),
         }
+    }
+
+    /// The text that a literal spells. It is shown to have no fault where the call stands; the error is want of memory.
+    #[tactic(auto, using(crate::proofs::Literals::text_sound))]
+    pub fn literal(alloc: Global, text: &str) -> Result<Text, AllocError>
+        requires { IsTrue (is_text text.now) }
+        ensures { IfOk result (λ literal. literal ≡ text.now) }
+    {
+        match Text::new(alloc, text.as_bytes()) {
+            Ok(text) => Ok(text),
+            Err(TextFault::Memory) => Err(AllocError),
+            Err(TextFault::TooLong | TextFault::BadByte) => unreachable!("{text} is no text"),
+        }
+    }
+
+    /// The text that comes nearest to another: its first `MAX_LEN` bytes, with a question mark for each that may not stand in a
+    /// text. So it has a place for whatever `format!` writes. The error is want of memory.
+    pub fn lossy(alloc: Global, text: &str) -> Result<Text, AllocError>
+        ensures nearest { IfOk result (λ nearest. nearest ≡ lossy text.now) }
+        ensures same { text_fault text.now ≡ None → IfOk result (λ nearest. nearest ≡ text.now) }
+    {
+        let bytes = bytes_shown(alloc, text.as_bytes())?;
+        Ok(Text { bytes })
     }
 
     /// The bytes of the text.
@@ -80,6 +103,21 @@ fn are_text_bytes(bytes: &[u8]) -> bool
     ensures { result ≡ list_all is_text_byte bytes.now }
 {
     bytes.iter().all(|b| is_text_byte(*b))
+}
+
+// The first bytes, as a text shows them.
+fn bytes_shown(alloc: Global, bytes: &[u8]) -> Result<Vec<u8>, AllocError>
+    ensures { IfOk result (λ shown. shown.items ≡ lossy bytes.now) }
+{
+    let first = bytes.iter().take(Text::MAX_LEN);
+    first.map(|b| byte_shown(*b)).collect(alloc)
+}
+
+// The byte as a text shows it.
+fn byte_shown(b: u8) -> u8
+    ensures { result ≡ byte_shown b }
+{
+    if is_text_byte(b) { b } else { b'?' }
 }
 
 // Whether the byte may stand in a text.

@@ -2,4 +2,5 @@
 #![tactic(auto)]
 
 pub mod passages;
+pub mod performing;
 pub mod writes;

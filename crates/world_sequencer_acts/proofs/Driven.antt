@@ -61,7 +61,8 @@ use Rattle.world_sequencers.proofs.Arbited.{alike-is, arbitrated-driver, arbitra
 use Rattle.world_sequencers.proofs.Contested.{arbitrating-one, none-locked, none-served, sequencer-is}
 use Rattle.world_services.proofs.Later.{acted}
 use Rattle.world_services.proofs.Passages.{closed-same, port-known}
-use Rattle.world_sequencer_acts.proofs.Seated.{itself, item-told, kept-there, placed}
+use Rattle.world_sequencer_acts.proofs.Seated.{item-told, kept-there, placed}
+use Rattle.world_services.proofs.Known.{itself}
 use Rattle.world_agenda.proofs.Told.{runs}
 use Rattle.uvm_sequencer.specs.declared.drivers.Asked.TheVariants as asked
 use Rattle.uvm_sequencer.specs.declared.drivers.How.TheVariants as how

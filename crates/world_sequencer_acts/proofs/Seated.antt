@@ -14,7 +14,7 @@ use Rattle.uvm_sequencer.specs.declared.drivers.How.{How}
 use Rattle.uvm_sequencer.specs.Drivers.{grant_of, sent}
 use Rattle.uvm_sequencer.specs.Queues.{item_request, lock_request}
 use Rattle.uvm_sequencer.specs.Sequences.{numbered}
-use Rattle.uvm_sequencer.specs.Sequencers.{SequencerValue, after_send, unlocked, with_grab, with_item, with_lock}
+use Rattle.uvm_sequencer.specs.Sequencers.{after_send, unlocked, with_grab, with_item, with_lock}
 use Rattle.uvm_tlm.specs.declared.items.Item.{Item}
 use Rattle.uvm_object.specs.Acts.{node_of}
 use Rattle.uvm_object.specs.declared.acts.Who.{Who}
@@ -49,15 +49,13 @@ use Rattle.world_services.specs.Attempts.{IsAttempt, IsRefusing, IsScene, TakesI
 use Rattle.world_services.specs.Services.{ServicesMatch}
 use Rattle.world_sequencers.proofs.Arbited.{arbitrated-before, arbitrated-behind, arbitrated-driver, arbitrated-more, arbitrated-unlocked, arbiter-changed, asked-before, asked-behind, unlocked-is}
 use Rattle.world_wiring.proofs.Connected.{permutation-contains, range-contains}
-use Rattle.world_sequencers.proofs.Contested.{arbitrating-one, none-locked, none-served, sequencer-is}
+use Rattle.world_sequencers.proofs.Contested.{arbitrating-one, none-locked, none-served}
+use Rattle.world_services.proofs.Known.{itself, said}
 use Rattle.world_services.proofs.Later.{acted}
 use Rattle.world_sequences.proofs.Numbered.{numbered-holds}
 use Rattle.uvm_sequencer.specs.declared.drivers.How.TheVariants as how
 use Rattle.uvm_object.specs.declared.acts.Who.TheVariants as who
 use Rattle.uvm_object.specs.declared.acts.Call.TheVariants as call
-
-pub itself : (n : ℕ) → (n == n) ≡ true
-itself n = grind (arith, nat_tests)
 
 -- each node below the top stands in the path order
 pub ordered : (nodes : List Node) (n : ℕ) → AreInPathOrder nodes (path_order nodes) → 0 < n → n < length nodes → Contains (path_order nodes) n
@@ -172,15 +170,6 @@ module _ {script : ScriptValue} {history : List Entry} {act : Act} {place : ℕ}
         (kept-there home seat.there (ledger_at (Did (who.Sequence id home) Done (Send item) ∷ history)) more (at_sequencer (after_send id way)) (λ n is. rw is refl)
         (rw (itself home, granted) (arbiter-changed live live l (record l { driver = sent id way }) (at_sequencer (after_send id way)) refl (λ mode. refl)))
         (rw (itself home, granted) (arbitrated-driver one-there (sent id way) l.asker seat.moded)) changes)
-
--- what a sequencer says, as it is kept
-module _ {script : ScriptValue} {history : List Entry} {services : Services} (m : ServicesMatch script history services) (node : ℕ) where
-  pub said : {A : Type 0} (f : SequencerValue → Option A) → option_and_then (λ a. f a.sequencer) (get nat_eq services.arbiters node) ≡ option_and_then f (sequencer_at history node)
-  said {A} f = ap (option_and_then (λ (a : ArbiterValue). f a.sequencer)) (m.arbitrating.arbiters_are.each node) ∙ sym (ap (option_and_then f) (sequencer-is history node) ∙ mapped (arbiter_of (live_by (begun_of history) (finished_of history) (ended_of history)) (ledger_at history node)))
-    where
-      mapped : (o : Option ArbiterValue) → option_and_then f (option_map (λ a. a.sequencer) o) ≡ option_and_then (λ a. f a.sequencer) o
-      mapped None = refl
-      mapped (Some a) = refl
 
 -- a request is refused for its priority, or for what the sequencer says
 pub request-out : (priority : Option ℕ) (refusal : Option Fatal) → is_none_at_all priority ≡ true → request_refusal priority refusal ≡ Some OutOfRange

@@ -1,1 +1,2 @@
 pub mod Drivings
+pub mod Kinds

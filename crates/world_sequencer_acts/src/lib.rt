@@ -2,6 +2,7 @@
 #![tactic(auto)]
 
 pub mod drivers;
+pub mod performing;
 pub mod requests;
 pub mod starts;
 pub mod steps;

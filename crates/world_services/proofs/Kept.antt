@@ -19,7 +19,6 @@ use Rattle.world_services.specs.declared.services.Services.{Services}
 use Rattle.world_fifos.specs.Passings.{AreStations, ArePassed, AreUnsettled}
 use Rattle.world_services.specs.Services.{ServicesMatch}
 use Rattle.world_fifos.specs.Stations.{AddsStation, Kept}
-use Rattle.world_fifos.proofs.Passed.{state}
 use Rattle.world_services.proofs.Passages.{added-node, added-none, added-state, added_if, both-sizes, no-station, node-sized, size-more, unsettled-none, unsettled-same, settled-all}
 
 -- what is kept of FIFOs is what a log says

@@ -1,11 +1,13 @@
 -- What the services know of sequencers is what the log says.
-use Rattle.std.proofs.Common.{◌≡◌, ℕ, nat_eq, Bool, List, length, Option, Some, None, option_map, option_and_then, refl, ap, sym, ◌∙◌}
+use Rattle.std.proofs.Common.{◌≡◌, ℕ, ◌==◌, nat_eq, Bool, true, List, length, Option, Some, None, option_map, option_and_then, refl, ap, sym, ◌∙◌, arith}
 use Rattle.std.specs.Option.{option_map_or}
 use Rattle.std.specs.HashMap.{get}
+use Rattle.std.proofs.lemmas.Bool.Decides.{nat_tests}
 use Rattle.uvm_tlm.specs.Fifos.{waiting_count}
 use Rattle.uvm_object.specs.declared.entries.Entry.{Entry}
 use Rattle.bench_script.specs.Scripts.{ScriptValue}
-use Rattle.bench_history.specs.Arbitration.{next_locked, next_served, requests_at, waiters_at}
+use Rattle.uvm_sequencer.specs.Sequencers.{SequencerValue}
+use Rattle.bench_history.specs.Arbitration.{next_locked, next_served, requests_at, sequencer_at, waiters_at}
 use Rattle.bench_history.specs.History.{ended_of}
 use Rattle.bench_history.specs.Passing.{Station, station_at}
 use Rattle.bench_history.specs.Sequences.{begun_of, finished_of}
@@ -15,6 +17,10 @@ use Rattle.world_sequencers.specs.Arbitratings.{arbiter_of, ledger_at}
 use Rattle.world_sequences.specs.Sequencings.{live_by}
 use Rattle.world_services.specs.Services.{ServicesMatch}
 use Rattle.world_sequencers.proofs.Contested.{sequencer-is, locked-first, served-first}
+
+-- a node is itself
+pub itself : (n : ℕ) → (n == n) ≡ true
+itself n = grind (arith, nat_tests)
 
 module _ {script : ScriptValue} {history : List Entry} {services : Services} (m : ServicesMatch script history services) where
   pub locked-known : option_and_then (locked_in services.sequences.started services.arbiters) services.contested ≡ next_locked history
@@ -44,3 +50,12 @@ module _ {script : ScriptValue} {history : List Entry} {services : Services} (m 
       by : (station : Option Station) → option_map (λ (station : Station). waiting_count station.fifo) station ≡ None → requests_at history n ≡ option_map_or (λ (station : Station). waiting_count station.fifo) station (requests_at history n)
       by None e = refl
       by (Some station) e = cc
+
+-- what a sequencer says, as it is kept
+module _ {script : ScriptValue} {history : List Entry} {services : Services} (m : ServicesMatch script history services) (node : ℕ) where
+  pub said : {A : Type 0} (f : SequencerValue → Option A) → option_and_then (λ a. f a.sequencer) (get nat_eq services.arbiters node) ≡ option_and_then f (sequencer_at history node)
+  said {A} f = ap (option_and_then (λ (a : ArbiterValue). f a.sequencer)) (m.arbitrating.arbiters_are.each node) ∙ sym (ap (option_and_then f) (sequencer-is history node) ∙ mapped (arbiter_of (live_by (begun_of history) (finished_of history) (ended_of history)) (ledger_at history node)))
+    where
+      mapped : (o : Option ArbiterValue) → option_and_then f (option_map (λ a. a.sequencer) o) ≡ option_and_then (λ a. f a.sequencer) o
+      mapped None = refl
+      mapped (Some a) = refl

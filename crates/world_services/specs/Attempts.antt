@@ -1,7 +1,6 @@
 -- What an act comes to.
 use Rattle.std.specs.Prelude.{◌≡◌, ℕ, ◌<◌, ◌≤◌, ◌+◌, true, false, ◌==◌, ◌||◌, ◌^◌, List, ◌∷◌, length, Option, None, All, ◌⊎◌}
 use Rattle.uvm_phase.specs.Phases.{phase_number}
-use Rattle.uvm_phase.specs.Dues.{in_order}
 use Rattle.uvm_tree.specs.Nodes.{path_at}
 use Rattle.uvm_object.specs.Acts.{node_of}
 use Rattle.uvm_object.specs.Fatals.{fatal_report}

@@ -2,7 +2,6 @@
 use Rattle.std.specs.Prelude.{◌≡◌, ◌<◌, ℕ, suc, true, false, List, length, Option, Some, None, IsSome, vec_len, vec_capacity}
 use Rattle.std.specs.Option.{ForSome}
 use Rattle.uvm_sequencer.specs.Sequences.{numbered}
-use Rattle.uvm_tree.specs.Nodes.{Node}
 use Rattle.uvm_object.specs.declared.acts.Who.{Who}
 use Rattle.uvm_object.specs.declared.acts.Act.{Act}
 use Rattle.uvm_object.specs.declared.entries.Outcome.{Outcome}

@@ -4,6 +4,7 @@
 pub mod attempts;
 pub mod creations;
 pub mod nodes;
+pub mod rooms;
 pub mod services;
 pub mod settings;
 pub mod tells;

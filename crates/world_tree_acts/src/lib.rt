@@ -7,5 +7,6 @@ pub mod connections;
 pub mod fields;
 pub mod objections;
 pub mod overrides;
+pub mod performing;
 pub mod reports;
 pub mod waits;

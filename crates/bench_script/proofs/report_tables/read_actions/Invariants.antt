@@ -1,6 +1,6 @@
 use Rattle.std.proofs.Common.{◌≡◌, drop}
 use Rattle.toml.specs.View.{table_view, items_view}
-use Rattle.bench_script.specs.Tables.{rows_from}
+use Rattle.script_values.specs.Elements.{rows_from}
 use Rattle.bench_script.specs.ReportTables.{action_row, actions_in}
 use Rattle.bench_script.proofs.report_tables.read_actions.Given as goal
 

@@ -1,7 +1,7 @@
 use Rattle.std.proofs.Common.{◌≡◌, drop, All}
 use Rattle.toml.specs.View.{table_view, items_view}
 use Rattle.bench_script.specs.Sound.{HasLevelInRange}
-use Rattle.bench_script.specs.Tables.{rows_from}
+use Rattle.script_values.specs.Elements.{rows_from}
 use Rattle.bench_script.specs.ReportTables.{verbosity_row, verbosities_in}
 use Rattle.bench_script.proofs.report_tables.read_verbosities.Given as goal
 

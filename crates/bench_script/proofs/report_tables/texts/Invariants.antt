@@ -1,7 +1,7 @@
 use Rattle.std.proofs.Common.{◌≡◌, drop, map}
 use Rattle.toml.specs.View.{view, items_view}
-use Rattle.bench_script.specs.Values.{text_in}
-use Rattle.bench_script.specs.Tables.{rows_from}
+use Rattle.script_values.specs.Values.{text_in}
+use Rattle.script_values.specs.Elements.{rows_from}
 use Rattle.bench_script.specs.ReportTables.{texts_in}
 use Rattle.bench_script.proofs.report_tables.texts.Given as goal
 

@@ -1,7 +1,8 @@
 use Rattle.std.proofs.Common.{◌≡◌, drop, All}
 use Rattle.toml.specs.View.{table_view, items_view}
 use Rattle.bench_script.specs.Sound.{CanProbe}
-use Rattle.bench_script.specs.Tables.{rows_from, probe_row, probes_in}
+use Rattle.script_values.specs.Elements.{rows_from}
+use Rattle.bench_script.specs.Tables.{probe_row, probes_in}
 use Rattle.bench_script.proofs.tables.read_probes.Given as goal
 
 -- the rows so far, and those of the elements that are left

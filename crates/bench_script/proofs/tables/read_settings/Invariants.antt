@@ -1,7 +1,8 @@
 use Rattle.std.proofs.Common.{◌≡◌, ◌≤◌, length, drop}
 use Rattle.toml.specs.View.{table_view, items_view}
 use Rattle.uvm_config.specs.Answers.{most_settings}
-use Rattle.bench_script.specs.Tables.{rows_from, setting_row, settings_in}
+use Rattle.script_values.specs.Elements.{rows_from}
+use Rattle.bench_script.specs.Tables.{setting_row, settings_in}
 use Rattle.bench_script.proofs.tables.read_settings.Given as goal
 
 -- the rows so far, and those of the elements that are left

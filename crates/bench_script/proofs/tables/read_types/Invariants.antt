@@ -1,7 +1,8 @@
 use Rattle.std.proofs.Common.{◌≡◌, ◌≤◌, length, drop}
 use Rattle.toml.specs.View.{table_view, items_view}
 use Rattle.uvm_factory.specs.Faults.{most_types}
-use Rattle.bench_script.specs.Tables.{rows_from, type_row, types_in}
+use Rattle.script_values.specs.Elements.{rows_from}
+use Rattle.bench_script.specs.Tables.{type_row, types_in}
 use Rattle.bench_script.proofs.tables.read_types.Given as goal
 
 -- the types so far, and those of the elements that are left

@@ -12,7 +12,7 @@ use Rattle.world_services.proofs.Answered.{length-snoc}
 use Rattle.world_services.proofs.Later.{acted}
 use Rattle.world_agenda.proofs.Objected.{objecting-more}
 use Rattle.world_wiring.proofs.Connected.{building-open, connecting-grown}
-use Rattle.bench_world.proofs.Turns.{turns-made}
+use Rattle.world_entries.proofs.Turns.{turns-made}
 use Rattle.uvm_tree.specs.Sorted.{path_order}
 use Rattle.bench_history.specs.Passing.{passing_at}
 use Rattle.world_fifos.specs.Passings.{AreUnsettled}

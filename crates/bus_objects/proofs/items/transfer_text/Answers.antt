@@ -15,20 +15,12 @@ uncast : (item : Item) (operation : List ℕ) (address datum : ℤ) → operatio
 unfolding transfer_text cast
 uncast item operation address datum e f g fits fits' = rw (to_z-of_z w64 address fits, to_z-of_z w64 datum fits', e, f, g)
 
-pub text_of-requires : goal.text_of-requires
-unfolding cast
-text_of-requires c =
-    let address : FitsSigned w64 c.address_of-address.result = search rules in
-    let datum : FitsSigned w64 c.data_of-datum.result = search rules in
-    let text = uncast _ _ _ _ c.operation_text-operation.ensures c.address_of-address.ensures c.data_of-datum.ensures address datum in
-    rw
-    (c.as_bytes.ensures.value ∙ c.in_ok-text.ensures.ok ∙ text)
-    (transfer_text-fits c.args.item.now (rw c.address_of-address.ensures at address) (rw c.data_of-datum.ensures at datum))
-
 pub returns : goal.returns
 unfolding cast
 returns c =
     let address : FitsSigned w64 c.address_of-address.result = search rules in
     let datum : FitsSigned w64 c.data_of-datum.result = search rules in
     let text = uncast _ _ _ _ c.operation_text-operation.ensures c.address_of-address.ensures c.data_of-datum.ensures address datum in
-    rw (c.as_bytes.ensures.value ∙ c.in_ok-text.ensures.ok ∙ text) at c.text_of.ensures
+    let is = c.as_str.ensures.value ∙ c.in_ok-text.ensures.ok ∙ text in
+    let fits = transfer_text-fits c.args.item.now (rw c.address_of-address.ensures at address) (rw c.data_of-datum.ensures at datum) in
+    rw is at (c.lossy.ensures.same (rw is fits))

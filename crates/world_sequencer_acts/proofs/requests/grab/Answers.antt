@@ -4,7 +4,8 @@ use Rattle.bench_history.specs.Refusals.{lock_refusal}
 use Rattle.bench_history.specs.Upshots.{home_sequencer, id_in}
 use Rattle.bench_history.specs.Sequences.{sequence_in}
 use Rattle.world_services.proofs.Later.{acted}
-use Rattle.world_sequencer_acts.proofs.Seated.{grab-kept, refused-all, said, seated, unchanged}
+use Rattle.world_sequencer_acts.proofs.Seated.{grab-kept, refused-all, seated, unchanged}
+use Rattle.world_services.proofs.Known.{said}
 use Rattle.world_sequencer_acts.proofs.requests.grab.Goals as goal
 
 pub returns-in-None : goal.returns-in-None

@@ -5,7 +5,8 @@ use Rattle.bench_history.specs.Upshots.{home_sequencer, id_in}
 use Rattle.bench_history.specs.Sequences.{sequence_in}
 use Rattle.uvm_object.specs.declared.fatals.Fatal.TheVariants.{OutOfRange}
 use Rattle.world_services.proofs.Later.{acted, refused-attempt}
-use Rattle.world_sequencer_acts.proofs.Seated.{request-kept, refused-all, request-in, request-out, said, seated, unchanged}
+use Rattle.world_sequencer_acts.proofs.Seated.{request-kept, refused-all, request-in, request-out, seated, unchanged}
+use Rattle.world_services.proofs.Known.{said}
 use Rattle.world_sequencer_acts.proofs.requests.request.Goals as goal
 
 pub returns-in-None : goal.returns-in-None

@@ -1,51 +1,15 @@
-use Rattle.std.proofs.Common.{◌≡◌, ◌||◌, ◌∷◌, refl, ◌∙◌, ap, rules}
-use Rattle.std.specs.List.{list_any}
-use Rattle.uvm_tlm.specs.Wirings.{is_closed}
+use Rattle.std.proofs.Common.{length, refl}
 use Rattle.uvm_object.specs.declared.entries.Entry.TheVariants.{End}
-use Rattle.bench_history.specs.Sequences.{begun_of, finished_of}
-use Rattle.bench_history.specs.Dues.{caused_of, heard_of}
-use Rattle.bench_history.specs.History.{ends_build, nodes_of, ended_of}
-use Rattle.bench_history.specs.Objections.{objections_of}
-use Rattle.bench_history.specs.Wires.{ends_connect, wiring_of}
-use Rattle.world_wiring.specs.Connectings.{IsClosedPast, IsClosing, IsConnecting}
-use Rattle.world_sequences.specs.Sequencings.{IsSequencing, enders_of, leaving_with}
-use Rattle.world_wiring.proofs.Connected.{closing-after, connecting-after, ends-ordered, past-after}
-use Rattle.world_agenda.proofs.Drained.{events-ended}
-use Rattle.world_sequences.proofs.Ending.{leaving-known, sequencing-ended}
-use Rattle.world_sequencers.proofs.Arbiting.{arbitrating-ended}
-use Rattle.world_services.proofs.Later.{later}
-use Rattle.bench_world.proofs.Going.{entered}
-use Rattle.world_services.proofs.Passages.{stations-ended, unsettled-ended}
-use Rattle.world_agenda.proofs.Told.{agenda-ended}
+use Rattle.bench_history.specs.Cases.{Exactly}
+use Rattle.bench_world.proofs.Going.{due-here, entered}
 use Rattle.bench_world.proofs.worlds.World.end.Goals as goal
 
-pub close_after-requires : goal.close_after-requires
-close_after-requires c =
+pub end-requires : goal.end-requires
+end-requires c =
     let r = rw (← c.self.view_is) at c.requires in
-    let m = c.self.invariant.1.services_match r.sound in
-    let services = c.self.inside.services in
-    let connecting : IsConnecting services.tree.nodes (wiring_of c.self.inside.log.entries) services.wiring = rw m.tree m.connecting in
-    ends-ordered {nodes = services.tree.nodes} {wiring = wiring_of c.self.inside.log.entries} {kept = services.wiring} (c.path_order_is_in_order.ensures services.tree.nodes) connecting
+    (length c.self.inside.log.entries, due-here (λ _. Exactly (End c.args.phase)) c.self.invariant r.sound r.next)
 
 pub invariant_of-self-2 : goal.invariant_of-self-2
 invariant_of-self-2 c =
     let r = rw (← c.self.view_is) at c.requires in
-    let before = c.self.inside.log.entries in
-    let nodes = c.self.inside.services.tree.nodes in
-    let wiring = c.self.inside.services.wiring in
-    let phase = c.args.phase in
-    let left : c.in_ok-self-inside.field-0.items ≡ leaving_with c.self.inside.services.sequences.steps phase c.self.inside.services.beginnings.items = rw c.as_slice-beginnings.ensures.value at c.in_ok-self-inside.ensures in
-    entered (End phase) c.self.invariant r.sound r.room (rw r.next refl) c.in_ok-push.ensures.ok c.in_ok-push.ensures.limit (left ∙ leaving-known before phase (c.self.invariant.1.services_match r.sound).sequencing) c.wiring_stays.ensures (λ m stays.
-    let built = c.is_built_with-self-inside.ensures ∙ ap (λ built. ends_build (End phase) || built) m.built in
-    let past_connect = c.is_past_connect_with-self-inside.ensures ∙ ap (λ past. ends_connect (End phase) || past) m.past_connect in
-    let agenda = agenda-ended (caused_of before) (heard_of before) (ended_of before) (finished_of before) _ _ _ phase c.order_keeps_filters.ensures m.agenda c.clear.ensures.dues in
-    let events = events-ended phase (objections_of before) (caused_of before) (heard_of before) (ended_of before) (finished_of before) m.events in
-    let connecting : IsConnecting (nodes_of before) (wiring_of before) c.close_after.new.wiring = rw (c.in_ok-close_after.ensures, m.tree) (connecting-after phase m.connecting) in
-    let closing : IsClosing c.self.inside.script (End phase ∷ before) (is_closed c.close_after.new.wiring) = rw c.in_ok-close_after.ensures (closing-after phase nodes wiring c.connect_follows_build.ensures (rw r.next refl, c.self.invariant.1.legal.each) stays m.closing) in
-    let closed_past : IsClosedPast (list_any ends_connect (End phase ∷ before)) (is_closed c.close_after.new.wiring) = rw c.in_ok-close_after.ensures (past-after before phase nodes wiring m.closed_past) in
-    let stations = stations-ended before phase {new = c.end_waits.new.stations} c.end_waits.ensures m.stations in
-    let unsettled = unsettled-ended before phase m.unsettled in
-    let sequencing : IsSequencing (begun_of before) (finished_of before) (phase ∷ ended_of before) (enders_of before) c.finish_all.new.sequences c.self.inside.services.beginnings.items = sequencing-ended phase c.finish_all.new.sequences (rw (c.as_slice.ensures.value, left) at c.finish_all.ensures) m.sequencing in
-    let live = rw (c.as_slice.ensures.value, left) at c.finish_all.ensures in
-    let arbitrating = arbitrating-ended c.self.inside.script before phase c.living_run.ensures c.self.invariant.1.legal.each (c.running_phases_end.ensures c.self.inside.script before phase r.next) c.finish_all.new.sequences.steps sequencing.living {new = c.end_phase.new.arbiters} c.end_phase.ensures m.arbitrating in
-    search (rules, later))
+    entered (λ _. Exactly (End c.args.phase)) (End c.args.phase) c.self.invariant r.sound r.room r.next refl c.in_ok-push.ensures.ok c.in_ok-push.ensures.limit (λ m. c.in_ok-self-inside.ensures.leaving c.self.inside.script c.self.inside.log.entries m) (c.in_ok-self-inside.ensures.goes_on (length c.self.inside.log.entries))

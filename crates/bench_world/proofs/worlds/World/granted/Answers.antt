@@ -1,50 +1,28 @@
-use Rattle.std.proofs.Common.{length, filter, Some, is_some, refl, rules}
-use Rattle.uvm_object.specs.declared.acts.Who.TheVariants.{Sequence}
-use Rattle.uvm_object.specs.declared.acts.Call.TheVariants as calls
-use Rattle.uvm_object.specs.declared.entries.Grant.{Grant}
+use Rattle.std.proofs.Common.{length, refl, is_some}
 use Rattle.uvm_object.specs.declared.entries.Entry.TheVariants.{Granted}
-use Rattle.bench_history.specs.declared.owners.Owner.TheVariants.{Object}
-use Rattle.bench_history.specs.Sequences.{finished_of}
-use Rattle.bench_history.specs.Dues.{caused_at, caused_of, heard_of, is_open}
-use Rattle.bench_history.specs.History.{now_of, running, stage_of, ended_of}
-use Rattle.bench_history.specs.Objections.{objections_of}
-use Rattle.world_agenda.proofs.Drained.{events-told}
-use Rattle.world_services.proofs.Opened.{there-open}
-use Rattle.bench_world.proofs.Going.{entered}
-use Rattle.world_services.proofs.Later.{later}
-use Rattle.world_agenda.proofs.Told.{agenda-event}
-use Rattle.bench_world.proofs.Granted.{chosen-known, granted-kept, served-there}
+use Rattle.uvm_object.specs.declared.entries.Grant.{Grant}
+use Rattle.bench_history.specs.Cases.{chosen_at}
+use Rattle.bench_history.specs.Cases as cases
+use Rattle.bench_world.proofs.Going.{due-here, entered}
 use Rattle.bench_world.proofs.worlds.World.granted.Goals as goal
 
-pub choose_at-id-requires : goal.choose_at-id-requires
-choose_at-id-requires c =
+pub grant-requires : goal.grant-requires
+grant-requires c =
     let r = rw (← c.self.view_is) at c.requires in
-    let m = c.self.invariant.1.services_match r.sound in
-    let serving = c.grants_go_in_order.ensures c.self.inside.script c.self.inside.log.entries c.args.sequencer (is_some c.args.word) _ r.next in
-    (served-there m c.args.sequencer (is_some c.args.word) serving.served).1
+    rw c.len-place.ensures (due-here (λ history. cases.Grant c.args.sequencer (is_some c.args.word) (chosen_at history c.args.sequencer)) c.self.invariant r.sound r.next)
 
 pub returns-clause-ok : goal.returns-clause-ok
 returns-clause-ok c =
     let r = rw (← c.self.view_is) at c.requires in
     let m = c.self.invariant.1.services_match r.sound in
-    rw (← c.self.view_is) (c.choose_at-id.result, chosen-known m c.args.sequencer c.choose_at-id.result c.args.word c.choose_at-id.ensures.value, rw (c.in_ok-push.ensures.ok, c.in_ok-grant.ensures, r.sound) refl)
+    rw (← c.self.view_is) (c.in_ok-id.id, c.in_ok-id.ensures.chosen c.self.inside.script c.self.inside.log.entries m, rw (c.in_ok-push.ensures.ok, c.in_ok-grant.ensures, r.sound) refl)
 
 pub invariant_of-self-2 : goal.invariant_of-self-2
 invariant_of-self-2 c =
     let r = rw (← c.self.view_is) at c.requires in
-    let before = c.self.inside.log.entries in
-    let told = c.in_ok-tell_to.ensures in
-    let id = c.choose_at-id.result in
-    let grant : Grant = record { id = id; word = c.args.word } in
-    let call = calls.Grant in
-    let serving = c.grants_go_in_order.ensures c.self.inside.script before c.args.sequencer (is_some c.args.word) _ r.next in
-    let chosen = chosen-known (c.self.invariant.1.services_match r.sound) c.args.sequencer id c.args.word c.choose_at-id.ensures.value in
-    let living = c.chosen_are_there.ensures c.self.inside.script before c.args.sequencer id (is_some c.args.word) _ c.args.word c.self.invariant.1.legal.each r.next chosen in
+    let m = c.self.invariant.1.services_match r.sound in
+    let grant : Grant = record { id = c.in_ok-id.id; word = c.args.word } in
+    let chosen = c.in_ok-id.ensures.chosen c.self.inside.script c.self.inside.log.entries m in
     let entries = rw c.in_ok-grant.ensures at c.in_ok-push.ensures.ok in
-    entered (Granted c.args.sequencer grant) c.self.invariant r.sound r.room (rw r.next (grant, refl, chosen, refl)) entries c.in_ok-push.ensures.limit c.clear.ensures.items c.wiring_stays.ensures (λ m stays.
-    let phases = (c.phases_go_in_order.ensures c.self.inside.script before c.self.invariant.1.legal.each).before in
-    let dues = rw (m.stage, m.time, c.len-place.ensures) at (told.dues (filter (is_open (heard_of before) (ended_of before) (finished_of before)) (caused_of before)) m.agenda.are) in
-    let events = events-told (objections_of before) (is_open (heard_of before) (ended_of before) (finished_of before)) (running (stage_of before)) (now_of before) (caused_at (length before)) (Sequence id c.args.sequencer) call (caused_of before) m.events in
-    let agenda = agenda-event (Object (Sequence id c.args.sequencer)) (Some call) (now_of before) (stage_of before) (caused_of before) (heard_of before) (ended_of before) (finished_of before) _ _ _ phases (there-open before (Sequence id c.args.sequencer) living) m.agenda dues in
-    let arbitrating = granted-kept m c.args.sequencer (is_some c.args.word) grant c.choose_at-id.new.arbiters serving.served c.choose_at-id.ensures.after in
-    rw told.rest (search (rules, later)))
+    entered (λ history. cases.Grant c.args.sequencer (is_some c.args.word) (chosen_at history c.args.sequencer)) (Granted c.args.sequencer grant) c.self.invariant r.sound r.room r.next (grant, refl, chosen, refl) entries c.in_ok-push.ensures.limit (λ m. c.clear.ensures.items)
+    (rw c.len-place.ensures at c.in_ok-id.ensures.goes_on)

@@ -1,7 +1,7 @@
 use Rattle.std.proofs.Common.{◌∙◌, ap}
 use Rattle.uvm_tree.specs.Cursors.{is_before, least}
 use Rattle.bench_history.specs.History.{phase_order, next_call, components_of, called_of}
-use Rattle.bench_world.proofs.Turns.{waiting-marked}
+use Rattle.world_entries.proofs.Turns.{waiting-marked}
 use Rattle.bench_world.proofs.worlds.World.next_call.Goals as goal
 
 pub returns : goal.returns

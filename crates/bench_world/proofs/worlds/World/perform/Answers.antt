@@ -4,7 +4,7 @@ use Rattle.bench_history.specs.History.{running}
 use Rattle.bench_history.specs.Refusals.{in_task}
 use Rattle.bench_world.proofs.Going.{act-next, performed}
 use Rattle.world_services.proofs.Later.{scene-of}
-use Rattle.bench_world.proofs.Waits.{acted-waits, need-by, waits}
+use Rattle.bench_world.proofs.Waits.{acted-needs, waits}
 use Rattle.world_wiring.proofs.Connected.{building-open, connectable-open, unused}
 use Rattle.bench_world.proofs.worlds.World.perform.Goals as goal
 
@@ -52,6 +52,4 @@ returns-in_ok-make_room-in-Needed-clause-ok c =
     let before = c.self.inside.log.entries in
     let need = rw (c.in-Needed.is, c.act.ensures, c.len-place.ensures) at c.in_ok-outcome.ensures in
     let scene = scene-of c.args.deed m c.self.invariant.1.legal.each r.settled r.left c.phases_go_in_order.ensures c.performers_are_there.ensures c.drivers_are_there.ensures (act-next c.self.inside.script before c.args.deed r.next) in
-    let comes = need.comes c.self.inside.script before scene in
-    let next = r.next ∙ need-by c.self.inside.script before c.args.deed _ _ m.answer.speaker comes.1 in
-    rw (← c.self.view_is) (acted-waits c.self.inside.script before _ c.self.inside.sound _ next c.in_ok-make_room-in-Needed.ensures.log.0 r.sound c.in_ok-waiting-in-Needed.ensures.0)
+    rw (← c.self.view_is) (acted-needs c.self.inside.script before _ c.self.inside.sound _ r.next m.answer.speaker (need.comes c.self.inside.script before scene) c.in_ok-make_room-in-Needed.ensures.log.0 r.sound c.in_ok-waiting-in-Needed.ensures.0)

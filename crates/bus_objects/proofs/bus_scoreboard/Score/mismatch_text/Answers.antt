@@ -21,18 +21,6 @@ uncast : (words : Words) (item : Item) (address datum word : ℤ) → address �
 unfolding mismatch_text cast
 uncast words item address datum word e f g fits fits' fits'' = rw (to_z-of_z w64 address fits, to_z-of_z w64 datum fits', to_z-of_z w64 word fits'', g, e, f)
 
-pub text_of-requires : goal.text_of-requires
-unfolding cast
-text_of-requires c =
-    let address : FitsSigned w64 c.address_of-address.result = search rules in
-    let datum : FitsSigned w64 c.data_of-datum.result = search rules in
-    let word : FitsSigned w64 c.at-word.result = search rules in
-    let stored = found c.args.self.now.words c.args.item.now _ _ c.address_of-address.ensures address c.at-word.ensures in
-    let text = uncast _ _ _ _ _ c.address_of-address.ensures c.data_of-datum.ensures stored address datum word in
-    rw
-    (c.as_bytes.ensures.value ∙ c.in_ok-text.ensures.ok ∙ text)
-    (mismatch_text-fits c.args.self.now.words c.args.item.now (rw c.address_of-address.ensures at address) (rw c.data_of-datum.ensures at datum) (rw stored at word))
-
 pub returns : goal.returns
 unfolding cast
 returns c =
@@ -41,4 +29,6 @@ returns c =
     let word : FitsSigned w64 c.at-word.result = search rules in
     let stored = found c.args.self.now.words c.args.item.now _ _ c.address_of-address.ensures address c.at-word.ensures in
     let text = uncast _ _ _ _ _ c.address_of-address.ensures c.data_of-datum.ensures stored address datum word in
-    rw (c.as_bytes.ensures.value ∙ c.in_ok-text.ensures.ok ∙ text) at c.text_of.ensures
+    let is = c.as_str.ensures.value ∙ c.in_ok-text.ensures.ok ∙ text in
+    let fits = mismatch_text-fits c.args.self.now.words c.args.item.now (rw c.address_of-address.ensures at address) (rw c.data_of-datum.ensures at datum) (rw stored at word) in
+    rw is at (c.lossy.ensures.same (rw is fits))

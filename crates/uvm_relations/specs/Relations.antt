@@ -1,0 +1,12 @@
+-- The words in which the relation of an object is written, in one place: phases, calls, acts and what is in them. Of two that have one
+-- name the one of the calls keeps it, and then that of the acts. To connect, to start and to report go by the words of `Answers`.
+pub use Rattle.uvm_phase.specs.declared.phases.Phase.TheVariants.{Build, Connect, EndOfElaboration, StartOfSimulation, Run, Extract, Check, Report, Final}
+pub use Rattle.uvm_report.specs.declared.severities.Severity.TheVariants.{Info, Warning, Error, Fatal}
+pub use Rattle.uvm_tlm.specs.declared.items.Item.{Item}
+pub use Rattle.uvm_object.specs.Objects.{View}
+pub use Rattle.uvm_object.specs.Answers.{connecting, reporting, starting}
+pub use Rattle.uvm_object.specs.declared.acts.Call.{Call}
+pub use Rattle.uvm_object.specs.declared.acts.Call.TheVariants.{Phase, Config, Wake, Stored, TryStored, Taken, TryTaken, Peeked, Written, NextItem, PreStart, Body, PostStart, Grant, ItemDone, Held, Finished}
+pub use Rattle.uvm_object.specs.declared.acts.What.TheVariants.{Sequencer, Fifo, Port, Export, Imp}
+pub use Rattle.uvm_object.specs.declared.acts.Act.{Act}
+pub use Rattle.uvm_object.specs.declared.acts.Act.TheVariants.{Create, Add, Set, Get, OverrideType, OverrideInst, Put, TryPut, Take, TryTake, Peek, Write, Ask, Request, Lock, Grab, Unlock, Send, EndStep, RaiseObjection, DropObjection, SetDrain, Wait}

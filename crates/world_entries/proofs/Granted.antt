@@ -1,0 +1,94 @@
+-- A lock that is granted, and an item.
+use Rattle.std.proofs.Common.{◌≡◌, ℕ, suc, ◌==◌, nat_eq, Bool, true, false, List, ◌∷◌, length, Option, Some, None, IsSome, option_map, option_and_then, refl, ap, sym, ◌∙◌, subst, arith}
+use Rattle.std.specs.HashMap.{get}
+use Rattle.std.proofs.lemmas.Bool.Decides.{nat_tests}
+use Rattle.uvm_sequencer.specs.declared.modes.Mode.{Mode}
+use Rattle.uvm_sequencer.specs.Sequencers.{choice_at, granted, locked}
+use Rattle.uvm_object.specs.declared.entries.Grant.{Grant}
+use Rattle.uvm_object.specs.declared.entries.Entry.{Entry}
+use Rattle.uvm_object.specs.declared.entries.Entry.TheVariants.{Granted, Locked}
+use Rattle.bench_script.specs.Scripts.{ScriptValue}
+use Rattle.bench_history.specs.Arbitration.{mode_at, next_locked, next_served}
+use Rattle.bench_history.specs.Cases.{chosen_at}
+use Rattle.bench_history.specs.History.{ended_of, nodes_of}
+use Rattle.bench_history.specs.Laws.{IsLiving}
+use Rattle.bench_history.specs.Sequences.{begun_of, finished_of, is_live, sequences_of, starts_in}
+use Rattle.world_services.specs.declared.services.Services.{Services}
+use Rattle.world_sequencers.specs.Arbiters.{ChangesAt, Kept, at_sequencer, lock_in, ready_in}
+use Rattle.world_sequencers.specs.Arbitratings.{IsArbitrated, IsArbitrating, arbiter_with, ledger_at}
+use Rattle.world_sequences.specs.Sequencings.{live_by}
+use Rattle.world_services.specs.Services.{ServicesMatch}
+use Rattle.world_sequencers.proofs.Arbited.{arbitrated-granted, arbitrated-locked, arbitrated-more, granted-is, locked-is}
+use Rattle.world_sequencers.proofs.Contested.{arbitrating-there}
+use Rattle.world_services.proofs.Known.{itself, locked-known, said, served-known}
+
+-- what is found first is found at the sequencer that was changed last
+found-there : {A : Type 0} (at : ℕ → Option A) (contested : Option ℕ) (node : ℕ) (a : A) → option_and_then (λ n. option_map {U = ℕ × A} (λ a. (n, a)) (at n)) contested ≡ Some (node, a) → (contested ≡ Some node) × (at node ≡ Some a)
+found-there at None node a e = cc
+found-there {A} at (Some n) node a e = by (at n) refl e
+  where
+    by : (found : Option A) → at n ≡ found → option_map {U = ℕ × A} (λ a. (n, a)) found ≡ Some (node, a) → (Some n ≡ Some node) × (at node ≡ Some a)
+    by None is e = cc
+    by (Some other) is e =
+        let pair : (n, other) ≡ (node, a) = cc in
+        let first : n ≡ node = ap (λ (p : ℕ × A). p.0) pair in
+        let second : other ≡ a = ap (λ (p : ℕ × A). p.1) pair in
+        (ap (λ (k : ℕ). Some k) first, subst (λ (k : ℕ). at k ≡ Some a) first (is ∙ ap (λ (x : A). Some x) second))
+
+module _ {script : ScriptValue} {history : List Entry} {services : Services} (m : ServicesMatch script history services) where
+  pub led-there : (node id : ℕ) → next_locked history ≡ Some (node, id) → (services.contested ≡ Some node) × (lock_in services.sequences.started (get nat_eq services.arbiters node) ≡ Some id)
+  led-there node id e = found-there (λ n. lock_in services.sequences.started (get nat_eq services.arbiters n)) services.contested node id (locked-known m ∙ e)
+
+  pub served-there : (node : ℕ) (drawn : Bool) → next_served history ≡ Some (node, drawn) → (services.contested ≡ Some node) × (ready_in services.sequences.started (get nat_eq services.arbiters node) ≡ Some drawn)
+  served-there node drawn e = found-there (λ n. ready_in services.sequences.started (get nat_eq services.arbiters n)) services.contested node drawn (served-known m ∙ e)
+
+  -- who is chosen
+  pub chosen-known : (node id : ℕ) (word : Option ℕ) → option_and_then (λ a. choice_at services.sequences.started a.sequencer word) (get nat_eq services.arbiters node) ≡ Some id → chosen_at history node word ≡ Some id
+  chosen-known node id word e = sym (said m node (λ s. choice_at (sequences_of history) s word)) ∙ rw m.sequencing.started at e
+
+  -- a sequencer is there, where something is found
+  lock-moded : (mode : Option Mode) (node id : ℕ) → lock_in (starts_in (begun_of history)) (option_map (arbiter_with (live_by (begun_of history) (finished_of history) (ended_of history)) (ledger_at history node)) mode) ≡ Some id → IsSome mode
+  lock-moded None node id e = cc
+  lock-moded (Some mode) node id e = refl
+
+  ready-moded : (mode : Option Mode) (node : ℕ) (drawn : Bool) → ready_in (starts_in (begun_of history)) (option_map (arbiter_with (live_by (begun_of history) (finished_of history) (ended_of history)) (ledger_at history node)) mode) ≡ Some drawn → IsSome mode
+  ready-moded None node drawn e = cc
+  ready-moded (Some mode) node drawn e = refl
+
+  same-there : (node n : ℕ) → (node == n) ≡ true → node ≡ n
+  same-there node n e = grind (arith, nat_tests)
+
+  pub locked-kept : (node id : ℕ) (more : Kept) → next_locked history ≡ Some (node, id) → IsLiving history id node → ChangesAt node (at_sequencer (locked id)) services.arbiters more
+      → IsArbitrating (suc (length history)) (nodes_of history) (begun_of history) (finished_of history) (ended_of history) (ledger_at (Locked node id ∷ history)) more services.contested
+  unfolding is_live
+  locked-kept node id more next living changes =
+      let found = led-there node id next in
+      let one = m.arbitrating.arbitrated.each node in
+      let l = ledger_at history node in
+      let live = live_by (begun_of history) (finished_of history) (ended_of history) in
+      let moded = lock-moded (mode_at history node) node id (rw (m.sequencing.started, m.arbitrating.arbiters_are.each node) at found.1) in
+      arbitrating-there m.arbitrating (finished_of history) (ledger_at (Locked node id ∷ history)) more node (at_sequencer (locked id)) (λ n other. rw other refl)
+      (rw (itself node) (locked-is live (length history) l one.wanted_within id living.lives)) changes (λ n. every n (node == n) refl moded) found.0
+    where
+      every : (n : ℕ) (v : Bool) → (node == n) ≡ v → IsSome (mode_at history node) → IsArbitrated (suc (length history)) (length (nodes_of history)) (begun_of history) n (ledger_at (Locked node id ∷ history) n)
+      every n false is moded = rw is (arbitrated-more (m.arbitrating.arbitrated.each n))
+      every n true is moded =
+          subst (λ (k : ℕ). IsArbitrated (suc (length history)) (length (nodes_of history)) (begun_of history) k (ledger_at (Locked node id ∷ history) k)) (same-there node n is)
+          (rw (itself node) (arbitrated-locked (m.arbitrating.arbitrated.each node) id living.home_is moded))
+
+  pub granted-kept : (node : ℕ) (drawn : Bool) (grant : Grant) (more : Kept) → next_served history ≡ Some (node, drawn) → ChangesAt node (at_sequencer (granted grant.id)) services.arbiters more
+      → IsArbitrating (suc (length history)) (nodes_of history) (begun_of history) (finished_of history) (ended_of history) (ledger_at (Granted node grant ∷ history)) more services.contested
+  granted-kept node drawn grant more next changes =
+      let found = served-there node drawn next in
+      let one = m.arbitrating.arbitrated.each node in
+      let l = ledger_at history node in
+      let live = live_by (begun_of history) (finished_of history) (ended_of history) in
+      let moded = ready-moded (mode_at history node) node drawn (rw (m.sequencing.started, m.arbitrating.arbiters_are.each node) at found.1) in
+      arbitrating-there m.arbitrating (finished_of history) (ledger_at (Granted node grant ∷ history)) more node (at_sequencer (granted grant.id)) (λ n other. rw other refl)
+      (rw (itself node) (granted-is live (length history) l one.wanted_within grant.id)) changes (λ n. every n (node == n) refl moded) found.0
+    where
+      every : (n : ℕ) (v : Bool) → (node == n) ≡ v → IsSome (mode_at history node) → IsArbitrated (suc (length history)) (length (nodes_of history)) (begun_of history) n (ledger_at (Granted node grant ∷ history) n)
+      every n false is moded = rw is (arbitrated-more (m.arbitrating.arbitrated.each n))
+      every n true is moded =
+          subst (λ (k : ℕ). IsArbitrated (suc (length history)) (length (nodes_of history)) (begun_of history) k (ledger_at (Granted node grant ∷ history) k)) (same-there node n is)
+          (rw (itself node) (arbitrated-granted (m.arbitrating.arbitrated.each node) grant.id moded))

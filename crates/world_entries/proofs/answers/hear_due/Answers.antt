@@ -1,0 +1,24 @@
+use Rattle.std.proofs.Common.{Some, refl, ap, ◌∙◌, slice_get, rules}
+use Rattle.uvm_object.specs.declared.entries.Entry.TheVariants.{Heard}
+use Rattle.bench_history.specs.History.{opening, ended_of}
+use Rattle.bench_history.specs.Sequences.{finished_of}
+use Rattle.bench_history.specs.Dues.{caused_of, heard_of}
+use Rattle.bench_history.specs.Objections.{objections_of}
+use Rattle.world_agenda.proofs.Told.{agenda-heard}
+use Rattle.world_agenda.proofs.Drained.{events-heard}
+use Rattle.world_services.proofs.Later.{later}
+use Rattle.world_entries.proofs.Heard.{there-within, heard-answer}
+use Rattle.world_entries.proofs.answers.hear_due.Goals as goal
+
+pub returns : goal.returns
+returns c = λ call cause acts many script before coming m.
+    let stays = c.wiring_stays.ensures script before (Heard c.args.who call (Some cause) acts) (rw coming.next (_, refl)) in
+    let d = c.due_calls_go_in_order.ensures script before c.args.who call cause coming.next in
+    let first = ap (λ l. slice_get l 0) m.agenda.are ∙ d.first in
+    let agenda = rw d.cause_is at (agenda-heard (caused_of before) (heard_of before) (ended_of before) (finished_of before) _ _ _ d.event c.order_keeps_all.ensures c.order_loses_first.ensures m.agenda first c.take_first.ensures.rest) in
+    let events = events-heard cause (objections_of before) (caused_of before) (heard_of before) (ended_of before) (finished_of before) m.events in
+    let asked = c.asked_are_there.ensures script before c.args.who call (Some cause) coming.each coming.next in
+    let homes = c.homes_are_nodes.ensures script before coming.each in
+    let speaks = there-within before c.args.who asked homes m.turns in
+    let answer = rw (← c.last_answer-services.ensures) at (rw (coming.place_is, many) at (heard-answer (opening script) before c.args.who call (Some cause) acts)) in
+    search (rules, later)

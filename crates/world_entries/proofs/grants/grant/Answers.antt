@@ -1,0 +1,42 @@
+use Rattle.std.proofs.Common.{length, filter, Some, is_some, refl, rules}
+use Rattle.uvm_object.specs.declared.acts.Who.TheVariants.{Sequence}
+use Rattle.uvm_object.specs.declared.acts.Call.TheVariants as calls
+use Rattle.uvm_object.specs.declared.entries.Grant.{Grant}
+use Rattle.uvm_object.specs.declared.entries.Entry.TheVariants.{Granted}
+use Rattle.bench_history.specs.declared.owners.Owner.TheVariants.{Object}
+use Rattle.bench_history.specs.Sequences.{finished_of}
+use Rattle.bench_history.specs.Dues.{caused_at, caused_of, heard_of, is_open}
+use Rattle.bench_history.specs.History.{now_of, running, stage_of, ended_of}
+use Rattle.bench_history.specs.Objections.{objections_of}
+use Rattle.world_agenda.proofs.Drained.{events-told}
+use Rattle.world_agenda.proofs.Told.{agenda-event}
+use Rattle.world_services.proofs.Opened.{there-open}
+use Rattle.world_services.proofs.Later.{later}
+use Rattle.world_entries.proofs.Granted.{chosen-known, granted-kept, served-there}
+use Rattle.world_entries.proofs.grants.grant.Goals as goal
+
+pub choose_at-id-requires : goal.choose_at-id-requires
+choose_at-id-requires c =
+    let due = c.requires in
+    let serving = c.grants_go_in_order.ensures due.script due.history c.args.sequencer (is_some c.args.word) _ due.coming.next in
+    (served-there due.known c.args.sequencer (is_some c.args.word) serving.served).1
+
+pub returns-clause-chosen : goal.returns-clause-chosen
+returns-clause-chosen c = λ script before m. chosen-known m c.args.sequencer c.choose_at-id.result c.args.word c.choose_at-id.ensures.value
+
+pub returns-clause-goes_on : goal.returns-clause-goes_on
+returns-clause-goes_on c = λ script before coming m.
+    let told = c.in_ok-tell_to.ensures in
+    let id = c.choose_at-id.result in
+    let grant : Grant = record { id = id; word = c.args.word } in
+    let call = calls.Grant in
+    let serving = c.grants_go_in_order.ensures script before c.args.sequencer (is_some c.args.word) _ coming.next in
+    let chosen = chosen-known m c.args.sequencer id c.args.word c.choose_at-id.ensures.value in
+    let stays = c.wiring_stays.ensures script before (Granted c.args.sequencer grant) (rw coming.next (grant, refl, chosen, refl)) in
+    let living = c.chosen_are_there.ensures script before c.args.sequencer id (is_some c.args.word) _ c.args.word coming.each coming.next chosen in
+    let phases = (c.phases_go_in_order.ensures script before coming.each).before in
+    let dues = rw (m.stage, m.time, ← coming.place_is) at (told.dues (filter (is_open (heard_of before) (ended_of before) (finished_of before)) (caused_of before)) m.agenda.are) in
+    let events = events-told (objections_of before) (is_open (heard_of before) (ended_of before) (finished_of before)) (running (stage_of before)) (now_of before) (caused_at (length before)) (Sequence id c.args.sequencer) call (caused_of before) m.events in
+    let agenda = agenda-event (Object (Sequence id c.args.sequencer)) (Some call) (now_of before) (stage_of before) (caused_of before) (heard_of before) (ended_of before) (finished_of before) _ _ _ phases (there-open before (Sequence id c.args.sequencer) living) m.agenda dues in
+    let arbitrating = granted-kept m c.args.sequencer (is_some c.args.word) grant c.choose_at-id.new.arbiters serving.served c.choose_at-id.ensures.after in
+    rw told.rest (search (rules, later))

@@ -1,0 +1,140 @@
+//! Phases and time, drains, notes, and the end of a run.
+
+ghost use Rattle.std.specs.Prelude.{◌≡◌, ◌||◌, ◌∷◌, ◌≤◌, ◌^◌, OnOk, IfOk, ℕ, List};
+ghost use Rattle.uvm_phase.specs.declared.agendas.Cause as causes;
+ghost use Rattle.uvm_object.specs.declared.entries.Entry.{Entry};
+ghost use Rattle.uvm_object.specs.declared.entries.Reason as reasons;
+ghost use Rattle.uvm_object.specs.declared.entries.Entry.TheVariants.{Begin, End, Time, Drained, Note, Over};
+ghost use Rattle.bench_script.specs.Scripts.{ScriptValue};
+ghost use Rattle.bench_history.specs.Cases.{Exactly};
+ghost use Rattle.bench_history.specs.History.{ends_build};
+ghost use Rattle.bench_history.specs.Sequences.{leaving_of};
+ghost use Rattle.bench_history.specs.Wires.{ends_connect};
+ghost use Rattle.world_reports.specs.Reportings.{CanReport};
+ghost use Rattle.world_services.specs.Services.{ServicesMatch};
+ghost use Rattle.world_entries.specs.Coming.{GoesOn, IsDue};
+
+use bench_history::{Owner, Stage, laws};
+use std::alloc::{AllocError, Global};
+use uvm_object::{Call, Fatal, Who};
+use uvm_objection::laws as objections;
+use uvm_phase::{Phase, laws as agenda};
+use uvm_tree::{NodeId, laws as trees};
+use world_fifos::stations::end_waits;
+use world_sequencers::arbiters::end_phase;
+use world_sequences::ends::{finish_all, leaving_with};
+use world_services::attempts::report_at;
+use world_services::services::{Services, clear_calls};
+use world_services::tells::move_drains;
+use world_wiring::connections::close_after;
+
+/// Keeps that a phase begins (IEEE 1800.2-2020, Clause 9).
+pub fn begin(services: &mut Services, phase: Phase)
+    ensures { (place : ℕ) → GoesOn (λ _. Exactly (Begin phase)) (Begin phase) place services.old services.new }
+{
+    laws::wiring_stays();
+    services.reporting.newest = None;
+    services.stage = Stage::During(phase);
+    clear_calls(&mut services.components);
+}
+
+/// Keeps that a phase ends (Clause 9), and with it all sequences that live (Clause 14), which it answers. Its error is want of
+/// memory.
+pub fn end(services: &mut Services, alloc: Global, phase: Phase) -> Result<Vec<Who>, AllocError>
+    requires { (place : ℕ) × IsDue (λ _. Exactly (End phase)) place services.old }
+    ensures leaving { IfOk result (λ leaving. (script : ScriptValue) (history : List Entry) → ServicesMatch script history services.old → leaving.items ≡ leaving_of (End phase ∷ history)) }
+    ensures goes_on { OnOk result ((place : ℕ) → GoesOn (λ _. Exactly (End phase)) (End phase) place services.old services.new) }
+{
+    agenda::order_keeps_filters::<Owner, Option<Call>>();
+    laws::wiring_stays();
+    // What is closed with connect was built, and each of its nodes stands in the order once.
+    laws::connect_follows_build();
+    trees::path_order_is_in_order();
+    // All sequences that live were started in it, as it runs.
+    laws::living_run();
+    laws::running_phases_end();
+    let beginnings = services.beginnings.as_slice();
+    let leaving = leaving_with(alloc, &services.sequences, beginnings, phase)?;
+    close_after(&mut services.wiring, &services.tree, alloc, phase)?;
+    services.reporting.newest = None;
+    services.stage = Stage::After(phase);
+    services.agenda.clear(phase);
+    end_waits(&mut services.stations, phase);
+    finish_all(&mut services.sequences, leaving.as_slice());
+    end_phase(&mut services.arbiters, &services.sequences);
+    services.contested = None;
+    services.built = is_built_with(phase, services.built);
+    services.past_connect = is_past_connect_with(phase, services.past_connect);
+    Ok(leaving)
+}
+
+// Whether build has ended, once a phase has.
+fn is_built_with(phase: Phase, built: bool) -> bool
+    ensures { result ≡ (ends_build (End phase) || built) }
+{
+    matches!(phase, Phase::Build) || built
+}
+
+// Whether connect has ended, once a phase has.
+fn is_past_connect_with(phase: Phase, past: bool) -> bool
+    ensures { result ≡ (ends_connect (End phase) || past) }
+{
+    matches!(phase, Phase::Connect) || past
+}
+
+/// Keeps that time passes to a moment, in ticks (Clause 9).
+pub fn pass_time(services: &mut Services, time: u64)
+    requires { time ≤ 10 ^ 18 }
+    ensures { (place : ℕ) → GoesOn (λ _. Exactly (Time time)) (Time time) place services.old services.new }
+{
+    laws::wiring_stays();
+    services.reporting.newest = None;
+    services.time = time;
+}
+
+/// Keeps that the drain of a node ends: what was held back is passed up (IEEE 1800.2-2020, 10.5). Its error is want of memory.
+pub fn end_drain(services: &mut Services, place: usize, node: NodeId) -> Result<(), AllocError>
+    requires { (cause : causes.Cause) × IsDue (λ _. Exactly (Drained node cause)) place services.old }
+    ensures { OnOk result ((cause : causes.Cause) → GoesOn (λ _. Exactly (Drained node cause)) (Drained node cause) place services.old services.new) }
+{
+    // It is the first event of the agenda, so that something is held back, and due now.
+    laws::drains_go_in_order();
+    agenda::order_keeps_all::<Owner, Option<Call>>();
+    // What it begins is due in a phase that has not ended.
+    laws::phases_go_in_order();
+    objections::places_stay();
+    objections::nodes_grow();
+    objections::settled_go_by_totals();
+    objections::begun_drains_are_held();
+    laws::wiring_stays();
+    let began = services.objection.drained(node);
+    move_drains(services, place, began, Some(node))?;
+    services.reporting.newest = None;
+    Ok(())
+}
+
+/// Keeps that the kernel reports at a node, and that what is left of the last answer is passed over. Its error is want of memory.
+pub fn note(
+    services: &mut Services,
+    alloc: Global,
+    fatal: Fatal,
+    node: NodeId,
+) -> Result<(), AllocError>
+    requires { CanReport services.old.reporting }
+    ensures { OnOk result ((place : ℕ) → GoesOn (λ _. Exactly (Note fatal node)) (Note fatal node) place services.old services.new) }
+{
+    laws::wiring_stays();
+    let report = fatal.report(alloc)?;
+    report_at(services, alloc, node, &report)?;
+    services.answer.noted = true;
+    Ok(())
+}
+
+/// Keeps that nothing comes after.
+pub fn finish(services: &mut Services)
+    ensures { (reason : reasons.Reason) (place : ℕ) → GoesOn (λ _. Exactly (Over reason)) (Over reason) place services.old services.new }
+{
+    laws::wiring_stays();
+    services.reporting.newest = None;
+    services.stage = Stage::Ended;
+}

@@ -1,0 +1,13 @@
+-- Which acts go through ports.
+use Rattle.uvm_object.specs.declared.acts.Act.{Act}
+use Rattle.uvm_object.specs.declared.acts.Act.TheVariants.{Put, TryPut, Take, TryTake, Peek, Write}
+
+-- an act through a port
+abbrev pub IsPortAct : Act → Type 0
+IsPortAct (Put port item) = Unit {0}
+IsPortAct (TryPut port item) = Unit {0}
+IsPortAct (Take port) = Unit {0}
+IsPortAct (TryTake port) = Unit {0}
+IsPortAct (Peek port) = Unit {0}
+IsPortAct (Write port item) = Unit {0}
+IsPortAct act = ⊥

@@ -1,0 +1,38 @@
+//! Room for what an act makes, before it is made.
+
+ghost use Rattle.std.specs.Prelude.{◌≡◌, ◌<◌, OnOk, IsSome, Some, vec_len, vec_capacity};
+ghost use Rattle.uvm_tree.specs.Nodes.{node_at};
+ghost use Rattle.uvm_object.specs.Acts.{node_of};
+
+use crate::services::Services;
+use std::alloc::AllocError;
+
+/// Makes room for a component under the speaker's node. Its error is want of memory: nothing that counts has changed.
+pub fn reserve_component(services: &mut Services) -> Result<(), AllocError>
+    ensures services { services.new ≡ record services.old { tree = services.new.tree; objection = services.new.objection; components = services.new.components } }
+    ensures nodes { services.new.tree.nodes ≡ services.old.tree.nodes }
+    ensures objections { services.new.objection.nodes ≡ services.old.objection.nodes }
+    ensures items { services.new.components.items ≡ services.old.components.items }
+    ensures tree_spare { OnOk result (IsSome (node_at services.old.tree.nodes (node_of services.old.answer.speaker)) → services.new.tree.spare ≡ Some (node_of services.old.answer.speaker)) }
+    ensures objection_spare { OnOk result (0 < services.new.objection.spare) }
+    ensures components { OnOk result (vec_len services.new.components < vec_capacity services.new.components) }
+{
+    services.tree.reserve(services.answer.speaker.node())?;
+    services.objection.reserve()?;
+    services.components.reserve(1)
+}
+
+/// Makes room for a sequence, with its first call. Its error is want of memory: nothing that counts has changed.
+pub fn reserve_sequence(services: &mut Services) -> Result<(), AllocError>
+    ensures services { services.new ≡ record services.old { sequences = services.new.sequences; beginnings = services.new.beginnings; agenda = services.new.agenda } }
+    ensures sequences { (services.new.sequences.started ≡ services.old.sequences.started) × (services.new.sequences.steps ≡ services.old.sequences.steps) }
+    ensures beginnings_items { services.new.beginnings.items ≡ services.old.beginnings.items }
+    ensures dues { services.new.agenda.dues ≡ services.old.agenda.dues }
+    ensures sequence_spare { OnOk result (0 < services.new.sequences.spare) }
+    ensures beginnings { OnOk result (vec_len services.new.beginnings < vec_capacity services.new.beginnings) }
+    ensures agenda_spare { OnOk result (0 < services.new.agenda.spare) }
+{
+    services.sequences.reserve()?;
+    services.beginnings.reserve(1)?;
+    services.agenda.reserve()
+}

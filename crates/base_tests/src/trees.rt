@@ -82,6 +82,8 @@ fn show<R: Abort>(rt: &R, alloc: Global, tree: &Tree, a: NodeId, x: NodeId) {
     assert!(rt; tree.under(NodeId::TOP) == None);
     assert!(rt; has_path(tree, x, b"t.a.x"));
     assert!(rt; node_at(alloc, tree, b"t.a.x") == Ok(Some(x)));
+    assert!(rt; node_below(alloc, tree, a, b"x") == Ok(Some(x)));
+    assert!(rt; tree.child(a, &Name::literal("x")) == Some(x));
 }
 
 fn has_path(tree: &Tree, id: NodeId, text: &[u8]) -> bool {
@@ -94,6 +96,16 @@ fn has_path(tree: &Tree, id: NodeId, text: &[u8]) -> bool {
 fn node_at(alloc: Global, tree: &Tree, text: &[u8]) -> Result<Option<NodeId>, PathFault> {
     let path = Path::parse(alloc, text)?;
     Ok(tree.find(&path))
+}
+
+fn node_below(
+    alloc: Global,
+    tree: &Tree,
+    node: NodeId,
+    text: &[u8],
+) -> Result<Option<NodeId>, PathFault> {
+    let path = Path::parse(alloc, text)?;
+    Ok(tree.find_below(node, &path))
 }
 
 #[test]

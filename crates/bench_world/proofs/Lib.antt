@@ -1,5 +1,4 @@
 pub mod Closed
 pub mod Going
 pub mod Makeable
-pub mod Shown
 pub mod Waits

@@ -66,10 +66,21 @@ impl World {
         ensures ok { OnOk result (IsActed (next_of self.old.script self.old.history) self.old self.new) }
         ensures err { OnErr result (self.new ≡ broken self.old) }
     {
+        let deed = self.left_deed()?;
+        self.perform(deed)
+    }
+
+    // The next act of the last answer, where one comes next, to stand in its entry.
+    fn left_deed(&mut self) -> Result<Deed, AllocError>
+        requires { MayAct self.old }
+        ensures next { IfOk result (λ deed. MayPerform self.old deed) }
+        ensures same { OnOk result (self.new ≡ self.old) }
+        ensures err { OnErr result (self.new ≡ broken self.old) }
+    {
         // An act is left.
         laws::acts_go_in_order();
         match self.next_deed() {
-            Ok(Some(deed)) => self.perform(deed),
+            Ok(Some(deed)) => Ok(deed),
             Ok(None) => unreachable!(),
             Err(_) => Err(self.fail()),
         }
@@ -174,7 +185,7 @@ impl World {
         match perform(&mut self.services, self.alloc, place, deed.act())? {
             Attempt::Became(outcome) => {
                 self.leaving = leaving_after(self.alloc, performer, &outcome)?;
-                enter(&mut self.log, &mut self.services, outcome, deed)?;
+                enter(&mut self.log, &mut self.services.answer, outcome, deed)?;
                 self.sound = true;
                 Ok(())
             }

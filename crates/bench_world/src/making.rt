@@ -109,7 +109,7 @@ impl World {
         let place = self.log.len();
         let services = &mut self.services;
         let (who, outcome) = make(services, deed.act(), home, name, need.type_name, place);
-        let Ok(()) = enter(&mut self.log, services, outcome, deed) else {
+        let Ok(()) = enter(&mut self.log, &mut services.answer, outcome, deed) else {
             unreachable!()
         };
         self.sound = true;
@@ -136,7 +136,7 @@ impl World {
         let Ok(refused) = refused_by(services, self.alloc, Fatal::NoObject, &declined) else {
             unreachable!()
         };
-        let Ok(()) = enter(&mut self.log, services, refused, deed) else {
+        let Ok(()) = enter(&mut self.log, &mut services.answer, refused, deed) else {
             unreachable!()
         };
         self.sound = true;

@@ -3,7 +3,7 @@
 ghost use Rattle.std.specs.Prelude.{◌≡◌, ◌∷◌, ◌<◌, ◌+◌, ◌||◌, ◌==◌, length, true, OnOk, OnErr, IfOk, IsOk};
 ghost use Rattle.uvm_object.specs.declared.entries.Entry.TheVariants.{Did};
 ghost use Rattle.bench_history.specs.Refusals.{is_open_to};
-ghost use Rattle.world_services.specs.Attempts.{CanPerform, IsAttempt, IsAttemptOfAny, one_done};
+ghost use Rattle.world_services.specs.Attempts.{CanPerform, IsAttempt, IsAttemptOfAny};
 
 use crate::entries::push;
 use std::alloc::{AllocError, Global};
@@ -11,7 +11,7 @@ use uvm_object::{Act, Deed, Entry, Fatal, Log, LoggedOutcome};
 use world_port_acts::performing::perform_port_act;
 use world_sequencer_acts::performing::perform_sequencer_act;
 use world_services::attempts::{Attempt, is_open_to, refused};
-use world_services::services::Services;
+use world_services::services::{LastAnswer, Services};
 use world_tree_acts::performing::perform_tree_act;
 
 // An act of the speaker, whose entry will stand at a place, is performed, or refused, or needs an object.
@@ -79,25 +79,25 @@ fn perform_open(
 // What became of an act stands in its entry, and one more act is done.
 pub(crate) fn enter(
     log: &mut Log,
-    services: &mut Services,
+    answer: &mut LastAnswer,
     outcome: LoggedOutcome,
     deed: Deed,
 ) -> Result<(), AllocError>
     requires room { length log.old.entries < log.old.limit }
-    requires open { services.old.answer.done < services.old.answer.count }
-    ensures ok { OnOk result (log.new.entries ≡ Did services.old.answer.speaker outcome deed ∷ log.old.entries) }
-    ensures services { OnOk result (services.new ≡ one_done services.old) }
+    requires open { answer.old.done < answer.old.count }
+    ensures ok { OnOk result (log.new.entries ≡ Did answer.old.speaker outcome deed ∷ log.old.entries) }
+    ensures answer { OnOk result (answer.new ≡ record answer.old { done = answer.old.done + 1 }) }
     ensures err { OnErr result (log.new.entries ≡ log.old.entries) }
     ensures limit { log.new.limit ≡ log.old.limit }
     ensures memory { 0 < log.old.spare → IsOk result }
 {
     let entry = Entry::Did {
-        who: services.answer.speaker,
+        who: answer.speaker,
         outcome,
         act: deed,
     };
     push(log, entry)?;
-    services.answer.done = one_more(services.answer.done, services.answer.count);
+    answer.done = one_more(answer.done, answer.count);
     Ok(())
 }
 

@@ -1,22 +1,22 @@
 //! The line of the report of the newest entry.
 
-ghost use Rattle.std.specs.Prelude.{◌≡◌, ◌≢◌, ◌++◌, [], true, OnOk, OnErr, option_and_then};
+ghost use Rattle.std.specs.Prelude.{◌≡◌, ◌≢◌, ◌++◌, [], true, Some, OnOk, OnErr, option_and_then};
 ghost use Rattle.uvm_report.specs.Fates.{displayed_as};
 ghost use Rattle.uvm_report.specs.Lines.{report_line};
 ghost use Rattle.uvm_tree.specs.Nodes.{path_at};
 ghost use Rattle.uvm_object.specs.Acts.{node_of};
 ghost use Rattle.uvm_object.specs.Fatals.{fatal_report};
-ghost use Rattle.uvm_lines.specs.Lines.{shown_path, source_text};
+ghost use Rattle.uvm_sources.specs.Sources.{shown_path, source_text};
 ghost use Rattle.bench_history.specs.History.{nodes_of, now_of};
 ghost use Rattle.bench_history.specs.Reports.{deed_command, line_under, newest_fate, report_text};
 ghost use Rattle.bench_history.specs.Sequences.{sequences_of};
 
 use crate::worlds::World;
 use std::alloc::AllocError;
-use uvm_lines::{shown_path, source_of};
 use uvm_object::{Act, Entry, Fatal, Outcome, Who};
-use uvm_report::{Report, Severity};
+use uvm_report::Severity;
 use uvm_tree::NodeId;
+use world_reports::report_lines::ReportSite;
 
 impl World {
     /// Appends the line of the report of the newest entry, with its newline, where it has a report that is displayed (IEEE
@@ -62,17 +62,10 @@ impl World {
         ensures err { OnErr result (out.new.items ≡ out.old.items) }
         ensures some { OnErr result (line_under (now_of self.now.history) (source_text (nodes_of self.now.history) (sequences_of self.now.history) who.now) (deed_command (path_at (nodes_of self.now.history) (node_of who.now)) outcome.now act.now) (Some severity) ≢ []) }
     {
-        match (outcome, act) {
-            (Outcome::Refused(fatal), _) => {
-                self.push_own(severity, who, &fatal.report(self.alloc)?, out)
-            }
-            (Outcome::Done, Act::Report { report }) => self.push_own(severity, who, report, out),
-            _ => Ok(()),
-        }
+        self.site(severity).push_deed(who, outcome, act, out)
     }
 
     // The line of the report of a note.
-    #[tactic(auto, using(crate::proofs::Shown::line_lost))]
     fn push_note(
         &self,
         severity: Severity,
@@ -85,38 +78,23 @@ impl World {
         ensures err { OnErr result (out.new.items ≡ out.old.items) }
         ensures some { OnErr result (report_line severity (now_of self.now.history) (shown_path (path_at (nodes_of self.now.history) node)) (fatal_report fatal.now).id (fatal_report fatal.now).text ≢ []) }
     {
-        let source = shown_path(node, self.tree());
-        self.push_line(severity, source, &fatal.report(self.alloc)?, out)
+        self.site(severity).push_note(fatal, node, out)
     }
 
-    // The line of a report of somebody.
-    fn push_own(
-        &self,
-        severity: Severity,
-        who: &Who,
-        report: &Report,
-        out: &mut Vec<u8>,
-    ) -> Result<(), AllocError>
+    // What the line of a report shows of the world.
+    fn site(&self, severity: Severity) -> ReportSite<'_>
         requires { self.now.sound ≡ true }
-        ensures ok { OnOk result (out.new.items ≡ out.old.items ++ report_line severity (now_of self.now.history) (source_text (nodes_of self.now.history) (sequences_of self.now.history) who.now) report.now.id report.now.text) }
-        ensures err { OnErr result (out.new.items ≡ out.old.items) }
+        ensures severity { result.severity ≡ severity }
+        ensures time { result.time ≡ now_of self.now.history }
+        ensures nodes { result.tree.now.nodes ≡ nodes_of self.now.history }
+        ensures sequences { result.sequences.now.started ≡ sequences_of self.now.history }
     {
-        let source = source_of(self.alloc, who, self.tree(), self.sequences())?;
-        self.push_line(severity, source.as_slice(), report, out)
-    }
-
-    // The line of a report from a source.
-    fn push_line(
-        &self,
-        severity: Severity,
-        source: &[u8],
-        report: &Report,
-        out: &mut Vec<u8>,
-    ) -> Result<(), AllocError>
-        requires { self.now.sound ≡ true }
-        ensures ok { OnOk result (out.new.items ≡ out.old.items ++ report_line severity (now_of self.now.history) source.now report.now.id report.now.text) }
-        ensures err { OnErr result (out.new.items ≡ out.old.items) }
-    {
-        report.write_line(severity, self.now(), source, out)
+        ReportSite {
+            alloc: self.alloc,
+            severity,
+            time: self.now(),
+            tree: self.tree(),
+            sequences: self.sequences(),
+        }
     }
 }

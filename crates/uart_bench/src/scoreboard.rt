@@ -10,7 +10,7 @@ use uvm_report::Text;
 use uvm_tlm::Item;
 
 /// Compares the bytes that are seen with those that were sent, in their order, and reports an ERROR for each that differs; in check
-/// it reports one where bytes are missing. It shows how many it has seen, and those that were sent.
+/// it reports one where bytes are missing. It shows how many it has compared, and those that were sent.
 #[derive(Drop)]
 pub(crate) struct Scoreboard {
     sent: Vec<u64>,

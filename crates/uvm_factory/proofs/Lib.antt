@@ -2,3 +2,4 @@ pub mod Rows
 pub mod Ends
 pub mod Given
 pub mod Standings
+pub mod Once

@@ -1,5 +1,6 @@
 -- What stands for one type: the type override in force, and its instance overrides.
-use Rattle.std.specs.Prelude.{ℕ, false, not, List, Option, Some, ◌&&◌, find, nat_eq, option_map, option_and_then, if◌then◌else◌}
+use Rattle.std.specs.Prelude.{◌≡◌, ℕ, false, not, List, AllPairs, Option, Some, ◌&&◌, find, nat_eq, option_map, option_and_then, if◌then◌else◌}
+use Rattle.std.specs.Cmp.Lexicographic.{pointwise}
 use Rattle.std.specs.Map.{lookup}
 use Rattle.uvm_glob.specs.Globs.{matches}
 use Rattle.uvm_factory.specs.declared.overrides.OverrideStep.{OverrideStep}
@@ -18,6 +19,10 @@ pub record Placed : Type 0 where
 pub record Standing : Type 0 where
   pub by_type : Option ℕ
   pub instances : List Placed
+
+-- no two have one scope
+abbrev pub HaveScopesOnce : List Placed → Type 0
+HaveScopesOnce instances = AllPairs (λ earlier later. pointwise nat_eq earlier.scope later.scope ≡ false) instances
 
 -- the type that replaces it by an instance override at a path's text: that of the first which matches
 abbrev pub placed_at : List Placed → List ℕ → Option ℕ

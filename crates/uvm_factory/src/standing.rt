@@ -1,6 +1,8 @@
 //! What overrides one type.
 
-ghost use Rattle.std.specs.Prelude.{◌≡◌, ℕ, List, [], None, OnOk, OnErr, find, option_copied};
+ghost use Rattle.std.specs.Prelude.{◌≡◌, ℕ, List, [], None, OnOk, OnErr, find, nat_eq, option_copied};
+ghost use Rattle.std.specs.Cmp.Lexicographic.{pointwise};
+ghost use Rattle.std.specs.List.{list_any};
 ghost use Rattle.uvm_glob.specs.Globs.{matches};
 ghost use Rattle.uvm_glob.specs.Paths.{path_text};
 ghost use Rattle.uvm_factory.specs.Steps.{after_override};
@@ -35,16 +37,18 @@ impl Model for InstanceOverride {
 pub(crate) struct TypeOverrides {
     // The type that replaces it in the one type override that is in force, if one was given.
     by_type: Option<TypeId>,
-    // The instance overrides in the order in which they were given.
+    // The instance overrides in the order in which they were given, but for those behind one of the same scope.
     instances: Vec<InstanceOverride>,
 }
 
 impl Model for TypeOverrides {
-    ghost use Rattle.uvm_factory.specs.Standing.{Standing};
+    ghost use Rattle.uvm_factory.specs.Standing.{HaveScopesOnce, Standing};
 
     ghost Value = { Standing };
 
     ghost view = { λ t. record { by_type = t.by_type; instances = t.instances.items } };
+
+    ghost invariant = { λ t. HaveScopesOnce t.instances.items };
 }
 
 impl TypeOverrides {
@@ -66,10 +70,16 @@ impl TypeOverrides {
         ensures unchanged { OnErr result (self.new ≡ self.old) }
     {
         match given {
-            Override::Instance { new, scope, .. } => self.instances.push(InstanceOverride {
-                scope,
-                replacement: new,
-            })?,
+            Override::Instance { new, scope, .. } => {
+                // Behind one at its scope it can never prevail.
+                if has_scope(&self.instances, &scope) {
+                    return Ok(());
+                }
+                self.instances.push(InstanceOverride {
+                    scope,
+                    replacement: new,
+                })?;
+            }
             Override::Whole { new, replace, .. } => {
                 if replace || self.by_type.is_none() {
                     self.by_type = Some(new);
@@ -89,6 +99,15 @@ impl TypeOverrides {
             None => self.by_type.map(|by_type| OverrideStep::ByType(by_type)),
         }
     }
+}
+
+// Whether an instance override has a scope.
+fn has_scope(instances: &Vec<InstanceOverride>, scope: &Glob) -> bool
+    ensures { result ≡ list_any (λ given. pointwise nat_eq given.scope scope.now) instances.now.items }
+{
+    instances
+        .iter()
+        .any(|given| given.scope.as_bytes() == scope.as_bytes())
 }
 
 // The first instance override that holds at a path.

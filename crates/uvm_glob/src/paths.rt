@@ -157,7 +157,8 @@ impl Path {
 
     /// The bytes of the text of the path: its names with dots between them, and none for the top's. Takes no memory.
     pub fn as_bytes(&self) -> &[u8]
-        ensures { result.now ≡ path_text self.now }
+        ensures text { result.now ≡ path_text self.now }
+        ensures names { names_of result.now ≡ self.now }
     {
         self.text()
     }
@@ -165,6 +166,7 @@ impl Path {
     // The text of the path.
     pub(crate) fn text(&self) -> &[u8]
         ensures text { result.now ≡ path_text self.now }
+        ensures names { names_of result.now ≡ self.now }
         ensures bytes { list_all is_glob_byte result.now ≡ true }
     {
         self.text.as_slice()

@@ -12,7 +12,7 @@ use Rattle.uvm_sequencer.specs.declared.drivers.How.{How}
 use Rattle.uvm_sequencer.specs.declared.drivers.How.TheVariants as how
 use Rattle.uvm_sequencer.specs.declared.modes.Mode.{Mode}
 use Rattle.uvm_sequencer.specs.declared.modes.Mode.TheVariants as mode
-use Rattle.uvm_sequencer.specs.Sequences.{Start, names_of}
+use Rattle.uvm_sequencer.specs.Sequences.{Start}
 use Rattle.uvm_tlm.specs.declared.ends.PortKind.{PortKind}
 use Rattle.uvm_tlm.specs.declared.ends.PortKind.TheVariants.{Put, Get, Analysis, Seq}
 use Rattle.uvm_tlm.specs.declared.fifos.MoveKind.{MoveKind}
@@ -34,21 +34,9 @@ use Rattle.uvm_object.specs.declared.entries.Reason.TheVariants.{Finished, Exit,
 use Rattle.uvm_object.specs.declared.entries.Entry.{Entry}
 use Rattle.uvm_object.specs.declared.entries.Entry.TheVariants.{Begin, End, Time, Heard, Did, Locked, Granted, Passed, Drained, Note, Over}
 use Rattle.uvm_object.specs.Fatals.{id_of}
+use Rattle.uvm_sources.specs.Sources.{sequence_text, shown_path}
 
--- a path as it is printed: the top's own is `uvm_top`
-abbrev pub shown_path : List (List ℕ) → List ℕ
-shown_path [] = codes "uvm_top"
-shown_path (name ∷ names) = path_text (name ∷ names)
-
--- a sequence as it is printed: its home, and the names from its root sequence down to itself
-abbrev pub sequence_text : List Node → List Start → ℕ → ℕ → List ℕ
-sequence_text nodes started id home = shown_path (path_at nodes home) ++ codes "@@" ++ path_text (names_of started id)
-
--- as the source of reports, and in the lines of entries, where a sequence has its number behind it
-abbrev pub source_text : List Node → List Start → Who → List ℕ
-source_text nodes started (who.Node node) = shown_path (path_at nodes node)
-source_text nodes started (who.Sequence id home) = sequence_text nodes started id home
-
+-- somebody in the lines of entries, where a sequence has its number behind it
 abbrev pub who_text : List Node → List Start → Who → List ℕ
 who_text nodes started (who.Node node) = shown_path (path_at nodes node)
 who_text nodes started (who.Sequence id home) = sequence_text nodes started id home ++ 35 ∷ decimal id

@@ -7,5 +7,4 @@ mod lines;
 mod sequence_lines;
 
 pub use act_lines::act_text;
-pub use lines::{call_text, line_of, shown_path};
-pub use sequence_lines::source_of;
+pub use lines::{call_text, line_of};

@@ -4,8 +4,7 @@ ghost use Rattle.std.specs.Prelude.{◌≡◌, ◌++◌, ◌∷◌, [], IfOk, On
 ghost use Rattle.std.specs.Fmt.{decimal, signed_decimal};
 ghost use Rattle.uvm_object.specs.declared.entries.Entry.TheVariants.{Passed};
 ghost use Rattle.uvm_object.specs.declared.acts.Call.TheVariants as call;
-ghost use Rattle.uvm_lines.specs.Lines.{entry_line, entry_text, who_text, shown_path, call_text, value_text, outcome_text, reason_text};
-ghost use Rattle.uvm_tree.specs.Nodes.{path_at};
+ghost use Rattle.uvm_lines.specs.Lines.{entry_line, entry_text, who_text, call_text, value_text, outcome_text, reason_text};
 
 use crate::act_lines::push_act;
 use crate::item_lines::{answer_text, move_text, push_named, push_named_item, push_some_item};
@@ -14,6 +13,7 @@ use std::alloc::{AllocError, Global};
 use uvm_glob::Name;
 use uvm_object::{Call, Entry, Outcome, Passage, Reason, Who};
 use uvm_sequencer::Sequences;
+use uvm_sources::push_node;
 use uvm_tlm::Item;
 use uvm_tree::{NodeId, Tree};
 
@@ -109,34 +109,11 @@ fn push_passage(
     push_who(&passage.who, tree, sequences, line)
 }
 
-// A word and a node.
-pub(crate) fn push_node(
-    word: &[u8],
-    node: NodeId,
-    tree: &Tree,
-    line: &mut Vec<u8>,
-) -> Result<(), AllocError>
-    ensures { OnOk result (line.new.items ≡ line.old.items ++ (word.now ++ shown_path (path_at tree.now.nodes node))) }
-{
-    line.extend_from_slice(word)?;
-    line.extend_from_slice(shown_path(node, tree))
-}
-
 pub(crate) fn push_two(front: &[u8], back: &str, line: &mut Vec<u8>) -> Result<(), AllocError>
     ensures { OnOk result (line.new.items ≡ line.old.items ++ (front.now ++ back.now)) }
 {
     line.extend_from_slice(front)?;
     line.extend_from_slice(back.as_bytes())
-}
-
-/// How a node is shown in lines: by its path; the top, and a node that the tree does not have, is `uvm_top`. Takes no memory.
-pub fn shown_path(node: NodeId, tree: &Tree) -> &[u8]
-    ensures { result.now ≡ shown_path (path_at tree.now.nodes node) }
-{
-    match tree.path(node) {
-        Some(path) if path.depth() > 0 => path.as_bytes(),
-        _ => b"uvm_top",
-    }
 }
 
 /// Gives the text of a call, as it stands in the line of its entry, without the number of the acts that answer it.

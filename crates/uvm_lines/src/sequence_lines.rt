@@ -1,40 +1,21 @@
 //! The lines of sequences, of their acts and of those of their driver.
 
-ghost use Rattle.std.specs.Prelude.{◌≡◌, ◌++◌, ◌∷◌, true, IfOk, OnOk};
-ghost use Rattle.std.specs.Fmt.{decimal};
-ghost use Rattle.uvm_glob.specs.Paths.{path_text};
+ghost use Rattle.std.specs.Prelude.{◌≡◌, ◌++◌, ◌∷◌, true, OnOk};
 ghost use Rattle.uvm_object.specs.declared.acts.Act.TheVariants as act;
 ghost use Rattle.uvm_object.specs.declared.acts.Call.TheVariants as call;
 ghost use Rattle.uvm_object.specs.declared.entries.Entry.TheVariants.{Granted, Locked};
 ghost use Rattle.uvm_object.specs.Acts.{is_sequencing};
-ghost use Rattle.uvm_lines.specs.Lines.{act_text, call_text, drawn_text, entry_text, how_text, mode_text, priority_text, sequence_text, source_text, who_text};
+ghost use Rattle.uvm_lines.specs.Lines.{act_text, call_text, drawn_text, entry_text, how_text, mode_text, priority_text, who_text};
 
 use crate::item_lines::{push_item, push_named, push_some_item};
-use crate::lines::{push_node, push_ticks, push_two};
-use std::alloc::{AllocError, Global};
+use crate::lines::{push_ticks, push_two};
+use std::alloc::AllocError;
 use uvm_glob::{Name, Path};
 use uvm_object::{Act, Grant, Who};
 use uvm_sequencer::{How, Mode, SeqId, Sequences};
+use uvm_sources::{push_node, push_sequence};
 use uvm_tlm::Item;
 use uvm_tree::{NodeId, Tree};
-
-/// How somebody is shown as the source of a report (IEEE 1800.2-2020, Clause 6): a component by its path, a sequence by that of
-/// its home and the names from its root sequence down to itself, as `uvm_test_top.sqr@@a.b`. The error is want of memory.
-pub fn source_of(
-    alloc: Global,
-    who: &Who,
-    tree: &Tree,
-    sequences: &Sequences,
-) -> Result<Vec<u8>, AllocError>
-    ensures { IfOk result (λ source. source.items ≡ source_text tree.now.nodes sequences.now.started who.now) }
-{
-    let mut source = Vec::new(alloc);
-    match who {
-        Who::Node(node) => push_node(b"", *node, tree, &mut source)?,
-        Who::Sequence { id, home } => push_sequence(*id, *home, tree, sequences, &mut source)?,
-    }
-    Ok(source)
-}
 
 // Somebody, a sequence with its number.
 pub(crate) fn push_who(
@@ -52,36 +33,6 @@ pub(crate) fn push_who(
             push_ticks(b"#", id.number(), line)
         }
     }
-}
-
-// A sequence by its home and its names.
-fn push_sequence(
-    id: SeqId,
-    home: NodeId,
-    tree: &Tree,
-    sequences: &Sequences,
-    line: &mut Vec<u8>,
-) -> Result<(), AllocError>
-    ensures { OnOk result (line.new.items ≡ line.old.items ++ sequence_text tree.now.nodes sequences.now.started id home) }
-{
-    push_node(b"", home, tree, line)?;
-    line.extend_from_slice(b"@@")?;
-    let names = sequences.names(*line.allocator(), id)?;
-    push_joined(names.as_slice(), line)
-}
-
-// Names, with a dot between each two.
-fn push_joined(names: &[Name], line: &mut Vec<u8>) -> Result<(), AllocError>
-    ensures { OnOk result (line.new.items ≡ line.old.items ++ path_text names.now) }
-{
-    let Some((first, others)) = names.split_first() else {
-        return Ok(());
-    };
-    line.extend_from_slice(first.as_bytes())?;
-    for name in others {
-        push_named(b".", name, line)?;
-    }
-    Ok(())
 }
 
 pub(crate) fn push_locked(

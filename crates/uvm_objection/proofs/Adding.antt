@@ -1,13 +1,16 @@
 -- One more node.
-use Rattle.std.proofs.Common.{◌≡◌, ◌≢◌, ℕ, ◌+◌, Bool, true, false, ◌||◌, ◌==◌, List, [], ◌∷◌, ◌++◌, map, Some, refl, sym, ap, ◌∙◌, subst, arith}
+use Rattle.std.proofs.Common.{◌≡◌, ◌≢◌, ℕ, ◌+◌, Bool, true, false, cond, nat_eq, ◌||◌, ◌==◌, List, [], ◌∷◌, ◌++◌, length, map, Some, refl, sym, ap, ◌∙◌, subst, arith}
 use Rattle.std.proofs.lemmas.Bool.Decides.{nat_tests}
+use Rattle.std.specs.HashMap.{get}
 use Rattle.uvm_objection.specs.declared.nodes.Entry.{Entry}
 use Rattle.uvm_objection.specs.declared.objections.Objection.TheInside.{Inside}
 use Rattle.uvm_objection.specs.Nodes.{is_known}
-use Rattle.uvm_objection.specs.Kept.{node_of, Kept, Fits, IsObjection}
+use Rattle.uvm_objection.specs.Kept.{node_of, Kept, Fits, IsObjection, shape}
 use Rattle.uvm_objection.proofs.Passed.{is_under, passed, when, AddUp}
 use Rattle.uvm_objection.specs.Laws.{IsNew, AreUnder, IsTree}
-use Rattle.uvm_objection.proofs.Trees.{shape, distinct_of}
+use Rattle.uvm_objection.specs.Places.{place_in}
+use Rattle.uvm_objection.proofs.Trees.{Differs, distinct_of}
+use Rattle.uvm_objection.proofs.Places.{place_push}
 use Rattle.uvm_objection.proofs.Sums.{add_up, kept_of}
 
 -- an entry of a node at which nothing was raised yet
@@ -69,9 +72,29 @@ tree_push node parent (e ∷ newer) tree unknown above =
     let known : ℕ → Bool = λ k. e.node == k in
     (tree.0, tree.1, new_push e.node node parent newer (not_same e.node node parts.0) tree.2, under_push known node parent newer tree.3 parts.1 above)
 
+-- more room
+pub roomier : (o next : Inside) → IsObjection o → next.top ≡ o.top → next.entries.items ≡ o.entries.items → ((node : ℕ) → get nat_eq next.places node ≡ get nat_eq o.places node) → IsObjection next
+roomier o next keeps top entries places =
+    let all : next.top ∷ next.entries.items ≡ o.top ∷ o.entries.items = ap (λ e. e ∷ next.entries.items) top ∙ ap (λ l. o.top ∷ l) entries in
+    let T : List Entry → Type 0 = λ l. IsTree (shape l) in
+    let K : List Entry → Type 0 = Kept in
+    let F : List Entry → Type 0 = Fits in
+    record {
+      tree = subst T (sym all) keeps.tree;
+      placed = λ node. places node ∙ keeps.placed node ∙ ap (λ l. place_in node (shape l)) (sym entries);
+      kept = subst K (sym all) keeps.kept;
+      fits = subst F (sym all) keeps.fits;
+    }
+
 -- one more
-pub added : (o next : Inside) (node parent : ℕ) (new : Entry) → IsObjection o → is_known node (map node_of (o.top ∷ o.entries.items)) ≡ false → is_known parent (map node_of (o.top ∷ o.entries.items)) ≡ true → new ≡ new_entry node parent → next.top ≡ o.top → next.entries.items ≡ o.entries.items ++ new ∷ [] → IsObjection next
-added o next node parent new keeps unknown above made same is =
+differs_known : (node : ℕ) (es : List Entry) → is_known node (map node_of es) ≡ false → Differs node es
+differs_known node [] unknown = tt
+differs_known node (e ∷ newer) unknown =
+    let parts = or_false (e.node == node) (is_known node (map node_of newer)) unknown in
+    (λ same. not_same e.node node parts.0 (sym same), differs_known node newer parts.1)
+
+pub added : (o next : Inside) (node parent : ℕ) (new : Entry) → IsObjection o → is_known node (map node_of (o.top ∷ o.entries.items)) ≡ false → is_known parent (map node_of (o.top ∷ o.entries.items)) ≡ true → new ≡ new_entry node parent → next.top ≡ o.top → next.entries.items ≡ o.entries.items ++ new ∷ [] → ((q : ℕ) → get nat_eq next.places q ≡ cond (nat_eq node q) (Some (length o.entries.items)) (get nat_eq o.places q)) → IsObjection next
+added o next node parent new keeps unknown above made same is places =
     let es = o.top ∷ o.entries.items in
     let more = es ++ new_entry node parent ∷ [] in
     let all : next.top ∷ next.entries.items ≡ more = ap (λ e. e ∷ next.entries.items) same ∙ ap (λ l. o.top ∷ l) (is ∙ ap (λ e. o.entries.items ++ e ∷ []) made) in
@@ -81,6 +104,11 @@ added o next node parent new keeps unknown above made same is =
     let tree = tree_push node parent es keeps.tree unknown above in
     record {
       tree = subst T (sym all) tree;
+      placed = λ q.
+          places q
+          ∙ ap (cond (nat_eq node q) (Some (length o.entries.items))) (keeps.placed q)
+          ∙ place_push node q new o.entries.items (ap (λ e. e.node) made) (differs_known node es unknown).1
+          ∙ ap (λ l. place_in q (shape l)) (sym is);
       kept = subst K (sym all) (kept_of more (distinct_of more tree) (kept_push node parent es (add_up es (distinct_of es keeps.tree) keeps.kept)));
       fits = subst F (sym all) (fits_push node parent es keeps.fits);
     }

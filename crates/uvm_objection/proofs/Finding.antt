@@ -1,13 +1,17 @@
 -- What is found of a node.
-use Rattle.std.proofs.Common.{◌≡◌, ℕ, Bool, true, false, ◌==◌, List, [], ◌∷◌, map, find, Option, Some, None, refl, sym, ap, ◌∙◌}
+use Rattle.std.proofs.Common.{◌≡◌, ℕ, Bool, nat_eq, true, false, ◌==◌, List, [], ◌∷◌, map, find, get_or, Some, None, refl, sym, ap, subst, ◌∙◌}
+use Rattle.std.specs.HashMap.{get}
 use Rattle.uvm_objection.specs.declared.nodes.Entry.{Entry}
 use Rattle.uvm_objection.specs.declared.objections.Objection.TheInside.{Inside}
 use Rattle.uvm_objection.specs.Nodes.{Node, is_known}
 use Rattle.uvm_objection.specs.Totals.{total}
-use Rattle.uvm_objection.specs.Kept.{node_of, IsObjection}
+use Rattle.uvm_objection.specs.Kept.{node_of, shape, IsObjection}
+use Rattle.uvm_objection.specs.Places.{place_in}
 use Rattle.uvm_objection.proofs.Sums.{Agree, agree, add_up}
 use Rattle.uvm_objection.proofs.Objecting.{entries_of}
-use Rattle.uvm_objection.proofs.Trees.{distinct_of, true_node}
+use Rattle.uvm_objection.proofs.Trees.{Differs, distinct_of, other_node, true_node}
+use Rattle.uvm_objection.proofs.Places.{find_at, not_top, none_there}
+use Rattle.uvm_objection.proofs.Passing.{append-nil}
 
 some_same : (e f : Entry) → Some f ≡ Some e → f ≡ e
 some_same e f is = cc
@@ -36,24 +40,22 @@ pub found_kept : (o : Inside) (node : ℕ) (e : Entry) → IsObjection o → fin
 found_kept o node e kept is =
     found_total node (map node_of (entries_of o)) (entries_of o) e (let apart = distinct_of (entries_of o) kept.tree in agree (entries_of o) apart (add_up (entries_of o) apart kept.kept)) is
 
--- the first, and one of the others
-pub found_first : (node : ℕ) (f : Entry) (newer : List Entry) → true ≡ (f.node == node) → find (λ g. g.node == node) (f ∷ newer) ≡ Some f
-found_first node f newer here = rw (← here) refl
+-- what stands at the place of a node, if it has one, and else the top
+pub found_at : (o : Inside) (node place : ℕ) (e : Entry) → IsObjection o → Some place ≡ get nat_eq o.places node → e ≡ get_or o.entries.items place e → find (λ f. f.node == node) (entries_of o) ≡ Some e
+found_at o node place e keeps given read =
+    let is = sym (keeps.placed node) ∙ sym given in
+    rw (not_top o.top o.entries.items keeps.tree node place is) (find_at node o.entries.items place e is read)
 
-pub found_later : (node : ℕ) (f : Entry) (newer : List Entry) (slice : List Entry) (e : Entry) (r : Option Entry) → false ≡ (f.node == node) → slice ≡ newer → r ≡ find (λ g. g.node == node) slice → r ≡ Some e → find (λ g. g.node == node) (f ∷ newer) ≡ Some e
-found_later node f newer slice e r other same is some =
-    let later = sym is ∙ some in
-    rw (← other) (ap (find (λ g. g.node == node)) (sym same) ∙ later)
+known_first : (node : ℕ) (f : Entry) (newer : List Entry) (b : Bool) → (f.node == node) ≡ b → is_known node (map node_of newer) ≡ false → is_known node (map node_of (f ∷ newer)) ≡ true → find (λ g. g.node == node) (f ∷ newer) ≡ Some f
+known_first node f newer true here none known = rw here refl
+known_first node f newer false here none known = let bad = rw (here, none) at known in cc
 
-unknown_test : (node : ℕ) (f : Entry) (newer : List Entry) (b : Bool) → (f.node == node) ≡ b → find (λ g. g.node == node) (f ∷ newer) ≡ None → (find (λ g. g.node == node) newer ≡ None → is_known node (map node_of newer) ≡ false) → is_known node (map node_of (f ∷ newer)) ≡ false
-unknown_test node f newer true here is rest = let first = rw here at is in cc
-unknown_test node f newer false here is rest = let later = rw here at is in rw here (rest later)
+unknown_all : (node : ℕ) (es : List Entry) → Differs node es → is_known node (map node_of es) ≡ false
+unknown_all node [] apart = refl
+unknown_all node (e ∷ es) apart = rw (other_node e.node node apart.0) (unknown_all node es apart.1)
 
-pub not_found : (node : ℕ) (es : List Entry) → find (λ f. f.node == node) es ≡ None → is_known node (map node_of es) ≡ false
-not_found node [] is = refl
-not_found node (f ∷ newer) is = unknown_test node f newer (f.node == node) refl is (not_found node newer)
-
-pub none_later : (node : ℕ) (f : Entry) (newer slice : List Entry) (r : Option Entry) → false ≡ (f.node == node) → slice ≡ newer → r ≡ find (λ g. g.node == node) slice → r ≡ None → is_known node (map node_of (f ∷ newer)) ≡ false
-none_later node f newer slice r other same is none =
-    let later = ap (find (λ g. g.node == node)) (sym same) ∙ sym is ∙ none in
-    rw (← other) (not_found node newer later)
+pub found_top : (o : Inside) (node : ℕ) → IsObjection o → None ≡ get nat_eq o.places node → is_known node (map node_of (entries_of o)) ≡ true → find (λ f. f.node == node) (entries_of o) ≡ Some o.top
+found_top o node keeps given known =
+    let none = sym (keeps.placed node) ∙ sym given in
+    let N : List Entry → Type 0 = λ l. place_in node (shape l) ≡ None in
+    known_first node o.top o.entries.items (o.top.node == node) refl (unknown_all node o.entries.items (none_there node o.entries.items [] (subst N (append-nil o.entries.items) none))) known

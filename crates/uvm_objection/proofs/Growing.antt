@@ -8,9 +8,9 @@ use Rattle.uvm_objection.specs.Totals.{total, settled}
 use Rattle.uvm_objection.specs.Laws.{places, IsNew, AreUnder, IsTree, AreNodes, GrowsBy, NodesGrow}
 use Rattle.uvm_objection.specs.Changes.{nodes_changed, most_raised, IsTimely, IsSteady}
 use Rattle.uvm_objection.specs.Walks.{walked}
-use Rattle.uvm_objection.specs.Kept.{node_of, Kept}
+use Rattle.uvm_objection.specs.Kept.{node_of, Kept, shape}
 use Rattle.uvm_objection.proofs.Passed.{AddUp}
-use Rattle.uvm_objection.proofs.Trees.{Distinct, distinct_of, shape, same_node, other_node, true_node}
+use Rattle.uvm_objection.proofs.Trees.{Distinct, distinct_of, same_node, other_node, true_node}
 use Rattle.uvm_objection.proofs.Sums.{agree, add_up}
 use Rattle.uvm_objection.proofs.Settling.{IsSettled, walk_settles, few_after}
 use Rattle.uvm_objection.proofs.Adding.{new_entry, kept_push, tree_push}

@@ -4,6 +4,7 @@ pub mod Sums
 pub mod ByTotals
 pub mod Settling
 pub mod Drains
+pub mod Places
 pub mod Passing
 pub mod Objecting
 pub mod Finding

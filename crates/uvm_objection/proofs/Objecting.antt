@@ -1,6 +1,7 @@
 -- What is kept goes through a change.
-use Rattle.std.proofs.Common.{◌≡◌, ◌<◌, ◌≤◌, ℕ, ◌+◌, ◌^◌, ◌⊎◌, inl, inr, Bool, true, false, ◌==◌, List, [], ◌∷◌, map, Option, refl, sym, ap, ◌∙◌, subst, arith, if◌then◌else◌}
+use Rattle.std.proofs.Common.{◌≡◌, ◌<◌, ◌≤◌, ℕ, ◌+◌, ◌^◌, ◌⊎◌, inl, inr, Bool, true, false, ◌==◌, List, [], ◌∷◌, map, drop, nat_eq, Option, refl, sym, ap, ◌∙◌, subst, arith, if◌then◌else◌}
 use Rattle.std.specs.Option.{option_to_list}
+use Rattle.std.specs.HashMap.{get}
 use Rattle.uvm_objection.specs.declared.nodes.Entry.{Entry}
 use Rattle.uvm_objection.specs.declared.nodes.Change.{Change}
 use Rattle.uvm_objection.specs.declared.nodes.ChangeKind.{ChangeKind}
@@ -12,9 +13,10 @@ use Rattle.uvm_objection.specs.Totals.{total, settled, settled_node, drains_begu
 use Rattle.uvm_objection.specs.Laws.{IsTree, AreNodes}
 use Rattle.uvm_objection.specs.Changes.{source_changed, held_changed, due_changed, drain_changed, entry_changed, node_changed, nodes_changed, most_raised, IsWithin, IsTimely, IsSteady, TellsOf}
 use Rattle.uvm_objection.specs.Walks.{walked, CanWalk}
-use Rattle.uvm_objection.specs.Kept.{node_of, Kept, Fits, IsObjection}
+use Rattle.uvm_objection.specs.Kept.{node_of, Kept, Fits, IsObjection, shape}
+use Rattle.uvm_objection.specs.Places.{place_in}
 use Rattle.uvm_objection.proofs.Passed.{is_under, passed, when, AddUp}
-use Rattle.uvm_objection.proofs.Trees.{Differs, Distinct, distinct_of, Under, under_top, shape, true_node}
+use Rattle.uvm_objection.proofs.Trees.{Differs, Distinct, distinct_of, Under, under_top, true_node}
 use Rattle.uvm_objection.proofs.Sums.{Agree, agree, first_total, add_up, kept_of}
 use Rattle.uvm_objection.proofs.Settling.{Rises, Before, IsSettled, walk_settles, walk_can, entry_same}
 use Rattle.uvm_objection.proofs.Drains.{IsTold, was_held, walk_tells}
@@ -209,13 +211,17 @@ module _ (o : Inside) (c : Change) (keeps : IsObjection o) (within : IsWithin c.
   told_all = walk_tells c (λ k. held_of k (nodes_of o)) (entries_of o) distinct sums (was_held (entries_of o) distinct)
 
   module _ (next : Inside) (w : Walk) (entries : entries_of next ≡ (walked c (entries_of o)).entries) (walk : w ≡ (walked c (entries_of o)).walk) where
-    pub kept_after : IsObjection next
-    kept_after =
+    shapes : shape (entries_of next) ≡ shape (entries_of o)
+    shapes = ap shape entries ∙ settled_all.places
+
+    pub kept_after : next.places ≡ o.places → IsObjection next
+    kept_after same =
         let T : List (ℕ × Option ℕ) → Type 0 = IsTree in
         let K : List Entry → Type 0 = Kept in
         let F : List Entry → Type 0 = Fits in
         record {
-          tree = subst T (sym (ap shape entries ∙ settled_all.places)) keeps.tree;
+          tree = subst T (sym shapes) keeps.tree;
+          placed = λ node. ap (λ m. get nat_eq m node) same ∙ keeps.placed node ∙ ap (λ ps. place_in node (drop 1 ps)) (sym shapes);
           kept = subst K (sym entries) (kept_of (walked c (entries_of o)).entries settled_all.distinct settled_all.kept);
           fits = subst F (sym entries) (settled_all.fits o.top.total within_top o.top.total limit under keeps.fits);
         }

@@ -11,9 +11,9 @@ use Rattle.uvm_objection.specs.Nodes.{Node}
 use Rattle.uvm_objection.specs.Totals.{total, settled, settled_node, held_after, due_after, begins}
 use Rattle.uvm_objection.specs.Changes.{source_changed, held_changed, due_changed, drain_changed, entry_changed, most_raised, IsWithin}
 use Rattle.uvm_objection.specs.Walks.{start_of, walked, entry_after, entry_next, walk_after, walk_next, entry_settled, is_at, is_at_node, CanStep, CanWalk}
-use Rattle.uvm_objection.specs.Kept.{node_of, Fits}
+use Rattle.uvm_objection.specs.Kept.{node_of, Fits, shape}
 use Rattle.uvm_objection.proofs.Passed.{passed, when, AddUp}
-use Rattle.uvm_objection.proofs.Trees.{Differs, Distinct, Under, shape, other_node, true_node}
+use Rattle.uvm_objection.proofs.Trees.{Differs, Distinct, Under, other_node, true_node}
 use Rattle.uvm_objection.proofs.Sums.{agree, first_total}
 
 -- what a change leaves of the numbers of an entry

@@ -1,15 +1,11 @@
 -- Nodes that stand once each, and no total of which is over that of the top.
-use Rattle.std.proofs.Common.{◌≡◌, ◌≢◌, ◌≤◌, ℕ, ◌+◌, Bool, true, false, ◌||◌, ◌==◌, List, [], ◌∷◌, map, Option, Some, None, refl, subst, arith}
+use Rattle.std.proofs.Common.{◌≡◌, ◌≢◌, ◌≤◌, ℕ, ◌+◌, Bool, true, false, ◌||◌, ◌==◌, List, [], ◌∷◌, Option, Some, None, refl, subst, arith}
 use Rattle.std.specs.Option.{option_map_or}
 use Rattle.std.proofs.lemmas.Bool.Decides.{nat_tests}
 use Rattle.uvm_objection.specs.declared.nodes.Entry.{Entry}
-use Rattle.uvm_objection.specs.Laws.{places, IsNew, AreUnder, IsTree}
-use Rattle.uvm_objection.specs.Kept.{node_of}
+use Rattle.uvm_objection.specs.Laws.{IsNew, AreUnder, IsTree}
+use Rattle.uvm_objection.specs.Kept.{shape}
 use Rattle.uvm_objection.proofs.Passed.{is_under, passed, when, AddUp}
-
--- who stands where
-abbrev pub shape : List Entry → List (ℕ × Option ℕ)
-shape es = places (map node_of es)
 
 -- a node is none of these
 abbrev pub Differs : ℕ → List Entry → Type 0
@@ -30,7 +26,7 @@ other_node m n h = grind (arith, nat_tests)
 pub true_node : (m n : ℕ) → (m == n) ≡ true → m ≡ n
 true_node m n h = grind (arith, nat_tests)
 
-differs_of : (k : ℕ) (es : List Entry) → IsNew k (shape es) → Differs k es
+pub differs_of : (k : ℕ) (es : List Entry) → IsNew k (shape es) → Differs k es
 differs_of k [] apart = tt
 differs_of k (e ∷ newer) apart = (apart.0, differs_of k newer apart.1)
 

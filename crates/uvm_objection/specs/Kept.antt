@@ -1,14 +1,22 @@
 -- What is kept of the nodes.
-use Rattle.std.specs.Prelude.{◌≡◌, ◌^◌, ◌<◌, ◌≤◌, List, [], ◌∷◌, map}
+use Rattle.std.specs.Prelude.{◌≡◌, ◌-◌, ◌^◌, ◌<◌, ◌≤◌, ℕ, List, [], ◌∷◌, Option, map, min}
+use Rattle.std.specs.HashMap.{HashMap, spare}
+use Rattle.std.specs.Vec.{vec_capacity, vec_len}
+use Rattle.std.specs.declared.vec.Vec.{Vec}
 use Rattle.uvm_objection.specs.Nodes.{Node}
 use Rattle.uvm_objection.specs.Totals.{total}
 use Rattle.uvm_objection.specs.Laws.{places, IsTree}
+use Rattle.uvm_objection.specs.Places.{ArePlaced}
 use Rattle.uvm_objection.specs.declared.nodes.Entry.{Entry}
 use Rattle.uvm_objection.specs.declared.objections.Objection.TheInside.{Inside}
 
 -- the node that an entry stands for
 abbrev pub node_of : Entry → Node
 node_of e = record { node = e.node; parent = e.parent; source = e.source; drain = e.drain; held = e.held; due = e.due }
+
+-- each node with its parent
+abbrev pub shape : List Entry → List (ℕ × Option ℕ)
+shape es = places (map node_of es)
 
 -- each total is that from scratch, where it is positive nothing is held, and nothing is due where nothing is held
 abbrev pub Kept : List Entry → Type 0
@@ -20,8 +28,13 @@ abbrev pub Fits : List Entry → Type 0
 Fits [] = Unit {0}
 Fits (e ∷ newer) = (e.total ≤ 10 ^ 18) × (e.held ≤ 10 ^ 18) × (e.drain ≤ 10 ^ 15) × Fits newer
 
+-- for how many more nodes there is room, among the entries and among their places
+abbrev pub room_in : {Z S : Type 0} → Vec Entry Z → HashMap ℕ ℕ S → ℕ
+room_in entries table = min (vec_capacity entries - vec_len entries) (spare table)
+
 -- what an objection keeps
 pub record IsObjection (o : Inside) : Type 0 where
-  pub tree : IsTree (places (map node_of (o.top ∷ o.entries.items)))
+  pub tree : IsTree (shape (o.top ∷ o.entries.items))
+  pub placed : ArePlaced o.places (shape o.entries.items)
   pub kept : Kept (o.top ∷ o.entries.items)
   pub fits : Fits (o.top ∷ o.entries.items)

@@ -5,4 +5,5 @@ pub mod Totals
 -- what the bodies go by, and no caller cites
 pub mod Changes
 pub mod Kept
+pub mod Places
 pub mod Walks

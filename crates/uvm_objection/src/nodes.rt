@@ -1,6 +1,6 @@
 //! What is kept of a node.
 
-ghost use Rattle.std.specs.Prelude.{◌≡◌, ◌+◌, ◌<◌, ◌^◌, find, ◌==◌};
+ghost use Rattle.std.specs.Prelude.{◌≡◌, ◌+◌, ◌<◌, ◌^◌};
 ghost use Rattle.uvm_objection.specs.Changes.{entry_changed};
 ghost use Rattle.uvm_objection.specs.Walks.{entry_settled};
 
@@ -86,11 +86,4 @@ impl Entry {
             ChangeKind::SetDrain(drain) => self.drain = drain,
         }
     }
-}
-
-// The entry of a node among some.
-pub(crate) fn find(entries: &[Entry], node: NodeId) -> Option<Entry>
-    ensures { result ≡ find (λ e. e.node == node) entries.now }
-{
-    entries.iter().copied().find(|entry| entry.node == node)
 }

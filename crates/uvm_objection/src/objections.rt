@@ -9,9 +9,10 @@ ghost use Rattle.uvm_objection.specs.Totals.{total, settled, drains_begun, drain
 ghost use Rattle.uvm_objection.specs.Laws.{AreNodes};
 
 use crate::faults::BelowZero;
-use crate::nodes::{Change, ChangeKind, Entry, find};
+use crate::nodes::{Change, ChangeKind, Entry};
 use crate::walks::Walk;
 use std::alloc::{AllocError, Global};
+use std::collections::HashMap;
 use std::marker::Model;
 use uvm_tree::NodeId;
 
@@ -29,23 +30,26 @@ pub struct Due {
 /// total that falls to zero under a drain time is held back, so that nothing above it falls yet, until `drained` lets it go or
 /// a raise at or below the node ends the drain. A node is known once it was added, and the top always.
 ///
-/// Contracts see the nodes in the order in which they were added, and for how many more there is room. A node is found by a
-/// scan, and a change goes up by another: a call looks at each node at most twice. None but `add` and `reserve` takes memory.
+/// Contracts see the nodes in the order in which they were added, and for how many more there is room. A table leads
+/// to the place of each node, and a change goes from a node to its parent: a call looks at a node and at those above it, and at
+/// no other. None but `add` and `reserve` takes memory.
 #[derive(Drop)]
 pub struct Objection {
     top: Entry,
     // The nodes besides the top, in the order in which they were added.
     entries: Vec<Entry>,
+    // Where each of them stands.
+    places: HashMap<NodeId, usize>,
 }
 
 impl Model for Objection {
-    ghost use Rattle.std.specs.Prelude.{◌∷◌, ◌-◌, map, vec_len, vec_capacity};
+    ghost use Rattle.std.specs.Prelude.{◌∷◌, map};
     ghost use Rattle.uvm_objection.specs.Nodes.{ObjectionValue};
-    ghost use Rattle.uvm_objection.specs.Kept.{node_of, IsObjection};
+    ghost use Rattle.uvm_objection.specs.Kept.{node_of, room_in, IsObjection};
 
     ghost Value = { ObjectionValue };
 
-    ghost view = { λ o. record { nodes = map node_of (o.top ∷ o.entries.items); spare = vec_capacity o.entries - vec_len o.entries } };
+    ghost view = { λ o. record { nodes = map node_of (o.top ∷ o.entries.items); spare = room_in o.entries o.places } };
 
     ghost invariant = { λ o. IsObjection o };
 }
@@ -58,6 +62,7 @@ impl Objection {
         Objection {
             top: Entry::new(NodeId::TOP, None),
             entries: Vec::new(alloc),
+            places: HashMap::new(alloc),
         }
     }
 
@@ -69,7 +74,8 @@ impl Objection {
         ensures room { 0 < self.old.spare → IsOk result }
         ensures kept { self.old.spare ≤ self.new.spare }
     {
-        self.entries.reserve(1)
+        self.entries.reserve(1)?;
+        self.places.reserve(1)
     }
 
     /// Adds a node that is not known, under a parent that is: nothing was raised at it, and its drain time is 0. Its error is
@@ -82,7 +88,11 @@ impl Objection {
         ensures room { 0 < self.old.spare → IsOk result }
         ensures capacity { capacity_of self.old ≤ capacity_of self.new }
     {
-        self.entries.push(Entry::new(node, Some(parent)))?;
+        self.entries.reserve(1)?;
+        self.places.insert(node, self.entries.len())?;
+        let Ok(()) = self.entries.push(Entry::new(node, Some(parent))) else {
+            unreachable!()
+        };
         Ok(())
     }
 
@@ -190,7 +200,7 @@ impl Objection {
         ensures spare { self.new.spare ≡ self.old.spare }
     {
         let change = Change { node, kind, time };
-        Walk::over(&mut self.top, &mut self.entries, &change)
+        Walk::over(&mut self.top, &mut self.entries, &self.places, &change)
     }
 
     // What is kept of a node.
@@ -200,12 +210,9 @@ impl Objection {
         ensures total { result.total ≡ total self.now.nodes node }
         ensures nodes { AreNodes self.now.nodes }
     {
-        if self.top.node == node {
-            return self.top;
-        }
-        match find(self.entries.as_slice(), node) {
-            Some(entry) => entry,
-            None => unreachable!(),
+        match self.places.get(&node) {
+            Some(place) => self.entries[*place],
+            None => self.top,
         }
     }
 }

@@ -1,14 +1,20 @@
 //! The walk by which a change goes up.
 
-ghost use Rattle.std.specs.Prelude.{◌≡◌, ◌∷◌, IsTrue, vec_capacity, vec_len};
-ghost use Rattle.uvm_objection.specs.Walks.{start_of, is_at, entry_after, walk_after, CanStep, CanWalk, walked};
+ghost use Rattle.std.specs.Prelude.{◌≡◌, ◌∷◌, IsTrue, nat_eq, vec_capacity, vec_len};
+ghost use Rattle.std.specs.HashMap.{get};
+ghost use Rattle.std.specs.Option.{option_and_then};
+ghost use Rattle.uvm_objection.specs.Laws.{IsTree};
+ghost use Rattle.uvm_objection.specs.Places.{ArePlaced};
+ghost use Rattle.uvm_objection.specs.Kept.{shape};
+ghost use Rattle.uvm_objection.specs.Walks.{is_at, entry_after, walk_after, CanStep, CanWalk, walked};
 
 use crate::nodes::{Change, Entry};
 use crate::objections::Due;
+use std::collections::HashMap;
 use uvm_tree::NodeId;
 
-// A walk over the nodes, the newest first: the node that it comes to next, if the change goes up; what a child had passed up
-// to that node, and what it passes up now; and the drains that began and ended.
+// A walk from a node to its parent, and so up to the top: the node that it comes to next, if the change goes up; what a child
+// had passed up to that node, and what it passes up now; and the drains that began and ended.
 #[derive(Clone, Copy)]
 pub(crate) struct Walk {
     pub at: Option<NodeId>,
@@ -19,16 +25,28 @@ pub(crate) struct Walk {
 }
 
 impl Walk {
-    // Makes a change at one of the nodes, and passes up what this changes above it.
-    pub(crate) fn over(top: &mut Entry, entries: &mut Vec<Entry>, change: &Change) -> Walk
-        requires { CanWalk change.now (top.old ∷ entries.old.items) }
+    // Makes a change at one of the nodes, and passes up what this changes above it. It goes from each node to the place of its
+    // parent, which stands before it, and looks at no other.
+    pub(crate) fn over(
+        top: &mut Entry,
+        entries: &mut Vec<Entry>,
+        places: &HashMap<NodeId, usize>,
+        change: &Change,
+    ) -> Walk
+        requires walk { CanWalk change.now (top.old ∷ entries.old.items) }
+        requires tree { IsTree (shape (top.old ∷ entries.old.items)) }
+        requires placed { ArePlaced places.now (shape entries.old.items) }
         ensures entries { top.new ∷ entries.new.items ≡ (walked change.now (top.old ∷ entries.old.items)).entries }
         ensures walk { result ≡ (walked change.now (top.old ∷ entries.old.items)).walk }
         ensures capacity { vec_capacity entries.new ≡ vec_capacity entries.old }
         ensures length { vec_len entries.new ≡ vec_len entries.old }
     {
         let mut walk = Walk::start(change.node);
-        walk.pass(change, entries);
+        let mut next = walk.place(places);
+        while let Some(place) = next {
+            walk.step(change, &mut entries[place]);
+            next = walk.place(places);
+        }
         walk.step(change, top);
         walk
     }
@@ -46,18 +64,11 @@ impl Walk {
         }
     }
 
-    // Passes the nodes besides the top, the last first.
-    fn pass(&mut self, change: &Change, entries: &mut Vec<Entry>)
-        requires start { self.old ≡ start_of change.now }
-        requires walk { CanWalk change.now entries.old.items }
-        ensures entries { entries.new.items ≡ (walked change.now entries.old.items).entries }
-        ensures walk { self.new ≡ (walked change.now entries.old.items).walk }
-        ensures capacity { vec_capacity entries.new ≡ vec_capacity entries.old }
-        ensures length { vec_len entries.new ≡ vec_len entries.old }
+    // Where the node stands to which it comes next, if it comes to one besides the top.
+    fn place(&self, places: &HashMap<NodeId, usize>) -> Option<usize>
+        ensures { result ≡ option_and_then (get nat_eq places.now) self.now.at }
     {
-        for place in (0..entries.len()).rev() {
-            self.step(change, &mut entries[place]);
-        }
+        places.get(&self.at?).copied()
     }
 
     // Passes a node. Where it is the one, its total changes, with it what it holds back, and so what it passes up.

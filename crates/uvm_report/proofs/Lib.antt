@@ -6,3 +6,4 @@ pub mod OneMore
 pub mod Ids
 pub mod Commanded
 pub mod Chosen
+pub mod Replaced

@@ -11,7 +11,7 @@ ghost use Rattle.uvm_report.specs.Lines.{summary_text};
 
 use crate::lines::push_summary;
 use crate::messages::{Fate, Report};
-use crate::settings::{Scoped, Which, prevailing_setting};
+use crate::settings::{Scoped, ScopedSettings, Which};
 use crate::severities::{Actions, Severity, verbosity};
 use crate::tallies::Tally;
 use std::alloc::{AllocError, Global};
@@ -22,25 +22,24 @@ use uvm_glob::{Glob, Name, Path};
 /// prevails at each path for each severity and id (a severity, a level, actions), the quit limit, and the counts.
 #[derive(Drop)]
 pub struct Reports {
-    // The settings of each sort in the order in which they were set.
-    severities: Vec<Scoped<Severity>>,
-    levels: Vec<Scoped<u16>>,
-    actions: Vec<Scoped<Actions>>,
+    // Of each sort the last setting for each scope and the reports that it is for.
+    severities: ScopedSettings<Severity>,
+    levels: ScopedSettings<u16>,
+    actions: ScopedSettings<Actions>,
     // 0 for none.
     quit_limit: u16,
     tally: Tally,
 }
 
 impl Model for Reports {
-    ghost use Rattle.std.specs.Prelude.{reverse};
     ghost use Rattle.uvm_report.specs.Kept.{Kept};
 
     ghost Value = { Kept };
 
     ghost view = { λ r. record {
-      severities = reverse r.severities.items;
-      levels = reverse r.levels.items;
-      actions = reverse r.actions.items;
+      severities = r.severities;
+      levels = r.levels;
+      actions = r.actions;
       limit = r.quit_limit;
       counts = r.tally.counts;
       spare = r.tally.spare;
@@ -54,23 +53,23 @@ impl Reports {
         ensures { IsNew result }
     {
         Reports {
-            severities: Vec::new(alloc),
-            levels: Vec::new(alloc),
-            actions: Vec::new(alloc),
+            severities: ScopedSettings::new(alloc),
+            levels: ScopedSettings::new(alloc),
+            actions: ScopedSettings::new(alloc),
             quit_limit: 0,
             tally: Tally::new(alloc),
         }
     }
 
     /// Sets the level for the reports that `which` names at the paths that the scope matches: those of a greater verbosity are
-    /// dropped. Of the settings of one class (`Which`) that are for a report the last that was set prevails. The error is want of
-    /// memory, which changes nothing.
+    /// dropped. Of the settings of one class (`Which`) that are for a report the last that was set prevails. A level takes the
+    /// place of the one that was set with the same scope and `which`. The error is want of memory, which changes nothing.
     pub fn set_verbosity(&mut self, scope: Glob, which: Which, level: u16) -> Result<(), AllocError>
         ensures ok { OnOk result (IsAfter (SetVerbosity scope which level) self.old self.new) }
         ensures err { OnErr result (IsSame self.old self.new) }
         ensures room { (asked : List ℕ) → has_room self.new asked ≡ has_room self.old asked }
     {
-        self.levels.push(Scoped {
+        self.levels.add(Scoped {
             scope,
             which,
             value: level,
@@ -79,7 +78,8 @@ impl Reports {
     }
 
     /// Sets what is done with the reports that `which` names at the paths that the scope matches. Of the settings of one class
-    /// (`Which`) that are for a report the last that was set prevails. The error is want of memory, which changes nothing.
+    /// (`Which`) that are for a report the last that was set prevails. Actions take the place of those that were set with the same
+    /// scope and `which`. The error is want of memory, which changes nothing.
     pub fn set_action(
         &mut self,
         scope: Glob,
@@ -90,7 +90,7 @@ impl Reports {
         ensures err { OnErr result (IsSame self.old self.new) }
         ensures room { (asked : List ℕ) → has_room self.new asked ≡ has_room self.old asked }
     {
-        self.actions.push(Scoped {
+        self.actions.add(Scoped {
             scope,
             which,
             value: actions,
@@ -100,8 +100,8 @@ impl Reports {
 
     /// Changes the severity of the reports that are issued with the severity `from`, and with the id if one is given, at the
     /// paths that the scope matches. A change is not changed again. Of the changes that are for a report those with an id go
-    /// before those without, and within each class the last that was set prevails. The error is want of memory, which changes
-    /// nothing.
+    /// before those without, and within each class the last that was set prevails. A change takes the place of the one that was set
+    /// with the same scope, severity and id. The error is want of memory, which changes nothing.
     pub fn set_severity(
         &mut self,
         scope: Glob,
@@ -117,7 +117,7 @@ impl Reports {
             None => Which::Severity(from),
             Some(id) => Which::Both(from, id),
         };
-        self.severities.push(Scoped {
+        self.severities.add(Scoped {
             scope,
             which,
             value: to,
@@ -213,7 +213,7 @@ impl Reports {
     fn severity(&self, path: &Path, issued: Severity, id: &Name) -> Severity
         ensures { result ≡ chosen_or issued (severity_at self.now path.now issued id.now) }
     {
-        match prevailing_setting(&self.severities, path, issued, id) {
+        match self.severities.prevailing(path, issued, id) {
             Some(change) => change.value,
             None => issued,
         }
@@ -223,7 +223,7 @@ impl Reports {
     fn level(&self, path: &Path, severity: Severity, id: &Name) -> u16
         ensures { result ≡ chosen_or 200 (level_at self.now path.now severity id.now) }
     {
-        match prevailing_setting(&self.levels, path, severity, id) {
+        match self.levels.prevailing(path, severity, id) {
             Some(setting) => setting.value,
             None => verbosity::MEDIUM,
         }
@@ -233,7 +233,7 @@ impl Reports {
     fn actions(&self, path: &Path, severity: Severity, id: &Name) -> Actions
         ensures { result ≡ chosen_or (default_actions severity) (actions_at self.now path.now severity id.now) }
     {
-        match prevailing_setting(&self.actions, path, severity, id) {
+        match self.actions.prevailing(path, severity, id) {
             Some(setting) => setting.value,
             None => severity.default_actions(),
         }

@@ -38,7 +38,7 @@ or_true : (a b : Bool) → b ≡ true → (a || b) ≡ true
 or_true true b e = refl
 or_true false b e = e
 
-is_taken : (nodes : List Node) (id : ℕ) (under : ℕ × List ℕ) → under_at nodes id ≡ Some under → list_any (is_child under.0 under.1) nodes ≡ true
+pub is_taken : (nodes : List Node) (id : ℕ) (under : ℕ × List ℕ) → under_at nodes id ≡ Some under → list_any (is_child under.0 under.1) nodes ≡ true
 is_taken [] id under e = cc
 is_taken (x ∷ xs) zero under e =
     let here : is_child under.0 under.1 x ≡ true = ap (is_named under.0 under.1) e ∙ itself under in
@@ -46,7 +46,7 @@ is_taken (x ∷ xs) zero under e =
 is_taken (x ∷ xs) (suc id) under e = or_true _ _ (is_taken xs id under e)
 
 module _ (nodes : List Node) (are : AreNodes nodes) where
-  some_nodes : 0 < length nodes
+  pub some_nodes : 0 < length nodes
   some_nodes = slice_get_within nodes 0 top are.top_first
 
   -- no node has the path of a child whose name is not taken
@@ -80,13 +80,13 @@ module _ (nodes : List Node) (are : AreNodes nodes) where
       path_before : (id : ℕ) → id < length nodes → path_at grown id ≡ path_at nodes id
       path_before id here = ap (λ o. option_map_or (λ (node : Node). node.path) o []) (before nodes new id here)
 
-      under_before : (id : ℕ) → id < length nodes → under_at grown id ≡ under_at nodes id
+      pub under_before : (id : ℕ) → id < length nodes → under_at grown id ≡ under_at nodes id
       under_before id here = ap (option_and_then (λ (node : Node). node.under)) (before nodes new id here)
 
       path_last : (id : ℕ) → id ≡ length nodes → path_at grown id ≡ path_at nodes parent ++ name ∷ []
       path_last id e = ap (path_at grown) e ∙ ap (λ o. option_map_or (λ (node : Node). node.path) o []) (last nodes new)
 
-      under_last : (id : ℕ) → id ≡ length nodes → under_at grown id ≡ Some (parent, name)
+      pub under_last : (id : ℕ) → id ≡ length nodes → under_at grown id ≡ Some (parent, name)
       under_last id e = ap (under_at grown) e ∙ ap (option_and_then (λ (node : Node). node.under)) (last nodes new)
 
       -- an old node, or the new one
@@ -164,6 +164,15 @@ none_of false true c d e = cc
 none_of false false true d e = cc
 none_of false false false true e = cc
 none_of false false false false e = (refl, refl, refl)
+
+-- where a node may be added, its parent is there, and its name is not taken
+pub held_parent : (nodes : List Node) (parent : ℕ) (name : List ℕ) → add_fault nodes parent name ≡ None → parent < length nodes
+unfolding add_fault
+held_parent nodes parent name free = held nodes parent (none_of _ _ _ _ free).0
+
+pub free_name : (nodes : List Node) (parent : ℕ) (name : List ℕ) → add_fault nodes parent name ≡ None → list_any (is_child parent name) nodes ≡ false
+unfolding add_fault
+free_name nodes parent name free = (none_of _ _ _ _ free).1
 
 -- a node that may be added is added, or none is
 pub added : (nodes new : List Node) (parent : ℕ) (name : List ℕ) (kind : NodeKind) (r : Result ℕ TreeFault) → AreNodes nodes → add_fault nodes parent name ≡ None → OnOk r (new ≡ nodes ++ child nodes parent name kind ∷ []) → OnErr r (new ≡ nodes) → AreNodes new × (length new ≤ most_nodes + 1)

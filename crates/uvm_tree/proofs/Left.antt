@@ -16,9 +16,12 @@ use Rattle.std.specs.Option.{option_cmp, option_map_or, option_or}
 use Rattle.std.specs.Ordering.{is_lt, nat_cmp, ordering_reverse}
 use Rattle.uvm_tree.specs.ChildCursors.{CursorValue, children_left, is_left, is_named_after, seen}
 use Rattle.uvm_tree.specs.Children.{ChildrenValue, GivesNextChild, all_children, children_of, is_under, is_named_before, name_at, own_name}
-use Rattle.uvm_tree.specs.Cursors.{IsLeast, LeastIsLeast, least, numbers_of}
+use Rattle.uvm_tree.specs.Cursors.{IsLeast, numbers_of}
+use Rattle.uvm_tree.specs.Families.{IsNextChild, is_child_after}
 use Rattle.uvm_tree.specs.Nodes.{Node, AreNodes, node_at, parent_of}
 use Rattle.uvm_tree.proofs.Grown.{within, siblings}
+use Rattle.uvm_tree.proofs.Kin.{after_child, named}
+use Rattle.uvm_tree.proofs.Least.{least-none, least-some}
 
 -- a filter of a filter
 twice-more : (p q : ℕ → Bool) (x : ℕ) (xs : List ℕ) → filter q (filter p xs) ≡ filter q xs → (q x ≡ true → p x ≡ true) → (a b : Bool) → p x ≡ a → q x ≡ b → filter q (filter p (x ∷ xs)) ≡ filter q (x ∷ xs)
@@ -172,9 +175,23 @@ gives_next_child s (Some c) t are found e = record { least = found; others = rw 
 pub fewer_left : (s : ChildrenValue) (c : ℕ) (t : ChildrenValue) → GivesNextChild s (Some c) t → length t.left < length s.left
 fewer_left s c t gives = let same = length_permutation s.left (c ∷ t.left) gives.others in omega arith
 
--- the order of names is total, so what a scan has found is the least
-pub least_of_scan : LeastIsLeast → (nodes : List Node) (numbers : List ℕ) → IsLeast (is_named_before nodes) numbers (least (is_named_before nodes) numbers)
-least_of_scan law nodes numbers = law (by_name nodes) (by_name_total nodes) numbers
+-- the next child after the last is the least of those that are left
+is_left_as : (nodes : List Node) (parent : ℕ) (last : Option ℕ) (after : Option (List ℕ)) → after ≡ option_and_then (name_at nodes) last → (n : ℕ) → is_left (record { nodes = nodes; parent = parent; last = last }) n ≡ is_child_after nodes parent after n
+is_left_as nodes parent None after e n = by_test (is_under nodes parent n) refl
+  where
+    by_test : (b : Bool) → is_under nodes parent n ≡ b → (b && true) ≡ (b && is_lt (option_cmp (slice_cmp nat_cmp) after (name_at nodes n)))
+    by_test true under = let name = named nodes parent n under in rw (e, name.2) refl
+    by_test false under = refl
+is_left_as nodes parent (Some m) after e n = rw e refl
+
+pub least_child : (s : CursorValue) (after : Option (List ℕ)) (found : Option ℕ) → AreNodes s.nodes → after ≡ option_and_then (name_at s.nodes) s.last → IsNextChild s.nodes s.parent after found → IsLeast (is_named_before s.nodes) (children_left s) found
+least_child s after None are e next =
+    least-none (is_left s) (is_named_before s.nodes) s.nodes (λ n low here passes. let child = sym (is_left_as s.nodes s.parent s.last after e n) ∙ passes in let none = next.none n in cc)
+least_child s after (Some c) are e next =
+    let own = after_child s.nodes s.parent c after next.child in
+    let low = are.parents c (s.parent, own.0) own.1 in
+    least-some (is_left s) (is_named_before s.nodes) s.nodes c (omega arith) (within s.nodes c (s.parent, own.0) own.1) (is_left_as s.nodes s.parent s.last after e c ∙ next.child)
+    (λ n first last passes. next.first n (sym (is_left_as s.nodes s.parent s.last after e n) ∙ passes))
 
 -- at first all children are left
 all_left : (nodes : List Node) (parent : ℕ) → children_left (record { nodes = nodes; parent = parent; last = None }) ≡ children_of nodes parent

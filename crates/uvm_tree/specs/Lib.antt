@@ -3,7 +3,8 @@ pub mod Cursors
 pub mod Faults
 pub mod Nodes
 mod Rooms
-pub mod Scans
+pub mod Families
+pub mod Walks
 pub mod Sorted
 -- what the bodies go by, and no caller cites
 pub mod ChildCursors

@@ -3,6 +3,7 @@
 
 mod children;
 mod cursors;
+mod families;
 mod faults;
 pub mod laws;
 mod nodes;

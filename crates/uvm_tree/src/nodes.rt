@@ -1,7 +1,6 @@
 //! What a node is.
 
 ghost use Rattle.std.specs.Prelude.{◌≡◌};
-ghost use Rattle.uvm_tree.specs.Nodes.{is_child, is_path};
 
 use std::marker::Model;
 use uvm_glob::{Name, Path};
@@ -71,23 +70,4 @@ impl Model for KeptNode {
     ghost Value = { Node };
 
     ghost view = { λ node. record { under = node.under; path = node.path; kind = node.kind } };
-}
-
-impl KeptNode {
-    // Whether it is the node at a path.
-    pub(crate) fn is_at(&self, path: &Path) -> bool
-        ensures { result ≡ is_path self.now.path path.now }
-    {
-        self.path == *path
-    }
-
-    // Whether this is the child of a name.
-    pub(crate) fn is_child(&self, parent: NodeId, name: &Name) -> bool
-        ensures { result ≡ is_child parent name.now self.now }
-    {
-        match &self.under {
-            Some((above, own)) => *above == parent && own == name,
-            None => false,
-        }
-    }
 }

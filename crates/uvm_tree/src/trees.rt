@@ -1,11 +1,15 @@
 //! The tree.
 
-ghost use Rattle.std.specs.Prelude.{◌≡◌, ◌≢◌, ◌∷◌, ◌++◌, ◌+◌, ◌-◌, ◌<◌, ◌≤◌, ◌↔◌, [], length, vec_capacity, None, Some, Ok, Err, OnOk, OnErr, IfOk, IfErr, IsSome, IsOk, IsTrue, option_map, option_and_then, position};
-ghost use Rattle.std.specs.List.{list_any};
+ghost use Rattle.std.specs.Prelude.{◌≡◌, ◌≢◌, ◌∷◌, ◌++◌, ◌+◌, ◌-◌, ◌<◌, ◌≤◌, ◌↔◌, [], true, false, length, vec_capacity, None, Some, Ok, Err, OnOk, OnErr, IfOk, IfErr, IsSome, IsOk, IsTrue, option_map, option_and_then};
+ghost use Rattle.std.specs.List.{insert, list_any};
+ghost use Rattle.std.specs.List.Sorted.{IsPartitionPoint};
 ghost use Rattle.std.specs.Option.{option_copied, ForSome};
-ghost use Rattle.uvm_glob.specs.Paths.{path_fault};
-ghost use Rattle.uvm_tree.specs.Nodes.{Node, AreNodes, most_nodes, top, child, path_at, node_at, is_child, is_path, number_at, parent_of, under_at, refusal, add_fault};
+ghost use Rattle.uvm_glob.specs.Paths.{between_dots, path_fault};
+ghost use Rattle.uvm_tree.specs.Children.{name_at};
+ghost use Rattle.uvm_tree.specs.Families.{AreFamilies, IsNextChild, is_in_front};
+ghost use Rattle.uvm_tree.specs.Nodes.{Node, AreNodes, most_nodes, top, child, path_at, node_at, is_child, number_at, parent_of, under_at, refusal, add_fault};
 
+use crate::families::Families;
 use crate::faults::TreeFault;
 use crate::nodes::{KeptNode, NodeId, NodeKind};
 use std::alloc::{AllocError, Global};
@@ -20,10 +24,12 @@ pub struct Tree {
     top: KeptNode,
     // The nodes besides the top, in the order in which they were added.
     nodes: Vec<KeptNode>,
+    // The same nodes, the children of one node together, in byte order of their names.
+    families: Vec<NodeId>,
     room: Option<Room>,
 }
 
-// Room for a child, in the list of nodes too.
+// Room for a child, in the two lists of nodes too.
 #[derive(Drop)]
 struct Room {
     parent: NodeId,
@@ -57,6 +63,7 @@ impl Tree {
                 kind: NodeKind::Component,
             },
             nodes: Vec::new(alloc),
+            families: Vec::new(alloc),
             room: None,
         }
     }
@@ -79,6 +86,7 @@ impl Tree {
         };
         let path = ChildRoom::new(&above.path)?;
         self.nodes.reserve(1)?;
+        self.families.reserve(1)?;
         self.room = Some(Room { parent, path });
         Ok(())
     }
@@ -101,15 +109,24 @@ impl Tree {
         let Some(room) = self.room.take() else {
             unreachable!()
         };
+        let place = place_of(
+            &self.top,
+            self.nodes.as_slice(),
+            self.families.as_slice(),
+            parent,
+            &name,
+        );
         let path = room.child(&name);
-        push(
+        let node = push(
             &mut self.nodes,
             KeptNode {
                 under: Some((parent, name)),
                 path,
                 kind,
             },
-        )
+        );
+        insert(&mut self.families, place, node);
+        Ok(node)
     }
 
     /// Why no node of that name can be added under a parent, if so; memory aside. Takes no memory.
@@ -131,17 +148,33 @@ impl Tree {
         }
     }
 
-    /// The node at a path, the top at its own; none where no node has that path.
+    /// The node at a path, the top at its own; none where no node has that path. Takes no memory; the time is that of a few comparisons
+    /// of names for each name of the path.
     pub fn find(&self, path: &Path) -> Option<NodeId>
         ensures { result ≡ number_at self.now.nodes path.now }
     {
-        if self.top.is_at(path) {
-            return Some(NodeId::TOP);
+        self.find_below(NodeId::TOP, path)
+    }
+
+    /// The node at a path that goes on from a node, as `find` finds one; none where no node has that path. A number of no node counts
+    /// as the top's.
+    pub fn find_below(&self, node: NodeId, path: &Path) -> Option<NodeId>
+        ensures node { result ≡ number_at self.now.nodes (path_at self.now.nodes node ++ path.now) }
+        ensures nodes { AreNodes self.now.nodes }
+    {
+        let node = self.node_or_top(node);
+        let text = path.as_bytes();
+        if text.is_empty() {
+            return Some(node);
         }
-        match position_of(self.nodes.as_slice(), path) {
-            Some(place) => Some(NodeId::new(place as u16 + 1)),
-            None => None,
-        }
+        self.descend(node, text)
+    }
+
+    /// The child of a name below a node; none where it has no such child. A number of no node counts as the top's. Takes no memory.
+    pub fn child(&self, node: NodeId, name: &Name) -> Option<NodeId>
+        ensures { result ≡ number_at self.now.nodes (path_at self.now.nodes node ++ name.now ∷ []) }
+    {
+        self.child_of(self.node_or_top(node), name.as_bytes())
     }
 
     /// The path of a node; none where there is no such node.
@@ -225,42 +258,120 @@ impl Tree {
         }
     }
 
+    // The name of a node under its parent; none for the top, and where there is no such node.
+    pub(crate) fn name(&self, id: NodeId) -> Option<&Name>
+        ensures { option_copied result ≡ name_at self.now.nodes id }
+    {
+        match &self.node(id)?.under {
+            Some((_, name)) => Some(name),
+            None => None,
+        }
+    }
+
+    // The node, or the top where there is no such node.
+    fn node_or_top(&self, node: NodeId) -> NodeId
+        ensures inside { result < length self.now.nodes }
+        ensures path { path_at self.now.nodes result ≡ path_at self.now.nodes node }
+        ensures nodes { AreNodes self.now.nodes }
+    {
+        if self.node(node).is_some() {
+            node
+        } else {
+            NodeId::TOP
+        }
+    }
+
+    // The child of a name.
+    fn child_of(&self, parent: NodeId, name: &[u8]) -> Option<NodeId>
+        requires { parent < length self.now.nodes }
+        ensures child { result ≡ number_at self.now.nodes (path_at self.now.nodes parent ++ name.now ∷ []) }
+        ensures nodes { AreNodes self.now.nodes }
+    {
+        self.families().child(parent, name)
+    }
+
+    // The node to which the names of a text lead from a node.
+    fn descend(&self, node: NodeId, text: &[u8]) -> Option<NodeId>
+        requires { node < length self.now.nodes }
+        ensures node { result ≡ number_at self.now.nodes (path_at self.now.nodes node ++ between_dots text.now) }
+        ensures nodes { AreNodes self.now.nodes }
+    {
+        let _ = &self.top;
+        let mut node = node;
+        for name in text.split(|byte| *byte == b'.') {
+            node = self.child_of(node, name)?;
+        }
+        Some(node)
+    }
+
     // Whether a parent has a child of that name.
     fn has_child(&self, parent: NodeId, name: &Name) -> bool
         ensures { result ≡ list_any (is_child parent name.now) self.now.nodes }
     {
-        has_child(self.nodes.as_slice(), parent, name)
+        self.families().child(parent, name.as_bytes()).is_some()
+    }
+
+    // The child of a node whose name comes next after a name, or the first child where none is given.
+    pub(crate) fn next_child(&self, parent: NodeId, after: Option<&Name>) -> Option<NodeId>
+        ensures next { IsNextChild self.now.nodes parent (option_copied after.entry) result }
+        ensures nodes { AreNodes self.now.nodes }
+    {
+        self.families().next_child(parent, after)
+    }
+
+    // The nodes, and the children of each in order.
+    fn families(&self) -> Families<'_>
+        ensures nodes { result.top.now ∷ result.nodes.now ≡ self.now.nodes }
+        ensures order { AreFamilies (result.top.now ∷ result.nodes.now) result.order.now }
+        ensures tree { AreNodes (result.top.now ∷ result.nodes.now) }
+    {
+        Families {
+            top: &self.top,
+            nodes: self.nodes.as_slice(),
+            order: self.families.as_slice(),
+        }
     }
 }
 
-// The place of the node at a path.
-fn position_of(nodes: &[KeptNode], path: &Path) -> Option<usize>
-    ensures { result ≡ position (λ node. is_path node.path path.now) nodes.now }
+// Where a child of a name is to stand among the nodes family by family.
+fn place_of(
+    top: &KeptNode,
+    nodes: &[KeptNode],
+    order: &[NodeId],
+    parent: NodeId,
+    name: &Name,
+) -> usize
+    requires { AreFamilies (top.now ∷ nodes.now) order.now }
+    ensures within { result ≤ length order.now }
+    ensures parts { IsPartitionPoint (λ n. is_in_front (top.now ∷ nodes.now) (parent, name.now) n ≡ true) (λ n. is_in_front (top.now ∷ nodes.now) (parent, name.now) n ≡ false) order.now result }
 {
-    nodes.iter().position(|node| node.is_at(path))
+    let families = Families { top, nodes, order };
+    families.count_in_front(parent, name.as_bytes())
 }
 
-// Whether one of the nodes is the child of that name.
-fn has_child(nodes: &[KeptNode], parent: NodeId, name: &Name) -> bool
-    ensures { result ≡ list_any (is_child parent name.now) nodes.now }
-{
-    nodes.iter().any(|node| node.is_child(parent, name))
-}
-
-// Adds a node.
-fn push(nodes: &mut Vec<KeptNode>, node: KeptNode) -> Result<NodeId, TreeFault>
-    requires { length nodes.old.items < most_nodes }
-    ensures ok { IfOk result (λ id. id ≡ length nodes.old.items + 1) }
-    ensures added { OnOk result (nodes.new.items ≡ nodes.old.items ++ node ∷ []) }
-    ensures err { IfErr result (λ fault. fault ≡ TreeFault.Memory) }
-    ensures unchanged { OnErr result (nodes.new.items ≡ nodes.old.items) }
-    ensures room { length nodes.old.items < vec_capacity nodes.old → IsOk result }
+// Adds a node, for which there is room.
+fn push(nodes: &mut Vec<KeptNode>, node: KeptNode) -> NodeId
+    requires few { length nodes.old.items < most_nodes }
+    requires room { length nodes.old.items < vec_capacity nodes.old }
+    ensures number { result ≡ length nodes.old.items + 1 }
+    ensures added { nodes.new.items ≡ nodes.old.items ++ node ∷ [] }
 {
     let number = nodes.len() + 1;
-    match nodes.push(node) {
-        Ok(()) => Ok(NodeId::new(number as u16)),
-        Err(_) => Err(TreeFault::Memory),
-    }
+    let Ok(()) = nodes.push(node) else {
+        unreachable!()
+    };
+    NodeId::new(number as u16)
+}
+
+// Puts a node at a place of its family, for which there is room.
+fn insert(families: &mut Vec<NodeId>, place: usize, node: NodeId)
+    requires within { place ≤ length families.old.items }
+    requires room { length families.old.items < vec_capacity families.old }
+    ensures { families.new.items ≡ insert families.old.items place node }
+{
+    let Ok(()) = families.insert(place, node) else {
+        unreachable!()
+    };
 }
 
 impl Room {

@@ -1,4 +1,5 @@
-//! The report server of a run, and what became of the newest report. A room below `bench_world`.
+//! The report server of a run, what became of the newest report, and its line. A room below `bench_world`.
 #![tactic(auto)]
 
+pub mod report_lines;
 pub mod reporting;

@@ -6,13 +6,14 @@ use crate::nodes::add_node;
 use std::alloc::{AllocError, Global};
 use std::test::Fail;
 use uvm_glob::{Glob, Name, Path};
-use uvm_lines::{line_of, shown_path, source_of};
+use uvm_lines::line_of;
 use uvm_object::{
     Act, Acts, Call, Deed, Entry, Fatal, Grant, LoggedGrant, LoggedOutcome, LoggedPassage, Passage,
     Reason, What, Who,
 };
 use uvm_phase::Phase;
 use uvm_sequencer::{SeqId, Sequences};
+use uvm_sources::{shown_path, source_of};
 use uvm_tlm::MoveKind;
 use uvm_tree::{NodeId, Tree};
 

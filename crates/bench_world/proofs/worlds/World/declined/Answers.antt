@@ -1,4 +1,4 @@
-use Rattle.std.proofs.Common.{inr, refl, subst, ◌∙◌, sym}
+use Rattle.std.proofs.Common.{inr, refl, ap, subst, ◌∙◌, sym}
 use Rattle.uvm_object.specs.declared.entries.Entry.TheVariants.{Did}
 use Rattle.uvm_object.specs.declared.entries.Outcome.TheVariants.{Refused}
 use Rattle.uvm_object.specs.declared.fatals.Fatal.TheVariants.{NoObject}
@@ -8,6 +8,7 @@ use Rattle.bench_world.proofs.Going.{acted-on}
 use Rattle.world_services.proofs.Later.{refused-taken-in}
 use Rattle.world_services.proofs.Acting.{ok-not-err, wanted}
 use Rattle.world_services.proofs.Answered.{answer-open}
+use Rattle.world_services.specs.declared.services.LastAnswer.{LastAnswer}
 use Rattle.bench_world.proofs.worlds.World.declined.Goals as goal
 
 pub refused_by-requires-clause-report : goal.refused_by-requires-clause-report
@@ -60,4 +61,4 @@ invariant_of-self c =
     let next : IsNext c.self.inside.script before (Did (speaker_of before) (Refused NoObject) act) = rw w.next (inr refl) in
     let entries = rw c.in-Ok.ensures.outcome at c.in-Ok-enter.ensures.ok in
     let is_act = subst IsAct (sym w.next) tt in
-    rw c.take.ensures.after (acted-on (Refused NoObject) act c.self.invariant sound ready.room w.settled ready.left next is_act c.phases_go_in_order.ensures c.performers_are_there.ensures c.drivers_are_there.ensures (refused-taken-in act NoObject c.in-Ok.ensures.services) entries c.in-Ok-enter.ensures.limit c.clear.ensures.items c.in-Ok-enter.ensures.services)
+    rw c.take.ensures.after (acted-on (Refused NoObject) act c.self.invariant sound ready.room w.settled ready.left next is_act c.phases_go_in_order.ensures c.performers_are_there.ensures c.drivers_are_there.ensures (refused-taken-in act NoObject c.in-Ok.ensures.services) entries c.in-Ok-enter.ensures.limit c.clear.ensures.items (ap (λ (a : LastAnswer). record c.refused_by.new.services { answer = a }) c.in-Ok-enter.ensures.answer))

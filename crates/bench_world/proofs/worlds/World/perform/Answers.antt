@@ -1,4 +1,4 @@
-use Rattle.std.proofs.Common.{◌≡◌, false, true, None, length, refl, sym, ◌∙◌, rules}
+use Rattle.std.proofs.Common.{◌≡◌, false, true, None, length, refl, ap, sym, ◌∙◌, rules}
 use Rattle.uvm_tlm.specs.Wirings.{end_at, is_closed, late_fault}
 use Rattle.bench_history.specs.History.{running}
 use Rattle.bench_history.specs.Refusals.{in_task}
@@ -6,6 +6,7 @@ use Rattle.bench_world.proofs.Going.{act-next, performed}
 use Rattle.world_services.proofs.Later.{scene-of}
 use Rattle.bench_world.proofs.Waits.{acted-needs, waits}
 use Rattle.world_wiring.proofs.Connected.{building-open, connectable-open, unused}
+use Rattle.world_services.specs.declared.services.LastAnswer.{LastAnswer}
 use Rattle.bench_world.proofs.worlds.World.perform.Goals as goal
 
 pub perform-requires : goal.perform-requires
@@ -24,7 +25,7 @@ invariant_of-self-in-Became c =
     let r = rw (← c.self.view_is) at c.requires in
     let did = rw (c.in-Became.is, c.act.ensures, c.len-place.ensures) at c.in_ok-outcome.ensures in
     let entered = c.in_ok-enter-in-Became.ensures in
-    performed c.in-Became.outcome c.args.deed c.self.invariant r.sound r.room r.settled r.left r.next c.phases_go_in_order.ensures c.performers_are_there.ensures c.drivers_are_there.ensures did entered.ok entered.limit c.in_ok-self-inside-in-Became.ensures entered.services
+    performed c.in-Became.outcome c.args.deed c.self.invariant r.sound r.room r.settled r.left r.next c.phases_go_in_order.ensures c.performers_are_there.ensures c.drivers_are_there.ensures did entered.ok entered.limit c.in_ok-self-inside-in-Became.ensures (ap (λ (a : LastAnswer). record c.perform.new.services { answer = a }) entered.answer)
 
 pub invariant_of-self-in-Needed : goal.invariant_of-self-in-Needed
 invariant_of-self-in-Needed c =

@@ -1,12 +1,7 @@
-use Rattle.bench_world.proofs.Shown.{line_lost}
 use Rattle.bench_world.proofs.worlds.World.push_deed.Goals as goal
 
--- the line that was not written has bytes
-pub returns-in_err-report-in-Refused-default-clause-some : goal.returns-in_err-report-in-Refused-default-clause-some
-returns-in_err-report-in-Refused-default-clause-some c = rw c.in-Refused-default.is-0 (line_lost c.from_residual.result c.args.severity _ _ _ _)
+pub returns-clause-ok : goal.returns-clause-ok
+returns-clause-ok c = rw (c.site.ensures.severity, c.site.ensures.time, c.site.ensures.nodes, c.site.ensures.sequences) at c.push_deed.ensures.ok
 
-pub returns-in_ok-report-in-Refused-default-clause-some : goal.returns-in_ok-report-in-Refused-default-clause-some
-returns-in_ok-report-in-Refused-default-clause-some c = rw c.in-Refused-default.is-0 (line_lost c.push_own.result c.args.severity _ _ _ _)
-
-pub returns-in-Done-Report-clause-some : goal.returns-in-Done-Report-clause-some
-returns-in-Done-Report-clause-some c = rw (c.in-Done-Report.is-0, c.in-Done-Report.is-1) (line_lost c.push_own-in-Done-Report.result c.args.severity _ _ _ _)
+pub returns-clause-some : goal.returns-clause-some
+returns-clause-some c = rw (c.site.ensures.severity, c.site.ensures.time, c.site.ensures.nodes, c.site.ensures.sequences) at c.push_deed.ensures.some

@@ -1,39 +1,45 @@
-use Rattle.std.proofs.Common.{◌≡◌, ◌∙◌, sym, ap, subst, true, false}
+use Rattle.std.proofs.Common.{◌≡◌, ◌∙◌, sym, ap, subst, true, arith}
 use Rattle.uvm_objection.specs.Nodes.{is_known, ObjectionValue}
 use Rattle.uvm_objection.specs.Laws.{AreNodes}
 use Rattle.uvm_objection.proofs.Objecting.{entries_of, are_nodes}
-use Rattle.uvm_objection.proofs.Finding.{found_node, found_kept, found_first, found_later, none_later}
+use Rattle.uvm_objection.proofs.Places.{place_within}
+use Rattle.uvm_objection.proofs.Finding.{found_node, found_kept, found_at, found_top}
 use Rattle.uvm_objection.proofs.objections.Objection.entry.Goals as goal
 
-pub returns-clause-node : goal.returns-clause-node
-returns-clause-node c =
+pub index-requires : goal.index-requires
+index-requires c =
+    let o = c.self.inside in
+    let low = place_within c.args.node o.entries.items c.in-Some.place.now (sym (c.self.invariant.placed c.args.node) ∙ sym c.in-Some.ensures.value) in
+    omega (arith, low)
+
+pub returns-in-Some-clause-node : goal.returns-in-Some-clause-node
+returns-in-Some-clause-node c =
     let o = c.self.inside in
     rw (← c.self.view_is)
-    (found_node c.args.node (entries_of o) c.in-Some.entry (found_later c.args.node o.top o.entries.items _ c.in-Some.entry _ c.if-eq.ensures c.as_slice.ensures.value c.find.ensures c.in-Some.is))
+    (found_node c.args.node (entries_of o) c.index.result.now (found_at o c.args.node c.in-Some.place.now c.index.result.now c.self.invariant c.in-Some.ensures.value c.index.ensures))
 
-pub returns-clause-total : goal.returns-clause-total
-returns-clause-total c =
+pub returns-in-Some-clause-total : goal.returns-in-Some-clause-total
+returns-in-Some-clause-total c =
     let o = c.self.inside in
     rw (← c.self.view_is)
-    (found_kept o c.args.node c.in-Some.entry c.self.invariant (found_later c.args.node o.top o.entries.items _ c.in-Some.entry _ c.if-eq.ensures c.as_slice.ensures.value c.find.ensures c.in-Some.is))
+    (found_kept o c.args.node c.index.result.now c.self.invariant (found_at o c.args.node c.in-Some.place.now c.index.result.now c.self.invariant c.in-Some.ensures.value c.index.ensures))
 
-pub returns-then-eq-clause-total : goal.returns-then-eq-clause-total
-returns-then-eq-clause-total c =
+pub returns-in-Some-clause-nodes : goal.returns-in-Some-clause-nodes
+returns-in-Some-clause-nodes c = let N : ObjectionValue → Type 0 = λ v. AreNodes v.nodes in subst N c.self.view_is (are_nodes c.self.inside c.self.invariant)
+
+pub returns-in-None-clause-node : goal.returns-in-None-clause-node
+returns-in-None-clause-node c =
     let o = c.self.inside in
-    rw (← c.self.view_is)
-    (found_kept o c.args.node o.top c.self.invariant (found_first c.args.node o.top o.entries.items c.if-eq.ensures))
+    let known : is_known c.args.node c.args.self.now.nodes ≡ true = c.requires in
+    let yes = ap (λ (v : ObjectionValue). is_known c.args.node v.nodes) c.self.view_is ∙ known in
+    rw (← c.self.view_is) (found_node c.args.node (entries_of o) o.top (found_top o c.args.node c.self.invariant c.in-None.ensures.value yes))
 
-pub unreachable-requires : goal.unreachable-requires
-unreachable-requires c =
+pub returns-in-None-clause-total : goal.returns-in-None-clause-total
+returns-in-None-clause-total c =
     let o = c.self.inside in
-    let unknown = none_later c.args.node o.top o.entries.items _ _ c.if-eq.ensures c.as_slice.ensures.value c.find.ensures c.in-None.is in
-    let known = ap (λ (v : ObjectionValue). is_known c.args.node v.nodes) c.self.view_is in
-    let yes : is_known c.args.node c.args.self.now.nodes ≡ true = c.requires in
-    let both : true ≡ false = sym yes ∙ sym known ∙ unknown in
-    cc
+    let known : is_known c.args.node c.args.self.now.nodes ≡ true = c.requires in
+    let yes = ap (λ (v : ObjectionValue). is_known c.args.node v.nodes) c.self.view_is ∙ known in
+    rw (← c.self.view_is) (found_kept o c.args.node o.top c.self.invariant (found_top o c.args.node c.self.invariant c.in-None.ensures.value yes))
 
-pub returns-clause-nodes : goal.returns-clause-nodes
-returns-clause-nodes c = let N : ObjectionValue → Type 0 = λ v. AreNodes v.nodes in subst N c.self.view_is (are_nodes c.self.inside c.self.invariant)
-
-pub returns-then-eq-clause-nodes : goal.returns-then-eq-clause-nodes
-returns-then-eq-clause-nodes c = let N : ObjectionValue → Type 0 = λ v. AreNodes v.nodes in subst N c.self.view_is (are_nodes c.self.inside c.self.invariant)
+pub returns-in-None-clause-nodes : goal.returns-in-None-clause-nodes
+returns-in-None-clause-nodes c = let N : ObjectionValue → Type 0 = λ v. AreNodes v.nodes in subst N c.self.view_is (are_nodes c.self.inside c.self.invariant)

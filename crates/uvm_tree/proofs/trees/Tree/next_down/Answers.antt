@@ -1,5 +1,9 @@
+use Rattle.std.proofs.Common.{Option, ℕ, subst, sym}
+use Rattle.uvm_glob.specs.Orders.{down_cmp}
+use Rattle.uvm_tree.specs.Cursors.{IsLeast, is_before, nodes_after}
 use Rattle.uvm_tree.proofs.trees.Tree.next_down.Goals as goal
 
-pub returns-clause-next : goal.returns-clause-next
-returns-clause-next c =
-    rw (c.walk.ensures.tree, c.walk.ensures.place.0, c.walk.ensures.place.1) at c.next.ensures.next
+pub returns-in-Some-clause-next : goal.returns-in-Some-clause-next
+returns-in-Some-clause-next c =
+    let nodes = c.args.self.now.nodes in
+    subst (λ (after : Option ℕ). IsLeast (is_before down_cmp nodes) (nodes_after down_cmp nodes after) c.next_down_after.result) (sym c.in-Some.is) c.next_down_after.ensures.next

@@ -1,6 +1,6 @@
 use Rattle.std.proofs.Common.{◌≡◌, ◌+◌, ◌∙◌, add-one, ap, arith, ◌++◌, ◌∷◌, []}
 use Rattle.std.specs.List.{range_with_len}
-use Rattle.uvm_tree.proofs.Scans.{range-more}
+use Rattle.uvm_tree.proofs.Ranges.{range-more}
 use Rattle.uvm_tree.proofs.trees.Tree.numbers.Goals as goal
 
 pub loop-place-preserved : goal.loop-place-preserved

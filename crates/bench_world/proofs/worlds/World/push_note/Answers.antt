@@ -1,0 +1,7 @@
+use Rattle.bench_world.proofs.worlds.World.push_note.Goals as goal
+
+pub returns-clause-ok : goal.returns-clause-ok
+returns-clause-ok c = rw (c.site.ensures.severity, c.site.ensures.time, c.site.ensures.nodes) at c.push_note.ensures.ok
+
+pub returns-clause-some : goal.returns-clause-some
+returns-clause-some c = rw (c.site.ensures.severity, c.site.ensures.time, c.site.ensures.nodes) at c.push_note.ensures.some

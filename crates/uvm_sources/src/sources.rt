@@ -1,0 +1,92 @@
+//! Nodes by their paths, and sequences by the paths of their homes and the names down to themselves.
+
+ghost use Rattle.std.specs.Prelude.{◌≡◌, ◌∷◌, ◌++◌, IfOk, OnOk};
+ghost use Rattle.uvm_glob.specs.Paths.{path_text};
+ghost use Rattle.uvm_tree.specs.Nodes.{path_at};
+ghost use Rattle.uvm_sources.specs.Sources.{sequence_text, shown_path, source_text};
+
+use std::alloc::{AllocError, Global};
+use uvm_glob::Name;
+use uvm_object::Who;
+use uvm_sequencer::{SeqId, Sequences};
+use uvm_tree::{NodeId, Tree};
+
+/// How a node is shown in lines: by its path; the top, and a node that the tree does not have, is `uvm_top`. Takes no memory.
+pub fn shown_path(node: NodeId, tree: &Tree) -> &[u8]
+    ensures { result.now ≡ shown_path (path_at tree.now.nodes node) }
+{
+    match tree.path(node) {
+        Some(path) if path.depth() > 0 => path.as_bytes(),
+        _ => b"uvm_top",
+    }
+}
+
+/// How somebody is shown as the source of a report (IEEE 1800.2-2020, Clause 6): a component by its path, a sequence by that of
+/// its home and the names from its root sequence down to itself, as `uvm_test_top.sqr@@a.b`. The error is want of memory.
+pub fn source_of(
+    alloc: Global,
+    who: &Who,
+    tree: &Tree,
+    sequences: &Sequences,
+) -> Result<Vec<u8>, AllocError>
+    ensures { IfOk result (λ source. source.items ≡ source_text tree.now.nodes sequences.now.started who.now) }
+{
+    let mut source = Vec::new(alloc);
+    match who {
+        Who::Node(node) => push_node(b"", *node, tree, &mut source)?,
+        Who::Sequence { id, home } => push_sequence(*id, *home, tree, sequences, &mut source)?,
+    }
+    Ok(source)
+}
+
+/// Appends a word, and a node as `shown_path` shows it. The error is want of memory; how much was appended is then not said.
+pub fn push_node(
+    word: &[u8],
+    node: NodeId,
+    tree: &Tree,
+    line: &mut Vec<u8>,
+) -> Result<(), AllocError>
+    ensures { OnOk result (line.new.items ≡ line.old.items ++ (word.now ++ shown_path (path_at tree.now.nodes node))) }
+{
+    line.extend_from_slice(word)?;
+    line.extend_from_slice(shown_path(node, tree))
+}
+
+/// Appends a sequence by its home and its names, as `source_of` shows it. The error is want of memory; how much was appended is then
+/// not said.
+pub fn push_sequence(
+    id: SeqId,
+    home: NodeId,
+    tree: &Tree,
+    sequences: &Sequences,
+    line: &mut Vec<u8>,
+) -> Result<(), AllocError>
+    ensures { OnOk result (line.new.items ≡ line.old.items ++ sequence_text tree.now.nodes sequences.now.started id home) }
+{
+    push_node(b"", home, tree, line)?;
+    line.extend_from_slice(b"@@")?;
+    let names = sequences.names(*line.allocator(), id)?;
+    push_joined(names.as_slice(), line)
+}
+
+// Names, with a dot between each two.
+fn push_joined(names: &[Name], line: &mut Vec<u8>) -> Result<(), AllocError>
+    ensures { OnOk result (line.new.items ≡ line.old.items ++ path_text names.now) }
+{
+    let Some((first, others)) = names.split_first() else {
+        return Ok(());
+    };
+    line.extend_from_slice(first.as_bytes())?;
+    for name in others {
+        push_dotted(name, line)?;
+    }
+    Ok(())
+}
+
+// A name behind a dot.
+fn push_dotted(name: &Name, line: &mut Vec<u8>) -> Result<(), AllocError>
+    ensures { OnOk result (line.new.items ≡ line.old.items ++ 46 ∷ name.now) }
+{
+    line.push(b'.')?;
+    line.extend_from_slice(name.as_bytes())
+}

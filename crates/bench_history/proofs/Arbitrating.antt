@@ -53,7 +53,7 @@ served-case script history node grant next allows (ByDeed act outcome left plain
 served-case script history node grant next allows (ByDue event call now is e) =
     let answer = subst (λ (n : Next). Allows n (Granted node grant)) e allows in
     let same : Granted node grant ≡ Heard (who_of event.owner) call (Some event.cause) answer.0 = answer.1 in cc
-served-case script history node grant next allows (ByTurn phase other turn e) = let answer = subst (λ (n : Next). Allows n (Granted node grant)) e allows in let same = answer.1 in cc
+served-case script history node grant next allows (ByTurn phase other during turn e) = let answer = subst (λ (n : Next). Allows n (Granted node grant)) e allows in let same = answer.1 in cc
 served-case script history node grant next allows (ByEnd phase runs e) = let same : Granted node grant ≡ End phase = subst (λ (n : Next). Allows n (Granted node grant)) e allows in cc
 served-case script history node grant next allows (ByBegin phase may e) = let same : Granted node grant ≡ Begin phase = subst (λ (n : Next). Allows n (Granted node grant)) e allows in cc
 served-case script history node grant next allows (ByGrant at drawn served e) =

@@ -48,7 +48,7 @@ deed-case script history next (ByOwn entry own e) = subst (DeedIn script history
 deed-case script history next (ByNeed act need made left upshot e) = subst (DeedIn script history) (sym e) tt
 deed-case script history next (ByDeed act outcome left plain comes e) = subst (DeedIn script history) (sym e) (record { performer_is = refl; left = left })
 deed-case script history next (ByDue event call now is_call e) = subst (DeedIn script history) (sym e) tt
-deed-case script history next (ByTurn phase node turn e) = subst (DeedIn script history) (sym e) tt
+deed-case script history next (ByTurn phase node during turn e) = subst (DeedIn script history) (sym e) tt
 deed-case script history next (ByEnd phase runs e) = subst (DeedIn script history) (sym e) tt
 deed-case script history next (ByBegin phase may e) = subst (DeedIn script history) (sym e) tt
 deed-case script history next (ByGrant sequencer drawn served e) = subst (DeedIn script history) (sym e) tt
@@ -184,7 +184,7 @@ finish-case script history next is (ByOwn entry own e) = subst FinishesIn (sym e
 finish-case script history next is (ByNeed act need made left upshot e) = subst FinishesIn (sym e) (finish-need script history need made (speaker_of history) act (made_objects_are_new script history need made (speaker_of history) act (is ∙ e)))
 finish-case script history next is (ByDeed act outcome left plain comes e) = subst FinishesIn (sym e) (finish-deed script history act outcome comes)
 finish-case script history next is (ByDue event call now is_call e) = subst FinishesIn (sym e) tt
-finish-case script history next is (ByTurn phase node turn e) = subst FinishesIn (sym e) tt
+finish-case script history next is (ByTurn phase node during turn e) = subst FinishesIn (sym e) tt
 finish-case script history next is (ByEnd phase runs e) = subst FinishesIn (sym e) tt
 finish-case script history next is (ByBegin phase may e) = subst FinishesIn (sym e) tt
 finish-case script history next is (ByGrant sequencer drawn served e) = subst FinishesIn (sym e) tt

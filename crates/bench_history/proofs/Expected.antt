@@ -256,7 +256,7 @@ grant-case script history node grant next (ByOwn entry own e) = subst (GrantsIn 
 grant-case script history node grant next (ByNeed act need made left upshot e) = subst (GrantsIn history node grant) (sym e) tt
 grant-case script history node grant next (ByDeed act outcome left plain comes e) = subst (GrantsIn history node grant) (sym e) (λ is. cc)
 grant-case script history node grant next (ByDue event call now is_call e) = subst (GrantsIn history node grant) (sym e) tt
-grant-case script history node grant next (ByTurn phase at turn e) = subst (GrantsIn history node grant) (sym e) tt
+grant-case script history node grant next (ByTurn phase at during turn e) = subst (GrantsIn history node grant) (sym e) tt
 grant-case script history node grant next (ByEnd phase runs e) = subst (GrantsIn history node grant) (sym e) (λ is. cc)
 grant-case script history node grant next (ByBegin phase may e) = subst (GrantsIn history node grant) (sym e) (λ is. cc)
 grant-case script history node grant next (ByGrant sequencer drawn served e) = subst (GrantsIn history node grant) (sym e) refl
@@ -378,7 +378,7 @@ module _ (keeps : OrderKeepsAll Owner (Option Call)) where
   asks-case script history next known (ByNeed act need made left upshot e) = subst (AsksOne history) (sym e) tt
   asks-case script history next known (ByDeed act outcome left plain comes e) = subst (AsksOne history) (sym e) tt
   asks-case script history next known (ByDue event call now is_call e) = subst (AsksOne history) (sym e) (asks-due history event call known.owners now is_call)
-  asks-case script history next known (ByTurn phase node turn e) = subst (AsksOne history) (sym e) (subst (λ (found : Option ℕ). IfSome found (Contains (components_of history))) turn (turn-one history phase))
+  asks-case script history next known (ByTurn phase node during turn e) = subst (AsksOne history) (sym e) (subst (λ (found : Option ℕ). IfSome found (Contains (components_of history))) turn (turn-one history phase))
   asks-case script history next known (ByEnd phase runs e) = subst (AsksOne history) (sym e) tt
   asks-case script history next known (ByBegin phase may e) = subst (AsksOne history) (sym e) tt
   asks-case script history next known (ByGrant sequencer drawn served e) = subst (AsksOne history) (sym e) tt

@@ -48,7 +48,7 @@ plain-case script history next (ByOwn entry own e) = subst IsPlainNext (sym e) (
 plain-case script history next (ByNeed act need made left upshot e) = subst IsPlainNext (sym e) tt
 plain-case script history next (ByDeed act outcome left plain comes e) = subst IsPlainNext (sym e) plain
 plain-case script history next (ByDue event call now is_call e) = subst IsPlainNext (sym e) tt
-plain-case script history next (ByTurn phase node turn e) = subst IsPlainNext (sym e) tt
+plain-case script history next (ByTurn phase node during turn e) = subst IsPlainNext (sym e) tt
 plain-case script history next (ByEnd phase runs e) = subst IsPlainNext (sym e) tt
 plain-case script history next (ByBegin phase may e) = subst IsPlainNext (sym e) tt
 plain-case script history next (ByGrant sequencer drawn served e) = subst IsPlainNext (sym e) tt
@@ -142,7 +142,7 @@ components-grow (Did performer outcome act) before = outcome-grows (length (node
 components-grow entry before = no-more (components_of before)
 
 -- the element behind a list
-get-behind : (xs : List Node) (x : Node) → slice_get (xs ++ x ∷ []) (length xs) ≡ Some x
+pub get-behind : (xs : List Node) (x : Node) → slice_get (xs ++ x ∷ []) (length xs) ≡ Some x
 get-behind [] x = refl
 get-behind (y ∷ ys) x = get-behind ys x
 

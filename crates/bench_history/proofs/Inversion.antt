@@ -81,7 +81,7 @@ pub data Case (script : ScriptValue) (history : List Entry) (next : Next) : Type
   -- or a call is due
   ByDue : (event : Event) (call : Call) → due_now history ≡ Some event → event.notice ≡ Some call → next ≡ Answer (who_of event.owner) call (Some event.cause) → Case script history next
   -- or it is somebody's turn in the phase that runs
-  ByTurn : (phase : Phase) (node : ℕ) → next_call phase history ≡ Some node → next ≡ Answer (who.Node node) (call.Phase phase) None → Case script history next
+  ByTurn : (phase : Phase) (node : ℕ) → stage_of history ≡ During phase → next_call phase history ≡ Some node → next ≡ Answer (who.Node node) (call.Phase phase) None → Case script history next
   -- or that phase ends
   ByEnd : (phase : Phase) → IsEnding history phase → next ≡ Exactly (End phase) → Case script history next
   -- or a phase begins
@@ -120,7 +120,7 @@ case-check script history next phase true None runs e = case-ended script histor
 case-check script history next phase false port runs e = case-ended script history next phase (is_task phase && stands (objections_of history)) runs refl e
 
 case-turn : (script : ScriptValue) (history : List Entry) (next : Next) (phase : Phase) (turn : Option ℕ) → stage_of history ≡ During phase → next_call phase history ≡ turn → next ≡ first_next (option_map (λ node. Answer (who.Node node) (call.Phase phase) None) turn ∷ port_check history (Some phase) ∷ phase_end script history (Some phase) ∷ phase_begin (phase_to_begin (stage_of history)) ∷ finish ∷ []) → Case script history next
-case-turn script history next phase (Some node) runs is e = ByTurn phase node is e
+case-turn script history next phase (Some node) runs is e = ByTurn phase node runs is e
 case-turn script history next phase None runs is e = case-check script history next phase (in_connect (Some phase)) (next_unsound history) runs e
 
 -- a phase that runs is the stage

@@ -14,6 +14,7 @@ mod Expected
 mod Called
 mod Leaving
 mod Homes
+mod Standings
 mod Treed
 mod Driving
 mod Reported

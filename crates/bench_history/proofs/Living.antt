@@ -156,7 +156,7 @@ begins-case script history phase next is (ByOwn entry own e) = let same : entry 
 begins-case script history phase next is (ByNeed act need made left upshot e) = cc
 begins-case script history phase next is (ByDeed act outcome left plain comes e) = cc
 begins-case script history phase next is (ByDue event call now is_call e) = cc
-begins-case script history phase next is (ByTurn running node turn e) = cc
+begins-case script history phase next is (ByTurn running node during turn e) = cc
 begins-case script history phase next is (ByEnd running runs e) = cc
 begins-case script history phase next is (ByBegin begins may e) = let same : begins ≡ phase = cc in subst (λ (p : Phase). phase_to_begin (stage_of history) ≡ Some p) same may
 begins-case script history phase next is (ByGrant sequencer drawn served e) = cc

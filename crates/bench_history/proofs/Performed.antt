@@ -2,8 +2,11 @@
 use Rattle.std.proofs.Common.{◌≡◌, ℕ, List, ◌∷◌, Option, Some, None, refl, ap, sym, ◌∙◌, subst, Bool}
 use Rattle.uvm_phase.specs.declared.phases.Phase.{Phase}
 use Rattle.uvm_phase.specs.declared.agendas.Cause.{Cause}
+use Rattle.uvm_object.specs.Acts.{node_of}
 use Rattle.uvm_object.specs.declared.acts.Who.{Who}
+use Rattle.uvm_object.specs.declared.acts.Who.TheVariants as who
 use Rattle.uvm_object.specs.declared.acts.Call.{Call}
+use Rattle.uvm_object.specs.declared.acts.Call.TheVariants as calls
 use Rattle.uvm_object.specs.declared.acts.Act.{Act}
 use Rattle.uvm_object.specs.declared.entries.Passage.{Passage}
 use Rattle.uvm_object.specs.declared.entries.Reason.{Reason}
@@ -19,7 +22,7 @@ use Rattle.bench_history.specs.Passing.{next_passed}
 use Rattle.bench_history.specs.Arbitration.{next_locked, next_served}
 use Rattle.bench_history.specs.Cases.{Next, Exactly, Answer, Grant, chosen_at, end_reached, giving_up, locking, serving, passing, by_upshot}
 use Rattle.bench_history.specs.Next.{first_next, next_of, IsAct}
-use Rattle.bench_history.specs.Laws.{IsDrainDue, IsDue, IsFirstAct, IsServing, IsSettled, ActsGoInOrder, GrantsGoInOrder, LocksGoInOrder, PassagesGoInOrder, RunningPhasesEnd, DueCallsGoInOrder, DrainsGoInOrder}
+use Rattle.bench_history.specs.Laws.{IsDrainDue, IsDue, IsFirstAct, IsServing, IsSettled, HasTurn, ActsGoInOrder, CallsGoInTurn, GrantsGoInOrder, LocksGoInOrder, PassagesGoInOrder, RunningPhasesEnd, DueCallsGoInOrder, DrainsGoInOrder}
 use Rattle.bench_history.proofs.Inversion.{IsOwn, Case, AtEnd, ByOwn, ByNeed, ByDeed, ByDue, ByTurn, ByEnd, ByBegin, ByGrant, case-of, due-first}
 
 -- what the machine writes by itself is no act's
@@ -63,7 +66,7 @@ act-case script history next is did (ByOwn entry own e) = absurd (no-own script 
 act-case script history next is did (ByNeed act need made left upshot e) = (act, record { settled = settled-of script history (subst IsAct (sym is) did); left = left; next = is ∙ e ∙ ap (by_upshot (speaker_of history) act) (sym upshot) })
 act-case script history next is did (ByDeed act outcome left plain comes e) = (act, record { settled = settled-of script history (subst IsAct (sym is) did); left = left; next = is ∙ e ∙ sym comes })
 act-case script history next is did (ByDue event call now is_call e) = absurd (subst IsAct e did)
-act-case script history next is did (ByTurn phase node turn e) = absurd (subst IsAct e did)
+act-case script history next is did (ByTurn phase node during turn e) = absurd (subst IsAct e did)
 act-case script history next is did (ByEnd phase runs e) = absurd (subst IsAct e did)
 act-case script history next is did (ByBegin phase may e) = absurd (subst IsAct e did)
 act-case script history next is did (ByGrant sequencer drawn served e) = absurd (subst IsAct e did)
@@ -83,7 +86,7 @@ due-case script history hearer call cause next asks (ByDue event heard now is e)
     let call_is : Some heard ≡ Some call = cc in
     let cause_is : event.cause ≡ cause = cc in
     record { event = d.event; first = d.first; time = d.time; hearer_is = d.hearer_is ∙ hearer_is; notice_is = d.notice_is ∙ is ∙ call_is; cause_is = d.cause_is ∙ cause_is }
-due-case script history hearer call cause next asks (ByTurn phase node turn e) = cc
+due-case script history hearer call cause next asks (ByTurn phase node during turn e) = cc
 due-case script history hearer call cause next asks (ByEnd phase runs e) = cc
 due-case script history hearer call cause next asks (ByBegin phase may e) = cc
 due-case script history hearer call cause next asks (ByGrant sequencer drawn served e) = cc
@@ -91,13 +94,30 @@ due-case script history hearer call cause next asks (ByGrant sequencer drawn ser
 pub due_calls_go_in_order : DueCallsGoInOrder
 due_calls_go_in_order script history hearer call cause asks = due-case script history hearer call cause _ asks (case-of script history)
 
+turn-case : (script : ScriptValue) (history : List Entry) (hearer : Who) (call : Call) (next : Next) → next ≡ Answer hearer call None → Case script history next → HasTurn history hearer
+turn-case script history hearer call next asks (AtEnd ended e) = cc
+turn-case script history hearer call next asks (ByOwn entry own e) = cc
+turn-case script history hearer call next asks (ByNeed act need made left is e) = cc
+turn-case script history hearer call next asks (ByDeed act outcome left plain comes e) = cc
+turn-case script history hearer call next asks (ByDue event heard now is e) = cc
+turn-case script history hearer call next asks (ByTurn phase node during turn e) =
+    let same : Answer (who.Node node) (calls.Phase phase) None ≡ Answer hearer call None = sym e ∙ asks in
+    let hearer_is : who.Node node ≡ hearer = cc in
+    record { phase = phase; runs = during; next = turn ∙ ap (λ w. Some (node_of w)) hearer_is }
+turn-case script history hearer call next asks (ByEnd phase runs e) = cc
+turn-case script history hearer call next asks (ByBegin phase may e) = cc
+turn-case script history hearer call next asks (ByGrant sequencer drawn served e) = cc
+
+pub calls_go_in_turn : CallsGoInTurn
+calls_go_in_turn script history hearer call asks = turn-case script history hearer call _ asks (case-of script history)
+
 drain-case : (script : ScriptValue) (history : List Entry) (node : ℕ) (cause : Cause) (next : Next) → next ≡ Exactly (Drained node cause) → Case script history next → IsDrainDue history node cause
 drain-case script history node cause next ends (AtEnd ended e) = cc
 drain-case script history node cause next ends (ByOwn entry own e) = let same : entry ≡ Drained node cause = cc in subst (IsOwn script history) same own
 drain-case script history node cause next ends (ByNeed act need made left is e) = cc
 drain-case script history node cause next ends (ByDeed act outcome left plain comes e) = cc
 drain-case script history node cause next ends (ByDue event call now is e) = cc
-drain-case script history node cause next ends (ByTurn phase other turn e) = cc
+drain-case script history node cause next ends (ByTurn phase other during turn e) = cc
 drain-case script history node cause next ends (ByEnd phase runs e) = cc
 drain-case script history node cause next ends (ByBegin phase may e) = cc
 drain-case script history node cause next ends (ByGrant sequencer drawn served e) = cc
@@ -111,7 +131,7 @@ passage-case script history fifo passage next passes (ByOwn entry own e) = let s
 passage-case script history fifo passage next passes (ByNeed act need made left is e) = cc
 passage-case script history fifo passage next passes (ByDeed act outcome left plain comes e) = cc
 passage-case script history fifo passage next passes (ByDue event call now is e) = cc
-passage-case script history fifo passage next passes (ByTurn phase other turn e) = cc
+passage-case script history fifo passage next passes (ByTurn phase other during turn e) = cc
 passage-case script history fifo passage next passes (ByEnd phase runs e) = cc
 passage-case script history fifo passage next passes (ByBegin phase may e) = cc
 passage-case script history fifo passage next passes (ByGrant sequencer drawn served e) = cc
@@ -126,7 +146,7 @@ lock-case script history node id next is (ByOwn entry own e) = let same : entry 
 lock-case script history node id next is (ByNeed act need made left upshot e) = cc
 lock-case script history node id next is (ByDeed act outcome left plain comes e) = cc
 lock-case script history node id next is (ByDue event call now is_call e) = cc
-lock-case script history node id next is (ByTurn phase at turn e) = cc
+lock-case script history node id next is (ByTurn phase at during turn e) = cc
 lock-case script history node id next is (ByEnd phase runs e) = cc
 lock-case script history node id next is (ByBegin phase may e) = cc
 lock-case script history node id next is (ByGrant sequencer drawn served e) = cc
@@ -140,7 +160,7 @@ serving-case script history node drawn chosen next is (ByOwn entry own e) = cc
 serving-case script history node drawn chosen next is (ByNeed act need made left upshot e) = cc
 serving-case script history node drawn chosen next is (ByDeed act outcome left plain comes e) = cc
 serving-case script history node drawn chosen next is (ByDue event call now is_call e) = cc
-serving-case script history node drawn chosen next is (ByTurn phase at turn e) = cc
+serving-case script history node drawn chosen next is (ByTurn phase at during turn e) = cc
 serving-case script history node drawn chosen next is (ByEnd phase runs e) = cc
 serving-case script history node drawn chosen next is (ByBegin phase may e) = cc
 serving-case script history node drawn chosen next is (ByGrant sequencer word served e) =
@@ -160,7 +180,7 @@ end-case script history phase next is (ByOwn entry own e) = let same : entry ≡
 end-case script history phase next is (ByNeed act need made left upshot e) = cc
 end-case script history phase next is (ByDeed act outcome left plain comes e) = cc
 end-case script history phase next is (ByDue event call now is_call e) = cc
-end-case script history phase next is (ByTurn other node turn e) = cc
+end-case script history phase next is (ByTurn other node during turn e) = cc
 end-case script history phase next is (ByEnd other runs e) = let same : other ≡ phase = cc in subst (λ (p : Phase). stage_of history ≡ During p) same runs.runs
 end-case script history phase next is (ByBegin other may e) = cc
 end-case script history phase next is (ByGrant sequencer word served e) = cc

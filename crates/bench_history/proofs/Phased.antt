@@ -47,7 +47,7 @@ begin-case script history phase next is (ByOwn entry own e) = let same : entry �
 begin-case script history phase next is (ByNeed act need made left upshot e) = cc
 begin-case script history phase next is (ByDeed act outcome left plain comes e) = cc
 begin-case script history phase next is (ByDue event call now is_call e) = cc
-begin-case script history phase next is (ByTurn running node turn e) = cc
+begin-case script history phase next is (ByTurn running node during turn e) = cc
 begin-case script history phase next is (ByEnd running runs e) = cc
 begin-case script history phase next is (ByBegin begins may e) = let same : begins ≡ phase = cc in rw (← same) (begin-number (stage_of history) begins may, begin-on (stage_of history) begins may)
 begin-case script history phase next is (ByGrant sequencer drawn served e) = cc
@@ -59,7 +59,7 @@ end-case script history phase next is (ByOwn entry own e) = let same : entry ≡
 end-case script history phase next is (ByNeed act need made left upshot e) = cc
 end-case script history phase next is (ByDeed act outcome left plain comes e) = cc
 end-case script history phase next is (ByDue event call now is_call e) = cc
-end-case script history phase next is (ByTurn running node turn e) = cc
+end-case script history phase next is (ByTurn running node during turn e) = cc
 end-case script history phase next is (ByEnd running runs e) = let same : running ≡ phase = cc in rw (← same) runs.runs
 end-case script history phase next is (ByBegin begins may e) = cc
 end-case script history phase next is (ByGrant sequencer drawn served e) = cc

@@ -262,7 +262,7 @@ ending-case script history phase next is (ByOwn entry own e) = let same : entry 
 ending-case script history phase next is (ByNeed act need made left upshot e) = cc
 ending-case script history phase next is (ByDeed act outcome left plain comes e) = cc
 ending-case script history phase next is (ByDue event call now is_call e) = cc
-ending-case script history phase next is (ByTurn running node turn e) = cc
+ending-case script history phase next is (ByTurn running node during turn e) = cc
 ending-case script history phase next is (ByEnd other ends e) = let same : other ≡ phase = cc in subst (IsEnding history) same ends
 ending-case script history phase next is (ByBegin begins may e) = cc
 ending-case script history phase next is (ByGrant sequencer drawn served e) = cc

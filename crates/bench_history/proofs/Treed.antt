@@ -112,7 +112,7 @@ adds-case script history next is (ByNeed act need made left upshot e) =
     subst (AddsIn history) (sym e) (adds-need history need made (speaker_of history) act (made_objects_are_new script history need made (speaker_of history) act (is ∙ e)))
 adds-case script history next is (ByDeed act outcome left plain comes e) = subst (AddsIn history) (sym e) (adds-deed script history outcome act comes)
 adds-case script history next is (ByDue event call now is_call e) = subst (AddsIn history) (sym e) tt
-adds-case script history next is (ByTurn phase node turn e) = subst (AddsIn history) (sym e) tt
+adds-case script history next is (ByTurn phase node during turn e) = subst (AddsIn history) (sym e) tt
 adds-case script history next is (ByEnd phase runs e) = subst (AddsIn history) (sym e) tt
 adds-case script history next is (ByBegin phase may e) = subst (AddsIn history) (sym e) tt
 adds-case script history next is (ByGrant sequencer drawn served e) = subst (AddsIn history) (sym e) tt

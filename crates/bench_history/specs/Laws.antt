@@ -7,6 +7,7 @@ use Rattle.uvm_phase.specs.Phases.{phases, phase_number}
 use Rattle.uvm_sequencer.specs.Drivers.{hand_of}
 use Rattle.uvm_sequencer.specs.Sequences.{numbered}
 use Rattle.uvm_tree.specs.Nodes.{Node, AreNodes, node_at, path_at}
+use Rattle.uvm_tree.specs.declared.nodes.NodeKind.TheVariants.{Component}
 use Rattle.uvm_report.specs.Counts.{issued_number}
 use Rattle.uvm_report.specs.Commands.{report_counts}
 use Rattle.uvm_object.specs.Acts.{node_of}
@@ -85,6 +86,18 @@ PerformersAreThere = (script : ScriptValue) (history : List Entry) (act : Act) �
 abbrev pub ComponentsAreNodes : Type 0
 ComponentsAreNodes = (script : ScriptValue) (history : List Entry) → EachIsNext script history → All (λ node. node < length (nodes_of history)) (components_of history)
 
+-- besides the top
+abbrev pub IsComponentNode : List Node → ℕ → Type 0
+IsComponentNode nodes node = (0 < node) × (node < length nodes) × (option_map (λ node. node.kind) (node_at nodes node) ≡ Some Component)
+
+-- the components are all nodes of this kind besides the top
+pub record AreComponentNodes (nodes : List Node) (components : List ℕ) : Type 0 where
+  pub each : All (IsComponentNode nodes) components
+  pub whole : (node : ℕ) → IsComponentNode nodes node → Contains components node
+
+abbrev pub ComponentsByKind : Type 0
+ComponentsByKind = (history : List Entry) → AreComponentNodes (nodes_of history) (components_of history)
+
 -- and so is each sequencer on which a sequence was started
 abbrev pub HomesAreNodes : Type 0
 HomesAreNodes = (script : ScriptValue) (history : List Entry) → EachIsNext script history → All (λ beginning. beginning.start.home < length (nodes_of history)) (begun_of history)
@@ -103,6 +116,15 @@ pub record IsDrainDue (history : List Entry) (node : ℕ) (cause : Cause) : Type
   pub hearer : Who
   pub stands : node_of hearer ≡ node
   pub due : IsDue history hearer None cause
+
+-- it is the turn of whoever is called without a cause, in the phase that runs
+pub record HasTurn (history : List Entry) (hearer : Who) : Type 0 where
+  pub phase : Phase
+  pub runs : stage_of history ≡ During phase
+  pub next : next_call phase history ≡ Some (node_of hearer)
+
+abbrev pub CallsGoInTurn : Type 0
+CallsGoInTurn = (script : ScriptValue) (history : List Entry) (hearer : Who) (call : Call) → next_of script history ≡ Answer hearer call None → HasTurn history hearer
 
 -- a call with a cause happens so, and the end of a drain
 abbrev pub DueCallsGoInOrder : Type 0

@@ -1,7 +1,7 @@
 //! What holds of all logs, or of all in which each entry was next, as in each legal one, and of what comes next in them. The functions do
 //! nothing that shows; their contracts are the laws (`specs/Laws.antt`), for all scripts.
 
-ghost use Rattle.bench_history.specs.Laws.{PhasesGoInOrder, RunningPhasesEnd, AskedAreThere, PerformersAreThere, ComponentsAreNodes, HomesAreNodes, DueCallsGoInOrder, DrainsGoInOrder, PassagesGoInOrder, WaitersAreComponents, LocksGoInOrder, LockersAreThere, GrantsGoInOrder, ChosenAreThere, DriversAreThere, ActsGoInOrder, NeedsAreWanted, NothingAfterOver, SomethingBeforeOver, MachineEntriesAreSilent, NodesStay, NodesAreATree, MadeObjectsAreNew, NewNodesAreUnasked, NewSequencesAreUnasked, LivingLived, LivingRun, LeaversLived, ReportsAreFew, TimeStaysWithin, WiringStays, ConnectFollowsBuild, TasksFollowConnect};
+ghost use Rattle.bench_history.specs.Laws.{PhasesGoInOrder, RunningPhasesEnd, AskedAreThere, PerformersAreThere, ComponentsAreNodes, ComponentsByKind, HomesAreNodes, CallsGoInTurn, DueCallsGoInOrder, DrainsGoInOrder, PassagesGoInOrder, WaitersAreComponents, LocksGoInOrder, LockersAreThere, GrantsGoInOrder, ChosenAreThere, DriversAreThere, ActsGoInOrder, NeedsAreWanted, NothingAfterOver, SomethingBeforeOver, MachineEntriesAreSilent, NodesStay, NodesAreATree, MadeObjectsAreNew, NewNodesAreUnasked, NewSequencesAreUnasked, LivingLived, LivingRun, LeaversLived, ReportsAreFew, TimeStaysWithin, WiringStays, ConnectFollowsBuild, TasksFollowConnect};
 
 use crate::owners::Owner;
 use uvm_object::Call;
@@ -45,6 +45,11 @@ pub fn components_are_nodes()
     ensures { ComponentsAreNodes }
 {}
 
+/// And the components are all nodes of this kind besides the top.
+pub fn components_by_kind()
+    ensures { ComponentsByKind }
+{}
+
 /// Each sequencer on which a sequence was started is a node of the tree.
 pub fn homes_are_nodes()
     ensures { HomesAreNodes }
@@ -52,6 +57,12 @@ pub fn homes_are_nodes()
     agenda::order_keeps_all::<Owner, Option<Call>>();
     sequencers::lock_excludes();
 }
+
+/// A call without a cause is that of the phase which runs, to the node whose turn it is.
+#[tactic(auto, using(crate::proofs::Performed::calls_go_in_turn))]
+pub fn calls_go_in_turn()
+    ensures { CallsGoInTurn }
+{}
 
 /// A call that has a cause is that of the event which is due first, now, and its owner's.
 #[tactic(auto, using(crate::proofs::Performed::due_calls_go_in_order))]

@@ -58,7 +58,7 @@ module _ {script : ScriptValue} {log : LogValue} {services : Services} (waiting 
           speaks = rw (m.tree, m.answer.speaker) m.speaks;
           numbered = rw (m.objections.are, m.tree) m.objections.numbered;
           objection_spare = ready.objection_spare;
-          components = ready.components;
+          turns = ready.turns;
         };
         made_is = ap (λ (name : List ℕ). Made name) (w.type_is ∙ ap (λ (n : needs.Need). n.type_name) same);
         who_is = rw m.tree refl;

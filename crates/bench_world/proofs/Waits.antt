@@ -22,7 +22,9 @@ use Rattle.world_agenda.proofs.Objected.{objecting-same}
 use Rattle.bench_world.specs.declared.making.Waiting.{Waiting}
 use Rattle.world_services.specs.declared.services.Services.{Services}
 use Rattle.world_reports.specs.Reportings.{KeepsReporting}
-use Rattle.world_services.specs.Services.{AreTurns, ServicesMatch}
+use Rattle.world_services.specs.Services.{ServicesMatch}
+use Rattle.world_services.specs.Turns.{AreSameTurns}
+use Rattle.world_services.proofs.Waiting.{turns-same}
 use Rattle.world_agenda.specs.Agendas.{IsAgenda}
 use Rattle.world_services.specs.Attempts.{IsInNeed}
 use Rattle.bench_world.specs.Worlds.{IsActed, IsWorld, IsReady, WorldValue}
@@ -32,19 +34,19 @@ use Rattle.world_services.proofs.Later.{scene-of}
 use Rattle.world_sequences.proofs.Sequenced.{sequencing-same}
 use Rattle.bench_history.specs.declared.needs.Need as needs
 
--- a tree of the same nodes, as many components and sequences in the same order, as much that is due, and reports that give the same are as good
+-- a tree of the same nodes, the same turns, as many sequences in the same order, as much that is due, and reports that give the same are as good
 same-match :
-    {script : ScriptValue} {services : Services} (log : LogValue) (other : Services) → other.tree.nodes ≡ services.tree.nodes → other.components.items ≡ services.components.items
+    {script : ScriptValue} {services : Services} (log : LogValue) (other : Services) → other.tree.nodes ≡ services.tree.nodes → AreSameTurns services.turns other.turns
     → KeepsReporting services.reporting other.reporting → other.objection.nodes ≡ services.objection.nodes
     → (other.sequences.started ≡ services.sequences.started) × (other.sequences.steps ≡ services.sequences.steps) → other.beginnings.items ≡ services.beginnings.items → other.agenda.dues ≡ services.agenda.dues
     → ServicesMatch script log.entries services
-    → ServicesMatch script log.entries (record services { tree = other.tree; objection = other.objection; components = other.components; sequences = other.sequences; beginnings = other.beginnings; agenda = other.agenda; reporting = other.reporting })
-same-match {services = services} log other nodes items reports objections_same sequences beginnings dues m =
+    → ServicesMatch script log.entries (record services { tree = other.tree; objection = other.objection; turns = other.turns; sequences = other.sequences; beginnings = other.beginnings; agenda = other.agenda; reporting = other.reporting })
+same-match {services = services} log other nodes same_turns reports objections_same sequences beginnings dues m =
     let history = log.entries in
     let objections = objecting-same other.objection objections_same m.objections in
     let reporting = reports _ _ m.reporting in
     let tree = nodes ∙ m.tree in
-    let turns : AreTurns (components_of history) (called_of history) (length (nodes_of history)) other.components.items = rw items m.turns in
+    let turns = turns-same same_turns m.turns in
     let sequencing = sequencing-same other.sequences other.beginnings.items sequences beginnings m.sequencing in
     let agenda : IsAgenda (caused_of history) (heard_of history) (ended_of history) (finished_of history) (length history) other.agenda.dues = rw dues m.agenda in
     search (rules, tree, turns, objections, sequencing, agenda)
@@ -61,21 +63,21 @@ pub waits :
     → IsSettled log.entries → left_of script log.entries ≡ wait.deed ∷ rest_of (left_of script log.entries) → next_of script log.entries ≡ by_act script log.entries (speaker_of log.entries) wait.deed
     → PhasesGoInOrder → PerformersAreThere → DriversAreThere → IsInNeed by_act wait.deed wait.need wait.home (length log.entries) old new
     → (more.entries ≡ log.entries) × (more.limit ≡ log.limit) → 0 < more.spare
-    → services ≡ record new { tree = services.tree; objection = services.objection; components = services.components; sequences = services.sequences; beginnings = services.beginnings; agenda = services.agenda; reporting = services.reporting }
-    → services.tree.nodes ≡ new.tree.nodes → services.components.items ≡ new.components.items
+    → services ≡ record new { tree = services.tree; objection = services.objection; turns = services.turns; sequences = services.sequences; beginnings = services.beginnings; agenda = services.agenda; reporting = services.reporting }
+    → services.tree.nodes ≡ new.tree.nodes → AreSameTurns new.turns services.turns
     → KeepsReporting new.reporting services.reporting → services.objection.nodes ≡ new.objection.nodes → 0 < services.objection.spare
     → (IsSome (node_at new.tree.nodes (node_of new.answer.speaker)) → services.tree.spare ≡ Some (node_of new.answer.speaker))
-    → vec_len services.components < vec_capacity services.components
+    → vec_len services.turns.late < vec_capacity services.turns.late
     → (services.sequences.started ≡ new.sequences.started) × (services.sequences.steps ≡ new.sequences.steps) → services.beginnings.items ≡ new.beginnings.items → services.agenda.dues ≡ new.agenda.dues
     → 0 < services.sequences.spare → vec_len services.beginnings < vec_capacity services.beginnings → 0 < services.agenda.spare
     → wait.declined ≡ fatal_report NoObject → IsTrue (has_room services.reporting.reports wait.declined.id)
     → P × IsWorld true script more services (Some wait) leaving
-waits {script = script} {log} {more} {old} {new} {services} wait p sound room settled left next order performers drivers need same log_spare kept nodes items reports objections objection_spare tree_spare components sequences beginnings dues sequence_spare beginnings_spare agenda_spare declined room_for_report =
+waits {script = script} {log} {more} {old} {new} {services} wait p sound room settled left next order performers drivers need same log_spare kept nodes same_turns reports objections objection_spare tree_spare late sequences beginnings dues sequence_spare beginnings_spare agenda_spare declined room_for_report =
     let m = p.1.services_match sound in
     let scene = scene-of wait.deed m p.1.legal.each settled left order performers drivers (act-next script log.entries wait.deed next) in
     let comes = ap need_in next ∙ need-comes script log.entries wait.deed (speaker_of log.entries) m.answer.speaker (need.comes script log.entries scene) in
     let new_matches : ServicesMatch script log.entries new = subst (ServicesMatch script log.entries) (sym need.same) m in
-    let matches : ServicesMatch script log.entries services = subst (ServicesMatch script log.entries) (sym kept) (same-match log services nodes items reports objections sequences beginnings dues new_matches) in
+    let matches : ServicesMatch script log.entries services = subst (ServicesMatch script log.entries) (sym kept) (same-match log services nodes same_turns reports objections sequences beginnings dues new_matches) in
     let speaker : services.answer.speaker ≡ old.answer.speaker = ap (λ (s : Services). s.answer.speaker) kept ∙ ap (λ (s : Services). s.answer.speaker) need.same in
     let home_nodes : services.tree.nodes ≡ old.tree.nodes = nodes ∙ ap (λ (s : Services). s.tree.nodes) need.same in (
       p.0,
@@ -93,7 +95,7 @@ waits {script = script} {log} {more} {old} {new} {services} wait p sound room se
           log_spare = log_spare;
           objection_spare = objection_spare;
           tree_spare = rw (nodes, ap (λ (s : Services). s.answer.speaker) kept) tree_spare;
-          components = components;
+          turns = late;
           sequence_spare = sequence_spare;
           beginnings = beginnings_spare;
           agenda_spare = agenda_spare;

@@ -1,7 +1,7 @@
 -- What contracts see of a world.
 use Rattle.std.specs.Prelude.{◌≡◌, ◌<◌, ℕ, Bool, true, false, List, ◌∷◌, length, Option, Some, None, is_some, IsSome, vec_len, vec_capacity, IsTrue}
 use Rattle.std.specs.Option.{ForSome}
-use Rattle.uvm_tree.specs.Nodes.{Node, node_at}
+use Rattle.uvm_tree.specs.Nodes.{node_at}
 use Rattle.uvm_object.specs.declared.acts.Who.{Who}
 use Rattle.uvm_object.specs.declared.acts.Act.{Act}
 use Rattle.uvm_object.specs.declared.acts.Act.TheVariants.{Create, Start}
@@ -59,7 +59,7 @@ pub record IsReady (waiting : Waiting) (script : ScriptValue) (log : LogValue) (
   pub log_spare : 0 < log.spare
   pub tree_spare : IsSome (node_at services.tree.nodes (node_of services.answer.speaker)) → services.tree.spare ≡ Some (node_of services.answer.speaker)
   pub objection_spare : 0 < services.objection.spare
-  pub components : vec_len services.components < vec_capacity services.components
+  pub turns : vec_len services.turns.late < vec_capacity services.turns.late
   pub sequence_spare : 0 < services.sequences.spare
   pub beginnings : vec_len services.beginnings < vec_capacity services.beginnings
   pub agenda_spare : 0 < services.agenda.spare

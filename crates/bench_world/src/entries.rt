@@ -1,27 +1,23 @@
 //! The entries of a log that are no act's: one call for each kind.
 
-ghost use Rattle.std.specs.Prelude.{◌≡◌, ◌∷◌, ◌<◌, length, true, OnOk, OnErr, IsOk, Some, None};
+ghost use Rattle.std.specs.Prelude.{◌≡◌, ◌∷◌, ◌<◌, length, true, OnOk, OnErr, IsOk, None, Some};
 ghost use Rattle.uvm_object.specs.declared.entries.Entry.TheVariants.{Begin, End, Time, Heard, Locked, Passed, Drained, Note, Over};
-ghost use Rattle.bench_history.specs.History.{next_call, phase_order};
+ghost use Rattle.bench_history.specs.History.{next_call};
 ghost use Rattle.bench_history.specs.Reports.{noted_end, reason_of};
-ghost use Rattle.uvm_glob.specs.Orders.{order_of};
-ghost use Rattle.uvm_tree.specs.Cursors.{is_before, least, sooner};
-ghost use Rattle.world_services.specs.Services.{waiting_in};
 ghost use Rattle.bench_history.specs.Cases.{Exactly, Answer};
 ghost use Rattle.bench_world.specs.Worlds.{IsGranted, MayEnter, MayGrant, world_after, broken};
 
 use crate::worlds::World;
 use bench_history::laws;
 use std::alloc::AllocError;
-use uvm_glob::Direction;
 use uvm_object::{
     Acts, Call, Entry, Fatal, Grant, Log, LoggedGrant, LoggedPassage, Passage, Reason, Who,
 };
 use uvm_phase::{Cause, Phase};
 use uvm_sequencer::SeqId;
-use uvm_tree::{NodeId, Tree};
+use uvm_tree::{NodeId, laws as trees};
 use world_entries::{answers, grants, phases};
-use world_services::services::Component;
+use world_services::turns::direction_of;
 
 impl World {
     /// A phase begins (IEEE 1800.2-2020, Clause 9). The world is sound, its log is not full, and this entry is next. The error is
@@ -250,11 +246,13 @@ impl World {
         requires { self.now.sound ≡ true }
         ensures { result ≡ next_call phase self.now.history }
     {
-        first_waiting(
-            &self.services.tree,
-            self.services.components.as_slice(),
-            direction_of(phase),
-        )
+        // It is the first of the components that wait, which are all nodes of this kind.
+        laws::components_by_kind();
+        trees::nodes_are_ordered();
+        trees::least_is_least();
+        trees::one_is_least();
+        let services = &self.services;
+        services.turns.first(&services.tree, direction_of(phase))
     }
 }
 
@@ -272,40 +270,6 @@ fn noted_end(entry: &Entry) -> Option<Reason>
             ..
         } => Some(Reason::Stall),
         _ => None,
-    }
-}
-
-// The direction in which a phase goes.
-fn direction_of(phase: Phase) -> Direction
-    ensures { order_of result ≡ phase_order phase }
-{
-    if phase.is_top_down() {
-        Direction::Down
-    } else {
-        Direction::Up
-    }
-}
-
-// Of the components that had no call the least in a direction.
-fn first_waiting(tree: &Tree, components: &[Component], direction: Direction) -> Option<NodeId>
-    ensures { result ≡ least (is_before (order_of direction) tree.now.nodes) (waiting_in components.now) }
-{
-    let mut first = None;
-    for component in components {
-        if !component.called {
-            first = Some(sooner(tree, direction, first, component.node));
-        }
-    }
-    first
-}
-
-// The one of two nodes that comes before the other.
-fn sooner(tree: &Tree, direction: Direction, first: Option<NodeId>, node: NodeId) -> NodeId
-    ensures { Some result ≡ sooner (is_before (order_of direction) tree.now.nodes) first node }
-{
-    match first {
-        Some(first) if !tree.is_before(direction, node, first) => first,
-        _ => node,
     }
 }
 

@@ -13,6 +13,7 @@ ghost use Rattle.uvm_object.specs.Fatals.{fatal_report};
 ghost use Rattle.uvm_object.specs.declared.fatals.Fatal.TheVariants.{NoObject};
 ghost use Rattle.uvm_report.specs.Observed.{has_room};
 ghost use Rattle.world_reports.specs.Reportings.{KeepsReporting};
+ghost use Rattle.world_services.specs.Turns.{AreSameTurns};
 ghost use Rattle.world_services.specs.Makings.{CanGrow, CanMake, outcome_made, who_made};
 ghost use Rattle.world_services.specs.Attempts.{TakesIn};
 ghost use Rattle.bench_world.specs.Worlds.{made_who, world_after};
@@ -30,7 +31,7 @@ use world_sequencer_acts::starts::begin;
 use world_services::attempts::refused_by;
 use world_services::nodes::add_child;
 use world_services::rooms::{reserve_component, reserve_sequence};
-use world_services::services::{Component, Services};
+use world_services::services::Services;
 
 /// A creation or a start that waits for its object: what it needs, the act, the sequencer of a sequence, room for the name of the
 /// type that is made, and the report of an object that is declined.
@@ -148,7 +149,7 @@ impl World {
 pub(crate) fn make_room(log: &mut Log, services: &mut Services, id: &Name) -> Result<(), AllocError>
     ensures log { (log.new.entries ≡ log.old.entries) × (log.new.limit ≡ log.old.limit) }
     ensures log_spare { OnOk result (0 < log.new.spare) }
-    ensures services { services.new ≡ record services.old { tree = services.new.tree; objection = services.new.objection; components = services.new.components; sequences = services.new.sequences; beginnings = services.new.beginnings; agenda = services.new.agenda; reporting = services.new.reporting } }
+    ensures services { services.new ≡ record services.old { tree = services.new.tree; objection = services.new.objection; turns = services.new.turns; sequences = services.new.sequences; beginnings = services.new.beginnings; agenda = services.new.agenda; reporting = services.new.reporting } }
     ensures sequences { (services.new.sequences.started ≡ services.old.sequences.started) × (services.new.sequences.steps ≡ services.old.sequences.steps) }
     ensures beginnings_items { services.new.beginnings.items ≡ services.old.beginnings.items }
     ensures dues { services.new.agenda.dues ≡ services.old.agenda.dues }
@@ -160,9 +161,9 @@ pub(crate) fn make_room(log: &mut Log, services: &mut Services, id: &Name) -> Re
     ensures nodes { services.new.tree.nodes ≡ services.old.tree.nodes }
     ensures objections { services.new.objection.nodes ≡ services.old.objection.nodes }
     ensures objection_spare { OnOk result (0 < services.new.objection.spare) }
-    ensures items { services.new.components.items ≡ services.old.components.items }
+    ensures turns { AreSameTurns services.old.turns services.new.turns }
     ensures tree_spare { OnOk result (IsSome (node_at services.old.tree.nodes (node_of services.old.answer.speaker)) → services.new.tree.spare ≡ Some (node_of services.old.answer.speaker)) }
-    ensures components { OnOk result (vec_len services.new.components < vec_capacity services.new.components) }
+    ensures late_spare { OnOk result (vec_len services.new.turns.late < vec_capacity services.new.turns.late) }
 {
     reserve_component(services)?;
     reserve_sequence(services)?;
@@ -212,13 +213,7 @@ fn grow(services: &mut Services, act: &Act) -> NodeId
     let Ok(()) = services.objection.add(node, parent) else {
         unreachable!()
     };
-    let component = Component {
-        node,
-        called: false,
-    };
-    let Ok(()) = services.components.push(component) else {
-        unreachable!()
-    };
+    services.turns.make(&services.tree, node);
     services.reporting.newest = None;
     // Nothing passes and nothing is granted anywhere.
     services.unsettled.clear();

@@ -1,3 +1,2 @@
 pub mod Granted
 pub mod Heard
-pub mod Turns

@@ -11,7 +11,8 @@ ghost use Rattle.world_entries.specs.Coming.{GoesOn};
 use bench_history::{Owner, laws};
 use uvm_object::{Call, Who};
 use uvm_phase::laws as agenda;
-use world_services::services::{LastAnswer, Services, mark_call};
+use uvm_tree::laws as trees;
+use world_services::services::{LastAnswer, Services};
 
 /// Keeps that somebody was called in the running phase and answered with so many acts, in the entry at a place.
 pub fn hear(services: &mut Services, place: usize, who: Who, count: usize)
@@ -20,9 +21,14 @@ pub fn hear(services: &mut Services, place: usize, who: Who, count: usize)
     // Who is asked is there, and stands at a node: a sequence at its home.
     laws::asked_are_there();
     laws::homes_are_nodes();
+    // It is the first in order of the components that wait.
+    laws::calls_go_in_turn();
+    laws::nodes_are_a_tree();
+    trees::nodes_are_ordered();
+    trees::least_is_least();
     laws::wiring_stays();
     services.reporting.newest = None;
-    mark_call(&mut services.components, who.node());
+    services.turns.hear(who.node());
     services.answer = last_answer(place, who, count);
 }
 

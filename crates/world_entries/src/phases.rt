@@ -24,8 +24,9 @@ use world_fifos::stations::end_waits;
 use world_sequencers::arbiters::end_phase;
 use world_sequences::ends::{finish_all, leaving_with};
 use world_services::attempts::report_at;
-use world_services::services::{Services, clear_calls};
+use world_services::services::Services;
 use world_services::tells::move_drains;
+use world_services::turns::direction_of;
 use world_wiring::connections::close_after;
 
 /// Keeps that a phase begins (IEEE 1800.2-2020, Clause 9).
@@ -35,7 +36,7 @@ pub fn begin(services: &mut Services, phase: Phase)
     laws::wiring_stays();
     services.reporting.newest = None;
     services.stage = Stage::During(phase);
-    clear_calls(&mut services.components);
+    services.turns.begin(direction_of(phase));
 }
 
 /// Keeps that a phase ends (Clause 9), and with it all sequences that live (Clause 14), which it answers. Its error is want of

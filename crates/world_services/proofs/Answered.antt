@@ -5,9 +5,8 @@ use Rattle.uvm_object.specs.declared.acts.Who.{Who}
 use Rattle.uvm_object.specs.declared.acts.Act.{Act}
 use Rattle.uvm_object.specs.declared.entries.Entry.{Entry}
 use Rattle.world_services.specs.declared.services.LastAnswer.{LastAnswer}
-use Rattle.world_services.specs.declared.services.Component.{Component}
 use Rattle.bench_history.specs.History.{rest_of, head_of}
-use Rattle.world_services.specs.Services.{acts_at, unless_noted, AreTurns, IsAnswer}
+use Rattle.world_services.specs.Services.{acts_at, unless_noted, IsAnswer}
 use Rattle.world_services.proofs.Entered.{acts-later, answered-later}
 
 within-drop : (n : ℕ) (xs : List Act) (y : Act) (ys : List Act) → drop n xs ≡ y ∷ ys → n < length xs
@@ -113,14 +112,6 @@ pub answer-count : {opening : Act} {history : List Entry} {left : List Act} {las
 answer-count {opening} {history} {kept = kept} on a =
     let here = rw on at a.rest in
     rw a.count (sym (length-drop kept.done (acts_at opening history kept.place)) ∙ ap length here)
-
--- more nodes
-pub turns-more : {components called : List ℕ} {count : ℕ} {kept : List Component} (more : ℕ) → count ≤ more → AreTurns components called count kept → AreTurns components called more kept
-turns-more more le turns = record {
-  are = turns.are;
-  within = λ k d h. omega (arith, turns.within k d h);
-  called_within = λ k d h. omega (arith, turns.called_within k d h);
-}
 
 pub one-longer : {A : Type 0} (xs : List A) (x : A) → length xs ≤ length (xs ++ x ∷ [])
 one-longer xs x = omega (arith, length-append xs (x ∷ []))

@@ -6,7 +6,8 @@ pub mod Entered
 pub mod Kept
 pub mod Known
 pub mod Later
-pub mod Marks
 pub mod Opened
 pub mod Overriding
 pub mod Passages
+pub mod Waiting
+pub mod Walking

@@ -37,7 +37,7 @@ pub record CanGrow (act : Act) (services : Services) : Type 0 where
   pub speaks : node_of services.answer.speaker < length services.tree.nodes
   pub numbered : AreNumbered services.objection.nodes (length services.tree.nodes)
   pub objection_spare : 0 < services.objection.spare
-  pub components : vec_len services.components < vec_capacity services.components
+  pub turns : vec_len services.turns.late < vec_capacity services.turns.late
 
 -- the one or the other
 abbrev pub CanMake : Act → Option ℕ → Services → Type 0

@@ -1,5 +1,5 @@
 -- What a world keeps beside its log, and that it is what the log says.
-use Rattle.std.specs.Prelude.{◌≡◌, ℕ, ◌<◌, ◌≤◌, Bool, true, false, ◌==◌, ◌||◌, ◌^◌, List, [], ◌∷◌, length, drop, map, reverse, slice_get, Option, Some, None, All, if◌then◌else◌}
+use Rattle.std.specs.Prelude.{◌≡◌, ℕ, ◌<◌, ◌≤◌, Bool, true, false, ◌^◌, List, [], ◌∷◌, length, drop, reverse, slice_get, Option, Some, None}
 use Rattle.std.specs.Option.{ForSome}
 use Rattle.std.specs.List.{list_any}
 use Rattle.uvm_glob.specs.Paths.{path_text}
@@ -15,11 +15,11 @@ use Rattle.uvm_object.specs.declared.entries.Entry.{Entry}
 use Rattle.uvm_object.specs.declared.entries.Entry.TheVariants.{Heard}
 use Rattle.bench_script.specs.Scripts.{ScriptValue}
 use Rattle.world_services.specs.declared.services.LastAnswer.{LastAnswer}
-use Rattle.world_services.specs.declared.services.Component.{Component}
 use Rattle.world_services.specs.declared.services.Services.{Services}
+use Rattle.world_services.specs.Turns.{AreTurns}
 use Rattle.bench_history.specs.Configuration.{settings_of}
 use Rattle.bench_history.specs.Dues.{caused_of, heard_of, due_events}
-use Rattle.bench_history.specs.History.{stage_of, now_of, nodes_of, components_of, called_of, had_call, opening, left_of, speaker_of, overrides_of, ends_build, ended_of}
+use Rattle.bench_history.specs.History.{stage_of, now_of, nodes_of, components_of, called_of, opening, left_of, speaker_of, overrides_of, ends_build, ended_of}
 use Rattle.bench_history.specs.Objections.{objections_of}
 use Rattle.bench_history.specs.Reports.{report_commands, newest_fate, refuses_test}
 use Rattle.world_reports.specs.Reportings.{IsReporting}
@@ -41,27 +41,6 @@ use Rattle.uvm_config.specs.Observed as config
 pub record IsFactory (types : Types) (overrides : List Override) (kept : Kept) : Type 0 where
   pub types_are : types_of kept ≡ types
   pub steps : (type_id : ℕ) (path : List (List ℕ)) → step_at kept type_id path ≡ type_step overrides type_id (path_text path)
-
--- each component, and whether it had its call
-abbrev pub marked : List ℕ → ℕ → Component
-marked called node = record { node = node; called = had_call called node }
-
--- before any call of a phase, and after the call of a node
-abbrev pub cleared : Component → Component
-cleared component = record component { called = false }
-
-abbrev pub with_call : ℕ → Component → Component
-with_call node component = record component { called = node == component.node || component.called }
-
--- the components that had no call
-abbrev pub waiting_in : List Component → List ℕ
-waiting_in [] = []
-waiting_in (component ∷ rest) = if component.called then waiting_in rest else component.node ∷ waiting_in rest
-
-pub record AreTurns (components called : List ℕ) (count : ℕ) (kept : List Component) : Type 0 where
-  pub are : kept ≡ map (marked called) components
-  pub within : All (λ node. node < count) components
-  pub called_within : All (λ node. node < count) called
 
 -- the acts of the answer at a place, or the opening
 abbrev pub acts_in : Option Entry → List Act
@@ -108,7 +87,7 @@ pub record ServicesMatch (script : ScriptValue) (history : List Entry) (services
   pub sequencing : IsSequencing (begun_of history) (finished_of history) (ended_of history) (enders_of history) services.sequences services.beginnings.items
   pub objections : IsObjecting (objections_of history) (length (nodes_of history)) (length history) services.objection
   pub factory : IsFactory script.types (overrides_of script history) services.factory
-  pub turns : AreTurns (components_of history) (called_of history) (length (nodes_of history)) services.components.items
+  pub turns : AreTurns (stage_of history) (nodes_of history) (components_of history) (called_of history) services.turns
   pub answer : IsAnswer (opening script) history (left_of script history) (speaker_of history) services.answer
   pub speaks : node_of (speaker_of history) < length (nodes_of history)
   pub built : services.built ≡ list_any ends_build history

@@ -8,3 +8,4 @@ pub mod rooms;
 pub mod services;
 pub mod settings;
 pub mod tells;
+pub mod turns;

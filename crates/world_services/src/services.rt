@@ -1,15 +1,16 @@
 //! What a world keeps beside its log.
 
-ghost use Rattle.std.specs.Prelude.{◌≡◌, [], IfOk, None, map};
+ghost use Rattle.std.specs.Prelude.{◌≡◌, [], IfOk, None};
 ghost use Rattle.bench_script.specs.Factories.{IsFactoryOf};
 ghost use Rattle.bench_script.specs.Scripts.{ScriptValue};
 ghost use Rattle.bench_history.specs.Configuration.{settings_of};
 ghost use Rattle.bench_history.specs.History.{overrides_of};
 ghost use Rattle.bench_history.specs.Reports.{script_commands};
 ghost use Rattle.world_reports.specs.Reportings.{IsReporting};
-ghost use Rattle.world_services.specs.Services.{IsFactory, IsSettings, ServicesMatch, cleared, with_call};
+ghost use Rattle.world_services.specs.Services.{IsFactory, IsSettings, ServicesMatch};
 
 use crate::settings::given_settings;
+use crate::turns::Turns;
 use bench_history::{Owner, Stage};
 use bench_script::Script;
 use std::alloc::{AllocError, Global};
@@ -25,22 +26,6 @@ use world_fifos::stations::Stations;
 use world_reports::reporting::{Reporting, given_reporting};
 use world_sequencers::arbiters::Arbiters;
 use world_sequences::beginnings::Beginning;
-
-/// A node that holds an object, and whether it had its call in the running phase.
-#[derive(Clone, Copy)]
-pub struct Component {
-    pub node: NodeId,
-    pub called: bool,
-}
-
-impl Component {
-    // Whether it had its call, once a node has.
-    fn is_called_with(&self, node: NodeId) -> bool
-        ensures { result ≡ (with_call node self.now).called }
-    {
-        node == self.node || self.called
-    }
-}
 
 /// How far the last answer is done.
 #[derive(Drop)]
@@ -80,8 +65,7 @@ pub struct Services {
     pub reporting: Reporting,
     /// The events that are due.
     pub agenda: Agenda<Owner, Option<Call>>,
-    /// In the order in which they were made.
-    pub components: Vec<Component>,
+    pub turns: Turns,
     pub answer: LastAnswer,
     pub built: bool,
     pub past_connect: bool,
@@ -126,7 +110,7 @@ impl Services {
             settings,
             reporting,
             agenda: Agenda::new(alloc),
-            components: Vec::new(alloc),
+            turns: Turns::new(alloc),
             answer: LastAnswer {
                 speaker: Who::Node(NodeId::TOP),
                 place: None,
@@ -138,35 +122,5 @@ impl Services {
             past_connect: false,
             test_refused: false,
         }
-    }
-}
-
-/// Keeps that no component had its call, as a phase begins.
-pub fn clear_calls(components: &mut Vec<Component>)
-    ensures { components.new.items ≡ map cleared components.old.items }
-{
-    clear_all(components.as_mut_slice());
-}
-
-/// Keeps that a component had its call.
-pub fn mark_call(components: &mut Vec<Component>, node: NodeId)
-    ensures { components.new.items ≡ map (with_call node) components.old.items }
-{
-    mark_all(components.as_mut_slice(), node);
-}
-
-fn clear_all(components: &mut [Component])
-    ensures { components.new ≡ map cleared components.old }
-{
-    for component in components.iter_mut() {
-        component.called = false;
-    }
-}
-
-fn mark_all(components: &mut [Component], node: NodeId)
-    ensures { components.new ≡ map (with_call node) components.old }
-{
-    for component in components.iter_mut() {
-        component.called = component.is_called_with(node);
     }
 }

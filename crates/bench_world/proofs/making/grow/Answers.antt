@@ -3,16 +3,15 @@ use Rattle.uvm_tree.specs.declared.nodes.NodeKind.TheVariants.{Component}
 use Rattle.uvm_tree.specs.Nodes.{child}
 use Rattle.uvm_object.specs.Acts.{node_of}
 use Rattle.uvm_objection.specs.Nodes.{new_node}
-use Rattle.bench_history.specs.History.{nodes_of, components_of, called_of, created_name, speaker_of}
+use Rattle.bench_history.specs.History.{nodes_of, created_name, speaker_of}
 use Rattle.bench_history.specs.Dues.{due_events}
 use Rattle.bench_history.specs.Objections.{objections_of}
 use Rattle.world_agenda.proofs.Drained.{events-all, held-more}
-use Rattle.world_services.specs.Services.{AreTurns}
 use Rattle.world_services.proofs.Answered.{length-snoc}
 use Rattle.world_services.proofs.Later.{acted}
 use Rattle.world_agenda.proofs.Objected.{objecting-more}
 use Rattle.world_wiring.proofs.Connected.{building-open, connecting-grown}
-use Rattle.world_entries.proofs.Turns.{turns-made}
+use Rattle.world_services.proofs.Waiting.{turns-made}
 use Rattle.uvm_tree.specs.Sorted.{path_order}
 use Rattle.bench_history.specs.Passing.{passing_at}
 use Rattle.world_fifos.specs.Passings.{AreUnsettled}
@@ -29,8 +28,8 @@ returns-clause-kept c = λ type_name place. record {
       let left = s.left in
       let made = child (nodes_of history) (node_of c.args.services.now.answer.speaker) (created_name c.args.act.now) Component in
       let tree = rw (c.node-parent.ensures, c.created_name-name.ensures, m.tree) at c.in-Ok.ensures.nodes in
-      let turns : AreTurns (components_of history ++ length (nodes_of history) ∷ []) (called_of history) (length (nodes_of history ++ made ∷ [])) c.push.new.self.items =
-      rw (c.in-Ok-push.ensures.items, c.in-Ok.ensures.id, m.tree, length-snoc (nodes_of history) made) (turns-made m.turns) in
+      let grown = rw (tree, c.in-Ok.ensures.id, m.tree) at c.make.ensures in
+      let turns = turns-made made m.turns grown in
       let speaker = node_of c.args.services.now.answer.speaker in
       let longer = length-snoc (nodes_of history) made in
       let speaks : node_of (speaker_of history) < length (nodes_of history ++ made ∷ []) = omega (arith, m.speaks, longer) in

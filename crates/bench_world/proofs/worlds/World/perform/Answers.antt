@@ -33,7 +33,7 @@ invariant_of-self-in-Needed c =
     let kept = c.in_ok-make_room-in-Needed.ensures in
     let need = rw (c.in-Needed.is, c.act.ensures, c.len-place.ensures, ← c.in_ok-waiting-in-Needed.ensures.0, ← c.in_ok-waiting-in-Needed.ensures.1, ← c.in_ok-waiting-in-Needed.ensures.3) at c.in_ok-outcome.ensures in
     let waiting = c.in_ok-waiting-in-Needed in
-    waits waiting.waiting c.self.invariant r.sound r.room r.settled (rw waiting.ensures.1 r.left) (rw waiting.ensures.1 r.next) c.phases_go_in_order.ensures c.performers_are_there.ensures c.drivers_are_there.ensures need kept.log kept.log_spare kept.services kept.nodes kept.items kept.reporting kept.objections kept.objection_spare kept.tree_spare kept.components kept.sequences kept.beginnings_items kept.dues kept.sequence_spare kept.beginnings kept.agenda_spare waiting.ensures.2 kept.report_room
+    waits waiting.waiting c.self.invariant r.sound r.room r.settled (rw waiting.ensures.1 r.left) (rw waiting.ensures.1 r.next) c.phases_go_in_order.ensures c.performers_are_there.ensures c.drivers_are_there.ensures need kept.log kept.log_spare kept.services kept.nodes kept.turns kept.reporting kept.objections kept.objection_spare kept.tree_spare kept.late_spare kept.sequences kept.beginnings_items kept.dues kept.sequence_spare kept.beginnings kept.agenda_spare waiting.ensures.2 kept.report_room
 
 pub returns-in_ok-enter-in-Became-clause-ok : goal.returns-in_ok-enter-in-Became-clause-ok
 returns-in_ok-enter-in-Became-clause-ok c =

@@ -1,4 +1,3 @@
-use Rattle.world_services.specs.Services.{IsFactory}
 use Rattle.world_services.proofs.services.Services.given.Goals as goal
 
 -- what was read off the script stands in the services

@@ -8,6 +8,7 @@ use Rattle.world_agenda.proofs.Objected.{objecting-first}
 use Rattle.world_services.proofs.Passages.{passed-first, stations-first, unsettled-none}
 use Rattle.world_sequences.specs.Sequencings.{IsSequencing}
 use Rattle.world_sequences.proofs.Sequenced.{sequencing-first}
+use Rattle.world_services.proofs.Waiting.{turns-none}
 use Rattle.world_services.proofs.services.Services.new.Goals as goal
 
 pub returns : goal.returns
@@ -30,7 +31,7 @@ returns c = λ script factory settings reporting.
       sequencing = search (rules, sequencing);
       objections = objecting-first c.new-2.result c.nodes_grow.ensures.0 c.new-2.ensures;
       factory = factory;
-      turns = search rules;
+      turns = turns-none c.new-10.ensures.last c.new-10.ensures.late;
       answer = search rules;
       speaks = omega arith;
       built = refl;

@@ -1,5 +1,5 @@
 -- The text of the newest entry, where it has one.
-use Rattle.std.proofs.Common.{◌≡◌, ◌≢◌, ◌<◌, ◌≤◌, ◌+◌, ℕ, List, [], ◌∷◌, ◌++◌, length, refl, arith}
+use Rattle.std.proofs.Common.{◌≢◌, ℕ, List, [], ◌∷◌, ◌++◌, refl}
 
 -- a line has its end
 pub line_some : (text : List ℕ) (byte : ℕ) → text ++ byte ∷ [] ≢ []
@@ -14,8 +14,3 @@ some_in_front (first ∷ front) back some = λ none. cc
 pub some_behind : (front back : List ℕ) → back ≢ [] → front ++ back ≢ []
 some_behind [] back some = λ none. some none
 some_behind (first ∷ front) back some = λ none. cc
-
--- what does not fit has something
-pub some_too_long : (text : List ℕ) (held room : ℕ) → held ≤ room → room < held + length text → text ≢ []
-some_too_long [] held room fits long = λ none. absurd (omega (arith, fits, long))
-some_too_long (first ∷ text) held room fits long = λ none. cc

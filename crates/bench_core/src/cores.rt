@@ -314,6 +314,7 @@ impl Core {
 
     /// Appends the text of the newest entry: its line, where `trace` asks for it and there is one, and the line of its report,
     /// where it has one that is displayed; nothing where memory is refused, or was. It is not refused where the text is empty.
+    /// Where `out` is empty, the line of the entry is built in it, and in a vector of its own where it is not.
     #[tactic(auto, using(crate::proofs::Shown::some_in_front, crate::proofs::Shown::some_behind))]
     pub fn last_text(&self, trace: bool, out: &mut Vec<u8>) -> Result<(), AllocError>
         ensures ok { OnOk result (out.new.items ≡ out.old.items ++ (if is_sound self.now.health then last_text trace self.now.script self.now.history else [])) }
@@ -323,10 +324,14 @@ impl Core {
         if !self.is_sound() {
             return Ok(());
         }
-        let mut text = Vec::new(*out.allocator());
-        self.push_last_line(trace, &mut text)?;
-        self.world.push_report(&mut text)?;
-        out.extend_from_slice(text.as_slice())
+        let before = out.len();
+        self.push_last_line(trace, out)?;
+        let pushed = self.world.push_report(out);
+        // The line is taken back where that of its report has no memory.
+        if pushed.is_err() {
+            out.truncate(before);
+        }
+        pushed
     }
 
     // The line of the newest entry, where it is asked for and there is one.
@@ -334,6 +339,7 @@ impl Core {
     fn push_last_line(&self, trace: bool, text: &mut Vec<u8>) -> Result<(), AllocError>
         requires { is_sound self.now.health ≡ true }
         ensures ok { OnOk result (text.new.items ≡ text.old.items ++ last_line trace self.now.history) }
+        ensures err { OnErr result (text.new.items ≡ text.old.items) }
         ensures some { OnErr result (last_line trace self.now.history ≢ []) }
     {
         match self.world.log().last() {

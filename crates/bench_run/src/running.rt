@@ -104,19 +104,21 @@ pub fn run_kernel<O: UvmObject, R: Rng, F: Fn(&Name) -> Result<Option<O>, AllocE
     ensures script { kernel.new.core.script ≡ kernel.old.core.script }
     ensures back { kernel.new.held ≡ [] }
 {
-    let ended = run_to_end(alloc, kernel, words, trace, make, out);
+    let mut text = Vec::new(alloc);
+    let ended = run_to_end(kernel, words, trace, make, &mut text, out);
     kernel.abandon();
     give_all_back(kernel);
     ended
 }
 
-// Makes entries until the run is over, writes the summary, and answers how it is over.
+// Makes entries until the run is over, writes the summary, and answers how it is over. Each text is built in `text`, which is kept over the
+// run.
 fn run_to_end<O: UvmObject, R: Rng, F: Fn(&Name) -> Result<Option<O>, AllocError>, S: Sink>(
-    alloc: Global,
     kernel: &mut Kernel<O>,
     words: &mut R,
     trace: bool,
     make: &F,
+    text: &mut Vec<u8>,
     out: &mut S,
 ) -> Result<Ending, RunFault>
     requires callable { F.IsAlwaysCallable make.now }
@@ -135,9 +137,9 @@ fn run_to_end<O: UvmObject, R: Rng, F: Fn(&Name) -> Result<Option<O>, AllocError
     // Before the first entry nobody is held.
     let _held = kernel.live();
     while make_entry(kernel, words, make)? {
-        write_last(alloc, kernel, trace, out)?;
+        write_last(kernel, trace, text, out)?;
     }
-    write_summary(alloc, kernel, out)?;
+    write_summary(kernel, text, out)?;
     Ok(ending_of(kernel))
 }
 
@@ -255,11 +257,11 @@ fn supply<O: UvmObject>(kernel: &mut Kernel<O>, object: O) -> Result<(), RunFaul
     }
 }
 
-// Writes the text of the newest entry.
+// Writes the text of the newest entry, which is built in `text`.
 fn write_last<O: UvmObject, S: Sink>(
-    alloc: Global,
     kernel: &Kernel<O>,
     trace: bool,
+    text: &mut Vec<u8>,
     out: &mut S,
 ) -> Result<(), RunFault>
     ensures legal { IsLegal kernel.now.core.script kernel.now.core.history }
@@ -273,17 +275,17 @@ fn write_last<O: UvmObject, S: Sink>(
 {
     // It belongs to a legal log.
     let _log = kernel.log();
-    let mut text = Vec::new(alloc);
-    if kernel.core().last_text(trace, &mut text).is_err() {
+    text.clear();
+    if kernel.core().last_text(trace, text).is_err() {
         return Err(RunFault::Memory);
     }
     write_text(text.as_slice(), out)
 }
 
-// Writes the summary of the reports.
+// Writes the summary of the reports, which is built in `text`.
 fn write_summary<O: UvmObject, S: Sink>(
-    alloc: Global,
     kernel: &Kernel<O>,
+    text: &mut Vec<u8>,
     out: &mut S,
 ) -> Result<(), RunFault>
     requires { is_sound kernel.now.core.health ≡ true }
@@ -294,8 +296,8 @@ fn write_summary<O: UvmObject, S: Sink>(
     ensures output { result ≡ Err RunFault.Output → S.refuses out.old }
     ensures steady { S.refuses out.new → S.refuses out.old }
 {
-    let mut text = Vec::new(alloc);
-    if reports_of(kernel).summary(&mut text).is_err() {
+    text.clear();
+    if reports_of(kernel).summary(text).is_err() {
         return Err(RunFault::Memory);
     }
     write_text(text.as_slice(), out)

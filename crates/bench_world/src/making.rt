@@ -217,7 +217,7 @@ fn grow(services: &mut Services, act: &Act) -> NodeId
     services.reporting.newest = None;
     // Nothing passes and nothing is granted anywhere.
     services.unsettled.clear();
-    services.contested = None;
+    services.contest.node = None;
     node
 }
 

@@ -271,7 +271,7 @@ impl World {
         ensures { result ≡ next_locked self.now.history }
     {
         let services = &self.services;
-        first_locked(&services.arbiters, &services.sequences, services.contested)
+        first_locked(&services.arbiters, &services.sequences, &services.contest)
     }
 
     /// Whose driver is served next, and whether a word decides which sequence it is then: of the sequencers whose driver waits
@@ -281,7 +281,7 @@ impl World {
         ensures { result ≡ next_served self.now.history }
     {
         let services = &self.services;
-        first_served(&services.arbiters, &services.sequences, services.contested)
+        first_served(&services.arbiters, &services.sequences, &services.contest)
     }
 
     /// How many puts, takes and peeks wait at a FIFO (Clause 12), or item requests and locks at a sequencer (Clause 15); 0 where

@@ -9,6 +9,7 @@ ghost use Rattle.uvm_lines.specs.Lines.{entry_line, entry_text, who_text, call_t
 use crate::act_lines::push_act;
 use crate::item_lines::{answer_text, move_text, push_named, push_named_item, push_some_item};
 use crate::sequence_lines::{push_finished, push_granted, push_locked, push_next_item, push_who};
+use itoa::Buffer;
 use std::alloc::{AllocError, Global};
 use uvm_glob::Name;
 use uvm_object::{Call, Entry, Outcome, Passage, Reason, Who};
@@ -19,6 +20,8 @@ use uvm_tree::{NodeId, Tree};
 
 /// Appends the line of an entry, with its newline. The tree tells the paths of the nodes; the top, and a node that the tree
 /// does not have, is `uvm_top`. The sequences tell their names. Where memory is refused nothing is appended.
+///
+/// The line is built in `out` where that is empty, and in a vector of its own where it is not.
 pub fn line_of(
     entry: &Entry,
     tree: &Tree,
@@ -28,10 +31,29 @@ pub fn line_of(
     ensures ok { OnOk result (out.new.items ≡ out.old.items ++ entry_line tree.now.nodes sequences.now.started entry.now) }
     ensures err { OnErr result (out.new.items ≡ out.old.items) }
 {
-    let mut line = Vec::new(*out.allocator());
-    push_entry(entry, tree, sequences, &mut line)?;
+    if !out.is_empty() {
+        let mut line = Vec::new(*out.allocator());
+        push_line(entry, tree, sequences, &mut line)?;
+        return out.extend_from_slice(line.as_slice());
+    }
+    let pushed = push_line(entry, tree, sequences, out);
+    if pushed.is_err() {
+        out.clear();
+    }
+    pushed
+}
+
+fn push_line(
+    entry: &Entry,
+    tree: &Tree,
+    sequences: &Sequences,
+    line: &mut Vec<u8>,
+) -> Result<(), AllocError>
+    ensures { OnOk result (line.new.items ≡ line.old.items ++ entry_line tree.now.nodes sequences.now.started entry.now) }
+{
+    push_entry(entry, tree, sequences, line)?;
     line.push(b'\n')?;
-    out.extend_from_slice(line.as_slice())
+    Ok(())
 }
 
 fn push_entry(
@@ -229,13 +251,13 @@ pub(crate) fn push_ticks(word: &[u8], ticks: u64, line: &mut Vec<u8>) -> Result<
 pub(crate) fn push_number(n: u64, line: &mut Vec<u8>) -> Result<(), AllocError>
     ensures { OnOk result (line.new.items ≡ line.old.items ++ decimal n) }
 {
-    let digits = n.to_string(*line.allocator())?;
-    line.extend_from_slice(digits.as_bytes())
+    let mut digits = Buffer::new();
+    line.extend_from_slice(digits.format(n).as_bytes())
 }
 
 pub(crate) fn push_integer(n: i64, line: &mut Vec<u8>) -> Result<(), AllocError>
     ensures { OnOk result (line.new.items ≡ line.old.items ++ signed_decimal n) }
 {
-    let digits = n.to_string(*line.allocator())?;
-    line.extend_from_slice(digits.as_bytes())
+    let mut digits = Buffer::new();
+    line.extend_from_slice(digits.format(n).as_bytes())
 }

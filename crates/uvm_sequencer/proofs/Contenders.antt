@@ -1,9 +1,9 @@
 -- The contenders as one filter of the queue, and that one is chosen.
-use Rattle.std.proofs.Common.{◌≡◌, ◌≤◌, ◌<◌, ◌+◌, ◌%◌, ℕ, zero, suc, Bool, true, false, not, max, List, [], ◌∷◌, length, filter, sum_by, Option, Some, None, IsSome, is_some, refl, sym, ap, ◌∙◌, arith, subst, if◌then◌else◌, nat_lt, nat_le}
-use Rattle.std.specs.Prelude.{◌||◌, ◌&&◌}
+use Rattle.std.proofs.Common.{◌≡◌, ◌≤◌, ◌<◌, ◌+◌, ◌%◌, ℕ, zero, suc, Bool, true, false, not, max, List, [], ◌∷◌, length, drop, filter, sum_by, Option, Some, None, IfSome, IsSome, is_some, refl, sym, ap, ◌∙◌, arith, subst, if◌then◌else◌, nat_lt, nat_le}
+use Rattle.std.specs.Prelude.{◌==◌, ◌||◌, ◌&&◌}
 use Rattle.std.proofs.lemmas.Bool.Decides.{nat_tests}
 use Rattle.std.specs.List.{list_all, list_any, slice_get}
-use Rattle.std.specs.Option.{option_map}
+use Rattle.std.specs.Option.{option_and_then}
 use Rattle.std.proofs.lemmas.List.Sums.{sum_by-cons}
 use Rattle.std.proofs.Math.Nat.{mod-lt}
 use Rattle.uvm_sequencer.specs.Sequences.{Start}
@@ -14,7 +14,15 @@ use Rattle.uvm_sequencer.specs.declared.requests.Request.{Request}
 use Rattle.uvm_sequencer.specs.Queues.{is_item, is_candidate, is_blocked, candidates, priority_of}
 use Rattle.uvm_sequencer.specs.Choices.{is_strict, is_random, is_greatest, contenders, is_drawn, first_over, drawn, choice, readiness}
 use Rattle.uvm_sequencer.specs.Contending.{is_contending, contending, highest, bar_of}
-use Rattle.uvm_sequencer.specs.Rooms.{has_priority}
+use Rattle.uvm_sequencer.specs.Marks.{has_priority}
+
+and_left : (a b : Bool) → (a && b) ≡ true → a ≡ true
+and_left true b e = refl
+and_left false b e = e
+
+and_right : (a b : Bool) → (a && b) ≡ true → b ≡ true
+and_right true b e = e
+and_right false b e = absurd cc
 
 -- a filter by two tests is one after the other
 twice_by : (p q : Request → Bool) (x : Request) (xs : List Request) (a b : Bool) → p x ≡ a → q x ≡ b → filter (λ r. p r && q r) xs ≡ filter q (filter p xs) → filter (λ r. p r && q r) (x ∷ xs) ≡ filter q (filter p (x ∷ xs))
@@ -108,14 +116,6 @@ positive_of : (item free high : Bool) (p : ℕ) → ((item && free) && high) ≡
 positive_of true free high p is has = grind (arith, nat_tests)
 positive_of false free high p is has = absurd cc
 
-and_left : (a b : Bool) → (a && b) ≡ true → a ≡ true
-and_left true b e = refl
-and_left false b e = e
-
-and_right : (a b : Bool) → (a && b) ≡ true → b ≡ true
-and_right true b e = e
-and_right false b e = absurd cc
-
 module _ (started : List Start) (holders : List ℕ) (bar : ℕ) where
   positive_by : (r : Request) (rs : List Request) (b : Bool) → is_contending started holders bar r ≡ b → has_priority r ≡ true
       → (0 < length (contending started holders bar rs) → 0 < sum_by priority_of (contending started holders bar rs))
@@ -185,11 +185,7 @@ readiness-is mode None requests waits some = absurd cc
 readiness-is mode (Some how) [] waits some = absurd (omega arith)
 readiness-is mode (Some how) (r ∷ rs) waits some = refl
 
-pub seq-some : (found : Option Request) → IsSome found → IsSome (option_map (λ (r : Request). r.seq) found)
-seq-some None some = some
-seq-some (Some r) some = refl
-
-second_some : (found : List Request) → is_some (option_map (λ (r : Request). r.seq) (slice_get found 1)) ≡ nat_lt 1 (length found)
+second_some : (found : List Request) → is_some (slice_get found 1) ≡ nat_lt 1 (length found)
 second_some [] = refl
 second_some (r ∷ []) = refl
 second_some (r ∷ s ∷ rs) = sym (more (length rs))
@@ -199,11 +195,56 @@ second_some (r ∷ s ∷ rs) = sym (more (length rs))
 
 -- a second contender is there where a word decides
 pub is-drawn : (mode : Mode) (started : List Start) (holders : List ℕ) (queue : List Request) (bar : ℕ) → bar ≡ bar_of mode (candidates started holders queue) → is_random mode ≡ true
-    → is_some (option_map (λ (r : Request). r.seq) (slice_get (contending started holders bar queue) 1)) ≡ is_drawn mode (candidates started holders queue)
+    → is_some (slice_get (contending started holders bar queue) 1) ≡ is_drawn mode (candidates started holders queue)
 is-drawn mode started holders queue bar bar_is random =
     second_some (contending started holders bar queue)
     ∙ ap (λ l. nat_lt 1 (length l)) (at-bar mode started holders queue bar bar_is)
     ∙ ap (λ b. b && nat_lt 1 (length (contenders mode (candidates started holders queue)))) (sym random)
+
+-- a place is found where what stands there is
+pub placed : {X : Type 0} (xs : List X) (found : Option ℕ) → IfSome found (λ place. place < length xs) → is_some found ≡ is_some (option_and_then (slice_get xs) found)
+placed xs None within = refl
+placed xs (Some place) within = sym (there xs place within)
+
+pub not-none : {X : Type 0} (xs : List X) (place : Option ℕ) (found : Option X) → option_and_then (slice_get xs) place ≡ found → IsSome found → place ≡ None → ⊥
+not-none xs None found is some none = absurd (let same : None ≡ found = is in cc)
+not-none xs (Some place) found is some none = cc
+
+-- where nobody holds the sequencer and no lock waits, each request is a contender in the modes that do not look at priorities
+all-candidates : (started : List Start) (queue : List Request) → list_all is_item queue ≡ true → candidates started [] queue ≡ queue
+all-candidates started [] all = refl
+all-candidates started (r ∷ rs) all =
+    let item = and_left (is_item r) (list_all is_item rs) all in
+    simp item (ap (λ l. r ∷ l) (all-candidates started rs (and_right (is_item r) (list_all is_item rs) all)))
+
+all_by : (strict : Bool) (started : List Start) (holders : List ℕ) (queue : List Request) → (not strict && ((length holders == 0) && list_all is_item queue)) ≡ true
+    → (if strict then greatest (candidates started holders queue) else candidates started holders queue) ≡ queue
+all_by true started holders queue all = absurd cc
+all_by false started [] queue all = all-candidates started queue (and_right (length {A = ℕ} [] == 0) (list_all is_item queue) all)
+all_by false started (h ∷ hs) queue all = absurd (let size : suc (length hs) ≡ 0 = none (length (h ∷ hs)) (and_left (length (h ∷ hs) == 0) (list_all is_item queue) all) in omega (arith, size))
+  where
+    none : (n : ℕ) → (n == 0) ≡ true → n ≡ 0
+    none n e = grind (arith, nat_tests)
+
+pub all-contenders : (mode : Mode) (started : List Start) (holders : List ℕ) (queue : List Request) → (not (is_strict mode) && ((length holders == 0) && list_all is_item queue)) ≡ true
+    → contenders mode (candidates started holders queue) ≡ queue
+all-contenders mode started holders queue all = all_by (is_strict mode) started holders queue all
+
+-- a contender at a place is the first behind those that stand before it
+pub contending-at : (started : List Start) (holders : List ℕ) (bar : ℕ) (queue : List Request) (place : ℕ) (r : Request) → slice_get queue place ≡ Some r → is_contending started holders bar r ≡ true
+    → contending started holders bar (drop place queue) ≡ r ∷ contending started holders bar (drop (suc place) queue)
+contending-at started holders bar [] place r is passes = absurd cc
+contending-at started holders bar (x ∷ xs) zero r is passes =
+    let same : x ≡ r = cc in
+    let own : is_contending started holders bar x ≡ true = ap (is_contending started holders bar) same ∙ passes in
+    simp own (ap (λ y. y ∷ contending started holders bar xs) same)
+contending-at started holders bar (x ∷ xs) (suc place) r is passes = contending-at started holders bar xs place r is passes
+
+pub over-at : (sum n : ℕ) (r : Request) (rest : List Request) → n < sum + priority_of r → first_over sum n (r ∷ rest) ≡ Some r
+over-at sum n r rest less = ap (λ b. if b then Some r else first_over (sum + priority_of r) n rest) within
+  where
+    within : nat_lt n (sum + priority_of r) ≡ true
+    within = grind (arith, nat_tests)
 
 -- a test passes somewhere where something is left of the list by it
 any_by : (p : Request → Bool) (r : Request) (rs : List Request) (b : Bool) → p r ≡ b → list_any p rs ≡ nat_lt 0 (length (filter p rs)) → list_any p (r ∷ rs) ≡ nat_lt 0 (length (filter p (r ∷ rs)))

@@ -1,10 +1,10 @@
 -- Who is granted waits for it, and stands under all holders.
-use Rattle.std.proofs.Common.{◌≡◌, ◌+◌, ◌%◌, ℕ, zero, suc, Bool, true, false, not, List, [], ◌∷◌, length, filter, sum_by, Option, Some, None, refl, ap, subst, ◌∙◌, arith, if◌then◌else◌, nat_lt}
+use Rattle.std.proofs.Common.{◌≡◌, ◌+◌, ◌%◌, ℕ, zero, suc, Bool, true, false, not, List, [], ◌∷◌, length, filter, sum_by, Option, Some, None, IsSome, refl, ap, subst, ◌∙◌, arith, if◌then◌else◌, nat_lt}
 use Rattle.std.specs.Prelude.{◌==◌, ◌||◌, ◌&&◌, All, Contains}
 use Rattle.std.proofs.lemmas.Bool.Decides.{nat_tests}
 use Rattle.std.proofs.lemmas.List.Elements.{All-nil, All-cons, All-head, All-tail, All-contains, All-contains_itself, All-filter, All-weaker, filter_passes}
 use Rattle.std.specs.List.{list_all, list_any, slice_get}
-use Rattle.std.specs.Option.{option_and_then, option_map}
+use Rattle.std.specs.Option.{option_and_then, option_map, IsSomeAnd}
 use Rattle.uvm_sequencer.specs.declared.modes.Mode.{Mode}
 use Rattle.uvm_sequencer.specs.declared.modes.Mode.TheVariants.{Fifo, Weighted, Random, StrictFifo, StrictRandom}
 use Rattle.uvm_sequencer.specs.declared.requests.Request.{Request}
@@ -90,6 +90,14 @@ module _ (started : List Start) (s : SequencerValue) where
           under = unblocked (λ holder. is_under started r.seq holder) s.holders (free_of (is_item r) (is_blocked started s.holders r.seq) candidate);
         },
       )
+
+  request_by : (word : Option ℕ) (found : Option Request) → choice s.mode those word ≡ found → IsSome found → IsSomeAnd found (λ request. is_item request ≡ true)
+  request_by word None e some = absurd cc
+  request_by word (Some r) e some = item_of (is_item r) (is_blocked started s.holders r.seq) (chosen-item word r e)
+
+  -- where one is chosen it is an item request
+  pub choice-item : (word : Option ℕ) → IsSome (choice s.mode those word) → IsSomeAnd (choice s.mode those word) (λ request. is_item request ≡ true)
+  choice-item word some = request_by word (choice s.mode those word) refl some
 
 -- the lock that leads
 module _ (started : List Start) (holders : List ℕ) where

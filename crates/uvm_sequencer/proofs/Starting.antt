@@ -1,8 +1,8 @@
 -- A start changes nothing for those that wait.
-use Rattle.std.proofs.Common.{◌≡◌, ◌≤◌, ℕ, Bool, true, false, not, List, [], ◌∷◌, length, Some, refl, ap, ◌∙◌, arith, if◌then◌else◌, nat_le}
+use Rattle.std.proofs.Common.{◌≡◌, ◌≤◌, ℕ, zero, suc, Bool, true, false, not, List, [], ◌∷◌, length, take, Some, refl, ap, ◌∙◌, arith, if◌then◌else◌, nat_le}
 use Rattle.std.specs.Prelude.{◌==◌, ◌||◌, ◌&&◌}
 use Rattle.std.proofs.lemmas.Bool.Decides.{nat_tests}
-use Rattle.std.specs.List.{list_any}
+use Rattle.std.specs.List.{list_all, list_any}
 use Rattle.std.specs.Option.{option_and_then}
 use Rattle.uvm_sequencer.specs.declared.requests.Request.{Request}
 use Rattle.uvm_sequencer.specs.Sequences.{Start}
@@ -37,8 +37,17 @@ module _ (start : Start) (older : List Start) (holders : List ℕ) where
       ap (λ b. if not b then Some r else leading (start ∷ older) holders rs) (blocked-started r.seq (le_of r.seq (length older) (are_known older rs) known))
       ∙ ap (λ found. if not (is_blocked older holders r.seq) then Some r else found) (leading-started rs (rest_of (nat_le r.seq (length older)) (are_known older rs) known))
 
+  blocked-started_all : (queue : List Request) (known : ℕ) → are_known older queue ≡ true
+      → list_all (λ r. is_blocked (start ∷ older) holders r.seq) (take known queue) ≡ list_all (λ r. is_blocked older holders r.seq) (take known queue)
+  blocked-started_all queue zero all = refl
+  blocked-started_all [] (suc known) all = refl
+  blocked-started_all (r ∷ rs) (suc known) all =
+      ap (λ b. b && list_all (λ x. is_blocked (start ∷ older) holders x.seq) (take known rs)) (blocked-started r.seq (le_of r.seq (length older) (are_known older rs) all))
+      ∙ ap (λ b. is_blocked older holders r.seq && b) (blocked-started_all rs known (rest_of (nat_le r.seq (length older)) (are_known older rs) all))
+
 pub starts_change_nothing : StartsChangeNothing
 starts_change_nothing = record {
   locks = λ start started s known. ap (option_and_then lock_in) (leading-started start started s.holders s.queue known);
   items = λ start started s known. candidates-started start started s.holders s.queue known;
+  blocked = λ start started s all known. blocked-started_all start started s.holders s.queue known all;
 }

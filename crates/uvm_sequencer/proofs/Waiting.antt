@@ -87,6 +87,9 @@ locks_few queue = shorter (λ request. not (is_item request)) queue
 pub room-asked : (queue : List Request) (request : Request) (holders : List ℕ) (capacity : ℕ) → length holders + (length queue + 1) ≤ capacity → length (locks (queue ++ request ∷ [])) + length holders ≤ capacity
 room-asked queue request holders capacity room = let few = locks_few (queue ++ request ∷ []) in let size = length-append queue (request ∷ []) in omega arith
 
+pub room-first : (queue : List Request) (request : Request) (holders : List ℕ) (capacity : ℕ) → length holders + (length queue + 1) ≤ capacity → length (locks (request ∷ queue)) + length holders ≤ capacity
+room-first queue request holders capacity room = let few = locks_few (request ∷ queue) in omega arith
+
 -- what stays true of what waits and of the holders
 pub left-room : (keep : Request → Bool) (test : ℕ → Bool) (queue : List Request) (holders : List ℕ) (capacity : ℕ)
     → length (locks queue) + length holders ≤ capacity

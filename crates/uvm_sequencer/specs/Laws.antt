@@ -8,6 +8,7 @@ use Rattle.uvm_sequencer.specs.declared.requests.Request.{Request}
 use Rattle.uvm_sequencer.specs.declared.starts.SeqStep.{SeqStep}
 use Rattle.uvm_sequencer.specs.Choices.{choice, first_over, is_strict}
 use Rattle.uvm_sequencer.specs.Drivers.{grant_of, hand_of, wait_of}
+use Rattle.uvm_sequencer.specs.Passed.{IsPassed, are_blocked}
 use Rattle.uvm_sequencer.specs.Queues.{AreSingle, is_candidate, is_item, lock_request, priority_of}
 use Rattle.uvm_sequencer.specs.Sequences.{Start, SequencesValue, IsSequences, AreStarted, ancestors_of, is_under, numbered, parent_of, step_at, with_step}
 use Rattle.uvm_sequencer.specs.Sequencers.{SequencerValue, after_leave, after_phase, ask_fault, candidates_at, choice_at, granted, lock_at, lock_fault, locked, new_sequencer, request_fault, unlocked, with_grab, with_item, with_lock}
@@ -94,6 +95,13 @@ are_known started queue = list_all (λ request. nat_le request.seq (length start
 pub record StartsChangeNothing : Type 0 where
   pub locks : (start : Start) (started : List Start) (s : SequencerValue) → IsTrue (are_known started s.queue) → lock_at (start ∷ started) s ≡ lock_at started s
   pub items : (start : Start) (started : List Start) (s : SequencerValue) → IsTrue (are_known started s.queue) → candidates_at (start ∷ started) s ≡ candidates_at started s
+  pub blocked : (start : Start) (started : List Start) (s : SequencerValue) → IsTrue (are_known started s.queue) → (known : ℕ) → are_blocked (start ∷ started) s known ≡ are_blocked started s known
+
+-- the requests of blocked sequences at the front of the queue stay there when another is put behind all, and when an item is granted
+pub record PassedStays : Type 0 where
+  pub item : (started : List Start) (s : SequencerValue) (known : ℕ) → IsPassed started s known → (seq priority : ℕ) → IsPassed started (with_item seq priority s) known
+  pub lock : (started : List Start) (s : SequencerValue) (known : ℕ) → IsPassed started s known → (seq : ℕ) → IsPassed started (with_lock seq s) known
+  pub granted : (started : List Start) (s : SequencerValue) (known : ℕ) → IsPassed started s known → (word : Option ℕ) (seq : ℕ) → choice_at started s word ≡ Some seq → IsPassed started (granted seq s) known
 
 -- that a sequence waits for one item and for one lock at most is so at first, and stays so, whatever is asked for, granted or taken out
 pub record WaitsStaySingle : Type 0 where

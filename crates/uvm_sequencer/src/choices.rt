@@ -1,11 +1,12 @@
 //! The choice among the candidates.
 
-ghost use Rattle.std.specs.Prelude.{◌≡◌, ◌<◌, ◌≤◌, length, sum_by, slice_get, IsSome, option_map, true};
-ghost use Rattle.std.specs.List.{list_all};
+ghost use Rattle.std.specs.Prelude.{◌≡◌, ◌<◌, ◌≤◌, length, sum_by, slice_get, IfSome, IsSome, IsTrue, true};
+ghost use Rattle.std.specs.List.{list_all, list_any};
+ghost use Rattle.std.specs.Option.{option_and_then};
 ghost use Rattle.uvm_sequencer.specs.Contending.{is_contending, contending, highest, bar_of};
 ghost use Rattle.uvm_sequencer.specs.Choices.{first_over, choice, contenders, is_drawn};
-ghost use Rattle.uvm_sequencer.specs.Queues.{candidates, priority_of};
-ghost use Rattle.uvm_sequencer.specs.Rooms.{has_priority};
+ghost use Rattle.uvm_sequencer.specs.Queues.{candidates, is_candidate, priority_of};
+ghost use Rattle.uvm_sequencer.specs.Marks.{has_priority};
 
 use crate::modes::Mode;
 use crate::requests::Request;
@@ -58,15 +59,16 @@ impl<'a> Choices<'a> {
             .count()
     }
 
-    // One of them, by its number from 0.
-    fn nth(&self, bar: u16, n: usize) -> Option<SeqId>
-        ensures { result ≡ option_map (λ r. r.seq) (slice_get (contending self.now.sequences.now.started self.now.holders.now bar self.now.queue.now) n) }
+    // Where one of them stands, by its number from 0.
+    fn nth(&self, bar: u16, n: usize) -> Option<usize>
+        ensures value { option_and_then (slice_get self.now.queue.now) result ≡ slice_get (contending self.now.sequences.now.started self.now.holders.now bar self.now.queue.now) n }
+        ensures within { IfSome result (λ place. place < length self.now.queue.now) }
     {
         let mut left = n;
-        for request in self.queue {
+        for (place, request) in self.queue.iter().enumerate() {
             if self.is_contending(bar, request) {
                 if left == 0 {
-                    return Some(request.seq);
+                    return Some(place);
                 }
                 left -= 1;
             }
@@ -87,27 +89,29 @@ impl<'a> Choices<'a> {
         sum
     }
 
-    // The first of them at which the sum of the priorities so far exceeds a number.
-    fn first_over(&self, bar: u16, n: u128) -> Option<SeqId>
-        ensures { result ≡ option_map (λ r. r.seq) (first_over 0 n (contending self.now.sequences.now.started self.now.holders.now bar self.now.queue.now)) }
+    // Where the first of them stands at which the sum of the priorities so far exceeds a number.
+    fn first_over(&self, bar: u16, n: u128) -> Option<usize>
+        ensures { option_and_then (slice_get self.now.queue.now) result ≡ first_over 0 n (contending self.now.sequences.now.started self.now.holders.now bar self.now.queue.now) }
     {
         let mut sum = 0;
-        for request in self.queue {
+        for (place, request) in self.queue.iter().enumerate() {
             if self.is_contending(bar, request) {
                 sum += u128::from(request.priority());
                 if n < sum {
-                    return Some(request.seq);
+                    return Some(place);
                 }
             }
         }
         None
     }
 
-    // The one that is granted: without a word the first contender.
-    pub(crate) fn chosen(&self, mode: Mode, word: Option<u64>) -> Option<SeqId>
+    // Where the one stands that is granted: without a word the first contender. Where all requests are known to be contenders the
+    // number of one is its place.
+    pub(crate) fn chosen(&self, mode: Mode, word: Option<u64>, are_all: bool) -> Option<usize>
         requires some { IsSome word → 0 < length (contenders mode (candidates self.now.sequences.now.started self.now.holders.now self.now.queue.now)) }
         requires priorities { list_all has_priority self.now.queue.now ≡ true }
-        ensures { result ≡ option_map (λ r. r.seq) (choice mode (candidates self.now.sequences.now.started self.now.holders.now self.now.queue.now) word) }
+        requires all { IsTrue are_all → contenders mode (candidates self.now.sequences.now.started self.now.holders.now self.now.queue.now) ≡ self.now.queue.now }
+        ensures { option_and_then (slice_get self.now.queue.now) result ≡ choice mode (candidates self.now.sequences.now.started self.now.holders.now self.now.queue.now) word }
     {
         let bar = self.bar(mode);
         let Some(word) = word else {
@@ -118,11 +122,19 @@ impl<'a> Choices<'a> {
                 let sum = self.sum(bar);
                 self.first_over(bar, u128::from(word) % sum)
             }
+            _ if are_all => Some((word % self.queue.len() as u64) as usize),
             _ => {
                 let count = self.count(bar) as u64;
                 self.nth(bar, (word % count) as usize)
             }
         }
+    }
+
+    // Whether there is a candidate: a look at the queue up to the first.
+    pub(crate) fn has_candidate(&self) -> bool
+        ensures { result ≡ list_any (is_candidate self.now.sequences.now.started self.now.holders.now) self.now.queue.now }
+    {
+        self.queue.iter().any(|request| is_candidate(self.sequences, self.holders, request))
     }
 
     // Whether a word decides: a look at the queue up to the second contender.

@@ -1,6 +1,6 @@
 //! Laws of the definitions. The functions do nothing; their contracts are the laws.
 
-ghost use Rattle.uvm_sequencer.specs.Laws.{AncestorsByParents, EachGrantEndsAWait, FifoOrder, HoldersStayNested, LiveIsStarted, LockExcludes, OneItemOut, StartsChangeNothing, StepsChangeAlone, StrictPriority, WaitsStaySingle, WeightsShareTheDraws};
+ghost use Rattle.uvm_sequencer.specs.Laws.{AncestorsByParents, EachGrantEndsAWait, FifoOrder, HoldersStayNested, LiveIsStarted, LockExcludes, OneItemOut, PassedStays, StartsChangeNothing, StepsChangeAlone, StrictPriority, WaitsStaySingle, WeightsShareTheDraws};
 
 /// The ancestors of a sequence are its parent and the ancestors of that, whether they live or not.
 pub fn ancestors_by_parents()
@@ -50,10 +50,16 @@ pub fn one_item_out()
     ensures { OneItemOut }
 {}
 
-/// When a sequence is started, the lock that leads and the candidates stay what they were at every sequencer at which all that
-/// wait were started: so a queue that has not changed need not be looked at again.
+/// When a sequence is started, the lock that leads, the candidates and who is blocked stay what they were at every sequencer at
+/// which all that wait were started: so a queue that has not changed need not be looked at again.
 pub fn starts_change_nothing()
     ensures { StartsChangeNothing }
+{}
+
+/// When the first so many requests of a queue are of blocked sequences, they stay so after another request or lock was put behind
+/// all, and after an item was granted: so a later look may begin behind them.
+pub fn passed_stays()
+    ensures { PassedStays }
 {}
 
 /// A sequence waits for one item and for one lock at most: so it was at the beginning, and so it stays, whatever is called.

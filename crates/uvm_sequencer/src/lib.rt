@@ -6,6 +6,7 @@ mod drivers;
 mod faults;
 pub mod laws;
 mod modes;
+mod queues;
 mod requests;
 mod scans;
 mod sequencers;

@@ -1,9 +1,8 @@
 //! What sequences ask of a sequencer.
 
 ghost use Rattle.std.specs.Prelude.{◌≡◌, ◌∷◌, ◌++◌, [], filter, OnOk, OnErr};
-ghost use Rattle.std.specs.List.{list_any};
 ghost use Rattle.uvm_sequencer.specs.Sequencers.{is_live_at};
-ghost use Rattle.uvm_sequencer.specs.Queues.{is_item, is_item_of, is_lock_of, is_of, priority_of, without, without_item, without_lock};
+ghost use Rattle.uvm_sequencer.specs.Queues.{is_item, is_of, lock_in, priority_of, without};
 
 use crate::starts::{SeqId, Sequences};
 use std::alloc::AllocError;
@@ -47,25 +46,21 @@ impl Request {
         }
     }
 
+    // The sequence that wants to hold the sequencer, if it is for a lock.
+    pub(crate) fn lock(&self) -> Option<SeqId>
+        ensures { result ≡ lock_in self.now }
+    {
+        match self.want {
+            Want::Item(_) => None,
+            Want::Lock => Some(self.seq),
+        }
+    }
+
     // Whether a sequence asked for it.
     fn is_of(&self, seq: SeqId) -> bool
         ensures { result ≡ is_of seq self.now }
     {
         self.seq == seq
-    }
-
-    // Whether it is the item request of a sequence.
-    fn is_item_of(&self, seq: SeqId) -> bool
-        ensures { result ≡ is_item_of seq self.now }
-    {
-        self.seq == seq && self.is_item()
-    }
-
-    // Whether it is the lock request of a sequence.
-    fn is_lock_of(&self, seq: SeqId) -> bool
-        ensures { result ≡ is_lock_of seq self.now }
-    {
-        self.seq == seq && !self.is_item()
     }
 }
 
@@ -85,34 +80,6 @@ pub(crate) fn put_first(queue: &mut Vec<Request>, seq: SeqId, want: Want) -> Res
 {
     queue.insert(0, Request { seq, want })?;
     Ok(())
-}
-
-// Whether an item request of a sequence waits.
-pub(crate) fn has_item(queue: &[Request], seq: SeqId) -> bool
-    ensures { result ≡ list_any (is_item_of seq) queue.now }
-{
-    queue.iter().any(|request| request.is_item_of(seq))
-}
-
-// Whether a lock request of a sequence waits.
-pub(crate) fn has_lock(queue: &[Request], seq: SeqId) -> bool
-    ensures { result ≡ list_any (is_lock_of seq) queue.now }
-{
-    queue.iter().any(|request| request.is_lock_of(seq))
-}
-
-// Takes out the item request of a sequence.
-pub(crate) fn take_item(queue: &mut Vec<Request>, seq: SeqId)
-    ensures { queue.new.items ≡ without_item seq queue.old.items }
-{
-    queue.retain(|request| !request.is_item_of(seq));
-}
-
-// Takes out the lock request of a sequence.
-pub(crate) fn take_lock(queue: &mut Vec<Request>, seq: SeqId)
-    ensures { queue.new.items ≡ without_lock seq queue.old.items }
-{
-    queue.retain(|request| !request.is_lock_of(seq));
 }
 
 // Takes out what a sequence asked for.

@@ -1,8 +1,8 @@
 //! Scans of the queue.
 
-ghost use Rattle.std.specs.Prelude.{◌≡◌, length, option_copied};
-ghost use Rattle.std.specs.List.{list_any};
-ghost use Rattle.uvm_sequencer.specs.Queues.{is_blocked, is_candidate, candidates, leading, leading_lock};
+ghost use Rattle.std.specs.Prelude.{◌≡◌, not, length};
+ghost use Rattle.std.specs.List.{position_or_len};
+ghost use Rattle.uvm_sequencer.specs.Queues.{is_blocked, is_candidate, candidates};
 
 use crate::requests::Request;
 use crate::starts::{SeqId, Sequences};
@@ -33,40 +33,12 @@ pub(crate) fn count_candidates(sequences: &Sequences, holders: &[SeqId], queue: 
         .count()
 }
 
-// Whether there is a candidate: a look at the queue up to the first.
-pub(crate) fn has_candidate(sequences: &Sequences, holders: &[SeqId], queue: &[Request]) -> bool
-    ensures { result ≡ list_any (is_candidate sequences.now.started holders.now) queue.now }
+// How many requests stand in front of the first of a sequence that is not blocked.
+pub(crate) fn count_passed(sequences: &Sequences, holders: &[SeqId], queue: &[Request]) -> usize
+    ensures { result ≡ position_or_len (λ request. not (is_blocked sequences.now.started holders.now request.seq)) queue.now }
 {
     queue
         .iter()
-        .any(|request| is_candidate(sequences, holders, request))
-}
-
-// The first request of a sequence that is not blocked.
-fn leading<'a>(
-    sequences: &Sequences,
-    holders: &[SeqId],
-    queue: &'a [Request],
-) -> Option<&'a Request>
-    ensures { option_copied result ≡ leading sequences.now.started holders.now queue.now }
-{
-    queue
-        .iter()
-        .find(|request| !is_blocked(sequences, holders, request.seq))
-}
-
-// The sequence whose lock leads.
-pub(crate) fn leading_lock(
-    sequences: &Sequences,
-    holders: &[SeqId],
-    queue: &[Request],
-) -> Option<SeqId>
-    ensures { result ≡ leading_lock sequences.now.started holders.now queue.now }
-{
-    let request = leading(sequences, holders, queue)?;
-    if request.is_item() {
-        None
-    } else {
-        Some(request.seq)
-    }
+        .position(|request| !is_blocked(sequences, holders, request.seq))
+        .unwrap_or(queue.len())
 }

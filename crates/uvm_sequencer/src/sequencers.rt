@@ -1,21 +1,23 @@
 //! The sequencer.
 
-ghost use Rattle.std.specs.Prelude.{◌≡◌, ◌+◌, ◌<◌, None, Some, OnOk, OnErr, OnSome, IfOk, IfErr, IfSome, IfNone, IsSome, is_some, nat_lt, filter, length, vec_capacity};
+ghost use Rattle.std.specs.Prelude.{◌≡◌, ◌+◌, ◌<◌, ◌≤◌, ◌^◌, ◌&&◌, ◌==◌, false, true, not, drop, slice_get, None, Some, OnOk, OnErr, OnSome, IfOk, IfErr, IfSome, IfNone, is_some, nat_lt, filter, length, vec_capacity};
+ghost use Rattle.std.specs.List.{list_all};
+ghost use Rattle.std.specs.Option.{option_and_then, IsSomeAnd};
 ghost use Rattle.uvm_glob.specs.Faults.{unless};
+ghost use Rattle.uvm_sequencer.specs.Choices.{choice, is_strict};
 ghost use Rattle.uvm_sequencer.specs.Contending.{without_place};
 ghost use Rattle.uvm_sequencer.specs.Drivers.{grant_of, is_try};
 ghost use Rattle.uvm_sequencer.specs.Faults.{or_fault, refusal};
-ghost use Rattle.uvm_sequencer.specs.Queues.{AreSingle, all_released, is_held, released};
+ghost use Rattle.uvm_sequencer.specs.Passed.{IsPassed};
+ghost use Rattle.uvm_sequencer.specs.Queues.{AreSingle, all_released, candidates, is_blocked, is_held, is_item, lock_in, released};
+ghost use Rattle.uvm_sequencer.specs.Marks.{has_priority};
 ghost use Rattle.uvm_sequencer.specs.Sequencers.{after_ask, after_leave, after_phase, after_send, answer, ask_fault, candidates_at, choice_at, done_by, granted, is_driver, is_live_at, lock_at, lock_fault, locked, new_sequencer, ready_at, request_fault, unlocked, unlocked_by, with_grab, with_idle, with_item, with_lock, with_port};
 
 use crate::choices::Choices;
 use crate::drivers::{Asked, Driver, How};
 use crate::faults::SeqFault;
 use crate::modes::Mode;
-use crate::requests::{
-    Request, Want, has_item, has_lock, keep_live, put_first, put_last, take_all, take_item,
-    take_lock,
-};
+use crate::queues::Queue;
 use crate::scans;
 use crate::starts::{SeqId, Sequences};
 use std::alloc::Global;
@@ -29,14 +31,17 @@ use uvm_tree::NodeId;
 ///
 /// Contracts see how it chooses, the port that drives it, where the driver stands, what was asked for in the order of the queue,
 /// and the holders in the order of granting. A grab stands before all others in the queue, a lock and an item request behind
-/// them. A call takes the time of a few looks at the queue and the holders, of which a look at a request whose sequence may be
-/// blocked goes up that sequence's ancestors. None but `request`, `lock` and `grab` takes memory.
+/// them. Who waits is told by marks: `request` and `lock` look at no request, and `leave` at none where the sequence waits for
+/// nothing. What a grant goes by is looked for from the front of the queue up to where it is decided, which is all of it where
+/// priorities count, and a granted request is taken out at its place. A look at a request whose sequence may be blocked goes up
+/// that sequence's ancestors. The calls that end in `_behind` begin the look behind requests that are known to be of blocked
+/// sequences, as `passed` counts them. None but `request`, `lock` and `grab` takes memory.
 #[derive(Drop)]
 pub struct Sequencer {
     mode: Mode,
     port: Option<NodeId>,
     driver: Driver,
-    queue: Vec<Request>,
+    queue: Queue,
     // There is room for each lock that waits.
     holders: Vec<SeqId>,
 }
@@ -48,7 +53,7 @@ impl Model for Sequencer {
 
     ghost use Rattle.uvm_sequencer.specs.Rooms.{IsSequencer};
 
-    ghost view = { λ s. record { mode = s.mode; port = s.port; driver = s.driver; queue = s.queue.items; holders = s.holders.items } };
+    ghost view = { λ s. record { mode = s.mode; port = s.port; driver = s.driver; queue = s.queue; holders = s.holders.items } };
 
     ghost invariant = { λ s. IsSequencer s };
 }
@@ -62,7 +67,7 @@ impl Sequencer {
             mode,
             port: None,
             driver: Driver::Idle,
-            queue: Vec::new(alloc),
+            queue: Queue::new(alloc),
             holders: Vec::new(alloc),
         }
     }
@@ -83,10 +88,10 @@ impl Sequencer {
         ensures err { IfErr result (λ fault. request_fault self.old seq ≡ refusal fault) }
         ensures unchanged { OnErr result (self.new ≡ self.old) }
     {
-        if has_item(self.queue.as_slice(), seq) || self.driver.grant(seq).is_some() {
+        if self.queue.has_item(seq) || self.driver.grant(seq).is_some() {
             return Err(SeqFault::Twice);
         }
-        put_last(&mut self.queue, seq, Want::Item(priority))?;
+        self.queue.put_item(seq, priority)?;
         Ok(())
     }
 
@@ -98,12 +103,12 @@ impl Sequencer {
         ensures err { IfErr result (λ fault. lock_fault self.old seq ≡ refusal fault) }
         ensures unchanged { OnErr result (self.new ≡ self.old) }
     {
-        if has_lock(self.queue.as_slice(), seq) {
+        if self.queue.has_lock(seq) {
             return Err(SeqFault::Twice);
         }
         // Room for each that waits, and for this one.
         self.holders.reserve(self.queue.len() + 1)?;
-        put_last(&mut self.queue, seq, Want::Lock)?;
+        self.queue.put_lock(seq)?;
         Ok(())
     }
 
@@ -114,12 +119,12 @@ impl Sequencer {
         ensures err { IfErr result (λ fault. lock_fault self.old seq ≡ refusal fault) }
         ensures unchanged { OnErr result (self.new ≡ self.old) }
     {
-        if has_lock(self.queue.as_slice(), seq) {
+        if self.queue.has_lock(seq) {
             return Err(SeqFault::Twice);
         }
         // Room for each that waits, and for this one.
         self.holders.reserve(self.queue.len() + 1)?;
-        put_first(&mut self.queue, seq, Want::Lock)?;
+        self.queue.put_grab(seq)?;
         Ok(())
     }
 
@@ -144,13 +149,30 @@ impl Sequencer {
         ensures ok { IfOk result (λ asked. self.new ≡ after_ask how asked self.old) }
         ensures unchanged { OnErr result (self.new ≡ self.old) }
     {
+        self.ask_behind(sequences, port, how, 0)
+    }
+
+    /// Asks for an item for the driver, as `ask`, where the sequences of the first `known` requests are blocked: the look at the
+    /// queue begins behind them.
+    pub fn ask_behind(
+        &mut self,
+        sequences: &Sequences,
+        port: NodeId,
+        how: How,
+        known: usize,
+    ) -> Result<Asked, SeqFault>
+        requires { IsPassed sequences.now.started self.old known }
+        ensures value { result ≡ unless (ask_fault self.old port) (answer how (candidates_at sequences.now.started self.old)) }
+        ensures ok { IfOk result (λ asked. self.new ≡ after_ask how asked self.old) }
+        ensures unchanged { OnErr result (self.new ≡ self.old) }
+    {
         if !self.is_driver(port) {
             return Err(SeqFault::NoDriver);
         }
         if !self.driver.is_idle() {
             return Err(SeqFault::Twice);
         }
-        if how == How::Try && !self.has_candidate(sequences) {
+        if how == How::Try && !self.has_candidate(sequences, known) {
             return Ok(Asked::Nothing);
         }
         self.driver = Driver::Waiting(how);
@@ -205,7 +227,7 @@ impl Sequencer {
         ensures value { result ≡ is_try (grant_of seq self.old.driver) }
         ensures after { self.new ≡ after_leave seq self.old }
     {
-        take_all(&mut self.queue, seq);
+        self.queue.leave(seq);
         give_back_all(&mut self.holders, seq);
         match self.driver.grant(seq) {
             Some(How::Try) => {
@@ -225,7 +247,7 @@ impl Sequencer {
     pub fn end_phase(&mut self, sequences: &Sequences)
         ensures { self.new ≡ after_phase sequences.now.steps self.old }
     {
-        keep_live(&mut self.queue, sequences);
+        self.queue.keep_live(sequences);
         keep_held(&mut self.holders, sequences);
         self.driver = Driver::Idle;
     }
@@ -238,8 +260,20 @@ impl Sequencer {
         ensures none { IfNone result (self.new ≡ self.old) }
         ensures fewer { OnSome result (length self.new.queue + 1 ≡ length self.old.queue) }
     {
-        let seq = self.leading_lock(sequences)?;
-        take_lock(&mut self.queue, seq);
+        self.settle_behind(sequences, 0)
+    }
+
+    /// Grants the lock that leads, as `settle`, where the sequences of the first `known` requests are blocked: the look at the queue
+    /// begins behind them.
+    pub fn settle_behind(&mut self, sequences: &Sequences, known: usize) -> Option<SeqId>
+        requires { IsPassed sequences.now.started self.old known }
+        ensures value { result ≡ lock_at sequences.now.started self.old }
+        ensures some { IfSome result (λ seq. self.new ≡ locked seq self.old) }
+        ensures none { IfNone result (self.new ≡ self.old) }
+        ensures fewer { OnSome result (length self.new.queue + 1 ≡ length self.old.queue) }
+    {
+        let place = self.leading(sequences, known);
+        let seq = self.queue.take_lock(place)?;
         let Ok(()) = self.holders.push(seq) else {
             unreachable!()
         };
@@ -250,7 +284,28 @@ impl Sequencer {
     pub fn leading_lock(&self, sequences: &Sequences) -> Option<SeqId>
         ensures { result ≡ lock_at sequences.now.started self.now }
     {
-        scans::leading_lock(sequences, self.holders.as_slice(), self.queue.as_slice())
+        self.leading_lock_behind(sequences, 0)
+    }
+
+    /// Names the sequence whose lock leads, as `leading_lock`, where the sequences of the first `known` requests are blocked: the
+    /// look at the queue begins behind them.
+    pub fn leading_lock_behind(&self, sequences: &Sequences, known: usize) -> Option<SeqId>
+        requires { IsPassed sequences.now.started self.now known }
+        ensures { result ≡ lock_at sequences.now.started self.now }
+    {
+        self.queue.lock_at(self.leading(sequences, known))
+    }
+
+    /// Counts the requests in front of the first whose sequence is not blocked, all where there is none. The sequences of the first
+    /// `known` requests are blocked: the look at the queue begins behind them, and ends at the first that is not.
+    pub fn passed(&self, sequences: &Sequences, known: usize) -> usize
+        requires { IsPassed sequences.now.started self.now known }
+        ensures passed { IsPassed sequences.now.started self.now result }
+        ensures more { known ≤ result }
+        ensures next { IfSome (slice_get self.now.queue result) (λ request. is_blocked sequences.now.started self.now.holders request.seq ≡ false) }
+    {
+        let rest = self.queue.behind(known);
+        known + scans::count_passed(sequences, self.holders.as_slice(), rest)
     }
 
     /// How many item requests and locks wait: of each sequence one item request and one lock at most.
@@ -265,7 +320,7 @@ impl Sequencer {
     pub fn candidates(&self, sequences: &Sequences) -> usize
         ensures { result ≡ length (candidates_at sequences.now.started self.now) }
     {
-        scans::count_candidates(sequences, self.holders.as_slice(), self.queue.as_slice())
+        scans::count_candidates(sequences, self.holders.as_slice(), self.queue.behind(0))
     }
 
     /// Whether `choose` can grant an item request: none where the driver does not wait or there is no candidate, and else whether
@@ -273,10 +328,19 @@ impl Sequencer {
     pub fn ready(&self, sequences: &Sequences) -> Option<bool>
         ensures { result ≡ ready_at sequences.now.started self.now }
     {
-        if self.driver.wait().is_none() || !self.has_candidate(sequences) {
+        self.ready_behind(sequences, 0)
+    }
+
+    /// Tells whether `choose` can grant an item request, as `ready`, where the sequences of the first `known` requests are blocked:
+    /// the look at the queue begins behind them.
+    pub fn ready_behind(&self, sequences: &Sequences, known: usize) -> Option<bool>
+        requires { IsPassed sequences.now.started self.now known }
+        ensures { result ≡ ready_at sequences.now.started self.now }
+    {
+        if self.driver.wait().is_none() || !self.has_candidate(sequences, known) {
             return None;
         }
-        Some(self.choices(sequences).is_drawn(self.mode))
+        Some(self.choices(sequences, known).is_drawn(self.mode))
     }
 
     /// Grants an item request, and answers whose it is. The driver waits, there is a candidate, and a word is given exactly where
@@ -287,44 +351,78 @@ impl Sequencer {
         ensures after { self.new ≡ granted result self.old }
         ensures fewer { length self.new.queue + 1 ≡ length self.old.queue }
     {
+        self.choose_behind(sequences, 0, word)
+    }
+
+    /// Grants an item request, as `choose`, where the sequences of the first `known` requests are blocked: the look at the queue
+    /// begins behind them.
+    pub fn choose_behind(&mut self, sequences: &Sequences, known: usize, word: Option<u64>) -> SeqId
+        requires known { IsPassed sequences.now.started self.old known }
+        requires ready { ready_at sequences.now.started self.old ≡ Some (is_some word) }
+        ensures value { Some result ≡ choice_at sequences.now.started self.old word }
+        ensures after { self.new ≡ granted result self.old }
+        ensures fewer { length self.new.queue + 1 ≡ length self.old.queue }
+    {
         let Some(how) = self.driver.wait() else {
             unreachable!()
         };
-        let Some(seq) = self.chosen(sequences, word) else {
-            unreachable!()
-        };
-        take_item(&mut self.queue, seq);
+        let place = self.chosen(sequences, known, word);
+        let seq = self.queue.take_item(place);
         self.driver = Driver::Granted(seq, how);
         seq
     }
 
-    // Whose item request is granted.
-    fn chosen(&self, sequences: &Sequences, word: Option<u64>) -> Option<SeqId>
-        requires { ready_at sequences.now.started self.now ≡ Some (is_some word) }
-        ensures value { result ≡ choice_at sequences.now.started self.now word }
-        ensures some { IsSome result }
+    // Where the request stands that leads, behind all where none does.
+    fn leading(&self, sequences: &Sequences, known: usize) -> usize
+        requires { IsPassed sequences.now.started self.now known }
+        ensures { option_and_then lock_in (slice_get self.now.queue result) ≡ lock_at sequences.now.started self.now }
     {
-        let _ = &self.queue;
-        self.choices(sequences).chosen(self.mode, word)
+        self.passed(sequences, known)
+    }
+
+    // Where the item request stands that is granted.
+    fn chosen(&self, sequences: &Sequences, known: usize, word: Option<u64>) -> usize
+        requires known { IsPassed sequences.now.started self.now known }
+        requires ready { ready_at sequences.now.started self.now ≡ Some (is_some word) }
+        ensures value { slice_get self.now.queue result ≡ choice self.now.mode (candidates_at sequences.now.started self.now) word }
+        ensures item { IsSomeAnd (slice_get self.now.queue result) (λ request. is_item request ≡ true) }
+    {
+        let choices = self.choices(sequences, known);
+        let Some(place) = choices.chosen(self.mode, word, self.are_all_contenders()) else {
+            unreachable!()
+        };
+        known + place
+    }
+
+    // Whether each request is a contender, since nobody holds the sequencer, no lock waits, and priorities do not count.
+    fn are_all_contenders(&self) -> bool
+        ensures { result ≡ (not (is_strict self.now.mode) && ((length self.now.holders == 0) && list_all is_item self.now.queue)) }
+    {
+        !self.mode.is_strict() && self.holders.is_empty() && self.queue.are_items()
     }
 
     // Whether there is a candidate.
-    fn has_candidate(&self, sequences: &Sequences) -> bool
+    fn has_candidate(&self, sequences: &Sequences, known: usize) -> bool
+        requires { IsPassed sequences.now.started self.now known }
         ensures { result ≡ nat_lt 0 (length (candidates_at sequences.now.started self.now)) }
     {
-        scans::has_candidate(sequences, self.holders.as_slice(), self.queue.as_slice())
+        self.choices(sequences, known).has_candidate()
     }
 
-    // What there is to choose among.
-    fn choices<'a>(&'a self, sequences: &'a Sequences) -> Choices<'a>
+    // What there is to choose among: the queue behind requests that are no candidates.
+    fn choices<'a>(&'a self, sequences: &'a Sequences, known: usize) -> Choices<'a>
+        requires { IsPassed sequences.now.started self.now known }
         ensures sequences { result.sequences.now ≡ sequences.now }
         ensures holders { result.holders.now ≡ self.now.holders }
-        ensures queue { result.queue.now ≡ self.now.queue }
+        ensures queue { result.queue.now ≡ drop known self.now.queue }
+        ensures candidates { candidates sequences.now.started self.now.holders result.queue.now ≡ candidates_at sequences.now.started self.now }
+        ensures priorities { list_all has_priority result.queue.now ≡ true }
+        ensures small { length self.now.queue < 2 ^ 63 }
     {
         Choices {
             sequences,
             holders: self.holders.as_slice(),
-            queue: self.queue.as_slice(),
+            queue: self.queue.behind(known),
         }
     }
 

@@ -198,6 +198,7 @@ fn connect_nodes(bench: &mut Bench, nodes: Nodes) -> Result<(), WireFault> {
 fn is_resolved(wiring: &Wiring, nodes: Nodes) -> bool {
     wiring.is_closed()
         && wiring.order().first() == Some(&nodes.first)
+        && wiring.order_behind(nodes.first).first() == wiring.order().get(1)
         && wiring.resolve(nodes.port) == [nodes.first, nodes.second, nodes.fifo].as_slice()
         && wiring.fault_of(nodes.port) == None
         && wiring.port_kind(nodes.port) == Some(PortKind::Analysis)

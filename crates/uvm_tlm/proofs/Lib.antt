@@ -4,6 +4,7 @@ pub mod Reached
 pub mod Sources
 pub mod Noted
 pub mod Routes
+pub mod Sets
 pub mod Listed
 pub mod Wired
 pub mod Targets

@@ -104,12 +104,12 @@ abbrev seen : List (ℕ × End) → List Connection → Option (List ℕ) → Wi
 seen ends connections order = record { ends = ends; connections = connections_among (is_connected connections) (map (λ e. e.0) ends); order = order }
 
 -- with one more node
-pub seen-more : (w new : Inside) (node : ℕ) (end : End) → reverse new.ends.entries ≡ (node, end) ∷ reverse w.ends.entries → new.connections.keys ≡ w.connections.keys → option_map (λ closed. closed.order.items) new.closed ≡ option_map (λ closed. closed.order.items) w.closed
+pub seen-more : (w new : Inside) (node : ℕ) (end : End) → reverse new.ends.entries ≡ (node, end) ∷ reverse w.ends.entries → new.connections.keys ≡ w.connections.keys → option_map (λ closed. closed.order.keys) new.closed ≡ option_map (λ closed. closed.order.keys) w.closed
     → end_at (reverse w.ends.entries) node ≡ None → AreBetween (is_connected w.connections.keys) (nodes_of w) → value_of new ≡ with_end node end (value_of w)
 seen-more w new node end turned keys order unknown between =
     let more = among-more (is_connected w.connections.keys) node (nodes_of w) between (sym (added-there (reverse w.ends.entries) node) ∙ ap is_some unknown) in
     (λ j. seen (turned j) (keys j) (order j))
-    ∙ ap (λ (cs : List Connection). record { ends = (node, end) ∷ reverse w.ends.entries; connections = cs; order = option_map (λ closed. closed.order.items) w.closed }) more
+    ∙ ap (λ (cs : List Connection). record { ends = (node, end) ∷ reverse w.ends.entries; connections = cs; order = option_map (λ closed. closed.order.keys) w.closed }) more
 
 -- some connections with one more, which may be among them already
 abbrev pub IsConnectedMore : List Connection → ℕ → ℕ → List Connection → Type 0
@@ -117,15 +117,15 @@ IsConnectedMore old from to new = (a b : ℕ) → is_connected new a b ≡ ((eqb
 
 -- with one more connection
 pub seen-connected : (w : Inside) (connections : List Connection) (from to : ℕ) → IsConnectedMore w.connections.keys from to connections → AreBetween (is_connected w.connections.keys) (nodes_of w)
-    → seen (reverse w.ends.entries) connections (option_map (λ closed. closed.order.items) w.closed) ≡ with_connection from to (value_of w)
+    → seen (reverse w.ends.entries) connections (option_map (λ closed. closed.order.keys) w.closed) ≡ with_connection from to (value_of w)
 seen-connected w connections from to more between =
     let same = among-same (is_connected connections) (λ a b. (eqb a from && eqb b to) || is_connected (connections_of w) a b) (nodes_of w)
     (λ a b. more a b ∙ ap (λ c. (eqb a from && eqb b to) || c) (sym (listed (is_connected w.connections.keys) (nodes_of w) between a b))) in
-    ap (λ (cs : List Connection). record { ends = reverse w.ends.entries; connections = cs; order = option_map (λ closed. closed.order.items) w.closed }) same
+    ap (λ (cs : List Connection). record { ends = reverse w.ends.entries; connections = cs; order = option_map (λ closed. closed.order.keys) w.closed }) same
 
 -- which changes nothing where it is there
 pub seen-again : (w : Inside) (connections : List Connection) (from to : ℕ) → IsConnectedMore w.connections.keys from to connections → AreBetween (is_connected w.connections.keys) (nodes_of w) → is_connected (connections_of w) from to ≡ true
-    → seen (reverse w.ends.entries) connections (option_map (λ closed. closed.order.items) w.closed) ≡ value_of w
+    → seen (reverse w.ends.entries) connections (option_map (λ closed. closed.order.keys) w.closed) ≡ value_of w
 seen-again w connections from to more between there =
     let known : is_connected w.connections.keys from to ≡ true = sym (listed (is_connected w.connections.keys) (nodes_of w) between from to) ∙ there in
     let same = among-same (is_connected connections) (is_connected w.connections.keys) (nodes_of w)
@@ -138,7 +138,7 @@ seen-again w connections from to more between there =
       | inr earlier ↦ earlier
     ])
     (λ h. or_right (eqb a from && eqb b to) (is_connected w.connections.keys a b) h)) in
-    ap (λ (cs : List Connection). record { ends = reverse w.ends.entries; connections = cs; order = option_map (λ closed. closed.order.items) w.closed }) same
+    ap (λ (cs : List Connection). record { ends = reverse w.ends.entries; connections = cs; order = option_map (λ closed. closed.order.keys) w.closed }) same
 
 -- which goes between nodes
 pub between-more : (ends : List (ℕ × End)) (old new : List Connection) (from to : ℕ) → IsConnectedMore old from to new → may_connect (end_at ends from) (end_at ends to) ≡ true → AreBetween (is_connected old) (map (λ e. e.0) ends)

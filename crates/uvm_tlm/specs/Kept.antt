@@ -17,12 +17,12 @@ connections_of w = connections_among (is_connected w.connections.keys) (nodes_of
 
 -- what a wiring is seen as
 abbrev pub value_of : Inside → WiringValue
-value_of w = record { ends = reverse w.ends.entries; connections = connections_of w; order = option_map (λ closed. closed.order.items) w.closed }
+value_of w = record { ends = reverse w.ends.entries; connections = connections_of w; order = option_map (λ closed. closed.order.keys) w.closed }
 
 -- connections go between its nodes, what stands at each node is found, and what was found at the close is the targets of each node and the driver of each sequencer
 pub record IsWired (w : Inside) : Type 0 where
   pub is_wiring : IsWiring (value_of w)
   pub among : (from to : ℕ) → is_connected w.connections.keys from to ≡ true → (has (nodes_of w) from ≡ true) × (has (nodes_of w) to ≡ true)
   pub ends_found : (n : ℕ) → get nat_eq w.ends n ≡ end_at (reverse w.ends.entries) n
-  pub targets_found : ForSome w.closed (λ closed. (n : ℕ) → list_of closed.targets n ≡ targets_in (reverse w.ends.entries) (connections_of w) closed.order.items n)
-  pub drivers_found : ForSome w.closed (λ closed. (n : ℕ) → get nat_eq closed.drivers n ≡ driver_in (reverse w.ends.entries) (connections_of w) closed.order.items n)
+  pub targets_found : ForSome w.closed (λ closed. (n : ℕ) → list_of closed.targets n ≡ targets_in (reverse w.ends.entries) (connections_of w) closed.order.keys n)
+  pub drivers_found : ForSome w.closed (λ closed. (n : ℕ) → get nat_eq closed.drivers n ≡ driver_in (reverse w.ends.entries) (connections_of w) closed.order.keys n)

@@ -2,6 +2,7 @@
 
 ghost use Rattle.std.specs.Prelude.{◌≡◌, ℕ, ◌++◌, ◌∷◌, [], nat_eq, reverse, IfOk, OnOk, if◌then◌else◌};
 ghost use Rattle.std.specs.HashMap.{get};
+ghost use Rattle.std.specs.List.{IsDistinct};
 ghost use Rattle.indexmap.specs.IndexSet.{insert_all};
 ghost use Rattle.uvm_tlm.specs.NodeLists.{list_of};
 ghost use Rattle.uvm_tlm.specs.Graphs.{has, is_connected};
@@ -142,6 +143,16 @@ fn starts(alloc: Global, connections: &[Connection]) -> Result<NodeLists, AllocE
         starts.push(connection.to, connection.from)?;
     }
     Ok(starts)
+}
+
+// The set of some nodes, in their order.
+pub(crate) fn set_of(alloc: Global, nodes: &[NodeId]) -> Result<IndexSet<NodeId>, AllocError>
+    requires { IsDistinct nat_eq nodes.now }
+    ensures { IfOk result (λ set. set.keys ≡ nodes.now) }
+{
+    let mut set = IndexSet::new(alloc);
+    insert_all(&mut set, nodes)?;
+    Ok(set)
 }
 
 // Puts some nodes behind the others of a set, each once.

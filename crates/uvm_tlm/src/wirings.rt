@@ -2,13 +2,14 @@
 
 ghost use Rattle.std.specs.Prelude.{◌≡◌, ℕ, ◌∷◌, ◌++◌, ◌==◌, ◌&&◌, ◌||◌, [], nat_eq, unwrap_or, Some, None, IsTrue, OnOk, OnErr, IfErr, if◌then◌else◌};
 ghost use Rattle.std.specs.HashMap.{get};
+ghost use Rattle.std.specs.List.{after_first};
 ghost use Rattle.uvm_tlm.specs.NodeLists.{list_of};
 ghost use Rattle.uvm_tlm.specs.Faults.{refusal};
 ghost use Rattle.uvm_tlm.specs.Wirings.{new_wiring, end_at, with_end, with_connection, is_closed, is_connected, late_fault, connect_fault, kind_at, targets_of, wire_fault, port_fault, count_fault, seq_fault, is_some_of, IsPathOrder, IsWiring};
 
 use crate::ends::{End, PortKind};
 use crate::faults::WireFault;
-use crate::graphs::Graph;
+use crate::graphs::{Graph, set_of};
 use crate::node_lists::NodeLists;
 use indexmap::{IndexMap, IndexSet};
 use std::alloc::{AllocError, Global};
@@ -41,8 +42,8 @@ pub struct Wiring {
 // What is found when the wiring is closed.
 #[derive(Drop)]
 struct Closed {
-    // Contracts say by it what was found.
-    order: Vec<NodeId>,
+    // Each node with its place. Contracts say by it what was found.
+    order: IndexSet<NodeId>,
     targets: NodeLists,
     // The first port that drives each sequencer.
     drivers: HashMap<NodeId, NodeId>,
@@ -162,7 +163,7 @@ impl Wiring {
         let graph = Graph::new(alloc, &self.ends, self.connections.as_slice())?;
         let targets = graph.targets(alloc, order)?;
         let drivers = graph.drivers(alloc, order, &targets)?;
-        let order = order.to_vec(alloc)?;
+        let order = set_of(alloc, order)?;
         self.closed = Some(Closed {
             order,
             targets,
@@ -202,6 +203,17 @@ impl Wiring {
     {
         match &self.closed {
             Some(closed) => closed.order.as_slice(),
+            None => &[],
+        }
+    }
+
+    /// The nodes behind one in that path order: none where the node stands last or is none of them, and before `close`. Takes no
+    /// memory; the time is that of one look-up.
+    pub fn order_behind(&self, node: NodeId) -> &[NodeId]
+        ensures { result.now ≡ after_first (nat_eq node) (unwrap_or self.now.order []) }
+    {
+        match &self.closed {
+            Some(closed) => closed.behind(node),
             None => &[],
         }
     }
@@ -262,6 +274,16 @@ impl Wiring {
 }
 
 impl Closed {
+    // The nodes behind one in path order.
+    fn behind(&self, node: NodeId) -> &[NodeId]
+        ensures { result.now ≡ after_first (nat_eq node) self.now.order.keys }
+    {
+        match self.order.get_index_of(&node) {
+            Some(place) => &self.order.as_slice()[place + 1..],
+            None => &[],
+        }
+    }
+
     // What is wrong with a port of a kind.
     fn port_fault(&self, kind: Option<PortKind>, port: NodeId) -> Option<WireFault>
         ensures { result ≡ port_fault kind (list_of self.now.targets port) (get nat_eq self.now.drivers) port }

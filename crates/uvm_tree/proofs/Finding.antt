@@ -24,7 +24,7 @@ same_path p q = (slice_eq-Decides bytes_eq-Decides p q (is_path p q) refl).0
 path_same : (p q : Names) → p ≡ q → is_path p q ≡ true
 path_same p q = (slice_eq-Decides bytes_eq-Decides p q (is_path p q) refl).1
 
-read_path : (nodes : List Node) (k : ℕ) (d : Node) → k < length nodes → path_at nodes k ≡ (get_or nodes k d).path
+pub read_path : (nodes : List Node) (k : ℕ) (d : Node) → k < length nodes → path_at nodes k ≡ (get_or nodes k d).path
 read_path nodes k d inside = ap (λ (o : Option Node). option_map_or (λ (node : Node). node.path) o []) (read nodes k d inside)
 
 -- the child whose name is taken

@@ -14,5 +14,6 @@ pub mod Paths
 pub mod Ranges
 pub mod Sorted
 pub mod SortedPaths
+pub mod Sound
 pub mod Standing
 pub mod Up

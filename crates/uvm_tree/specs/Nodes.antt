@@ -1,5 +1,5 @@
 -- The nodes of a tree by their numbers, the top first.
-use Rattle.std.specs.Prelude.{◌≡◌, ◌<◌, ℕ, Bool, false, ◌&&◌, ◌==◌, List, [], ◌∷◌, ◌++◌, length, nat_lt, nat_eq, Option, Some, None, IsSome, slice_get, option_map, option_and_then, is_some, is_none, position}
+use Rattle.std.specs.Prelude.{◌≡◌, ◌<◌, ℕ, Bool, false, ◌&&◌, ◌==◌, List, [], ◌∷◌, ◌++◌, length, nat_lt, nat_eq, Option, Some, None, IsSome, All, slice_get, option_map, option_and_then, is_some, is_none, position}
 use Rattle.std.specs.List.{list_any}
 use Rattle.std.specs.Option.{ForSome, option_map_or}
 use Rattle.std.specs.Cmp.Lexicographic.{pointwise}
@@ -62,6 +62,10 @@ pub record AreNodes (nodes : List Node) : Type 0 where
   pub parents : (id : ℕ) → ForSome (under_at nodes id) (λ under. under.0 < id)
   pub paths : (id : ℕ) → ForSome (under_at nodes id) (λ under. path_at nodes id ≡ path_at nodes under.0 ++ under.1 ∷ [])
   pub apart : (m n : ℕ) → m < length nodes → n < length nodes → path_at nodes m ≡ path_at nodes n → m ≡ n
+
+-- the path of no node has a fault
+abbrev pub AreSound : List Node → Type 0
+AreSound nodes = All (λ node. path_fault node.path ≡ None) nodes
 
 -- no two children of one parent have one name
 abbrev pub AreSiblingsApart : Type 0

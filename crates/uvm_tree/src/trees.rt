@@ -1,13 +1,13 @@
 //! The tree.
 
-ghost use Rattle.std.specs.Prelude.{◌≡◌, ◌≢◌, ◌∷◌, ◌++◌, ◌+◌, ◌-◌, ◌<◌, ◌≤◌, ◌↔◌, [], true, false, length, vec_capacity, None, Some, Ok, Err, OnOk, OnErr, IfOk, IfErr, IsSome, IsOk, IsTrue, option_map, option_and_then};
+ghost use Rattle.std.specs.Prelude.{◌≡◌, ◌≢◌, ◌∷◌, ◌++◌, ◌+◌, ◌-◌, ◌<◌, ◌≤◌, ◌↔◌, [], true, false, length, vec_capacity, None, Some, Ok, Err, OnOk, OnErr, IfOk, IfErr, IsSome, OnSome, IsOk, IsTrue, option_map, option_and_then};
 ghost use Rattle.std.specs.List.{insert, list_any};
 ghost use Rattle.std.specs.List.Sorted.{IsPartitionPoint};
 ghost use Rattle.std.specs.Option.{option_copied, ForSome};
 ghost use Rattle.uvm_glob.specs.Paths.{between_dots, path_fault};
 ghost use Rattle.uvm_tree.specs.Children.{name_at};
 ghost use Rattle.uvm_tree.specs.Families.{AreFamilies, IsNextChild, is_in_front};
-ghost use Rattle.uvm_tree.specs.Nodes.{Node, AreNodes, most_nodes, top, child, path_at, node_at, is_child, number_at, parent_of, under_at, refusal, add_fault};
+ghost use Rattle.uvm_tree.specs.Nodes.{Node, AreNodes, AreSound, most_nodes, top, child, path_at, node_at, is_child, number_at, parent_of, under_at, refusal, add_fault};
 
 use crate::families::Families;
 use crate::faults::TreeFault;
@@ -157,9 +157,10 @@ impl Tree {
     }
 
     /// The node at a path that goes on from a node, as `find` finds one; none where no node has that path. A number of no node counts
-    /// as the top's.
+    /// as the top's. Where one is found the whole path has no fault.
     pub fn find_below(&self, node: NodeId, path: &Path) -> Option<NodeId>
         ensures node { result ≡ number_at self.now.nodes (path_at self.now.nodes node ++ path.now) }
+        ensures sound { OnSome result (path_fault (path_at self.now.nodes node ++ path.now) ≡ None) }
         ensures nodes { AreNodes self.now.nodes }
     {
         let node = self.node_or_top(node);
@@ -170,9 +171,11 @@ impl Tree {
         self.descend(node, text)
     }
 
-    /// The child of a name below a node; none where it has no such child. A number of no node counts as the top's. Takes no memory.
+    /// The child of a name below a node; none where it has no such child. A number of no node counts as the top's. Where one is found
+    /// its path has no fault. Takes no memory.
     pub fn child(&self, node: NodeId, name: &Name) -> Option<NodeId>
-        ensures { result ≡ number_at self.now.nodes (path_at self.now.nodes node ++ name.now ∷ []) }
+        ensures child { result ≡ number_at self.now.nodes (path_at self.now.nodes node ++ name.now ∷ []) }
+        ensures sound { OnSome result (path_fault (path_at self.now.nodes node ++ name.now ∷ []) ≡ None) }
     {
         self.child_of(self.node_or_top(node), name.as_bytes())
     }
@@ -251,6 +254,7 @@ impl Tree {
     pub(crate) fn node(&self, id: NodeId) -> Option<&KeptNode>
         ensures node { option_copied result ≡ node_at self.now.nodes id }
         ensures nodes { AreNodes self.now.nodes }
+        ensures sound { AreSound self.now.nodes }
     {
         match id.number() {
             0 => Some(&self.top),
@@ -273,6 +277,7 @@ impl Tree {
         ensures inside { result < length self.now.nodes }
         ensures path { path_at self.now.nodes result ≡ path_at self.now.nodes node }
         ensures nodes { AreNodes self.now.nodes }
+        ensures sound { AreSound self.now.nodes }
     {
         if self.node(node).is_some() {
             node

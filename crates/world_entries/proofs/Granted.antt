@@ -14,12 +14,16 @@ use Rattle.bench_history.specs.History.{ended_of, nodes_of}
 use Rattle.bench_history.specs.Laws.{IsLiving}
 use Rattle.bench_history.specs.Sequences.{begun_of, finished_of, is_live, sequences_of, starts_in}
 use Rattle.world_services.specs.declared.services.Services.{Services}
-use Rattle.world_sequencers.specs.Arbiters.{ChangesAt, Kept, at_sequencer, lock_in, ready_in}
-use Rattle.world_sequencers.specs.Arbitratings.{IsArbitrated, IsArbitrating, arbiter_with, ledger_at}
+use Rattle.uvm_sequencer.specs.Laws.{PassedStays}
+use Rattle.uvm_sequencer.specs.Sequences.{Start}
+use Rattle.world_sequencers.specs.declared.contests.Contest.{Contest}
+use Rattle.world_sequencers.specs.Contests.{IsKnown, LearnsAt, known_at}
+use Rattle.world_sequencers.specs.Arbiters.{ArbiterValue, ChangesAt, Kept, at_sequencer, lock_in, ready_in}
+use Rattle.world_sequencers.specs.Arbitratings.{IsArbitrated, IsArbitrating, arbiter_of, arbiter_with, ledger_at}
 use Rattle.world_sequences.specs.Sequencings.{live_by}
 use Rattle.world_services.specs.Services.{ServicesMatch}
 use Rattle.world_sequencers.proofs.Arbited.{arbitrated-granted, arbitrated-locked, arbitrated-more, granted-is, locked-is}
-use Rattle.world_sequencers.proofs.Contested.{arbitrating-there}
+use Rattle.world_sequencers.proofs.Contested.{arbitrating-there, changed-each, learns-else, learns-here}
 use Rattle.world_services.proofs.Known.{itself, locked-known, said, served-known}
 
 -- what is found first is found at the sequencer that was changed last
@@ -36,11 +40,11 @@ found-there {A} at (Some n) node a e = by (at n) refl e
         (ap (λ (k : ℕ). Some k) first, subst (λ (k : ℕ). at k ≡ Some a) first (is ∙ ap (λ (x : A). Some x) second))
 
 module _ {script : ScriptValue} {history : List Entry} {services : Services} (m : ServicesMatch script history services) where
-  pub led-there : (node id : ℕ) → next_locked history ≡ Some (node, id) → (services.contested ≡ Some node) × (lock_in services.sequences.started (get nat_eq services.arbiters node) ≡ Some id)
-  led-there node id e = found-there (λ n. lock_in services.sequences.started (get nat_eq services.arbiters n)) services.contested node id (locked-known m ∙ e)
+  pub led-there : (node id : ℕ) → next_locked history ≡ Some (node, id) → (services.contest.node ≡ Some node) × (lock_in services.sequences.started (get nat_eq services.arbiters node) ≡ Some id)
+  led-there node id e = found-there (λ n. lock_in services.sequences.started (get nat_eq services.arbiters n)) services.contest.node node id (locked-known m ∙ e)
 
-  pub served-there : (node : ℕ) (drawn : Bool) → next_served history ≡ Some (node, drawn) → (services.contested ≡ Some node) × (ready_in services.sequences.started (get nat_eq services.arbiters node) ≡ Some drawn)
-  served-there node drawn e = found-there (λ n. ready_in services.sequences.started (get nat_eq services.arbiters n)) services.contested node drawn (served-known m ∙ e)
+  pub served-there : (node : ℕ) (drawn : Bool) → next_served history ≡ Some (node, drawn) → (services.contest.node ≡ Some node) × (ready_in services.sequences.started (get nat_eq services.arbiters node) ≡ Some drawn)
+  served-there node drawn e = found-there (λ n. ready_in services.sequences.started (get nat_eq services.arbiters n)) services.contest.node node drawn (served-known m ∙ e)
 
   -- who is chosen
   pub chosen-known : (node id : ℕ) (word : Option ℕ) → option_and_then (λ a. choice_at services.sequences.started a.sequencer word) (get nat_eq services.arbiters node) ≡ Some id → chosen_at history node word ≡ Some id
@@ -55,20 +59,31 @@ module _ {script : ScriptValue} {history : List Entry} {services : Services} (m 
   ready-moded None node drawn e = cc
   ready-moded (Some mode) node drawn e = refl
 
+  -- who is blocked stays so, once another is chosen
+  chosen-passed : PassedStays → (known : ℕ) (grant : Grant) (o : Option ArbiterValue) → option_and_then (λ a. choice_at (starts_in (begun_of history)) a.sequencer grant.word) o ≡ Some grant.id
+      → IsKnown (starts_in (begun_of history)) known o → IsKnown (starts_in (begun_of history)) known (option_map (at_sequencer (granted grant.id)) o)
+  chosen-passed stays known grant None chosen passed = tt
+  chosen-passed stays known grant (Some a) chosen passed = stays.granted (starts_in (begun_of history)) a.sequencer known passed grant.word grant.id chosen
+
   same-there : (node n : ℕ) → (node == n) ≡ true → node ≡ n
   same-there node n e = grind (arith, nat_tests)
 
   pub locked-kept : (node id : ℕ) (more : Kept) → next_locked history ≡ Some (node, id) → IsLiving history id node → ChangesAt node (at_sequencer (locked id)) services.arbiters more
-      → IsArbitrating (suc (length history)) (nodes_of history) (begun_of history) (finished_of history) (ended_of history) (ledger_at (Locked node id ∷ history)) more services.contested
+      → (passed : ℕ) (after : Contest) → IsKnown services.sequences.started passed (get nat_eq more node) → after.node ≡ services.contest.node → LearnsAt node passed services.contest after
+      → IsArbitrating (suc (length history)) (nodes_of history) (begun_of history) (finished_of history) (ended_of history) (ledger_at (Locked node id ∷ history)) more after
   unfolding is_live
-  locked-kept node id more next living changes =
+  locked-kept node id more next living changes passed after is-passed still learns =
       let found = led-there node id next in
       let one = m.arbitrating.arbitrated.each node in
       let l = ledger_at history node in
       let live = live_by (begun_of history) (finished_of history) (ended_of history) in
       let moded = lock-moded (mode_at history node) node id (rw (m.sequencing.started, m.arbitrating.arbiters_are.each node) at found.1) in
+      let here : arbiter_of live (ledger_at (Locked node id ∷ history) node) ≡ option_map (at_sequencer (locked id)) (arbiter_of live (ledger_at history node)) = rw (itself node) (locked-is live (length history) l one.wanted_within id living.lives) in
       arbitrating-there m.arbitrating (finished_of history) (ledger_at (Locked node id ∷ history)) more node (at_sequencer (locked id)) (λ n other. rw other refl)
-      (rw (itself node) (locked-is live (length history) l one.wanted_within id living.lives)) changes (λ n. every n (node == n) refl moded) found.0
+      here changes (λ n. every n (node == n) refl moded) found.0 after still (learns-else node passed services.contest after learns)
+      (learns-here (starts_in (begun_of history)) node passed services.contest after learns (arbiter_of live (ledger_at (Locked node id ∷ history) node))
+      (subst (λ (o : Option ArbiterValue). IsKnown (starts_in (begun_of history)) passed o) (changed-each live live (ledger_at history) (ledger_at (Locked node id ∷ history)) services.arbiters more node (at_sequencer (locked id)) (λ n other. rw other refl) here changes m.arbitrating.arbiters_are node)
+      (subst (λ (started : List Start). IsKnown started passed (get nat_eq more node)) m.sequencing.started is-passed)))
     where
       every : (n : ℕ) (v : Bool) → (node == n) ≡ v → IsSome (mode_at history node) → IsArbitrated (suc (length history)) (length (nodes_of history)) (begun_of history) n (ledger_at (Locked node id ∷ history) n)
       every n false is moded = rw is (arbitrated-more (m.arbitrating.arbitrated.each n))
@@ -76,16 +91,20 @@ module _ {script : ScriptValue} {history : List Entry} {services : Services} (m 
           subst (λ (k : ℕ). IsArbitrated (suc (length history)) (length (nodes_of history)) (begun_of history) k (ledger_at (Locked node id ∷ history) k)) (same-there node n is)
           (rw (itself node) (arbitrated-locked (m.arbitrating.arbitrated.each node) id living.home_is moded))
 
-  pub granted-kept : (node : ℕ) (drawn : Bool) (grant : Grant) (more : Kept) → next_served history ≡ Some (node, drawn) → ChangesAt node (at_sequencer (granted grant.id)) services.arbiters more
-      → IsArbitrating (suc (length history)) (nodes_of history) (begun_of history) (finished_of history) (ended_of history) (ledger_at (Granted node grant ∷ history)) more services.contested
-  granted-kept node drawn grant more next changes =
+  pub granted-kept : (node : ℕ) (drawn : Bool) (grant : Grant) (more : Kept) → next_served history ≡ Some (node, drawn) → ChangesAt node (at_sequencer (granted grant.id)) services.arbiters more → PassedStays
+      → option_and_then (λ a. choice_at services.sequences.started a.sequencer grant.word) (get nat_eq services.arbiters node) ≡ Some grant.id
+      → IsArbitrating (suc (length history)) (nodes_of history) (begun_of history) (finished_of history) (ended_of history) (ledger_at (Granted node grant ∷ history)) more services.contest
+  granted-kept node drawn grant more next changes passed chosen =
       let found = served-there node drawn next in
       let one = m.arbitrating.arbitrated.each node in
       let l = ledger_at history node in
       let live = live_by (begun_of history) (finished_of history) (ended_of history) in
       let moded = ready-moded (mode_at history node) node drawn (rw (m.sequencing.started, m.arbitrating.arbiters_are.each node) at found.1) in
+      let here : arbiter_of live (ledger_at (Granted node grant ∷ history) node) ≡ option_map (at_sequencer (granted grant.id)) (arbiter_of live (ledger_at history node)) = rw (itself node) (granted-is live (length history) l one.wanted_within grant.id) in
       arbitrating-there m.arbitrating (finished_of history) (ledger_at (Granted node grant ∷ history)) more node (at_sequencer (granted grant.id)) (λ n other. rw other refl)
-      (rw (itself node) (granted-is live (length history) l one.wanted_within grant.id)) changes (λ n. every n (node == n) refl moded) found.0
+      here changes (λ n. every n (node == n) refl moded) found.0 services.contest refl (λ n other. refl)
+      (subst (λ (o : Option ArbiterValue). IsKnown (starts_in (begun_of history)) (known_at services.contest node) o) (sym here)
+      (chosen-passed passed (known_at services.contest node) grant (arbiter_of live (ledger_at history node)) (rw (m.sequencing.started, m.arbitrating.arbiters_are.each node) at chosen) (m.arbitrating.contested_is.known node)))
     where
       every : (n : ℕ) (v : Bool) → (node == n) ≡ v → IsSome (mode_at history node) → IsArbitrated (suc (length history)) (length (nodes_of history)) (begun_of history) n (ledger_at (Granted node grant ∷ history) n)
       every n false is moded = rw is (arbitrated-more (m.arbitrating.arbitrated.each n))

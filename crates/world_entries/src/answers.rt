@@ -6,7 +6,7 @@ ghost use Rattle.uvm_object.specs.declared.acts.Act.{Act};
 ghost use Rattle.uvm_object.specs.declared.acts.Call as calls;
 ghost use Rattle.uvm_object.specs.declared.entries.Entry.TheVariants.{Heard};
 ghost use Rattle.bench_history.specs.Cases.{Answer};
-ghost use Rattle.world_entries.specs.Coming.{GoesOn};
+ghost use Rattle.world_entries.specs.Coming.{GoesOn, IsDue};
 
 use bench_history::{Owner, laws};
 use uvm_object::{Call, Who};
@@ -34,6 +34,7 @@ pub fn hear(services: &mut Services, place: usize, who: Who, count: usize)
 
 /// Keeps that somebody had a call that was due, and answered with so many acts, in the entry at a place.
 pub fn hear_due(services: &mut Services, place: usize, who: Who, count: usize)
+    requires { (call : calls.Call) × (cause : causes.Cause) × IsDue (λ _. Answer who call (Some cause)) place services.old }
     ensures { (call : calls.Call) (cause : causes.Cause) (acts : List Act) → length acts ≡ count → GoesOn (λ _. Answer who call (Some cause)) (Heard who call (Some cause) acts) place services.old services.new }
 {
     // The call is the first of the agenda, which is then taken from it.
@@ -44,6 +45,7 @@ pub fn hear_due(services: &mut Services, place: usize, who: Who, count: usize)
     agenda::order_keeps_all::<Owner, Option<Call>>();
     agenda::order_loses_first::<Owner, Option<Call>>();
     laws::wiring_stays();
+    services.pass_blocked();
     services.reporting.newest = None;
     let _ = services.agenda.take_first();
     services.answer = last_answer(place, who, count);

@@ -12,10 +12,10 @@ ghost use Rattle.world_entries.specs.Coming.{GoesOn, IsDue};
 use bench_history::laws;
 use std::alloc::AllocError;
 use uvm_object::{Call, Passage, Who};
-use uvm_sequencer::SeqId;
+use uvm_sequencer::{SeqId, laws as sequencers};
 use uvm_tree::NodeId;
 use world_fifos::stations::pass;
-use world_sequencers::arbiters::{choose_at, settle_at};
+use world_sequencers::arbiters::{choose_at, passed_at, settle_at};
 use world_services::services::Services;
 use world_services::tells::{tell_passed, tell_to};
 
@@ -41,7 +41,17 @@ pub fn lock(
         home: sequencer,
     };
     tell_to(services, who, Call::Held, time, place)?;
-    settle_at(&mut services.arbiters, &services.sequences, sequencer, id);
+    let known = services.contest.known(sequencer);
+    settle_at(
+        &mut services.arbiters,
+        &services.sequences,
+        known,
+        sequencer,
+        id,
+    );
+    // Who is blocked by the new holder is found once.
+    let passed = passed_at(&services.arbiters, &services.sequences, 0, sequencer);
+    services.contest.learn(sequencer, passed);
     services.reporting.newest = None;
     Ok(())
 }
@@ -61,10 +71,19 @@ pub fn grant(
     // It is the first whose driver can be served, and the one that is chosen lives.
     laws::grants_go_in_order();
     laws::chosen_are_there();
+    // Who is blocked stays so.
+    sequencers::passed_stays();
     laws::phases_go_in_order();
     laws::wiring_stays();
     let time = services.time;
-    let id = choose_at(&mut services.arbiters, &services.sequences, sequencer, word);
+    let known = services.contest.known(sequencer);
+    let id = choose_at(
+        &mut services.arbiters,
+        &services.sequences,
+        known,
+        sequencer,
+        word,
+    );
     let who = Who::Sequence {
         id,
         home: sequencer,

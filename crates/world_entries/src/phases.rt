@@ -63,7 +63,7 @@ pub fn end(services: &mut Services, alloc: Global, phase: Phase) -> Result<Vec<W
     end_waits(&mut services.stations, phase);
     finish_all(&mut services.sequences, leaving.as_slice());
     end_phase(&mut services.arbiters, &services.sequences);
-    services.contested = None;
+    services.contest.forget();
     services.built = is_built_with(phase, services.built);
     services.past_connect = is_past_connect_with(phase, services.past_connect);
     Ok(leaving)

@@ -29,7 +29,7 @@ pub fn put(
     requires { CanPerform services.old }
     ensures { IfOk result (λ attempt. IsAttempt (Put name.now item) attempt place services.old services.new) }
 {
-    let (phase, gate) = match open_gate(services, alloc, PortKind::Put, name)? {
+    let (phase, gate) = match open_gate(services, PortKind::Put, name) {
         Ok(open) => open,
         Err(fatal) => return refused(services, alloc, fatal),
     };
@@ -49,7 +49,7 @@ pub fn take(
     requires { CanPerform services.old }
     ensures { IfOk result (λ attempt. IsAttempt (Take name.now) attempt place services.old services.new) }
 {
-    let (phase, gate) = match open_gate(services, alloc, PortKind::Get, name)? {
+    let (phase, gate) = match open_gate(services, PortKind::Get, name) {
         Ok(open) => open,
         Err(fatal) => return refused(services, alloc, fatal),
     };
@@ -69,7 +69,7 @@ pub fn peek(
     requires { CanPerform services.old }
     ensures { IfOk result (λ attempt. IsAttempt (Peek name.now) attempt place services.old services.new) }
 {
-    let (phase, gate) = match open_gate(services, alloc, PortKind::Get, name)? {
+    let (phase, gate) = match open_gate(services, PortKind::Get, name) {
         Ok(open) => open,
         Err(fatal) => return refused(services, alloc, fatal),
     };
@@ -91,7 +91,7 @@ pub fn try_put(
     requires { CanPerform services.old }
     ensures { IfOk result (λ attempt. IsAttempt (TryPut name.now item) attempt place services.old services.new) }
 {
-    let (_, gate) = match open_gate(services, alloc, PortKind::Put, name)? {
+    let (_, gate) = match open_gate(services, PortKind::Put, name) {
         Ok(open) => open,
         Err(fatal) => return refused(services, alloc, fatal),
     };
@@ -117,7 +117,7 @@ pub fn try_take(
     requires { CanPerform services.old }
     ensures { IfOk result (λ attempt. IsAttempt (TryTake name.now) attempt place services.old services.new) }
 {
-    let (_, gate) = match open_gate(services, alloc, PortKind::Get, name)? {
+    let (_, gate) = match open_gate(services, PortKind::Get, name) {
         Ok(open) => open,
         Err(fatal) => return refused(services, alloc, fatal),
     };
@@ -131,32 +131,21 @@ pub fn try_take(
 
 // The gate through which a port of a name leads, and the phase that runs; or why there is none.
 #[tactic(auto, unfolding(bench_history::specs::Refusals::passing_refusal))]
-fn open_gate(
-    services: &Services,
-    alloc: Global,
-    kind: PortKind,
-    name: &Name,
-) -> Result<Result<(Phase, Gate), Fatal>, AllocError>
-    ensures { IfOk result (λ found. IsOpenGate services.now kind name.now found) }
+fn open_gate(services: &Services, kind: PortKind, name: &Name) -> Result<(Phase, Gate), Fatal>
+    ensures { IsOpenGate services.now kind name.now result }
 {
     let Stage::During(phase) = services.stage else {
-        return Ok(Err(Fatal::OutsideTask));
+        return Err(Fatal::OutsideTask);
     };
     if !phase.is_task() {
-        return Ok(Err(Fatal::OutsideTask));
+        return Err(Fatal::OutsideTask);
     }
     let performer = services.answer.speaker;
-    let port = port_below(
-        &services.tree,
-        &services.wiring,
-        alloc,
-        &performer,
-        kind,
-        name,
-    )?;
-    match gate_of(&services.wiring, port) {
-        Some(gate) => Ok(Ok((phase, gate))),
-        None => Ok(Err(Fatal::NoPort)),
+    let (tree, wiring) = (&services.tree, &services.wiring);
+    let port = port_below(tree, wiring, &performer, kind, name);
+    match gate_of(wiring, port) {
+        Some(gate) => Ok((phase, gate)),
+        None => Err(Fatal::NoPort),
     }
 }
 

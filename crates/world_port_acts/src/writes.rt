@@ -31,7 +31,7 @@ pub fn write(
     // Each target stands once among those that are reached, and takes the item at once.
     laws::targets_are_reached();
     laws::targets_accept_the_kind();
-    let port = match open_outlet(services, alloc, name)? {
+    let port = match open_outlet(services, name) {
         Ok(port) => port,
         Err(fatal) => return refused(services, alloc, fatal),
     };
@@ -46,27 +46,16 @@ pub fn write(
 
 // The analysis port of a name, in a phase that takes time; or why there is none.
 #[tactic(auto, unfolding(bench_history::specs::Refusals::passing_refusal))]
-fn open_outlet(
-    services: &Services,
-    alloc: Global,
-    name: &Name,
-) -> Result<Result<NodeId, Fatal>, AllocError>
-    ensures { IfOk result (λ found. IsOpenOutlet services.now name.now found) }
+fn open_outlet(services: &Services, name: &Name) -> Result<NodeId, Fatal>
+    ensures { IsOpenOutlet services.now name.now result }
 {
     if !in_task(services.stage) {
-        return Ok(Err(Fatal::OutsideTask));
+        return Err(Fatal::OutsideTask);
     }
     let performer = services.answer.speaker;
-    let kind = PortKind::Analysis;
-    match port_below(
-        &services.tree,
-        &services.wiring,
-        alloc,
-        &performer,
-        kind,
-        name,
-    )? {
-        Some(port) => Ok(Ok(port)),
-        None => Ok(Err(Fatal::NoPort)),
+    let (tree, wiring) = (&services.tree, &services.wiring);
+    match port_below(tree, wiring, &performer, PortKind::Analysis, name) {
+        Some(port) => Ok(port),
+        None => Err(Fatal::NoPort),
     }
 }

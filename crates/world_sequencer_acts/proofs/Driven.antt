@@ -45,10 +45,12 @@ use Rattle.bench_history.specs.History.{components_of, ended_of, left_of, nodes_
 use Rattle.bench_history.specs.Laws.{next_number, place_of}
 use Rattle.bench_history.specs.Ports.{port_below}
 use Rattle.bench_history.specs.Refusals.{ask_refusal, done_refusal, driving_refusal, in_task}
-use Rattle.bench_history.specs.Sequences.{Beginning, begun_of, finished_of, sequences_of}
+use Rattle.bench_history.specs.Sequences.{Beginning, begun_of, finished_of, sequences_of, starts_in}
 use Rattle.bench_history.specs.Upshots.{asked_upshot, driven_at}
 use Rattle.world_sequencers.specs.declared.arbiters.Reached.{Reached}
 use Rattle.world_services.specs.declared.services.Services.{Services}
+use Rattle.world_sequencers.specs.declared.contests.Contest.{Contest}
+use Rattle.world_sequencers.specs.Contests.{LearnsAt}
 use Rattle.world_sequencers.specs.Arbiters.{ArbiterValue, ChangesAt, Kept, asked_at, asked_in, at_sequencer}
 use Rattle.world_sequencers.specs.Arbitratings.{IsArbitrated, IsArbitrating, Ledger, arbiter_of, arbiter_with, ledger_at, runs_on}
 use Rattle.world_sequencer_acts.specs.Drivings.{if_kept, lapsed_calls, reached_at, reached_in, waiting_outcome}
@@ -58,7 +60,7 @@ use Rattle.world_sequences.specs.Sequencings.{live_by, lives_by}
 use Rattle.world_services.specs.Attempts.{CanPerform, IsScene, one_done, unreported}
 use Rattle.world_services.specs.Services.{ServicesMatch}
 use Rattle.world_sequencers.proofs.Arbited.{alike-is, arbitrated-driver, arbitrated-more, arbiter-changed, left-is}
-use Rattle.world_sequencers.proofs.Contested.{arbitrating-one, none-locked, none-served, sequencer-is}
+use Rattle.world_sequencers.proofs.Contested.{arbitrating-one, known-none, learns-else, learns-here, none-locked, none-served, sequencer-is}
 use Rattle.world_services.proofs.Later.{acted}
 use Rattle.world_services.proofs.Passages.{closed-same, port-known}
 use Rattle.world_sequencer_acts.proofs.Seated.{item-told, kept-there, placed}
@@ -257,7 +259,7 @@ module _ {script : ScriptValue} {history : List Entry} {act : Act} {place : ℕ}
         asker = if option_map_or (λ other. other == n) (sequencer_below history services.answer.speaker name) false then Some (record { who = services.answer.speaker; name = name }) else driver_asker history n;
       })
       → ChangesAt node (asked_at (record { who = services.answer.speaker; name = name }) way asked.Waits) services.arbiters more
-      → IsArbitrating (suc (length history)) (nodes_of history) (begun_of history) (finished_of history) (ended_of history) (ledger_at (Did services.answer.speaker outcome (Ask name way) ∷ history)) more (Some node)
+      → IsArbitrating (suc (length history)) (nodes_of history) (begun_of history) (finished_of history) (ended_of history) (ledger_at (Did services.answer.speaker outcome (Ask name way) ∷ history)) more (record services.contest { node = Some node })
   asked-kept way outcome more are changes =
       let driver : DriverPort = record { who = services.answer.speaker; name = name } in
       let l = ledger_at history node in
@@ -266,10 +268,11 @@ module _ {script : ScriptValue} {history : List Entry} {act : Act} {place : ℕ}
       kept-there s node r.there (ledger_at (Did services.answer.speaker outcome (Ask name way) ∷ history)) more (asked_at driver way asked.Waits) (λ n other. are n ∙ rw (r.leads, other) refl)
       (ap (arbiter_of live) here ∙ arbiter-changed live live l (record l { driver = Waiting way; asker = Some driver }) (asked_at driver way asked.Waits) refl (λ mode. refl))
       (subst (λ (m : Ledger). IsArbitrated (suc (length history)) (length (nodes_of history)) (begun_of history) node m) (sym here) (arbitrated-driver one-there (Waiting way) (Some driver) r.moded)) changes
+      (record services.contest { node = Some node }) refl (λ n other. refl) (λ a passed. record { within = passed.within; blocked = passed.blocked })
 
   pub asked-goes :
       (way : How) (more : Kept) → left_of script history ≡ Ask name way ∷ rest_of (left_of script history) → ChangesAt node (asked_at (record { who = services.answer.speaker; name = name }) way asked.Waits) services.arbiters more
-      → ServicesMatch script (Did services.answer.speaker (waiting_outcome way) (Ask name way) ∷ history) (one_done (unreported (record services { arbiters = more; contested = Some node })))
+      → ServicesMatch script (Did services.answer.speaker (waiting_outcome way) (Ask name way) ∷ history) (one_done (unreported (record services { arbiters = more; contest = record services.contest { node = Some node } })))
   asked-goes how.Next more left changes = let m = s.known in let arbitrating = asked-kept how.Next Done more (λ n. refl) changes in search (rules, acted)
   asked-goes how.Try more left changes = let m = s.known in let arbitrating = asked-kept how.Try (Waits true) more (λ n. refl) changes in search (rules, acted)
   asked-goes how.Get more left changes = let m = s.known in let arbitrating = asked-kept how.Get Done more (λ n. refl) changes in search (rules, acted)
@@ -277,7 +280,7 @@ module _ {script : ScriptValue} {history : List Entry} {act : Act} {place : ℕ}
   -- or is idle
   pub done-kept :
       (response : Option Item) (more : Kept) → ChangesAt node (at_sequencer with_idle) services.arbiters more
-      → IsArbitrating (suc (length history)) (nodes_of history) (begun_of history) (finished_of history) (ended_of history) (ledger_at (Did services.answer.speaker Done (ItemDone name response) ∷ history)) more (Some node)
+      → IsArbitrating (suc (length history)) (nodes_of history) (begun_of history) (finished_of history) (ended_of history) (ledger_at (Did services.answer.speaker Done (ItemDone name response) ∷ history)) more (record services.contest { node = Some node })
   done-kept response more changes =
       let l = ledger_at history node in
       let live = live_by (begun_of history) (finished_of history) (ended_of history) in
@@ -285,6 +288,7 @@ module _ {script : ScriptValue} {history : List Entry} {act : Act} {place : ℕ}
       kept-there s node r.there (ledger_at (Did services.answer.speaker Done (ItemDone name response) ∷ history)) more (at_sequencer with_idle) (λ n other. rw (r.leads, other) refl)
       (ap (arbiter_of live) here ∙ arbiter-changed live live l (record l { driver = Idle }) (at_sequencer with_idle) refl (λ mode. refl))
       (subst (λ (m : Ledger). IsArbitrated (suc (length history)) (length (nodes_of history)) (begun_of history) node m) (sym here) (arbitrated-driver one-there Idle l.asker r.moded)) changes
+      (record services.contest { node = Some node }) refl (λ n other. refl) (λ a passed. record { within = passed.within; blocked = passed.blocked })
 
   -- whose item it was hears of it, if it lives
   pub done-told : (response : Option Item) (id : ℕ) → hand_of (driver_state history node) ≡ Some id → All (λ (c : Who × Call). is_told services.sequences.steps c.0 ≡ not (is_of_one (finished_of history) (Object c.0))) (told_done response node (Some id))
@@ -377,15 +381,16 @@ module _ {script : ScriptValue} {history : List Entry} {act : Act} {place : ℕ}
       (All-weaker (λ (w : Wanted). runs_on (begun_of history) n w.request.seq) (λ (w : Wanted). gone w.request.seq ≡ live w.request.seq) (λ w here. alike-at n apart w.request.seq here) (ledger_at history n).wanted one.wanted_here)
       (All-weaker (runs_on (begun_of history) n) (λ m. gone m ≡ live m) (λ m here. alike-at n apart m here) (ledger_at history n).held one.held_here)
 
-  pub finish-kept : (more : Kept) → ChangesAt b.start.home (at_sequencer (after_leave id)) services.arbiters more
-      → IsArbitrating (suc (length history)) (nodes_of history) (begun_of history) (who.Sequence id b.start.home ∷ finished_of history) (ended_of history) (ledger_at (Did (who.Sequence id b.start.home) Finished EndStep ∷ history)) more (Some b.start.home)
-  finish-kept more changes =
+  pub finish-kept : (more : Kept) → ChangesAt b.start.home (at_sequencer (after_leave id)) services.arbiters more → (after : Contest) → after.node ≡ Some b.start.home → LearnsAt b.start.home 0 services.contest after
+      → IsArbitrating (suc (length history)) (nodes_of history) (begun_of history) (who.Sequence id b.start.home ∷ finished_of history) (ended_of history) (ledger_at (Did (who.Sequence id b.start.home) Finished EndStep ∷ history)) more after
+  finish-kept more changes after is learns =
       let l = ledger_at history b.start.home in
       let m = s.known in
       let here : ledger_at (Did (who.Sequence id b.start.home) Finished EndStep ∷ history) b.start.home ≡ record l { driver = left_by (grant_of id l.driver) l.driver } = rw (itself b.start.home) refl in
       arbitrating-one m.arbitrating (who.Sequence id b.start.home ∷ finished_of history) (ledger_at (Did (who.Sequence id b.start.home) Finished EndStep ∷ history)) more b.start.home (at_sequencer (after_leave id))
       (λ n apart. rw apart (elsewhere n apart)) (ap (arbiter_of gone) here ∙ left-is live gone l id but-one) changes (λ n. every n (b.start.home == n) refl) there
       (none-locked history m.arbitrating.contested_is s.settled.unlocked) (none-served history m.arbitrating.contested_is s.settled.unserved)
+      after is (learns-else b.start.home 0 services.contest after learns) (learns-here (starts_in (begun_of history)) b.start.home 0 services.contest after learns _ (known-none (starts_in (begun_of history)) _))
     where
       every : (n : ℕ) (v : Bool) → (b.start.home == n) ≡ v → IsArbitrated (suc (length history)) (length (nodes_of history)) (begun_of history) n (ledger_at (Did (who.Sequence id b.start.home) Finished EndStep ∷ history) n)
       every n false is = rw is (arbitrated-more (s.known.arbitrating.arbitrated.each n))

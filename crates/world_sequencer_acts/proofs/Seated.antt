@@ -37,10 +37,14 @@ use Rattle.bench_history.specs.History.{components_of, ended_of, nodes_of, openi
 use Rattle.bench_history.specs.Laws.{IsComponent, IsThere}
 use Rattle.bench_history.specs.Refusals.{is_none_at_all, request_refusal, send_refusal}
 use Rattle.bench_history.specs.Reports.{newest_fate, report_commands}
-use Rattle.bench_history.specs.Sequences.{Beginning, begun_of, finished_of, is_live, sequence_in, sequences_of}
+use Rattle.bench_history.specs.Sequences.{Beginning, begun_of, finished_of, is_live, sequence_in, sequences_of, starts_in}
 use Rattle.world_services.specs.declared.attempts.Attempt.{Attempt}
 use Rattle.world_services.specs.declared.attempts.Attempt.TheVariants.{Became}
 use Rattle.world_services.specs.declared.services.Services.{Services}
+use Rattle.uvm_sequencer.specs.Laws.{PassedStays}
+use Rattle.uvm_sequencer.specs.Passed.{IsPassed}
+use Rattle.world_sequencers.specs.declared.contests.Contest.{Contest}
+use Rattle.world_sequencers.specs.Contests.{LearnsAt, known_at}
 use Rattle.world_sequencers.specs.Arbiters.{ArbiterValue, ChangesAt, Kept, at_sequencer, grabbed_if, locked_if, requested_if, sent_if, unlocked_if}
 use Rattle.world_sequencers.specs.Arbitratings.{IsArbitrated, IsArbitrating, Ledger, arbiter_of, arbiter_with, ledger_at, runs_on}
 use Rattle.world_agenda.specs.Tellings.{is_told}
@@ -49,7 +53,7 @@ use Rattle.world_services.specs.Attempts.{IsAttempt, IsRefusing, IsScene, TakesI
 use Rattle.world_services.specs.Services.{ServicesMatch}
 use Rattle.world_sequencers.proofs.Arbited.{arbitrated-before, arbitrated-behind, arbitrated-driver, arbitrated-more, arbitrated-unlocked, arbiter-changed, asked-before, asked-behind, unlocked-is}
 use Rattle.world_wiring.proofs.Connected.{permutation-contains, range-contains}
-use Rattle.world_sequencers.proofs.Contested.{arbitrating-one, none-locked, none-served}
+use Rattle.world_sequencers.proofs.Contested.{arbitrating-one, known-changed, known-none, learns-else, learns-here, none-locked, none-served}
 use Rattle.world_services.proofs.Known.{itself, said}
 use Rattle.world_services.proofs.Later.{acted}
 use Rattle.world_sequences.proofs.Numbered.{numbered-holds}
@@ -103,11 +107,14 @@ module _ {script : ScriptValue} {history : List Entry} {act : Act} {place : ℕ}
       (node : ℕ) → Contains (path_order (nodes_of history)) node → (new : ℕ → Ledger) (more : Kept) (change : ArbiterValue → ArbiterValue) → ((n : ℕ) → (node == n) ≡ false → new n ≡ ledger_at history n)
       → arbiter_of (live_by (begun_of history) (finished_of history) (ended_of history)) (new node) ≡ option_map change (arbiter_of (live_by (begun_of history) (finished_of history) (ended_of history)) (ledger_at history node))
       → IsArbitrated (suc (length history)) (length (nodes_of history)) (begun_of history) node (new node) → ChangesAt node change services.arbiters more
-      → IsArbitrating (suc (length history)) (nodes_of history) (begun_of history) (finished_of history) (ended_of history) new more (Some node)
-  kept-there node there new more change elsewhere here one changes =
+      → (after : Contest) → after.node ≡ Some node → ((n : ℕ) → (node == n) ≡ false → known_at after n ≡ known_at services.contest n)
+      → ((a : ArbiterValue) → IsPassed (starts_in (begun_of history)) a.sequencer (known_at services.contest node) → IsPassed (starts_in (begun_of history)) (change a).sequencer (known_at after node))
+      → IsArbitrating (suc (length history)) (nodes_of history) (begun_of history) (finished_of history) (ended_of history) new more after
+  kept-there node there new more change elsewhere here one changes after is others keeps =
       let m = s.known in
       arbitrating-one m.arbitrating (finished_of history) new more node change (λ n other. ap (arbiter_of (live_by (begun_of history) (finished_of history) (ended_of history))) (elsewhere n other)) here changes (λ n. every n (node == n) refl) there
       (none-locked history m.arbitrating.contested_is s.settled.unlocked) (none-served history m.arbitrating.contested_is s.settled.unserved)
+      after is others (known-changed (starts_in (begun_of history)) (known_at services.contest node) (known_at after node) change (arbiter_of (live_by (begun_of history) (finished_of history) (ended_of history)) (ledger_at history node)) (arbiter_of (live_by (begun_of history) (finished_of history) (ended_of history)) (new node)) here keeps (m.arbitrating.contested_is.known node))
     where
       every : (n : ℕ) (b : Bool) → (node == n) ≡ b → IsArbitrated (suc (length history)) (length (nodes_of history)) (begun_of history) n (new n)
       every n true is =
@@ -119,57 +126,68 @@ module _ {script : ScriptValue} {history : List Entry} {act : Act} {place : ℕ}
     one-there : IsArbitrated (length history) (length (nodes_of history)) (begun_of history) home (ledger_at history home)
     one-there = s.known.arbitrating.arbitrated.each home
 
-    abbrev Goes : Act → Kept → Type 0
-    Goes did more = IsArbitrating (suc (length history)) (nodes_of history) (begun_of history) (finished_of history) (ended_of history) (ledger_at (Did services.answer.speaker Done did ∷ history)) more (Some home)
+    abbrev Goes : Act → Kept → Contest → Type 0
+    Goes did more after = IsArbitrating (suc (length history)) (nodes_of history) (begun_of history) (finished_of history) (ended_of history) (ledger_at (Did services.answer.speaker Done did ∷ history)) more after
+
+    abbrev here : Contest
+    here = record services.contest { node = Some home }
+
+    -- it is not known any more who is blocked
+    anew : (change : ArbiterValue → ArbiterValue) (after : Contest) → LearnsAt home 0 services.contest after → (a : ArbiterValue) → IsPassed (starts_in (begun_of history)) (change a).sequencer (known_at after home)
+    anew change after learns a = learns-here (starts_in (begun_of history)) home 0 services.contest after learns (Some (change a)) (known-none (starts_in (begun_of history)) (Some (change a)))
 
     -- a sequence requests, locks or grabs
-    pub request-kept : (priority : Option ℕ) (more : Kept) → ChangesAt home (requested_if None id (request_priority (sequences_of history) id priority)) services.arbiters more → Goes (Request priority) more
-    request-kept priority more changes =
+    pub request-kept : (priority : Option ℕ) (more : Kept) → ChangesAt home (requested_if None id (request_priority (sequences_of history) id priority)) services.arbiters more → PassedStays → Goes (Request priority) more here
+    request-kept priority more changes stays =
         let request = item_request id (request_priority (sequences_of history) id priority) in
         let l = ledger_at history home in
         let live = live_by (begun_of history) (finished_of history) (ended_of history) in
         rw seat.speaker_is
         (kept-there home seat.there (ledger_at (Did (who.Sequence id home) Done (Request priority) ∷ history)) more (at_sequencer (with_item id (request_priority (sequences_of history) id priority))) (λ n is. rw is refl)
         (rw (itself home) (asked-behind live (length history) l one-there.grants_within one-there.locks_within request seat.lives))
-        (rw (itself home) (arbitrated-behind one-there request seat.here seat.moded)) changes)
+        (rw (itself home) (arbitrated-behind one-there request seat.here seat.moded)) changes here refl (λ n other. refl)
+        (λ a passed. stays.item (starts_in (begun_of history)) a.sequencer (known_at services.contest home) passed id (request_priority (sequences_of history) id priority)))
 
-    pub lock-kept : (more : Kept) → ChangesAt home (locked_if None id) services.arbiters more → Goes Lock more
-    lock-kept more changes =
+    pub lock-kept : (more : Kept) → ChangesAt home (locked_if None id) services.arbiters more → PassedStays → Goes Lock more here
+    lock-kept more changes stays =
         let l = ledger_at history home in
         let live = live_by (begun_of history) (finished_of history) (ended_of history) in
         rw seat.speaker_is
         (kept-there home seat.there (ledger_at (Did (who.Sequence id home) Done Lock ∷ history)) more (at_sequencer (with_lock id)) (λ n is. rw is refl)
         (rw (itself home) (asked-behind live (length history) l one-there.grants_within one-there.locks_within (lock_request id) seat.lives))
-        (rw (itself home) (arbitrated-behind one-there (lock_request id) seat.here seat.moded)) changes)
+        (rw (itself home) (arbitrated-behind one-there (lock_request id) seat.here seat.moded)) changes here refl (λ n other. refl)
+        (λ a passed. stays.lock (starts_in (begun_of history)) a.sequencer (known_at services.contest home) passed id))
 
-    pub grab-kept : (more : Kept) → ChangesAt home (grabbed_if None id) services.arbiters more → Goes Grab more
-    grab-kept more changes =
+    pub grab-kept : (more : Kept) → ChangesAt home (grabbed_if None id) services.arbiters more → (after : Contest) → after.node ≡ Some home → LearnsAt home 0 services.contest after → Goes Grab more after
+    grab-kept more changes after is learns =
         let l = ledger_at history home in
         let live = live_by (begun_of history) (finished_of history) (ended_of history) in
         rw seat.speaker_is
         (kept-there home seat.there (ledger_at (Did (who.Sequence id home) Done Grab ∷ history)) more (at_sequencer (with_grab id)) (λ n is. rw is refl)
         (rw (itself home) (asked-before live (length history) l one-there.grants_within one-there.locks_within (lock_request id) seat.lives))
-        (rw (itself home) (arbitrated-before one-there (lock_request id) seat.here seat.moded)) changes)
+        (rw (itself home) (arbitrated-before one-there (lock_request id) seat.here seat.moded)) changes after is (learns-else home 0 services.contest after learns)
+        (λ a passed. anew (at_sequencer (with_grab id)) after learns a))
 
     -- it gives a lock back
-    pub unlock-kept : (more : Kept) → ChangesAt home (unlocked_if None id) services.arbiters more → Goes Unlock more
-    unlock-kept more changes =
+    pub unlock-kept : (more : Kept) → ChangesAt home (unlocked_if None id) services.arbiters more → (after : Contest) → after.node ≡ Some home → LearnsAt home 0 services.contest after → Goes Unlock more after
+    unlock-kept more changes after is learns =
         let l = ledger_at history home in
         let live = live_by (begun_of history) (finished_of history) (ended_of history) in
         rw seat.speaker_is
         (kept-there home seat.there (ledger_at (Did (who.Sequence id home) Done Unlock ∷ history)) more (at_sequencer (unlocked id)) (λ n is. rw is refl)
         (rw (itself home) (unlocked-is live l id seat.lives))
-        (rw (itself home) (arbitrated-unlocked one-there id seat.moded)) changes)
+        (rw (itself home) (arbitrated-unlocked one-there id seat.moded)) changes after is (learns-else home 0 services.contest after learns)
+        (λ a passed. anew (at_sequencer (unlocked id)) after learns a))
 
     -- it sends its item
-    pub send-kept : (item : Item) (way : How) (more : Kept) → grant_of id (ledger_at history home).driver ≡ Some way → ChangesAt home (sent_if (Some way) id) services.arbiters more → Goes (Send item) more
+    pub send-kept : (item : Item) (way : How) (more : Kept) → grant_of id (ledger_at history home).driver ≡ Some way → ChangesAt home (sent_if (Some way) id) services.arbiters more → Goes (Send item) more here
     send-kept item way more granted changes =
         let l = ledger_at history home in
         let live = live_by (begun_of history) (finished_of history) (ended_of history) in
         rw seat.speaker_is
         (kept-there home seat.there (ledger_at (Did (who.Sequence id home) Done (Send item) ∷ history)) more (at_sequencer (after_send id way)) (λ n is. rw is refl)
         (rw (itself home, granted) (arbiter-changed live live l (record l { driver = sent id way }) (at_sequencer (after_send id way)) refl (λ mode. refl)))
-        (rw (itself home, granted) (arbitrated-driver one-there (sent id way) l.asker seat.moded)) changes)
+        (rw (itself home, granted) (arbitrated-driver one-there (sent id way) l.asker seat.moded)) changes here refl (λ n other. refl) (λ a passed. record { within = passed.within; blocked = passed.blocked }))
 
 -- a request is refused for its priority, or for what the sequencer says
 pub request-out : (priority : Option ℕ) (refusal : Option Fatal) → is_none_at_all priority ≡ true → request_refusal priority refusal ≡ Some OutOfRange
@@ -191,7 +209,7 @@ unchanged node arbiters more changes n = changes n ∙ tested (node == n) (get n
     tested false o = refl
 
 same-arbitrating : {script : ScriptValue} {history : List Entry} {services : Services} (more : Kept) → ((n : ℕ) → get nat_eq more n ≡ get nat_eq services.arbiters n) → ServicesMatch script history services
-    → IsArbitrating (length history) (nodes_of history) (begun_of history) (finished_of history) (ended_of history) (ledger_at history) more services.contested
+    → IsArbitrating (length history) (nodes_of history) (begun_of history) (finished_of history) (ended_of history) (ledger_at history) more services.contest
 same-arbitrating more same m = record { arbiters_are = record { each = λ n. same n ∙ m.arbitrating.arbiters_are.each n }; arbitrated = m.arbitrating.arbitrated; contested_is = m.arbitrating.contested_is }
 
 pub with-arbiters : {script : ScriptValue} {history : List Entry} {services : Services} (more : Kept) → ((n : ℕ) → get nat_eq more n ≡ get nat_eq services.arbiters n) → ServicesMatch script history services → ServicesMatch script history (record services { arbiters = more })

@@ -32,7 +32,7 @@ pub fn ask(
     ensures { IfOk result (λ attempt. IsAttempt (Ask name.now how) attempt place services.old services.new) }
 {
     trees::path_order_is_in_order();
-    let reached = match reached_through(services, alloc, name)? {
+    let reached = match reached_through(services, name) {
         Ok(reached) => reached,
         Err(fatal) => return refused(services, alloc, fatal),
     };
@@ -40,10 +40,11 @@ pub fn ask(
         who: services.answer.speaker,
         name: *name,
     };
-    let arbiters = &mut services.arbiters;
-    match ask_at(arbiters, &services.sequences, &reached, driver, how) {
+    let known = services.contest.known(reached.sequencer);
+    let (arbiters, sequences) = (&mut services.arbiters, &services.sequences);
+    match ask_at(arbiters, sequences, known, &reached, driver, how) {
         Ok(Asked::Waits) => {
-            services.contested = Some(reached.sequencer);
+            services.contest.node = Some(reached.sequencer);
             Ok(waiting(services, how))
         }
         Ok(Asked::Nothing) => {
@@ -86,13 +87,13 @@ pub fn item_done(
     ensures { IfOk result (λ attempt. IsAttempt (ItemDone name.now response) attempt place services.old services.new) }
 {
     trees::path_order_is_in_order();
-    let reached = match reached_through(services, alloc, name)? {
+    let reached = match reached_through(services, name) {
         Ok(reached) => reached,
         Err(fatal) => return refused(services, alloc, fatal),
     };
     match done_at(&mut services.arbiters, &reached) {
         Ok(id) => {
-            services.contested = Some(reached.sequencer);
+            services.contest.node = Some(reached.sequencer);
             let calls = done_calls(alloc, reached.sequencer, id, response)?;
             tell_living(services, place, calls.as_slice())?;
             Ok(done(services))
@@ -116,22 +117,18 @@ fn done_calls(
 }
 
 // The sequencer that the speaker reaches through a port of its own, in a phase that takes time; or why there is none.
-fn reached_through(
-    services: &Services,
-    alloc: Global,
-    name: &Name,
-) -> Result<Result<Reached, Fatal>, AllocError>
-    ensures { IfOk result (λ found. IsReached services.now name.now found) }
+fn reached_through(services: &Services, name: &Name) -> Result<Reached, Fatal>
+    ensures { IsReached services.now name.now result }
 {
     if !in_task(services.stage) {
-        return Ok(Err(Fatal::OutsideTask));
+        return Err(Fatal::OutsideTask);
     }
     let performer = services.answer.speaker;
     let (tree, wiring) = (&services.tree, &services.wiring);
-    let port = port_below(tree, wiring, alloc, &performer, PortKind::Seq, name)?;
+    let port = port_below(tree, wiring, &performer, PortKind::Seq, name);
     match reached_at(wiring, &services.arbiters, port) {
-        Some(reached) => Ok(Ok(reached)),
-        None => Ok(Err(Fatal::NoPort)),
+        Some(reached) => Ok(reached),
+        None => Err(Fatal::NoPort),
     }
 }
 

@@ -6,13 +6,13 @@ ghost use Rattle.uvm_object.specs.declared.entries.Outcome.TheVariants.{Done};
 ghost use Rattle.bench_history.specs.Arbitration.{request_priority};
 ghost use Rattle.bench_history.specs.Dues.{told_item, told_sent};
 ghost use Rattle.bench_history.specs.Refusals.{is_none_at_all, is_open_to};
-ghost use Rattle.world_sequencer_acts.specs.Drivings.{contested_at};
+ghost use Rattle.world_sequencer_acts.specs.Drivings.{IsContestedAnew, contested_at};
 ghost use Rattle.world_services.specs.Attempts.{CanPerform, IsAttempt};
 
 use bench_history::DriverPort;
 use std::alloc::{AllocError, Global};
 use uvm_object::{Call, Fatal, Who};
-use uvm_sequencer::{How, SeqId, Sequences};
+use uvm_sequencer::{How, SeqId, Sequences, laws as sequencers};
 use uvm_tlm::Item;
 use uvm_tree::{NodeId, laws as trees};
 use world_sequencers::arbiters::{driver_at, grab_for, lock_for, request_at, send_at, unlock_at};
@@ -32,6 +32,8 @@ pub fn request(
     ensures { IfOk result (λ attempt. (place : ℕ) → IsAttempt (Request priority) attempt place services.old services.new) }
 {
     trees::path_order_is_in_order();
+    // Who is blocked stays so.
+    sequencers::passed_stays();
     if is_none_at_all(priority) {
         return refused(services, alloc, Fatal::OutOfRange);
     }
@@ -54,6 +56,8 @@ pub fn lock(services: &mut Services, alloc: Global) -> Result<Attempt, AllocErro
     ensures { IfOk result (λ attempt. (place : ℕ) → IsAttempt Lock attempt place services.old services.new) }
 {
     trees::path_order_is_in_order();
+    // Who is blocked stays so.
+    sequencers::passed_stays();
     let performer = services.answer.speaker;
     let home = performer.node();
     let Some(id) = sequence_in(&performer) else {
@@ -78,7 +82,7 @@ pub fn grab(services: &mut Services, alloc: Global) -> Result<Attempt, AllocErro
         unreachable!()
     };
     match grab_for(&mut services.arbiters, home, id)? {
-        None => Ok(contested(services, home)),
+        None => Ok(contested_anew(services, home)),
         Some(fatal) => refused(services, alloc, fatal),
     }
 }
@@ -96,7 +100,7 @@ pub fn unlock(services: &mut Services, alloc: Global) -> Result<Attempt, AllocEr
         unreachable!()
     };
     match unlock_at(&mut services.arbiters, home, id) {
-        None => Ok(contested(services, home)),
+        None => Ok(contested_anew(services, home)),
         Some(fatal) => refused(services, alloc, fatal),
     }
 }
@@ -166,7 +170,17 @@ fn contested(services: &mut Services, home: NodeId) -> Attempt
     ensures attempt { result ≡ Attempt.Became Done }
     ensures services { services.new ≡ contested_at home services.old }
 {
-    services.contested = Some(home);
+    services.contest.node = Some(home);
+    done(services)
+}
+
+// So is one after which it is found anew who is blocked there.
+fn contested_anew(services: &mut Services, home: NodeId) -> Attempt
+    ensures attempt { result ≡ Attempt.Became Done }
+    ensures services { IsContestedAnew home services.old services.new }
+{
+    services.contest.node = Some(home);
+    services.contest.learn(home, 0);
     done(services)
 }
 

@@ -61,7 +61,7 @@ pub fn start(
 }
 
 /// Answers which sequence the start by somebody needs, with its sequencer. Its error is why the act is refused, or want of
-/// memory, which may be told before the refusals of its sequencer, its path and a loop of overrides.
+/// memory, which may be told before the refusals of its path and a loop of overrides.
 #[tactic(auto, unfolding(bench_history::specs::Refusals::starting_refusal))]
 pub fn what_is_started(
     services: &Services,
@@ -88,10 +88,8 @@ pub fn what_is_started(
     let Some(type_id) = sequence_named(&services.factory, type_name) else {
         return Err(Uncreated::Refused(Fatal::InvalidType));
     };
-    let home = match home_asked(&services.tree, alloc, performer, on) {
-        Ok(Some(home)) => home,
-        Ok(None) => return Err(Uncreated::Refused(Fatal::NoSequencer)),
-        Err(_) => return Err(Uncreated::Memory),
+    let Some(home) = home_asked(&services.tree, performer, on) else {
+        return Err(Uncreated::Refused(Fatal::NoSequencer));
     };
     let path = match started_path(services, alloc, performer, home, name) {
         Ok(path) => path,
@@ -129,18 +127,13 @@ fn sequence_named(factory: &Factory, name: &Name) -> Option<TypeId>
 }
 
 // The sequencer on which somebody starts a sequence, if it is there.
-fn home_asked(
-    tree: &Tree,
-    alloc: Global,
-    performer: &Who,
-    on: &Path,
-) -> Result<Option<NodeId>, AllocError>
-    ensures { IfOk result (λ home. home ≡ home_asked tree.now.nodes performer.now on.now) }
+fn home_asked(tree: &Tree, performer: &Who, on: &Path) -> Option<NodeId>
+    ensures { result ≡ home_asked tree.now.nodes performer.now on.now }
 {
     match performer {
-        Who::Node(_) => Ok(if_sequencer(tree, node_below(tree, alloc, performer, on)?)),
-        Who::Sequence { home, .. } if on.depth() == 0 => Ok(Some(*home)),
-        Who::Sequence { .. } => Ok(None),
+        Who::Node(_) => if_sequencer(tree, node_below(tree, performer, on)),
+        Who::Sequence { home, .. } if on.depth() == 0 => Some(*home),
+        Who::Sequence { .. } => None,
     }
 }
 

@@ -58,7 +58,8 @@ fn finish(services: &mut Services, alloc: Global, place: usize, id: SeqId) -> Re
     let home = performer.node();
     services.sequences.finish(id);
     services.answer.noted = true;
-    services.contested = Some(home);
+    services.contest.node = Some(home);
+    services.contest.learn(home, 0);
     cancel(&mut services.agenda, performer);
     let lapses = leave_at(&mut services.arbiters, home, id);
     let driver = driver_at(&services.arbiters, home);

@@ -29,7 +29,10 @@ use Rattle.bench_history.specs.History.{ended_of, nodes_of, running, stage_of}
 use Rattle.bench_history.specs.Laws.{LivingRun}
 use Rattle.bench_history.specs.Next.{EachIsNext}
 use Rattle.bench_history.specs.Sequences.{Beginning, begun_of, finished_of, is_live, is_over_phase, starts_in}
-use Rattle.world_sequencers.specs.Arbiters.{AddsArbiter, ChangesEach, Kept, at_sequencer, lock_in, mode_of, new_arbiter, ready_in}
+use Rattle.world_sequencers.specs.declared.contests.Contest.{Contest}
+use Rattle.world_sequencers.specs.Contests.{AddsContest, ForgetsAll, IsKnown, known_at}
+use Rattle.world_sequencers.proofs.Contested.{known-none}
+use Rattle.world_sequencers.specs.Arbiters.{AddsArbiter, ArbiterValue, ChangesEach, Kept, at_sequencer, lock_in, mode_of, new_arbiter, ready_in}
 use Rattle.world_sequencers.specs.Arbitratings.{IsArbitrated, IsArbitrating, Ledger, arbiter_of, arbiter_with, ledger_at, queue_of, runs_on}
 use Rattle.world_sequences.specs.Sequencings.{live_by, lives_by}
 use Rattle.world_sequencers.proofs.Arbited.{added-is, alike-is, arbitrated-added, arbitrated-begun, arbitrated-grown, arbitrated-idle, ended-is, filter-empty, known-all}
@@ -52,22 +55,22 @@ arbitrated-first nodes n = record {
   nothing = λ none. (refl, refl, refl, refl);
 }
 
-pub arbitrating-first : {kept : Kept} (nodes : List Node) → kept.entries ≡ [] → IsArbitrating 0 nodes [] [] [] (ledger_at []) kept None
-arbitrating-first nodes empty = record {
+pub arbitrating-first : {kept : Kept} {contest : Contest} (nodes : List Node) → kept.entries ≡ [] → contest.node ≡ None → IsArbitrating 0 nodes [] [] [] (ledger_at []) kept contest
+arbitrating-first nodes empty nowhere = record {
   arbiters_are = record { each = λ n. ap (lookup (nat_eq n)) empty };
   arbitrated = record { each = λ n. arbitrated-first (length nodes) n };
-  contested_is = record { unlocked = λ n other. refl; unserved = λ n other. refl; among = λ k e. cc };
+  contested_is = record { unlocked = λ n other. refl; unserved = λ n other. refl; among = λ k e. cc; known = λ n. tt };
 }
 
 -- where nothing is granted anywhere, nothing is with more nodes
 pub arbitrating-grown :
-    {count : ℕ} {nodes : List Node} {begun : List Beginning} {finished : List Who} {ended : List Phase} {ledger : ℕ → Ledger} {arbiters : Kept} {contested : Option ℕ} (more : List Node) → length nodes ≤ length more
+    {count : ℕ} {nodes : List Node} {begun : List Beginning} {finished : List Who} {ended : List Phase} {ledger : ℕ → Ledger} {arbiters : Kept} {contest : Contest} (more : List Node) → length nodes ≤ length more
     → ((n : ℕ) → lock_in (starts_in begun) (arbiter_of (live_by begun finished ended) (ledger n)) ≡ None) → ((n : ℕ) → ready_in (starts_in begun) (arbiter_of (live_by begun finished ended) (ledger n)) ≡ None)
-    → IsArbitrating count nodes begun finished ended ledger arbiters contested → IsArbitrating (suc count) more begun finished ended ledger arbiters None
+    → IsArbitrating count nodes begun finished ended ledger arbiters contest → IsArbitrating (suc count) more begun finished ended ledger arbiters (record contest { node = None })
 arbitrating-grown more le unlocked unserved a = record {
   arbiters_are = a.arbiters_are;
   arbitrated = record { each = λ n. arbitrated-grown (a.arbitrated.each n) (length more) le };
-  contested_is = record { unlocked = λ n other. unlocked n; unserved = λ n other. unserved n; among = λ k e. cc };
+  contested_is = record { unlocked = λ n other. unlocked n; unserved = λ n other. unserved n; among = λ k e. cc; known = a.contested_is.known };
 }
 
 -- one of them may be a sequencer
@@ -114,15 +117,16 @@ module _ (history : List Entry) (performer : Who) (name : List ℕ) (adds : What
   grown = Did performer Done (Add name adds) ∷ history
 
   pub arbitrating-added :
-      {arbiters new : Kept} {contested : Option ℕ} → 0 < length (nodes_of history) → length (nodes_of grown) ≡ suc (length (nodes_of history)) → AddsArbiter (mode_of adds) (length (nodes_of history)) arbiters new
+      {arbiters new : Kept} {contest after : Contest} → 0 < length (nodes_of history) → length (nodes_of grown) ≡ suc (length (nodes_of history)) → AddsArbiter (mode_of adds) (length (nodes_of history)) arbiters new
       → ((n : ℕ) → lock_in (starts_in (begun_of history)) (arbiter_of (live_by (begun_of history) (finished_of history) (ended_of history)) (ledger_at history n)) ≡ None)
       → ((n : ℕ) → ready_in (starts_in (begun_of history)) (arbiter_of (live_by (begun_of history) (finished_of history) (ended_of history)) (ledger_at history n)) ≡ None)
-      → IsArbitrating (length history) (nodes_of history) (begun_of history) (finished_of history) (ended_of history) (ledger_at history) arbiters contested
-      → IsArbitrating (length grown) (nodes_of grown) (begun_of history) (finished_of history) (ended_of history) (ledger_at grown) new None
-  arbitrating-added {arbiters} {new} some longer adding unlocked unserved a = record {
+      → after.node ≡ None → AddsContest (mode_of adds) (length (nodes_of history)) contest after
+      → IsArbitrating (length history) (nodes_of history) (begun_of history) (finished_of history) (ended_of history) (ledger_at history) arbiters contest
+      → IsArbitrating (length grown) (nodes_of grown) (begun_of history) (finished_of history) (ended_of history) (ledger_at grown) new after
+  arbitrating-added {arbiters} {new} {contest} {after} some longer adding unlocked unserved nowhere adds_contest a = record {
     arbiters_are = record { each = λ n. adding n ∙ at n (length (nodes_of history) == n) refl };
     arbitrated = record { each = λ n. every n (length (nodes_of history) == n) refl };
-    contested_is = record { unlocked = λ n other. locks n (length (nodes_of history) == n) refl; unserved = λ n other. serves n (length (nodes_of history) == n) refl; among = λ k e. cc };
+    contested_is = record { unlocked = λ n other. locks n (length (nodes_of history) == n) refl; unserved = λ n other. serves n (length (nodes_of history) == n) refl; among = λ k e. cc; known = λ n. knows n (length (nodes_of history) == n) refl };
   }
     where
       count : ℕ
@@ -181,8 +185,21 @@ module _ (history : List Entry) (performer : Who) (name : List ℕ) (adds : What
       serves n true is = ap (ready_in (starts_in (begun_of history))) (arbiter-there n is) ∙ new-ready (mode_of adds)
       serves n false is = ap (ready_in (starts_in (begun_of history))) (arbiter-else n is) ∙ unserved n
 
+      new-known : (mode : Option Mode) (known : ℕ) → (IsSome mode → known ≡ 0) → IsKnown (starts_in (begun_of history)) known (option_map new_arbiter mode)
+      new-known None known fresh = tt
+      new-known (Some mode) known fresh = subst (λ (k : ℕ). IsKnown (starts_in (begun_of history)) k (Some (new_arbiter mode))) (sym (fresh refl)) (known-none (starts_in (begun_of history)) (Some (new_arbiter mode)))
+
+      knows : (n : ℕ) (b : Bool) → (length (nodes_of history) == n) ≡ b → IsKnown (starts_in (begun_of history)) (known_at after n) (arbiter_of (live_in history) (ledger_at grown n))
+      knows n true is =
+          let same = here n is in
+          subst (λ (o : Option ArbiterValue). IsKnown (starts_in (begun_of history)) (known_at after n) o) (sym (arbiter-there n is))
+          (new-known (mode_of adds) (known_at after n) (λ some. subst (λ (k : ℕ). known_at after k ≡ 0) same (adds_contest.fresh some)))
+      knows n false is =
+          subst (λ (o : Option ArbiterValue). IsKnown (starts_in (begun_of history)) (known_at after n) o) (sym (arbiter-else n is))
+          (subst (λ (k : ℕ). IsKnown (starts_in (begun_of history)) k (arbiter_of (live_in history) (ledger_at history n))) (sym (adds_contest.others n is)) (a.contested_is.known n))
+
 -- one more sequence is started: for those that wait nothing changes
-module _ {count : ℕ} {nodes : List Node} {begun : List Beginning} {finished : List Who} {ended : List Phase} {ledger : ℕ → Ledger} {arbiters : Kept} {contested : Option ℕ} (a : IsArbitrating count nodes begun finished ended ledger arbiters contested) (changes : StartsChangeNothing) (x : Beginning) where
+module _ {count : ℕ} {nodes : List Node} {begun : List Beginning} {finished : List Who} {ended : List Phase} {ledger : ℕ → Ledger} {arbiters : Kept} {contest : Contest} (a : IsArbitrating count nodes begun finished ended ledger arbiters contest) (changes : StartsChangeNothing) (x : Beginning) where
   begun-alike : (node id : ℕ) → runs_on begun node id → live_by (x ∷ begun) finished ended id ≡ live_by begun finished ended id
   begun-alike node id here = by (numbered begun id) refl here
     where
@@ -209,7 +226,14 @@ module _ {count : ℕ} {nodes : List Node} {begun : List Beginning} {finished : 
   ready-still n (Some mode) =
       ap (readiness mode (wait_of (ledger n).driver)) (changes.items x.start (starts_in begun) (arbiter_with (live_by begun finished ended) (ledger n) mode).sequencer (known-all (a.arbitrated.each n) (live_by begun finished ended)))
 
-  pub arbitrating-begun : IsArbitrating (suc count) nodes (x ∷ begun) finished ended ledger arbiters contested
+  blocked-still : (n known : ℕ) (mode : Option Mode) → IsKnown (starts_in begun) known (option_map (arbiter_with (live_by begun finished ended) (ledger n)) mode) → IsKnown (starts_in (x ∷ begun)) known (option_map (arbiter_with (live_by begun finished ended) (ledger n)) mode)
+  blocked-still n known None passed = tt
+  blocked-still n known (Some mode) passed = record {
+    within = passed.within;
+    blocked = changes.blocked x.start (starts_in begun) (arbiter_with (live_by begun finished ended) (ledger n) mode).sequencer (known-all (a.arbitrated.each n) (live_by begun finished ended)) known ∙ passed.blocked;
+  }
+
+  pub arbitrating-begun : IsArbitrating (suc count) nodes (x ∷ begun) finished ended ledger arbiters contest
   arbitrating-begun = record {
     arbiters_are = record { each = λ n. a.arbiters_are.each n ∙ sym (begun-same n) };
     arbitrated = record { each = λ n. arbitrated-begun (a.arbitrated.each n) x };
@@ -217,6 +241,7 @@ module _ {count : ℕ} {nodes : List Node} {begun : List Beginning} {finished : 
       unlocked = λ n other. ap (lock_in (starts_in (x ∷ begun))) (begun-same n) ∙ locks-still n (ledger n).mode ∙ a.contested_is.unlocked n other;
       unserved = λ n other. ap (ready_in (starts_in (x ∷ begun))) (begun-same n) ∙ ready-still n (ledger n).mode ∙ a.contested_is.unserved n other;
       among = a.contested_is.among;
+      known = λ n. subst (λ (o : Option ArbiterValue). IsKnown (starts_in (x ∷ begun)) (known_at contest n) o) (sym (begun-same n)) (blocked-still n (known_at contest n) (ledger n).mode (a.contested_is.known n));
     };
   }
 
@@ -273,22 +298,30 @@ module _ (script : ScriptValue) (history : List Entry) (phase : Phase) (run : Li
       (All-weaker (λ (w : Wanted). runs_on (begun_of history) n w.request.seq) (λ w. waits_by (live_by (begun_of history) (finished_of history) (phase ∷ ended_of history)) l.grants l.locks w ≡ false) (λ w runs_here. rw (none-live n w.request.seq runs_here) refl) l.wanted here))
 
   pub arbitrating-ended :
-      (steps : List (Option SeqStep)) → ((n : ℕ) → is_live_at steps n ≡ live_by (begun_of history) (finished_of history) (phase ∷ ended_of history) n) → {arbiters new : Kept} {contested : Option ℕ} → ChangesEach (at_sequencer (after_phase steps)) arbiters new
-      → IsArbitrating (length history) (nodes_of history) (begun_of history) (finished_of history) (ended_of history) (ledger_at history) arbiters contested
-      → IsArbitrating (suc (length history)) (nodes_of history) (begun_of history) (finished_of history) (phase ∷ ended_of history) (ledger_at (End phase ∷ history)) new None
-  arbitrating-ended steps known changes a = record {
+      (steps : List (Option SeqStep)) → ((n : ℕ) → is_live_at steps n ≡ live_by (begun_of history) (finished_of history) (phase ∷ ended_of history) n) → {arbiters new : Kept} {contest after : Contest} → ChangesEach (at_sequencer (after_phase steps)) arbiters new → after.node ≡ None → ForgetsAll after
+      → IsArbitrating (length history) (nodes_of history) (begun_of history) (finished_of history) (ended_of history) (ledger_at history) arbiters contest
+      → IsArbitrating (suc (length history)) (nodes_of history) (begun_of history) (finished_of history) (phase ∷ ended_of history) (ledger_at (End phase ∷ history)) new after
+  arbitrating-ended steps known {after = after} changes nowhere forgets a = record {
     arbiters_are = record {
       each = λ n.
           changes n ∙ ap (option_map (at_sequencer (after_phase steps))) (a.arbiters_are.each n)
           ∙ sym (ended-is (live_by (begun_of history) (finished_of history) (ended_of history)) (live_by (begun_of history) (finished_of history) (phase ∷ ended_of history)) (ledger_at history n) steps known (λ id. live-before (begun_of history) (finished_of history) (ended_of history) phase id));
     };
     arbitrated = record { each = λ n. arbitrated-idle (a.arbitrated.each n) };
-    contested_is = record { unlocked = λ n other. locks n (ledger_at history n).mode; unserved = λ n other. serves n (ledger_at history n).mode; among = λ k e. cc };
+    contested_is = record {
+      unlocked = λ n other. locks n (ledger_at history n).mode;
+      unserved = λ n other. serves n (ledger_at history n).mode;
+      among = λ k e. cc;
+      known = λ n. nothing n (known_at after n) (forgets n);
+    };
   }
     where
       locks : (n : ℕ) (mode : Option Mode) → lock_in (starts_in (begun_of history)) (option_map (arbiter_with (live_by (begun_of history) (finished_of history) (phase ∷ ended_of history)) (ledger_at (End phase ∷ history) n)) mode) ≡ None
       locks n None = refl
       locks n (Some mode) = rw (nobody n (ledger_at history n) (a.arbitrated.each n).wanted_here) refl
+
+      nothing : (n known : ℕ) → known ≡ 0 → IsKnown (starts_in (begun_of history)) known (arbiter_of (live_by (begun_of history) (finished_of history) (phase ∷ ended_of history)) (ledger_at (End phase ∷ history) n))
+      nothing n known none = rw none (known-none (starts_in (begun_of history)) (arbiter_of (live_by (begun_of history) (finished_of history) (phase ∷ ended_of history)) (ledger_at (End phase ∷ history) n)))
 
       serves : (n : ℕ) (mode : Option Mode) → ready_in (starts_in (begun_of history)) (option_map (arbiter_with (live_by (begun_of history) (finished_of history) (phase ∷ ended_of history)) (ledger_at (End phase ∷ history) n)) mode) ≡ None
       serves n None = refl

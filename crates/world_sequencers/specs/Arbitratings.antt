@@ -16,6 +16,8 @@ use Rattle.bench_history.specs.declared.askers.DriverPort.{DriverPort}
 use Rattle.bench_history.specs.Arbitration.{Wanted, all_wanted, driver_asker, driver_state, grants_at, locks_at, locks_held, mode_at, waits_by}
 use Rattle.bench_history.specs.Sequences.{Beginning, starts_in}
 use Rattle.world_sequencers.specs.Arbiters.{ArbiterValue, Kept, lock_in, ready_in}
+use Rattle.world_sequencers.specs.declared.contests.Contest.{Contest}
+use Rattle.world_sequencers.specs.Contests.{IsKnown, known_at}
 use Rattle.world_sequences.specs.Sequencings.{live_by}
 
 -- what a log says of a sequencer: its mode, what is wanted there, what was granted, which locks were not given back, where its driver stands, and who
@@ -72,14 +74,16 @@ pub record IsArbitrated (count nodes : ℕ) (begun : List Beginning) (node : ℕ
 pub record AreArbitrated (count nodes : ℕ) (begun : List Beginning) (ledger : ℕ → Ledger) : Type 0 where
   pub each : (n : ℕ) → IsArbitrated count nodes begun n (ledger n)
 
--- the sequencer that was changed last is one of all nodes: at no other does a lock lead, or can a driver be served
-pub record AreContested (started : List Start) (live : ℕ → Bool) (ledger : ℕ → Ledger) (order : List ℕ) (contested : Option ℕ) : Type 0 where
-  pub unlocked : (n : ℕ) → (contested ≡ Some n → ⊥) → lock_in started (arbiter_of live (ledger n)) ≡ None
-  pub unserved : (n : ℕ) → (contested ≡ Some n → ⊥) → ready_in started (arbiter_of live (ledger n)) ≡ None
-  pub among : ForSome contested (Contains order)
+-- the sequencer that was changed last is one of all nodes: at no other does a lock lead, or can a driver be served; and of each it is known of so many
+-- requests that they are blocked
+pub record AreContested (started : List Start) (live : ℕ → Bool) (ledger : ℕ → Ledger) (order : List ℕ) (contest : Contest) : Type 0 where
+  pub unlocked : (n : ℕ) → (contest.node ≡ Some n → ⊥) → lock_in started (arbiter_of live (ledger n)) ≡ None
+  pub unserved : (n : ℕ) → (contest.node ≡ Some n → ⊥) → ready_in started (arbiter_of live (ledger n)) ≡ None
+  pub among : ForSome contest.node (Contains order)
+  pub known : (n : ℕ) → IsKnown started (known_at contest n) (arbiter_of live (ledger n))
 
 -- all that is kept of sequencers is what the log says
-pub record IsArbitrating (count : ℕ) (nodes : List Node) (begun : List Beginning) (finished : List Who) (ended : List Phase) (ledger : ℕ → Ledger) (arbiters : Kept) (contested : Option ℕ) : Type 0 where
+pub record IsArbitrating (count : ℕ) (nodes : List Node) (begun : List Beginning) (finished : List Who) (ended : List Phase) (ledger : ℕ → Ledger) (arbiters : Kept) (contest : Contest) : Type 0 where
   pub arbiters_are : AreArbiters (live_by begun finished ended) ledger arbiters
   pub arbitrated : AreArbitrated count (length nodes) begun ledger
-  pub contested_is : AreContested (starts_in begun) (live_by begun finished ended) ledger (path_order nodes) contested
+  pub contested_is : AreContested (starts_in begun) (live_by begun finished ended) ledger (path_order nodes) contest

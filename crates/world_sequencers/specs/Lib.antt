@@ -1,2 +1,3 @@
 pub mod Arbiters
 pub mod Arbitratings
+pub mod Contests

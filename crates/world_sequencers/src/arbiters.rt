@@ -7,8 +7,11 @@ ghost use Rattle.uvm_glob.specs.Faults.{unless};
 ghost use Rattle.uvm_sequencer.specs.Drivers.{grant_of, hand_of, is_try};
 ghost use Rattle.uvm_sequencer.specs.Sequencers.{after_leave, after_phase, answer, candidates_at, choice_at, granted, lock_at, locked, ready_at, with_idle};
 ghost use Rattle.bench_history.specs.Refusals.{ask_refusal, done_refusal, item_refusal, lock_refusal, unlock_refusal};
+ghost use Rattle.uvm_sequencer.specs.Passed.{IsPassed};
+ghost use Rattle.world_sequencers.specs.Contests.{AreKnown, IsKnown};
 ghost use Rattle.world_sequencers.specs.Arbiters.{AddsArbiter, ChangesAt, ChangesEach, at_sequencer, asked_at, asked_in, grabbed_if, locked_if, locked_in, lock_in, mode_of, new_arbiter, ready_in, requested_if, sent_if, served_in, unlocked_if};
 
+use crate::contests::Contest;
 use bench_history::DriverPort;
 use std::alloc::{AllocError, Global};
 use std::collections::HashMap;
@@ -52,20 +55,23 @@ impl Arbiter {
         }
     }
 
-    // The driver asks for an item through its port, or why it may not. Takes no memory.
+    // The driver asks for an item through its port, or why it may not, where it is known of so many requests that they are blocked.
+    // Takes no memory.
     fn ask(
         &mut self,
         sequences: &Sequences,
+        known: usize,
         port: NodeId,
         driver: DriverPort,
         how: How,
     ) -> Result<Asked, Fatal>
+        requires { IsPassed sequences.now.started self.old.sequencer known }
         ensures value { result ≡ unless (ask_refusal self.old.sequencer) (answer how (candidates_at sequences.now.started self.old.sequencer)) }
         ensures after { IfOk result (λ asked. self.new ≡ asked_at driver how asked self.old) }
         ensures unchanged { OnErr result (self.new ≡ self.old) }
     {
         self.sequencer.set_driver(port);
-        match self.sequencer.ask(sequences, port, how) {
+        match self.sequencer.ask_behind(sequences, port, how, known) {
             Ok(Asked::Waits) => {
                 self.driver = Some(driver);
                 Ok(Asked::Waits)
@@ -164,20 +170,22 @@ impl Arbiter {
     }
 
     // The lock that leads is granted. Takes no memory.
-    fn settle(&mut self, sequences: &Sequences, id: SeqId)
-        requires { lock_at sequences.now.started self.old.sequencer ≡ Some id }
+    fn settle(&mut self, sequences: &Sequences, known: usize, id: SeqId)
+        requires passed { IsPassed sequences.now.started self.old.sequencer known }
+        requires leads { lock_at sequences.now.started self.old.sequencer ≡ Some id }
         ensures { self.new ≡ at_sequencer (locked id) self.old }
     {
-        let _ = self.sequencer.settle(sequences);
+        let _ = self.sequencer.settle_behind(sequences, known);
     }
 
     // An item is granted, by the word where one decides. Takes no memory.
-    fn choose(&mut self, sequences: &Sequences, word: Option<u64>) -> SeqId
-        requires { ready_at sequences.now.started self.old.sequencer ≡ Some (is_some word) }
+    fn choose(&mut self, sequences: &Sequences, known: usize, word: Option<u64>) -> SeqId
+        requires passed { IsPassed sequences.now.started self.old.sequencer known }
+        requires ready { ready_at sequences.now.started self.old.sequencer ≡ Some (is_some word) }
         ensures value { choice_at sequences.now.started self.old.sequencer word ≡ Some result }
         ensures after { self.new ≡ at_sequencer (granted result) self.old }
     {
-        self.sequencer.choose(sequences, word)
+        self.sequencer.choose_behind(sequences, known, word)
     }
 }
 
@@ -202,44 +210,64 @@ pub fn add_arbiter(
     }
 }
 
-// Whose lock leads at a node.
-fn lock_at(arbiters: &Arbiters, sequences: &Sequences, node: NodeId) -> Option<SeqId>
+// Whose lock leads at a node, where it is known of so many requests that they are blocked.
+fn lock_at(arbiters: &Arbiters, sequences: &Sequences, known: usize, node: NodeId) -> Option<SeqId>
+    requires { IsKnown sequences.now.started known (get nat_eq arbiters.now node) }
     ensures { result ≡ lock_in sequences.now.started (get nat_eq arbiters.now node) }
 {
-    arbiters.get(&node)?.sequencer.leading_lock(sequences)
+    let arbiter = arbiters.get(&node)?;
+    arbiter.sequencer.leading_lock_behind(sequences, known)
 }
 
-/// Answers whose lock leads at the sequencer that was changed last, if one does there.
+/// Answers whose lock leads at the sequencer that was changed last, if one does there. It looks at no request of which it is known
+/// that its sequence is blocked.
 pub fn first_locked(
     arbiters: &Arbiters,
     sequences: &Sequences,
-    contested: Option<NodeId>,
+    contest: &Contest,
 ) -> Option<(NodeId, SeqId)>
-    ensures { result ≡ option_and_then (locked_in sequences.now.started arbiters.now) contested }
+    requires { AreKnown sequences.now.started arbiters.now contest.now }
+    ensures { result ≡ option_and_then (locked_in sequences.now.started arbiters.now) contest.now.node }
 {
-    let node = contested?;
-    let id = lock_at(arbiters, sequences, node)?;
+    let node = contest.node?;
+    let id = lock_at(arbiters, sequences, contest.known(node), node)?;
     Some((node, id))
 }
 
-// Whether the driver at a node can be served, and a word decides then.
-fn ready_at(arbiters: &Arbiters, sequences: &Sequences, node: NodeId) -> Option<bool>
+// Whether the driver at a node can be served, and a word decides then, where it is known of so many requests that they are blocked.
+fn ready_at(arbiters: &Arbiters, sequences: &Sequences, known: usize, node: NodeId) -> Option<bool>
+    requires { IsKnown sequences.now.started known (get nat_eq arbiters.now node) }
     ensures { result ≡ ready_in sequences.now.started (get nat_eq arbiters.now node) }
 {
-    arbiters.get(&node)?.sequencer.ready(sequences)
+    let arbiter = arbiters.get(&node)?;
+    arbiter.sequencer.ready_behind(sequences, known)
 }
 
-/// Answers whether the driver of the sequencer that was changed last can be served, and whether a word decides then.
+/// Answers whether the driver of the sequencer that was changed last can be served, and whether a word decides then. It looks at no
+/// request of which it is known that its sequence is blocked.
 pub fn first_served(
     arbiters: &Arbiters,
     sequences: &Sequences,
-    contested: Option<NodeId>,
+    contest: &Contest,
 ) -> Option<(NodeId, bool)>
-    ensures { result ≡ option_and_then (served_in sequences.now.started arbiters.now) contested }
+    requires { AreKnown sequences.now.started arbiters.now contest.now }
+    ensures { result ≡ option_and_then (served_in sequences.now.started arbiters.now) contest.now.node }
 {
-    let node = contested?;
-    let drawn = ready_at(arbiters, sequences, node)?;
+    let node = contest.node?;
+    let drawn = ready_at(arbiters, sequences, contest.known(node), node)?;
     Some((node, drawn))
+}
+
+/// Answers how many requests stand at a node in front of the first of a sequence that is not blocked, where it is known of so many that
+/// they are; 0 where no sequencer stands there.
+pub fn passed_at(arbiters: &Arbiters, sequences: &Sequences, known: usize, node: NodeId) -> usize
+    requires { IsKnown sequences.now.started known (get nat_eq arbiters.now node) }
+    ensures { IsKnown sequences.now.started result (get nat_eq arbiters.now node) }
+{
+    match arbiters.get(&node) {
+        Some(arbiter) => arbiter.sequencer.passed(sequences, known),
+        None => 0,
+    }
 }
 
 /// Answers how many item requests and locks wait at a node; 0 where no sequencer stands there.
@@ -259,21 +287,24 @@ pub fn driver_at(arbiters: &Arbiters, node: NodeId) -> Option<DriverPort>
     arbiters.get(&node)?.driver
 }
 
-/// Lets a driver ask for an item. Its error is why it may not: it has asked already. Takes no memory.
+/// Lets a driver ask for an item, where it is known of so many requests that they are blocked. Its error is why it may not: it has
+/// asked already. Takes no memory.
 pub fn ask_at(
     arbiters: &mut Arbiters,
     sequences: &Sequences,
+    known: usize,
     reached: &Reached,
     driver: DriverPort,
     how: How,
 ) -> Result<Asked, Fatal>
-    requires { IsSome (get nat_eq arbiters.old reached.now.sequencer) }
+    requires there { IsSome (get nat_eq arbiters.old reached.now.sequencer) }
+    requires known { IsKnown sequences.now.started known (get nat_eq arbiters.old reached.now.sequencer) }
     ensures value { result ≡ asked_in sequences.now.started how (get nat_eq arbiters.old reached.now.sequencer) }
     ensures after { IfOk result (λ asked. ChangesAt reached.now.sequencer (asked_at driver how asked) arbiters.old arbiters.new) }
     ensures unchanged { OnErr result (ChangesAt reached.now.sequencer (λ a. a) arbiters.old arbiters.new) }
 {
     match arbiters.get_mut(&reached.sequencer) {
-        Some(arbiter) => arbiter.ask(sequences, reached.port, driver, how),
+        Some(arbiter) => arbiter.ask(sequences, known, reached.port, driver, how),
         None => unreachable!(),
     }
 }
@@ -375,29 +406,39 @@ pub fn leave_at(arbiters: &mut Arbiters, node: NodeId, id: SeqId) -> bool
     }
 }
 
-/// Grants the lock that leads at a node. Takes no memory.
-pub fn settle_at(arbiters: &mut Arbiters, sequences: &Sequences, node: NodeId, id: SeqId)
-    requires { lock_in sequences.now.started (get nat_eq arbiters.old node) ≡ Some id }
+/// Grants the lock that leads at a node, where it is known of so many requests that they are blocked. Takes no memory.
+pub fn settle_at(
+    arbiters: &mut Arbiters,
+    sequences: &Sequences,
+    known: usize,
+    node: NodeId,
+    id: SeqId,
+)
+    requires known { IsKnown sequences.now.started known (get nat_eq arbiters.old node) }
+    requires leads { lock_in sequences.now.started (get nat_eq arbiters.old node) ≡ Some id }
     ensures { ChangesAt node (at_sequencer (locked id)) arbiters.old arbiters.new }
 {
     if let Some(arbiter) = arbiters.get_mut(&node) {
-        arbiter.settle(sequences, id);
+        arbiter.settle(sequences, known, id);
     }
 }
 
-/// Grants an item at a node, by the word where one decides, and answers whose. Takes no memory.
+/// Grants an item at a node, by the word where one decides, and answers whose, where it is known of so many requests that they are
+/// blocked. Takes no memory.
 pub fn choose_at(
     arbiters: &mut Arbiters,
     sequences: &Sequences,
+    known: usize,
     node: NodeId,
     word: Option<u64>,
 ) -> SeqId
-    requires { ready_in sequences.now.started (get nat_eq arbiters.old node) ≡ Some (is_some word) }
+    requires known { IsKnown sequences.now.started known (get nat_eq arbiters.old node) }
+    requires ready { ready_in sequences.now.started (get nat_eq arbiters.old node) ≡ Some (is_some word) }
     ensures value { option_and_then (λ a. choice_at sequences.now.started a.sequencer word) (get nat_eq arbiters.old node) ≡ Some result }
     ensures after { ChangesAt node (at_sequencer (granted result)) arbiters.old arbiters.new }
 {
     match arbiters.get_mut(&node) {
-        Some(arbiter) => arbiter.choose(sequences, word),
+        Some(arbiter) => arbiter.choose(sequences, known, word),
         None => unreachable!(),
     }
 }

@@ -1,5 +1,5 @@
 -- What the services know of sequencers is what the log says.
-use Rattle.std.proofs.Common.{◌≡◌, ℕ, ◌==◌, nat_eq, Bool, true, List, length, Option, Some, None, option_map, option_and_then, refl, ap, sym, ◌∙◌, arith}
+use Rattle.std.proofs.Common.{◌≡◌, ℕ, ◌==◌, nat_eq, Bool, true, List, length, Option, Some, None, option_map, option_and_then, refl, ap, sym, subst, ◌∙◌, arith}
 use Rattle.std.specs.Option.{option_map_or}
 use Rattle.std.specs.HashMap.{get}
 use Rattle.std.proofs.lemmas.Bool.Decides.{nat_tests}
@@ -8,12 +8,15 @@ use Rattle.uvm_object.specs.declared.entries.Entry.{Entry}
 use Rattle.bench_script.specs.Scripts.{ScriptValue}
 use Rattle.uvm_sequencer.specs.Sequencers.{SequencerValue}
 use Rattle.bench_history.specs.Arbitration.{next_locked, next_served, requests_at, sequencer_at, waiters_at}
-use Rattle.bench_history.specs.History.{ended_of}
+use Rattle.bench_history.specs.History.{ended_of, nodes_of}
 use Rattle.bench_history.specs.Passing.{Station, station_at}
-use Rattle.bench_history.specs.Sequences.{begun_of, finished_of}
+use Rattle.bench_history.specs.Sequences.{begun_of, finished_of, starts_in}
 use Rattle.world_services.specs.declared.services.Services.{Services}
 use Rattle.world_sequencers.specs.Arbiters.{ArbiterValue, lock_in, locked_in, ready_in, served_in}
-use Rattle.world_sequencers.specs.Arbitratings.{arbiter_of, ledger_at}
+use Rattle.world_sequencers.specs.Arbitratings.{IsArbitrating, arbiter_of, ledger_at}
+use Rattle.uvm_sequencer.specs.Sequences.{Start}
+use Rattle.world_sequencers.specs.Contests.{AreKnown, IsKnown, known_at}
+use Rattle.world_sequencers.specs.declared.contests.Contest.{Contest}
 use Rattle.world_sequences.specs.Sequencings.{live_by}
 use Rattle.world_services.specs.Services.{ServicesMatch}
 use Rattle.world_sequencers.proofs.Contested.{sequencer-is, locked-first, served-first}
@@ -23,15 +26,21 @@ pub itself : (n : ℕ) → (n == n) ≡ true
 itself n = grind (arith, nat_tests)
 
 module _ {script : ScriptValue} {history : List Entry} {services : Services} (m : ServicesMatch script history services) where
-  pub locked-known : option_and_then (locked_in services.sequences.started services.arbiters) services.contested ≡ next_locked history
+  pub locked-known : option_and_then (locked_in services.sequences.started services.arbiters) services.contest.node ≡ next_locked history
   locked-known =
-      ap (λ (f : ℕ → Option (ℕ × ℕ)). option_and_then f services.contested) (λ i n. option_map {U = ℕ × ℕ} (λ id. (n, id)) (lock_in (m.sequencing.started i) (m.arbitrating.arbiters_are.each n i)))
+      ap (λ (f : ℕ → Option (ℕ × ℕ)). option_and_then f services.contest.node) (λ i n. option_map {U = ℕ × ℕ} (λ id. (n, id)) (lock_in (m.sequencing.started i) (m.arbitrating.arbiters_are.each n i)))
       ∙ sym (locked-first history m.arbitrating.contested_is)
 
-  pub served-known : option_and_then (served_in services.sequences.started services.arbiters) services.contested ≡ next_served history
+  pub served-known : option_and_then (served_in services.sequences.started services.arbiters) services.contest.node ≡ next_served history
   served-known =
-      ap (λ (f : ℕ → Option (ℕ × Bool)). option_and_then f services.contested) (λ i n. option_map {U = ℕ × Bool} (λ drawn. (n, drawn)) (ready_in (m.sequencing.started i) (m.arbitrating.arbiters_are.each n i)))
+      ap (λ (f : ℕ → Option (ℕ × Bool)). option_and_then f services.contest.node) (λ i n. option_map {U = ℕ × Bool} (λ drawn. (n, drawn)) (ready_in (m.sequencing.started i) (m.arbitrating.arbiters_are.each n i)))
       ∙ sym (served-first history m.arbitrating.contested_is)
+
+  -- who is blocked is known
+  pub known-there : (n : ℕ) → IsKnown services.sequences.started (known_at services.contest n) (get nat_eq services.arbiters n)
+  known-there n =
+      subst (λ (started : List Start). IsKnown started (known_at services.contest n) (get nat_eq services.arbiters n)) (sym m.sequencing.started)
+      (subst (λ (o : Option ArbiterValue). IsKnown (starts_in (begun_of history)) (known_at services.contest n) o) (sym (m.arbitrating.arbiters_are.each n)) (m.arbitrating.contested_is.known n))
 
   -- how many wait there
   pub requests-known : (n : ℕ) → option_map_or (λ a. length a.sequencer.queue) (get nat_eq services.arbiters n) 0 ≡ requests_at history n
@@ -59,3 +68,23 @@ module _ {script : ScriptValue} {history : List Entry} {services : Services} (m 
       mapped : (o : Option ArbiterValue) → option_and_then f (option_map (λ a. a.sequencer) o) ≡ option_and_then (λ a. f a.sequencer) o
       mapped None = refl
       mapped (Some a) = refl
+
+-- more of it may be known
+pub known-better :
+    {script : ScriptValue} {history : List Entry} {services : Services} (after : Contest) → after.node ≡ services.contest.node → AreKnown services.sequences.started services.arbiters after
+    → ServicesMatch script history services → ServicesMatch script history (record services { contest = after })
+known-better {history = history} {services} after same known m =
+    let c = m.arbitrating.contested_is in
+    let arbitrating : IsArbitrating (length history) (nodes_of history) (begun_of history) (finished_of history) (ended_of history) (ledger_at history) services.arbiters after = record {
+      arbiters_are = m.arbitrating.arbiters_are;
+      arbitrated = m.arbitrating.arbitrated;
+      contested_is = record {
+        unlocked = λ n other. c.unlocked n (λ e. other (same ∙ e));
+        unserved = λ n other. c.unserved n (λ e. other (same ∙ e));
+        among = λ k e. c.among k (sym same ∙ e);
+        known = λ n.
+            subst (λ (started : List Start). IsKnown started (known_at after n) (arbiter_of (live_by (begun_of history) (finished_of history) (ended_of history)) (ledger_at history n))) m.sequencing.started
+            (subst (λ (o : Option ArbiterValue). IsKnown services.sequences.started (known_at after n) o) (m.arbitrating.arbiters_are.each n) (known n));
+      };
+    } in
+    search

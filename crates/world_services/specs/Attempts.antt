@@ -19,6 +19,7 @@ use Rattle.world_reports.specs.Reportings.{CanReport, IsReported}
 use Rattle.world_agenda.specs.Objectings.{AreNumbered}
 use Rattle.uvm_objection.specs.Totals.{total}
 use Rattle.uvm_tlm.specs.Wirings.{end_at, is_closed, late_fault}
+use Rattle.world_sequencers.specs.Contests.{AreKnown}
 use Rattle.world_sequences.specs.Sequencings.{home_for}
 use Rattle.bench_history.specs.Refusals.{in_task}
 use Rattle.bench_history.specs.Cases.{Next, Exactly, Need, by_act, by_open}
@@ -29,7 +30,7 @@ use Rattle.bench_history.specs.declared.needs.Need as needs
 
 -- an act may be performed: its performer stands at one of the nodes, which are known to the objections; one more report can be counted, and one more
 -- count raised; what is added is added to an open wiring, as a new end, what is connected is connected in an open one, and what goes through ports
--- goes through a closed one
+-- goes through a closed one; and it is known who is blocked
 pub record CanPerform (services : Services) : Type 0 where
   pub speaks : node_of services.answer.speaker < length services.tree.nodes
   pub numbered : AreNumbered services.objection.nodes (length services.tree.nodes)
@@ -40,6 +41,7 @@ pub record CanPerform (services : Services) : Type 0 where
   pub connectable : services.past_connect ≡ false → late_fault services.wiring ≡ None
   pub unused : end_at services.wiring.ends (length services.tree.nodes) ≡ None
   pub closed : in_task (running services.stage) ≡ true → is_closed services.wiring ≡ true
+  pub known : AreKnown services.sequences.started services.arbiters services.contest
 
 -- an act of the last answer is to be performed: each entry was next, what is kept is what the log says, nothing passes and nothing is granted, the phases went in their order,
 -- its performer is there, it is known who drives the sequencers, and its entry will stand at a place

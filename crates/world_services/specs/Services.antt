@@ -83,7 +83,7 @@ pub record ServicesMatch (script : ScriptValue) (history : List Entry) (services
   pub stations : AreStations (station_at history) services.stations
   pub passed : ArePassed (length history) (fifo_size (wiring_of history)) (items_entered history) (items_left history) (puts_asked history) (answered_at is_put history) (takes_asked history) (answered_at is_no_put history)
   pub unsettled : AreUnsettled (passing_at history) (path_order (nodes_of history)) services.unsettled.items
-  pub arbitrating : IsArbitrating (length history) (nodes_of history) (begun_of history) (finished_of history) (ended_of history) (ledger_at history) services.arbiters services.contested
+  pub arbitrating : IsArbitrating (length history) (nodes_of history) (begun_of history) (finished_of history) (ended_of history) (ledger_at history) services.arbiters services.contest
   pub sequencing : IsSequencing (begun_of history) (finished_of history) (ended_of history) (enders_of history) services.sequences services.beginnings.items
   pub objections : IsObjecting (objections_of history) (length (nodes_of history)) (length history) services.objection
   pub factory : IsFactory script.types (overrides_of script history) services.factory

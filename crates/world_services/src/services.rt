@@ -7,6 +7,7 @@ ghost use Rattle.bench_history.specs.Configuration.{settings_of};
 ghost use Rattle.bench_history.specs.History.{overrides_of};
 ghost use Rattle.bench_history.specs.Reports.{script_commands};
 ghost use Rattle.world_reports.specs.Reportings.{IsReporting};
+ghost use Rattle.world_sequencers.specs.Contests.{AreKnown};
 ghost use Rattle.world_services.specs.Services.{IsFactory, IsSettings, ServicesMatch};
 
 use crate::settings::given_settings;
@@ -24,7 +25,8 @@ use uvm_tlm::Wiring;
 use uvm_tree::{NodeId, Tree};
 use world_fifos::stations::Stations;
 use world_reports::reporting::{Reporting, given_reporting};
-use world_sequencers::arbiters::Arbiters;
+use world_sequencers::arbiters::{Arbiters, passed_at};
+use world_sequencers::contests::Contest;
 use world_sequences::beginnings::Beginning;
 
 /// How far the last answer is done.
@@ -55,8 +57,9 @@ pub struct Services {
     /// Some nodes in path order, all FIFOs among them at which something may pass.
     pub unsettled: Vec<NodeId>,
     pub arbiters: Arbiters,
-    /// The sequencer that was changed last: at no other does a lock lead, or can a driver be served.
-    pub contested: Option<NodeId>,
+    /// Which sequencer was changed last: at no other does a lock lead, or can a driver be served; and of which requests it is known
+    /// that they are blocked.
+    pub contest: Contest,
     pub sequences: Sequences,
     /// Of the sequences, by their numbers.
     pub beginnings: Vec<Beginning>,
@@ -103,7 +106,7 @@ impl Services {
             stations: Stations::new(alloc),
             unsettled: Vec::new(alloc),
             arbiters: Arbiters::new(alloc),
-            contested: None,
+            contest: Contest::new(alloc),
             sequences: Sequences::new(alloc),
             beginnings: Vec::new(alloc),
             factory,
@@ -121,6 +124,21 @@ impl Services {
             built: false,
             past_connect: false,
             test_refused: false,
+        }
+    }
+
+    /// Passes over the blocked requests at the sequencer that was changed last, so that nobody looks at them again while they are blocked
+    /// (IEEE 1800.2-2020, Clause 15). Takes no memory; the time is that of a look at those that were not passed over before.
+    pub fn pass_blocked(&mut self)
+        requires { AreKnown self.old.sequences.started self.old.arbiters self.old.contest }
+        ensures rest { self.new ≡ record self.old { contest = self.new.contest } }
+        ensures node { self.new.contest.node ≡ self.old.contest.node }
+        ensures known { AreKnown self.old.sequences.started self.old.arbiters self.new.contest }
+    {
+        if let Some(node) = self.contest.node {
+            let known = self.contest.known(node);
+            let passed = passed_at(&self.arbiters, &self.sequences, known, node);
+            self.contest.learn(node, passed);
         }
     }
 }

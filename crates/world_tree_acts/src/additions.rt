@@ -42,7 +42,7 @@ pub fn add(
     add_arbiter(&mut services.arbiters, alloc, node, what)?;
     // Nothing passes and nothing is granted anywhere, nor in what is new.
     services.unsettled.clear();
-    services.contested = None;
+    services.contest.add(node, what)?;
     Ok(done(services))
 }
 

@@ -26,8 +26,8 @@ pub fn connect(
         return refused(services, alloc, Fatal::ConnectedTooLate);
     }
     let performer = services.answer.speaker;
-    let from = node_below(&services.tree, alloc, &performer, from)?;
-    let to = node_below(&services.tree, alloc, &performer, to)?;
+    let from = node_below(&services.tree, &performer, from);
+    let to = node_below(&services.tree, &performer, to);
     match connect_ends(&mut services.wiring, from, to)? {
         Some(fatal) => refused(services, alloc, fatal),
         None => Ok(done(services)),

@@ -1,1 +1,2 @@
 pub mod Connected
+pub mod Found

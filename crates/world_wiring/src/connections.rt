@@ -11,7 +11,7 @@ ghost use Rattle.bench_history.specs.Wires.{behind, end_of, node_below, port_fat
 ghost use Rattle.world_wiring.specs.Connectings.{closed_after, closed_by};
 
 use std::alloc::{AllocError, Global};
-use uvm_glob::{Path, PathFault};
+use uvm_glob::Path;
 use uvm_object::{Entry, Fatal, What, Who};
 use uvm_phase::Phase;
 use uvm_tlm::{WireFault, Wiring};
@@ -50,7 +50,7 @@ pub fn close_after(
 }
 
 /// Answers the first unsound port behind the one that an entry reports, or of all where it reports none, with what is reported of
-/// it.
+/// it. Takes no memory, and looks at no node that stands in front of the port.
 pub fn unsound_behind(entry: Option<&Entry>, wiring: &Wiring) -> Option<(NodeId, Fatal)>
     ensures { result ≡ first_given (map (unsound_port wiring.now) (behind (option_and_then port_noted (option_copied entry.entry)) (unwrap_or wiring.now.order []))) }
 {
@@ -58,7 +58,7 @@ pub fn unsound_behind(entry: Option<&Entry>, wiring: &Wiring) -> Option<(NodeId,
         Some(entry) => port_noted(entry),
         None => None,
     };
-    first_unsound(wiring, behind(noted, wiring.order()))
+    first_unsound(wiring, behind(wiring, noted))
 }
 
 // The port that an entry reports.
@@ -74,19 +74,14 @@ fn port_noted(entry: &Entry) -> Option<NodeId>
     }
 }
 
-// The nodes behind one, or all of them.
-fn behind(node: Option<NodeId>, order: &[NodeId]) -> &[NodeId]
-    ensures { result.now ≡ behind node order.now }
+// The nodes behind one in path order, or all of them.
+fn behind(wiring: &Wiring, node: Option<NodeId>) -> &[NodeId]
+    ensures { result.now ≡ behind node (unwrap_or wiring.now.order []) }
 {
-    let Some(node) = node else {
-        return order;
-    };
-    for (place, other) in order.iter().enumerate() {
-        if node == *other {
-            return &order[place + 1..];
-        }
+    match node {
+        Some(node) => wiring.order_behind(node),
+        None => wiring.order(),
     }
-    &[]
 }
 
 // Of some nodes the first that is an unsound port, with what is reported of it.
@@ -111,25 +106,12 @@ fn port_fatal(fault: Option<WireFault>) -> Option<Fatal>
     }
 }
 
-/// Answers the node at a path below somebody; none where no node has that path. Its error is want of memory.
-#[tactic(auto, unfolding(bench_history::specs::Wires::node_below))]
-pub fn node_below(
-    tree: &Tree,
-    alloc: Global,
-    performer: &Who,
-    path: &Path,
-) -> Result<Option<NodeId>, AllocError>
-    ensures { IfOk result (λ node. node ≡ node_below tree.now.nodes performer.now path.now) }
+/// Answers the node at a path below somebody; none where no node has that path. Takes no memory; the time is that of a few
+/// comparisons of names for each name of the path.
+pub fn node_below(tree: &Tree, performer: &Who, path: &Path) -> Option<NodeId>
+    ensures { result ≡ node_below tree.now.nodes performer.now path.now }
 {
-    let whole = match tree.path(performer.node()) {
-        Some(above) => above.join(path),
-        None => Path::top(alloc).join(path),
-    };
-    match whole {
-        Ok(whole) => Ok(tree.find(&whole)),
-        Err(PathFault::Memory) => Err(AllocError),
-        Err(_) => Ok(None),
-    }
+    tree.find_below(performer.node(), path)
 }
 
 /// Connects two ends, or answers why it does not: one of them is not there, or they pass on different things. Its error is want

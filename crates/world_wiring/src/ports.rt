@@ -9,33 +9,23 @@ ghost use Rattle.bench_history.specs.Dues.{written_to};
 
 use bench_history::Gate;
 use std::alloc::{AllocError, Global};
-use uvm_glob::{Name, Path, PathFault};
+use uvm_glob::Name;
 use uvm_object::{Call, Who};
 use uvm_tlm::{End, Item, PortKind, Wiring};
 use uvm_tree::{NodeId, Tree};
 
-/// Answers the port of a name below somebody, where it is of a kind and nothing is wrong with it. Its error is want of memory.
-#[tactic(auto, unfolding(bench_history::specs::Wires::node_below))]
+/// Answers the port of a name below somebody, where it is of a kind and nothing is wrong with it. Takes no memory; the time is that
+/// of a few comparisons of names.
 pub fn port_below(
     tree: &Tree,
     wiring: &Wiring,
-    alloc: Global,
     performer: &Who,
     kind: PortKind,
     name: &Name,
-) -> Result<Option<NodeId>, AllocError>
-    ensures { IfOk result (λ port. port ≡ port_in tree.now.nodes wiring.now performer.now kind name.now) }
+) -> Option<NodeId>
+    ensures { result ≡ port_in tree.now.nodes wiring.now performer.now kind name.now }
 {
-    let whole = match tree.path(performer.node()) {
-        Some(above) => above.child(name),
-        None => Path::top(alloc).child(name),
-    };
-    let node = match whole {
-        Ok(whole) => tree.find(&whole),
-        Err(PathFault::Memory) => return Err(AllocError),
-        Err(_) => None,
-    };
-    Ok(if_sound(wiring, kind, node))
+    if_sound(wiring, kind, tree.child(performer.node(), name))
 }
 
 // A node, if it is a port of a kind with which nothing is wrong.

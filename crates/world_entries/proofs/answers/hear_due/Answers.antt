@@ -6,12 +6,17 @@ use Rattle.bench_history.specs.Dues.{caused_of, heard_of}
 use Rattle.bench_history.specs.Objections.{objections_of}
 use Rattle.world_agenda.proofs.Told.{agenda-heard}
 use Rattle.world_agenda.proofs.Drained.{events-heard}
+use Rattle.world_services.proofs.Known.{known-better, known-there}
 use Rattle.world_services.proofs.Later.{later}
 use Rattle.world_entries.proofs.Heard.{there-within, heard-answer}
 use Rattle.world_entries.proofs.answers.hear_due.Goals as goal
 
+pub pass_blocked-requires : goal.pass_blocked-requires
+pass_blocked-requires c = known-there c.requires.2.known
+
 pub returns : goal.returns
-returns c = λ call cause acts many script before coming m.
+returns c = λ call cause acts many script before coming known.
+    let m = rw (← c.pass_blocked.ensures.rest) at (known-better c.pass_blocked.new.self.contest c.pass_blocked.ensures.node c.pass_blocked.ensures.known known) in
     let stays = c.wiring_stays.ensures script before (Heard c.args.who call (Some cause) acts) (rw coming.next (_, refl)) in
     let d = c.due_calls_go_in_order.ensures script before c.args.who call cause coming.next in
     let first = ap (λ l. slice_get l 0) m.agenda.are ∙ d.first in

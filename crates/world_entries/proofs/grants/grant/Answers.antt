@@ -15,8 +15,8 @@ use Rattle.world_services.proofs.Later.{later}
 use Rattle.world_entries.proofs.Granted.{chosen-known, granted-kept, served-there}
 use Rattle.world_entries.proofs.grants.grant.Goals as goal
 
-pub choose_at-id-requires : goal.choose_at-id-requires
-choose_at-id-requires c =
+pub choose_at-id-requires-clause-ready : goal.choose_at-id-requires-clause-ready
+choose_at-id-requires-clause-ready c =
     let due = c.requires in
     let serving = c.grants_go_in_order.ensures due.script due.history c.args.sequencer (is_some c.args.word) _ due.coming.next in
     (served-there due.known c.args.sequencer (is_some c.args.word) serving.served).1
@@ -38,5 +38,5 @@ returns-clause-goes_on c = λ script before coming m.
     let dues = rw (m.stage, m.time, ← coming.place_is) at (told.dues (filter (is_open (heard_of before) (ended_of before) (finished_of before)) (caused_of before)) m.agenda.are) in
     let events = events-told (objections_of before) (is_open (heard_of before) (ended_of before) (finished_of before)) (running (stage_of before)) (now_of before) (caused_at (length before)) (Sequence id c.args.sequencer) call (caused_of before) m.events in
     let agenda = agenda-event (Object (Sequence id c.args.sequencer)) (Some call) (now_of before) (stage_of before) (caused_of before) (heard_of before) (ended_of before) (finished_of before) _ _ _ phases (there-open before (Sequence id c.args.sequencer) living) m.agenda dues in
-    let arbitrating = granted-kept m c.args.sequencer (is_some c.args.word) grant c.choose_at-id.new.arbiters serving.served c.choose_at-id.ensures.after in
+    let arbitrating = granted-kept m c.args.sequencer (is_some c.args.word) grant c.choose_at-id.new.arbiters serving.served c.choose_at-id.ensures.after c.passed_stays.ensures c.choose_at-id.ensures.value in
     rw told.rest (search (rules, later))

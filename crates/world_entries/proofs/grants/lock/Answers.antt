@@ -10,12 +10,16 @@ use Rattle.bench_history.specs.Objections.{objections_of}
 use Rattle.world_agenda.proofs.Drained.{events-told}
 use Rattle.world_agenda.proofs.Told.{agenda-event}
 use Rattle.world_services.proofs.Opened.{there-open}
+use Rattle.world_sequencers.proofs.Contested.{known-none}
 use Rattle.world_services.proofs.Later.{later}
 use Rattle.world_entries.proofs.Granted.{led-there, locked-kept}
 use Rattle.world_entries.proofs.grants.lock.Goals as goal
 
-pub settle_at-requires : goal.settle_at-requires
-settle_at-requires c =
+pub passed_at-passed-requires : goal.passed_at-passed-requires
+passed_at-passed-requires c = known-none _ _
+
+pub settle_at-requires-clause-leads : goal.settle_at-requires-clause-leads
+settle_at-requires-clause-leads c =
     let due = c.requires in
     let next = c.locks_go_in_order.ensures due.script due.history c.args.sequencer c.args.id due.coming.next in
     rw c.in_ok-tell_to.ensures.rest (led-there due.known c.args.sequencer c.args.id next).1
@@ -33,5 +37,5 @@ returns c = λ script before coming m.
     let events = events-told (objections_of before) (is_open (heard_of before) (ended_of before) (finished_of before)) (running (stage_of before)) (now_of before) (caused_at (length before)) (Sequence id c.args.sequencer) call (caused_of before) m.events in
     let agenda = agenda-event (Object (Sequence id c.args.sequencer)) (Some call) (now_of before) (stage_of before) (caused_of before) (heard_of before) (ended_of before) (finished_of before) _ _ _ phases (there-open before (Sequence id c.args.sequencer) living) m.agenda dues in
     let changes = rw told.rest at c.settle_at.ensures in
-    let arbitrating = locked-kept m c.args.sequencer id c.settle_at.new.arbiters next living changes in
+    let arbitrating = locked-kept m c.args.sequencer id c.settle_at.new.arbiters next living changes c.passed_at-passed.result c.learn.new.self (rw told.rest at c.passed_at-passed.ensures) (rw told.rest at c.learn.ensures.node) (rw told.rest at c.learn.ensures.known) in
     rw told.rest (search (rules, later))

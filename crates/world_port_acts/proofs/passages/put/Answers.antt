@@ -11,7 +11,7 @@ use Rattle.world_port_acts.proofs.passages.put.Goals as goal
 pub returns-in-Err : goal.returns-in-Err
 returns-in-Err c =
     let speaker = c.args.services.now.answer.speaker in
-    let why = rw c.in-Err.is at c.in_ok-open.ensures in
+    let why = c.in-Err.ensures in
     refused-here _ _ _ (Put c.args.name.now c.args.item) c.in-Err.fatal c.args.place c.refused.ensures.attempt c.refused.ensures.services (λ script history m.
     let refuses : passing_refusal (running (stage_of history)) (is_some (gate_below history speaker through.Put c.args.name.now)) ≡ Some c.in-Err.fatal = open-refuses m c.requires through.Put c.args.name.now c.in-Err.fatal why in
     rw refuses refl)
@@ -19,7 +19,7 @@ returns-in-Err c =
 pub returns : goal.returns
 returns c =
     let speaker = c.args.services.now.answer.speaker in
-    let found = rw c.in-Ok.is at c.in_ok-open.ensures in
+    let found = c.in-Ok.ensures in
     rw (c.done.ensures.attempt, c.done.ensures.services) (record {
       comes = λ script history s.
           let g = gate-open s c.requires found in

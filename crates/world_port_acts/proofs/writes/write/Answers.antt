@@ -16,14 +16,14 @@ use Rattle.world_port_acts.proofs.writes.write.Goals as goal
 pub returns-in-Err : goal.returns-in-Err
 returns-in-Err c =
     let speaker = c.args.services.now.answer.speaker in
-    let why = rw c.in-Err.is at c.in_ok-port.ensures in
+    let why = c.in-Err.ensures in
     refused-here _ _ _ (Write c.args.name.now c.args.item) c.in-Err.fatal c.args.place c.refused.ensures.attempt c.refused.ensures.services (λ script history m.
     let refuses : passing_refusal (running (stage_of history)) (is_some (port_below history speaker Analysis c.args.name.now)) ≡ Some c.in-Err.fatal = outlet-refuses m c.requires c.args.name.now c.in-Err.fatal why in
     rw refuses refl)
 
 pub store_all-requires : goal.store_all-requires
 store_all-requires c =
-    let found = rw c.in-Ok.is at c.in_ok-port.ensures in
+    let found = c.in-Ok.ensures in
     rw c.resolve-targets.ensures.targets (c.targets_are_reached.ensures c.args.services.now.wiring c.resolve-targets.ensures.wiring (c.requires.closed found.0) c.in-Ok.port).distinct
 
 pub returns : goal.returns
@@ -32,7 +32,7 @@ returns c =
     let speaker = services.answer.speaker in
     let name = c.args.name.now in
     let item = c.args.item in
-    let found = rw c.in-Ok.is at c.in_ok-port.ensures in
+    let found = c.in-Ok.ensures in
     let reached = c.resolve-targets.ensures in
     let stored = rw reached.targets at c.in_ok-store_all.ensures in
     rw (c.done.ensures.attempt, c.done.ensures.services) (record {

@@ -17,7 +17,7 @@ use Rattle.world_sequencer_acts.proofs.drivers.ask.Goals as goal
 
 pub returns-in-Err : goal.returns-in-Err
 returns-in-Err c =
-    let why = rw c.in-Err.is at c.in_ok-reached.ensures in
+    let why = c.in-Err.ensures in
     refused-here _ _ _ (Ask c.args.name.now c.args.how) c.in-Err.fatal c.args.place c.refused.ensures.attempt c.refused.ensures.services (λ script history m. ask-unreached script history _ c.args.name.now c.args.how c.in-Err.fatal (λ refusal. driving-refuses m c.requires c.args.name.now c.in-Err.fatal refusal (why refusal)))
 
 pub returns-in-Ok-Waits : goal.returns-in-Ok-Waits
@@ -25,7 +25,7 @@ returns-in-Ok-Waits c =
     let name = c.args.name.now in
     let how = c.args.how in
     let reached = c.in-Ok.reached in
-    let found = rw c.in-Ok.is at c.in_ok-reached.ensures in
+    let found = c.in-Ok.ensures in
     let asks : ChangesAt reached.sequencer (asked_at (record { who = c.args.services.now.answer.speaker; name = name }) how c.in-Ok-Waits.field-0) c.args.services.now.arbiters c.ask_at.new.arbiters = c.in-Ok-Waits.ensures.after in
     let value = rw c.in-Ok-Waits.field-0-is at c.in-Ok-Waits.ensures.value in
     let after = rw c.in-Ok-Waits.field-0-is at asks in
@@ -48,7 +48,7 @@ returns-in_ok-tell-in-Ok-Nothing c =
     let name = c.args.name.now in
     let how = c.args.how in
     let reached = c.in-Ok.reached in
-    let found = rw c.in-Ok.is at c.in_ok-reached.ensures in
+    let found = c.in-Ok.ensures in
     let asks : ChangesAt reached.sequencer (asked_at (record { who = speaker; name = name }) how c.in-Ok-Nothing.field-0) services.arbiters c.ask_at.new.arbiters = c.in-Ok-Nothing.ensures.after in
     let value = rw c.in-Ok-Nothing.field-0-is at c.in-Ok-Nothing.ensures.value in
     let told = c.in_ok-tell-in-Ok-Nothing.ensures in
@@ -76,7 +76,7 @@ returns-in-Err-ask_at c =
     let how = c.args.how in
     let reached = c.in-Ok.reached in
     let fatal = c.in-Err-ask_at.fatal in
-    let found = rw c.in-Ok.is at c.in_ok-reached.ensures in
+    let found = c.in-Ok.ensures in
     let same = unchanged reached.sequencer services.arbiters c.ask_at.new.arbiters c.in-Err-ask_at.ensures.unchanged in
     let value = c.in-Err-ask_at.ensures.value in
     refused-still c.refused-in-Err-ask_at.result services c.refused-in-Err-ask_at.new.services c.ask_at.new.arbiters (Ask name how) fatal c.args.place same c.refused-in-Err-ask_at.ensures.attempt c.refused-in-Err-ask_at.ensures.services (λ script history s.

@@ -17,7 +17,7 @@ use Rattle.world_sequencer_acts.proofs.drivers.item_done.Goals as goal
 
 pub returns-in-Err : goal.returns-in-Err
 returns-in-Err c =
-    let why = rw c.in-Err.is at c.in_ok-reached.ensures in
+    let why = c.in-Err.ensures in
     refused-here _ _ _ (ItemDone c.args.name.now c.args.response) c.in-Err.fatal c.args.place c.refused.ensures.attempt c.refused.ensures.services (λ script history m. done-unreached script history _ c.args.name.now c.args.response c.in-Err.fatal (λ refusal. driving-refuses m c.requires c.args.name.now c.in-Err.fatal refusal (why refusal)))
 
 pub returns-in_ok-tell_living-in-Ok-done_at : goal.returns-in_ok-tell_living-in-Ok-done_at
@@ -28,7 +28,7 @@ returns-in_ok-tell_living-in-Ok-done_at c =
     let response = c.args.response in
     let reached = c.in-Ok.reached in
     let id = c.in-Ok-done_at.id in
-    let found = rw c.in-Ok.is at c.in_ok-reached.ensures in
+    let found = c.in-Ok.ensures in
     let told = c.in_ok-tell_living-in-Ok-done_at.ensures in
     rw (c.done.ensures.attempt, c.done.ensures.services, told.rest) (record {
       comes = λ script history s.
@@ -59,7 +59,7 @@ returns-in-Err-done_at c =
     let response = c.args.response in
     let reached = c.in-Ok.reached in
     let fatal = c.in-Err-done_at.fatal in
-    let found = rw c.in-Ok.is at c.in_ok-reached.ensures in
+    let found = c.in-Ok.ensures in
     let same = unchanged reached.sequencer services.arbiters c.done_at.new.arbiters c.in-Err-done_at.ensures.unchanged in
     refused-still c.refused-in-Err-done_at.result services c.refused-in-Err-done_at.new.services c.done_at.new.arbiters (ItemDone name response) fatal c.args.place same c.refused-in-Err-done_at.ensures.attempt c.refused-in-Err-done_at.ensures.services (λ script history s.
     let r = reaching name reached s c.requires c.path_order_is_in_order.ensures found in

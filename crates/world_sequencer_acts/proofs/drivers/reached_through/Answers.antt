@@ -10,5 +10,5 @@ returns-then-not-in_task c = λ refusal. driving-outside (running c.args.service
 pub returns-in-None : goal.returns-in-None
 returns-in-None c =
     let services = c.args.services.now in
-    let found = ap (option_and_then (reached_at services.wiring services.arbiters)) (sym c.in_ok-port.ensures) ∙ sym c.reached_at.ensures ∙ c.in-None.is in
+    let found = ap (option_and_then (reached_at services.wiring services.arbiters)) (sym c.port_below-port.ensures) ∙ sym c.reached_at.ensures ∙ c.in-None.is in
     λ refusal. driving-nowhere (running services.stage) (is_some (reached_in services c.args.name.now)) refusal (sym c.in_task.ensures ∙ c.if-not-in_task.false) (ap is_some found)

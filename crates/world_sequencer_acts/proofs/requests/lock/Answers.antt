@@ -28,7 +28,7 @@ returns-in-None c =
             let m = s.known in
             let left = s.left in
             let seat = seated s id home (λ opens. cc) c.path_order_is_in_order.ensures is c.node-home.ensures in
-            let arbitrating = lock-kept s id home seat c.lock_for.new.arbiters after in
+            let arbitrating = lock-kept s id home seat c.lock_for.new.arbiters after c.passed_stays.ensures in
             search (rules, acted);
       };
     })

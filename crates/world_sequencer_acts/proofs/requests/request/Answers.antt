@@ -32,7 +32,7 @@ returns-in-None c =
             let left = s.left in
             let seat = seated s id home (λ opens. cc) c.path_order_is_in_order.ensures is c.node-home.ensures in
             let asked = rw (c.request_priority-priority.ensures.value, m.sequencing.started) at after in
-            let arbitrating = request-kept s id home seat c.args.priority c.request_at.new.arbiters asked in
+            let arbitrating = request-kept s id home seat c.args.priority c.request_at.new.arbiters asked c.passed_stays.ensures in
             search (rules, acted);
       };
     })

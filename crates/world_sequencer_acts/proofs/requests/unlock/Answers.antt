@@ -17,7 +17,7 @@ returns-in-None c =
     let is : sequence_in speaker ≡ Some id = sym c.sequence_in.ensures ∙ c.in-Some.is in
     let value = rw c.in-None.is at c.unlock_at.ensures.value in
     let after = rw c.in-None.is at c.unlock_at.ensures.after in
-    λ place. rw (c.contested.ensures.attempt, c.contested.ensures.services) (record {
+    λ place. rw (c.contested_anew.ensures.attempt, c.contested_anew.ensures.services.rest) (record {
       comes = λ script history s.
           let seat = seated s id home (λ opens. cc) c.path_order_is_in_order.ensures is c.node-home.ensures in
           let allows : option_and_then (unlock_refusal (id_in speaker)) (home_sequencer history speaker) ≡ None = rw seat.speaker_is (sym (said s.known home (unlock_refusal id)) ∙ sym value) in
@@ -28,7 +28,7 @@ returns-in-None c =
             let m = s.known in
             let left = s.left in
             let seat = seated s id home (λ opens. cc) c.path_order_is_in_order.ensures is c.node-home.ensures in
-            let arbitrating = unlock-kept s id home seat c.unlock_at.new.arbiters after in
+            let arbitrating = unlock-kept s id home seat c.unlock_at.new.arbiters after c.contested_anew.new.services.contest c.contested_anew.ensures.services.node c.contested_anew.ensures.services.learns in
             search (rules, acted);
       };
     })

@@ -8,7 +8,7 @@ use Rattle.bench_history.specs.Dues.{due_events}
 use Rattle.bench_history.specs.Objections.{objections_of}
 use Rattle.world_agenda.proofs.Drained.{events-all, held-more}
 use Rattle.bench_history.specs.Refusals.{addition_refusal}
-use Rattle.world_services.proofs.Answered.{one-longer, length-snoc}
+use Rattle.world_services.proofs.Answered.{length-snoc}
 use Rattle.world_services.proofs.Waiting.{turns-more}
 use Rattle.world_agenda.proofs.Objected.{objecting-more}
 use Rattle.world_wiring.proofs.Connected.{connecting-more, closing-next}
@@ -63,7 +63,8 @@ returns c = λ place. rw (c.done.ensures.attempt, c.done.ensures.services) (reco
         let passed = kept.passed in
         let unsettled = kept.unsettled_are in
         let adding = rw (c.in_ok-node.ensures.id, m.tree) at c.in_ok-add_arbiter.ensures in
-        let arbitrating = arbitrating-added history c.args.services.now.answer.speaker c.args.name c.args.what {new = c.add_arbiter.new.arbiters} some longer adding (none-locked history m.arbitrating.contested_is s.settled.unlocked) (none-served history m.arbitrating.contested_is s.settled.unserved) m.arbitrating in
+        let contested = rw (c.in_ok-node.ensures.id, m.tree) at c.in_ok-add-2.ensures.added in
+        let arbitrating = arbitrating-added history c.args.services.now.answer.speaker c.args.name c.args.what {new = c.add_arbiter.new.arbiters} some longer adding (none-locked history m.arbitrating.contested_is s.settled.unlocked) (none-served history m.arbitrating.contested_is s.settled.unserved) c.in_ok-add-2.ensures.node contested m.arbitrating in
         search (rules, acted);
   };
 })

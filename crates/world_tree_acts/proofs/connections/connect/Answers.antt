@@ -24,7 +24,7 @@ pub returns-in-Some : goal.returns-in-Some
 returns-in-Some c =
     let speaker = c.args.services.now.answer.speaker in
     let same = rw c.in-Some.is at c.in_ok-fatal.ensures.refused in
-    let why = rw (c.in-Some.is, c.in_ok-from.ensures, c.in_ok-to.ensures) at c.in_ok-fatal.ensures.refusal in
+    let why = rw (c.in-Some.is, c.node_below-from.ensures, c.node_below-to.ensures) at c.in_ok-fatal.ensures.refusal in
     let refused = rw same at c.refused-in-Some.ensures.services in
     refused-attempt _ _ _ (Connect c.args.from.now c.args.to.now) c.in-Some.fatal c.refused-in-Some.ensures.attempt refused (λ script history m.
     let past : is_past_connect history ≡ false = sym m.past_connect ∙ c.if-services.false in
@@ -34,8 +34,8 @@ returns-in-Some c =
 pub returns-in-None : goal.returns-in-None
 returns-in-None c = λ place.
     let speaker = c.args.services.now.answer.speaker in
-    let both = rw (c.in-None.is, c.in_ok-from.ensures, c.in_ok-to.ensures) at c.in_ok-fatal.ensures.connected in
-    let none = rw (c.in-None.is, c.in_ok-from.ensures, c.in_ok-to.ensures) at c.in_ok-fatal.ensures.refusal in
+    let both = rw (c.in-None.is, c.node_below-from.ensures, c.node_below-to.ensures) at c.in_ok-fatal.ensures.connected in
+    let none = rw (c.in-None.is, c.node_below-from.ensures, c.node_below-to.ensures) at c.in_ok-fatal.ensures.refusal in
     rw (c.done.ensures.attempt, c.done.ensures.services) (record {
       comes = λ script history s.
           let m = s.known in

@@ -1,8 +1,13 @@
 use Rattle.std.proofs.Common.{Some, length, refl, sym}
 use Rattle.uvm_object.specs.declared.entries.Entry.TheVariants.{Heard}
 use Rattle.bench_history.specs.Cases.{Answer}
-use Rattle.bench_world.proofs.Going.{entered}
+use Rattle.bench_world.proofs.Going.{due-here, entered}
 use Rattle.bench_world.proofs.worlds.World.heard_due.Goals as goal
+
+pub hear_due-requires : goal.hear_due-requires
+hear_due-requires c =
+    let r = rw (← c.self.view_is) at c.requires in
+    (c.args.call, c.args.cause, rw c.len-place.ensures (due-here (λ _. Answer c.args.who c.args.call (Some c.args.cause)) c.self.invariant r.sound r.next))
 
 pub invariant_of-self-2 : goal.invariant_of-self-2
 invariant_of-self-2 c =

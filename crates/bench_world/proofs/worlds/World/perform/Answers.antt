@@ -3,6 +3,7 @@ use Rattle.uvm_tlm.specs.Wirings.{end_at, is_closed, late_fault}
 use Rattle.bench_history.specs.History.{running}
 use Rattle.bench_history.specs.Refusals.{in_task}
 use Rattle.bench_world.proofs.Going.{act-next, performed}
+use Rattle.world_services.proofs.Known.{known-there}
 use Rattle.world_services.proofs.Later.{scene-of}
 use Rattle.bench_world.proofs.Waits.{acted-needs, waits}
 use Rattle.world_wiring.proofs.Connected.{building-open, connectable-open, unused}
@@ -18,6 +19,7 @@ perform-requires c =
     let connectable : c.self.inside.services.past_connect ≡ false → late_fault wiring ≡ None = λ past. connectable-open wiring r.left m.closing (sym m.past_connect ∙ past) in
     let unused : end_at wiring.ends (length c.self.inside.services.tree.nodes) ≡ None = rw m.tree (unused m.connecting) in
     let closed : in_task (running c.self.inside.services.stage) ≡ true → is_closed wiring ≡ true = λ task. m.closed_past.is (c.tasks_follow_connect.ensures c.self.inside.script c.self.inside.log.entries c.self.invariant.1.legal.each (rw m.stage at task)) in
+    let known = known-there m in
     search rules
 
 pub invariant_of-self-in-Became : goal.invariant_of-self-in-Became

@@ -1,6 +1,5 @@
 use Rattle.std.proofs.Common.{◌∙◌, ◌<◌, ◌%◌, sym, ap, subst, IsSome, List, length, sum_by, refl}
 use Rattle.std.specs.List.{slice_get}
-use Rattle.std.specs.Option.{option_map}
 use Rattle.uvm_sequencer.specs.declared.requests.Request.{Request}
 use Rattle.uvm_sequencer.specs.Contending.{contending}
 use Rattle.uvm_sequencer.specs.Choices.{choice, contenders}
@@ -13,9 +12,9 @@ pub returns-in_default : goal.returns-in_default
 returns-in_default c =
     let s = c.args.self.now in
     let those = candidates s.sequences.now.started s.holders.now s.queue.now in
-    c.nth.ensures
-    ∙ ap (λ l. option_map (λ (r : Request). r.seq) (slice_get l 0)) (at-bar c.args.mode s.sequences.now.started s.holders.now s.queue.now c.bar-bar.result c.bar-bar.ensures)
-    ∙ ap (λ w. option_map (λ (r : Request). r.seq) (choice c.args.mode those w)) (sym c.in_default.is)
+    c.nth.ensures.value
+    ∙ ap (λ l. slice_get l 0) (at-bar c.args.mode s.sequences.now.started s.holders.now s.queue.now c.bar-bar.result c.bar-bar.ensures)
+    ∙ ap (λ w. choice c.args.mode those w) (sym c.in_default.is)
 
 pub nonzero_rem-from : goal.nonzero_rem-from
 nonzero_rem-from c =
@@ -35,13 +34,13 @@ nonzero_rem-word c =
     (subst P (sym (at-bar c.args.mode s.sequences.now.started s.holders.now s.queue.now c.bar-bar.result c.bar-bar.ensures)) (c.requires.some some))
 
 -- by its place
-pub returns-in_default-mode : goal.returns-in_default-mode
-returns-in_default-mode c =
+pub returns-in_default-2 : goal.returns-in_default-2
+returns-in_default-2 c =
     let s = c.args.self.now in
     let those = candidates s.sequences.now.started s.holders.now s.queue.now in
     let same = at-bar c.args.mode s.sequences.now.started s.holders.now s.queue.now c.bar-bar.result c.bar-bar.ensures in
-    c.nth-in_default-mode.ensures
-    ∙ ap (λ n. option_map (λ (r : Request). r.seq) (slice_get (contending s.sequences.now.started s.holders.now c.bar-bar.result s.queue.now) (c.in-Some.word % n))) c.count-count.ensures
-    ∙ ap (λ l. option_map (λ (r : Request). r.seq) (slice_get l (c.in-Some.word % length l))) same
-    ∙ ap (option_map (λ (r : Request). r.seq)) (sym (by-place c.args.mode (contenders c.args.mode those) c.in-Some.word c.in_default-mode.not-Weighted))
-    ∙ ap (λ w. option_map (λ (r : Request). r.seq) (choice c.args.mode those w)) (sym c.in-Some.is)
+    c.nth-in_default-2.ensures.value
+    ∙ ap (λ n. slice_get (contending s.sequences.now.started s.holders.now c.bar-bar.result s.queue.now) (c.in-Some.word % n)) c.count-count.ensures
+    ∙ ap (λ l. slice_get l (c.in-Some.word % length l)) same
+    ∙ sym (by-place c.args.mode (contenders c.args.mode those) c.in-Some.word c.in_default-2.not-Weighted)
+    ∙ ap (λ w. choice c.args.mode those w) (sym c.in-Some.is)

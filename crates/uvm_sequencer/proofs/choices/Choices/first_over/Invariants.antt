@@ -4,8 +4,8 @@ use Rattle.uvm_sequencer.specs.Contending.{contending}
 use Rattle.uvm_sequencer.proofs.choices.Choices.first_over.Given as goal
 
 -- the one that is sought, among what is left
-abbrev pub invariant-loop-request : goal.invariant-loop-request
-invariant-loop-request l = record {
-  small : l.sum ≤ 65535 * l.request-index;
-  same : first_over 0 l.n (contending l.self.sequences.now.started l.self.holders.now l.bar l.self.queue.now) ≡ first_over l.sum l.n (contending l.self.sequences.now.started l.self.holders.now l.bar (drop l.request-index l.self.queue.now));
+abbrev pub invariant-loop-place : goal.invariant-loop-place
+invariant-loop-place l = record {
+  small : l.sum ≤ 65535 * l.place;
+  same : first_over 0 l.n (contending l.self.sequences.now.started l.self.holders.now l.bar l.self.queue.now) ≡ first_over l.sum l.n (contending l.self.sequences.now.started l.self.holders.now l.bar (drop l.place l.self.queue.now));
 }

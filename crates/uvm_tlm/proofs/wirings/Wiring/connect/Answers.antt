@@ -9,7 +9,7 @@ invariant_of-self-2 c =
     let inside = c.self.inside in
     let none : connect_fault (value_of inside) c.args.from c.args.to ≡ None = ap (λ w. connect_fault w c.args.from c.args.to) c.self.view_is ∙ search rules in
     let open_ = unfaulted (value_of inside) c.args.from c.args.to none in
-    let unclosed : inside.closed ≡ None = nothing_found (λ found. found.order.items) inside.closed open_.0 in
+    let unclosed : inside.closed ≡ None = nothing_found (λ found. found.order.keys) inside.closed open_.0 in
     let view = seen-connected inside c.add_connection.new.connections.keys c.args.from c.args.to c.in_ok-add_connection.ensures.added c.self.invariant.among in
     record {
       is_wiring = subst IsWiring (sym view) (connected (value_of inside) c.args.from c.args.to open_.1 c.self.invariant.is_wiring);

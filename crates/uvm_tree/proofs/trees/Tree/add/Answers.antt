@@ -3,9 +3,10 @@ use Rattle.std.proofs.lemmas.Grind.{common_steps}
 use Rattle.std.specs.List.{insert}
 use Rattle.std.specs.List.Sorted.{IsPartitionPoint}
 use Rattle.uvm_tree.specs.Families.{Place, is_in_front}
-use Rattle.uvm_tree.specs.Nodes.{Node, TreeValue, add_fault, child, path_at}
+use Rattle.uvm_tree.specs.Nodes.{Node, AreSound, TreeValue, add_fault, child, path_at}
 use Rattle.uvm_tree.proofs.Added.{families_grow}
 use Rattle.uvm_tree.proofs.Grown.{added}
+use Rattle.uvm_tree.proofs.Sound.{sound-added}
 use Rattle.uvm_tree.proofs.trees.Tree.add.Goals as goal
 
 pub invariant_of-self : goal.invariant_of-self
@@ -31,6 +32,7 @@ invariant_of-self c =
     let families = families_grow nodes kept.families.items c.self.invariant.nodes c.self.invariant.families c.args.parent c.args.name c.args.kind free c.place_of-place.result parts in
     record {
       nodes = are.0;
+      sound = subst AreSound (sym grown) (sound-added nodes c.args.parent c.args.name c.args.kind free c.self.invariant.sound);
       families = rw (grown, order) families;
       few = omega (arith, are.1);
       room = search rules;

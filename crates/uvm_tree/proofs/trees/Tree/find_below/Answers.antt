@@ -1,10 +1,11 @@
-use Rattle.std.proofs.Common.{◌≡◌, ◌≢◌, ◌∷◌, ◌++◌, ◌∙◌, [], List, ℕ, length, refl, sym, ap, arith}
+use Rattle.std.proofs.Common.{◌≡◌, ◌≢◌, ◌∷◌, Some, ◌++◌, ◌∙◌, [], List, ℕ, length, refl, sym, ap, arith}
 use Rattle.std.proofs.lemmas.Bool.{eqb-true, eqb-false}
 use Rattle.std.proofs.lemmas.List.{append-nil}
 use Rattle.uvm_glob.specs.Paths.{between_dots, names_of}
 use Rattle.uvm_tree.specs.Nodes.{number_at, path_at}
 use Rattle.uvm_tree.proofs.Finding.{number-is}
 use Rattle.uvm_tree.proofs.Paths.{Names}
+use Rattle.uvm_tree.proofs.Sound.{found_sound}
 use Rattle.uvm_tree.proofs.trees.Tree.find_below.Goals as goal
 
 no-names : (text : List ℕ) → length text ≡ 0 → names_of text ≡ []
@@ -28,3 +29,11 @@ returns-clause-node c =
     let some = eqb-false (length c.as_bytes-text.result.now) 0 (sym c.is_empty.ensures ∙ c.if-is_empty.false) in
     let names : between_dots c.as_bytes-text.result.now ≡ c.args.path.now = sym (some-names c.as_bytes-text.result.now some) ∙ c.as_bytes-text.ensures.names in
     c.descend.ensures.node ∙ (λ i. number_at nodes (c.node_or_top-node.ensures.path i ++ names i))
+
+pub returns-then-is_empty-clause-sound : goal.returns-then-is_empty-clause-sound
+returns-then-is_empty-clause-sound c =
+    found_sound c.args.self.now.nodes c.node_or_top-node.ensures.nodes c.node_or_top-node.ensures.sound (path_at c.args.self.now.nodes c.args.node ++ c.args.path.now) (Some c.node_or_top-node.result) (returns-then-is_empty-clause-node c)
+
+pub returns-clause-sound : goal.returns-clause-sound
+returns-clause-sound c =
+    found_sound c.args.self.now.nodes c.node_or_top-node.ensures.nodes c.node_or_top-node.ensures.sound (path_at c.args.self.now.nodes c.args.node ++ c.args.path.now) c.descend.result (returns-clause-node c)

@@ -1,6 +1,6 @@
 use Rattle.std.proofs.Common.{◌≡◌, ◌∷◌, ◌<◌, ◌≤◌, ℕ, arith, length, vec_capacity, List, subst, sym}
 use Rattle.uvm_tree.specs.Families.{AreFamilies}
-use Rattle.uvm_tree.specs.Nodes.{Node, AreNodes, most_nodes, path_at}
+use Rattle.uvm_tree.specs.Nodes.{Node, AreNodes, AreSound, most_nodes, path_at}
 use Rattle.uvm_tree.proofs.trees.Tree.reserve.Goals as goal
 
 -- the room stays what it was
@@ -11,6 +11,7 @@ invariant_of-self c =
     let more = c.reserve.ensures.capacity in
     record {
       nodes = subst (λ (nodes : List Node). AreNodes (kept.top ∷ nodes)) same c.self.invariant.nodes;
+      sound = subst (λ (nodes : List Node). AreSound (kept.top ∷ nodes)) same c.self.invariant.sound;
       families = subst (λ (nodes : List Node). AreFamilies (kept.top ∷ nodes) kept.families.items) same c.self.invariant.families;
       few = subst (λ (nodes : List Node). length nodes ≤ most_nodes) same c.self.invariant.few;
       room = λ room is. let was = c.self.invariant.room room is in (
@@ -30,6 +31,7 @@ invariant_of-self-in_err-reserve-2 c =
     let more_order = c.reserve-2.ensures.capacity in
     record {
       nodes = subst (λ (nodes : List Node). AreNodes (kept.top ∷ nodes)) same c.self.invariant.nodes;
+      sound = subst (λ (nodes : List Node). AreSound (kept.top ∷ nodes)) same c.self.invariant.sound;
       families = subst (λ (order : List ℕ). AreFamilies (kept.top ∷ c.reserve.new.self.items) order) same_order (subst (λ (nodes : List Node). AreFamilies (kept.top ∷ nodes) kept.families.items) same c.self.invariant.families);
       few = subst (λ (nodes : List Node). length nodes ≤ most_nodes) same c.self.invariant.few;
       room = λ room is. let was = c.self.invariant.room room is in (

@@ -14,24 +14,24 @@ use Rattle.world_services.proofs.services.Services.new.Goals as goal
 pub returns : goal.returns
 returns c = λ script factory settings reporting.
     let unsettled : AreUnsettled (passing_at []) (path_order (nodes_of [])) [] = unsettled-none (path_order (nodes_of [])) (λ n. refl) in
-    let sequencing : IsSequencing [] [] [] [] c.new-7.result [] = sequencing-first c.new-7.ensures.started c.new-7.ensures.steps in
+    let sequencing : IsSequencing [] [] [] [] c.new-8.result [] = sequencing-first c.new-8.ensures.started c.new-8.ensures.steps in
     record {
       stage = refl;
       time = refl;
       early = omega arith;
       tree = search rules;
       past_connect = refl;
-      connecting = search rules;
-      closing = search rules;
+      connecting = rw c.new-3.ensures (search rules);
+      closing = rw c.new-3.ensures (search rules);
       closed_past = record { is = λ e. cc };
       stations = stations-first c.new-4.ensures.empty;
       passed = passed-first;
       unsettled = search (rules, unsettled);
-      arbitrating = arbitrating-first (nodes_of []) c.new-6.ensures.empty;
+      arbitrating = arbitrating-first (nodes_of []) c.new-6.ensures.empty c.new-7.ensures.node;
       sequencing = search (rules, sequencing);
       objections = objecting-first c.new-2.result c.nodes_grow.ensures.0 c.new-2.ensures;
       factory = factory;
-      turns = turns-none c.new-10.ensures.last c.new-10.ensures.late;
+      turns = turns-none c.new-11.ensures.last c.new-11.ensures.late;
       answer = search rules;
       speaks = omega arith;
       built = refl;

@@ -1,0 +1,29 @@
+use Rattle.std.proofs.Common.{◌≡◌, ◌∙◌, false, not, refl, arith}
+use Rattle.std.proofs.lemmas.Grind.{common_steps}
+use Rattle.std.specs.List.{list_any}
+use Rattle.std.specs.HashSet.{contains}
+use Rattle.std.proofs.Common.{nat_eq}
+use Rattle.uvm_sequencer.specs.Queues.{is_item, is_lock_of, lock_request}
+use Rattle.uvm_sequencer.proofs.Marks.{marked-first, unmarked-first}
+use Rattle.uvm_sequencer.proofs.Singles.{single-lock}
+use Rattle.uvm_sequencer.proofs.queues.Queue.put_grab.Goals as goal
+
+pub invariant_of-self-in_err-put_first : goal.invariant_of-self-in_err-put_first
+invariant_of-self-in_err-put_first c = record {
+  items = rw c.in_err-put_first.ensures.err c.self.invariant.items;
+  locks = λ seq. c.in_ok-reserve.ensures.keys.2 seq ∙ rw c.in_err-put_first.ensures.err (c.self.invariant.locks seq);
+  priorities = rw c.in_err-put_first.ensures.err c.self.invariant.priorities;
+  single = rw c.in_err-put_first.ensures.err c.self.invariant.single;
+}
+
+pub invariant_of-self-2 : goal.invariant_of-self-2
+invariant_of-self-2 c =
+    let queue = c.self.inside.requests.items in
+    let fresh : list_any (is_lock_of c.args.seq) queue ≡ false = rw c.self.view_is c.requires in
+    record {
+      items = rw c.in_ok-put_first.ensures.ok (unmarked-first is_item (contains nat_eq c.self.inside.items) queue (lock_request c.args.seq) refl c.self.invariant.items);
+      locks = rw c.in_ok-put_first.ensures.ok (marked-first (λ request. not (is_item request)) (contains nat_eq c.self.inside.locks) (contains nat_eq c.insert.new.self) queue (lock_request c.args.seq) refl c.self.invariant.locks
+          (λ seq. c.in-Ok.ensures.updates.0 seq ∙ rw (c.in_ok-reserve.ensures.keys.2 seq) refl));
+      priorities = grind (arith, common_steps);
+      single = rw c.in_ok-put_first.ensures.ok (single-lock queue c.args.seq fresh c.self.invariant.single);
+    }

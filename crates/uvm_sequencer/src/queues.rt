@@ -1,0 +1,191 @@
+//! What waits at a sequencer, and who.
+
+ghost use Rattle.std.specs.Prelude.{◌≡◌, ◌≤◌, ◌<◌, ◌+◌, ◌^◌, ◌∷◌, ◌++◌, [], Some, drop, false, filter, length, not, option_map, slice_get, true, IfNone, IfSome, OnErr, OnOk, OnSome};
+ghost use Rattle.std.specs.List.{list_all, list_any};
+ghost use Rattle.std.specs.Option.{option_and_then, IsSomeAnd};
+ghost use Rattle.uvm_sequencer.specs.Queues.{AreSingle, is_item, is_item_of, is_lock_of, item_request, lock_in, lock_request, without, without_item, without_lock};
+ghost use Rattle.uvm_sequencer.specs.Marks.{has_priority};
+ghost use Rattle.uvm_sequencer.specs.Sequencers.{is_live_at};
+
+use crate::requests::{Request, Want, keep_live, put_first, put_last, take_all};
+use crate::starts::{SeqId, Sequences};
+use std::alloc::{AllocError, Global};
+use std::collections::HashSet;
+use std::marker::Model;
+
+// The requests in the order of the queue. Marks tell who waits without a look at them.
+#[derive(Drop)]
+pub(crate) struct Queue {
+    requests: Vec<Request>,
+    // Whose item requests wait.
+    items: HashSet<SeqId>,
+    // Whose lock requests wait.
+    locks: HashSet<SeqId>,
+}
+
+impl Model for Queue {
+    ghost use Rattle.std.specs.Prelude.{List};
+    ghost use Rattle.uvm_sequencer.specs.declared.requests.Request.{Request};
+    ghost use Rattle.uvm_sequencer.specs.Marks.{IsQueue};
+
+    ghost Value = { List Request };
+
+    ghost view = { λ q. q.requests.items };
+
+    ghost invariant = { λ q. IsQueue q };
+}
+
+impl Queue {
+    // Nothing waits. Takes no memory.
+    pub(crate) fn new(alloc: Global) -> Queue
+        ensures { result ≡ [] }
+    {
+        Queue {
+            requests: Vec::new(alloc),
+            items: HashSet::new(alloc),
+            locks: HashSet::new(alloc),
+        }
+    }
+
+    // How many requests wait, of each sequence one for an item and one for a lock at most.
+    pub(crate) fn len(&self) -> usize
+        ensures count { result ≡ length self.now }
+        ensures small { length self.now < 2 ^ 63 }
+        ensures single { AreSingle self.now }
+    {
+        self.requests.len()
+    }
+
+    // The requests behind the first so many.
+    pub(crate) fn behind(&self, known: usize) -> &[Request]
+        requires { known ≤ length self.now }
+        ensures value { result.now ≡ drop known self.now }
+        ensures priorities { list_all has_priority result.now ≡ true }
+        ensures small { length self.now < 2 ^ 63 }
+    {
+        &self.requests[known..]
+    }
+
+    // Whether a sequence waits for an item.
+    pub(crate) fn has_item(&self, seq: SeqId) -> bool
+        ensures { result ≡ list_any (is_item_of seq) self.now }
+    {
+        self.items.contains(&seq)
+    }
+
+    // Whether a sequence waits for a lock.
+    pub(crate) fn has_lock(&self, seq: SeqId) -> bool
+        ensures { result ≡ list_any (is_lock_of seq) self.now }
+    {
+        self.locks.contains(&seq)
+    }
+
+    // Whether each request is for an item.
+    pub(crate) fn are_items(&self) -> bool
+        ensures { result ≡ list_all is_item self.now }
+    {
+        self.locks.is_empty()
+    }
+
+    // The sequence that wants to hold the sequencer by the request at a place, if there is one and it is for a lock.
+    pub(crate) fn lock_at(&self, place: usize) -> Option<SeqId>
+        ensures { result ≡ option_and_then lock_in (slice_get self.now place) }
+    {
+        self.requests.get(place)?.lock()
+    }
+
+    // Puts an item request behind all others. Its error is want of memory, which changes nothing.
+    pub(crate) fn put_item(&mut self, seq: SeqId, priority: u16) -> Result<(), AllocError>
+        requires priority { 0 < priority }
+        requires fresh { list_any (is_item_of seq) self.old ≡ false }
+        ensures ok { OnOk result (self.new ≡ self.old ++ item_request seq priority ∷ []) }
+        ensures err { OnErr result (self.new ≡ self.old) }
+    {
+        self.items.reserve(1)?;
+        put_last(&mut self.requests, seq, Want::Item(priority))?;
+        let Ok(_) = self.items.insert(seq) else {
+            unreachable!()
+        };
+        Ok(())
+    }
+
+    // Puts a lock request behind all others. Its error is want of memory, which changes nothing.
+    pub(crate) fn put_lock(&mut self, seq: SeqId) -> Result<(), AllocError>
+        requires { list_any (is_lock_of seq) self.old ≡ false }
+        ensures ok { OnOk result (self.new ≡ self.old ++ lock_request seq ∷ []) }
+        ensures err { OnErr result (self.new ≡ self.old) }
+    {
+        self.locks.reserve(1)?;
+        put_last(&mut self.requests, seq, Want::Lock)?;
+        let Ok(_) = self.locks.insert(seq) else {
+            unreachable!()
+        };
+        Ok(())
+    }
+
+    // Puts a lock request before all others. Its error is want of memory, which changes nothing.
+    pub(crate) fn put_grab(&mut self, seq: SeqId) -> Result<(), AllocError>
+        requires { list_any (is_lock_of seq) self.old ≡ false }
+        ensures ok { OnOk result (self.new ≡ lock_request seq ∷ self.old) }
+        ensures err { OnErr result (self.new ≡ self.old) }
+    {
+        self.locks.reserve(1)?;
+        put_first(&mut self.requests, seq, Want::Lock)?;
+        let Ok(_) = self.locks.insert(seq) else {
+            unreachable!()
+        };
+        Ok(())
+    }
+
+    // Takes out the item request at a place, and answers whose it is.
+    pub(crate) fn take_item(&mut self, place: usize) -> SeqId
+        requires { IsSomeAnd (slice_get self.old place) (λ request. is_item request ≡ true) }
+        ensures value { option_map (λ request. request.seq) (slice_get self.old place) ≡ Some result }
+        ensures after { self.new ≡ without_item result self.old }
+        ensures fewer { length self.new + 1 ≡ length self.old }
+    {
+        let seq = self.requests.remove(place).seq;
+        self.items.remove(&seq);
+        seq
+    }
+
+    // Takes out the lock request at a place, and answers whose it is; none where no lock request stands there.
+    pub(crate) fn take_lock(&mut self, place: usize) -> Option<SeqId>
+        ensures value { result ≡ option_and_then lock_in (slice_get self.old place) }
+        ensures after { IfSome result (λ seq. self.new ≡ without_lock seq self.old) }
+        ensures none { IfNone result (self.new ≡ self.old) }
+        ensures fewer { OnSome result (length self.new + 1 ≡ length self.old) }
+    {
+        let seq = self.lock_at(place)?;
+        self.requests.remove(place);
+        self.locks.remove(&seq);
+        Some(seq)
+    }
+
+    // Takes out what a sequence asked for. Where it waits for nothing the requests are not looked at.
+    pub(crate) fn leave(&mut self, seq: SeqId)
+        ensures { self.new ≡ without seq self.old }
+    {
+        let had_item = self.items.remove(&seq);
+        let had_lock = self.locks.remove(&seq);
+        if had_item || had_lock {
+            take_all(&mut self.requests, seq);
+        }
+    }
+
+    // Takes out what sequences asked for that live no longer.
+    pub(crate) fn keep_live(&mut self, sequences: &Sequences)
+        ensures { self.new ≡ filter (λ request. is_live_at sequences.now.steps request.seq) self.old }
+    {
+        keep_live(&mut self.requests, sequences);
+        keep_marks(&mut self.items, sequences);
+        keep_marks(&mut self.locks, sequences);
+    }
+}
+
+// Takes out the marks of sequences that live no longer.
+fn keep_marks(marks: &mut HashSet<SeqId>, sequences: &Sequences)
+    ensures { marks.new.keys ≡ filter (is_live_at sequences.now.steps) marks.old.keys }
+{
+    marks.retain(|seq| sequences.is_live(*seq));
+}

@@ -1,0 +1,35 @@
+-- The paths of a tree have no fault.
+use Rattle.std.proofs.Common.{◌≡◌, ◌∷◌, ◌++◌, ◌∙◌, ℕ, Bool, true, false, List, [], Option, Some, None, OnSome, is_some, refl, ap, sym}
+use Rattle.std.proofs.lemmas.List.Elements.{All-push}
+use Rattle.uvm_glob.specs.Lists.{first_given}
+use Rattle.uvm_glob.specs.Faults.{fault_if}
+use Rattle.uvm_glob.specs.Paths.{path_fault}
+use Rattle.uvm_tree.specs.declared.faults.TreeFault.TheVariants.{NoParent, NameTaken, TooDeep, Full}
+use Rattle.uvm_tree.specs.declared.nodes.NodeKind.{NodeKind}
+use Rattle.uvm_tree.specs.Nodes.{Node, AreNodes, AreSound, add_fault, child, number_at, path_at, top}
+use Rattle.uvm_tree.proofs.Finding.{found-at, read_path}
+
+-- where none of four faults is given, the third is not there
+third-none : (a b c d : Bool) → first_given (fault_if a NoParent ∷ fault_if b NameTaken ∷ fault_if c TooDeep ∷ fault_if d Full ∷ []) ≡ None → c ≡ false
+third-none true b c d e = cc
+third-none false true c d e = cc
+third-none false false true d e = cc
+third-none false false false d e = refl
+
+none-given : {A : Type 0} (o : Option A) → is_some o ≡ false → o ≡ None
+none-given None e = refl
+none-given (Some a) e = cc
+
+-- one more node that may be added has none
+pub sound-added : (nodes : List Node) (parent : ℕ) (name : List ℕ) (kind : NodeKind) → add_fault nodes parent name ≡ None → AreSound nodes → AreSound (nodes ++ child nodes parent name kind ∷ [])
+unfolding add_fault
+sound-added nodes parent name kind free sound =
+    All-push (λ node. path_fault node.path ≡ None) nodes (child nodes parent name kind) sound
+    (none-given (path_fault (path_at nodes parent ++ name ∷ [])) (third-none _ _ _ _ free))
+
+-- what is found at a path shows that it has no fault
+pub found_sound : (nodes : List Node) → AreNodes nodes → AreSound nodes → (path : List (List ℕ)) (found : Option ℕ) → found ≡ number_at nodes path → OnSome found (path_fault path ≡ None)
+found_sound nodes are sound path None e = tt
+found_sound nodes are sound path (Some n) e =
+    let found = found-at nodes are n path (sym e) in
+    ap path_fault (sym (sym (read_path nodes n top found.0) ∙ found.1)) ∙ sound n top found.0

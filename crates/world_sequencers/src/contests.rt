@@ -1,0 +1,80 @@
+//! Where something may be granted.
+
+ghost use Rattle.std.specs.Prelude.{◌≡◌, ℕ, Some, None, OnOk};
+ghost use Rattle.world_sequencers.specs.Arbiters.{mode_of};
+ghost use Rattle.world_sequencers.specs.Contests.{AddsContest, ForgetsAll, LearnsAt, known_at};
+
+use std::alloc::{AllocError, Global};
+use std::collections::HashMap;
+use uvm_object::What;
+use uvm_tree::NodeId;
+
+/// Where something may be granted (IEEE 1800.2-2020, Clause 15): at the sequencer that was changed last; and for how many requests
+/// at the front of each queue it is known that their sequences are blocked, so that nobody looks at those again.
+#[derive(Drop)]
+pub struct Contest {
+    /// The sequencer that was changed last; none where nothing can be granted anywhere.
+    pub node: Option<NodeId>,
+    /// For each sequencer for how many requests at the front of its queue it is known.
+    pub passed: HashMap<NodeId, usize>,
+}
+
+impl Contest {
+    /// Nothing can be granted, and there is no sequencer. Takes no memory.
+    pub fn new(alloc: Global) -> Contest
+        ensures node { result.node ≡ None }
+        ensures known { (n : ℕ) → known_at result n ≡ 0 }
+    {
+        Contest {
+            node: None,
+            passed: HashMap::new(alloc),
+        }
+    }
+
+    /// Answers for how many requests at the front of the queue of a sequencer it is known that their sequences are blocked.
+    pub fn known(&self, node: NodeId) -> usize
+        ensures { result ≡ known_at self.now node }
+    {
+        match self.passed.get(&node) {
+            Some(known) => *known,
+            None => 0,
+        }
+    }
+
+    /// Keeps that a node was added, which may be a sequencer, and that nothing can be granted. Its error is want of memory.
+    pub fn add(&mut self, node: NodeId, what: What) -> Result<(), AllocError>
+        ensures node { OnOk result (self.new.node ≡ None) }
+        ensures added { OnOk result (AddsContest (mode_of what) node self.old self.new) }
+    {
+        self.node = None;
+        let What::Sequencer { .. } = what else {
+            return Ok(());
+        };
+        match self.passed.insert(node, 0) {
+            Ok(_) => Ok(()),
+            Err(_) => Err(AllocError),
+        }
+    }
+
+    /// Keeps for how many requests at the front of the queue of a sequencer it is known. Takes no memory.
+    pub fn learn(&mut self, node: NodeId, known: usize)
+        ensures node { self.new.node ≡ self.old.node }
+        ensures known { LearnsAt node known self.old self.new }
+    {
+        if let Some(passed) = self.passed.get_mut(&node) {
+            *passed = known;
+        }
+    }
+
+    /// Keeps that it is known for none, as at the end of a phase, and that nothing can be granted. Takes no memory.
+    pub fn forget(&mut self)
+        ensures node { self.new.node ≡ None }
+        ensures known { ForgetsAll self.new }
+    {
+        self.node = None;
+        self.passed.retain(|_, passed| {
+            *passed = 0;
+            true
+        });
+    }
+}

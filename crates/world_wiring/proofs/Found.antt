@@ -1,0 +1,25 @@
+-- What is found at a path.
+use Rattle.std.proofs.Common.{◌≡◌, ◌++◌, ℕ, Bool, true, false, List, Option, Some, None, OnSome, is_none, refl, ap, ◌∙◌, if◌then◌else◌}
+use Rattle.uvm_glob.specs.Paths.{path_fault}
+use Rattle.uvm_tree.specs.Nodes.{Node, number_at, path_at}
+use Rattle.uvm_object.specs.declared.acts.Who.{Who}
+use Rattle.uvm_object.specs.Acts.{node_of}
+use Rattle.bench_history.specs.Wires.{node_below, node_found}
+
+-- where nothing is found, a test of the path changes nothing
+neither : (found : Option ℕ) (b : Bool) → found ≡ (if b then found else found)
+neither found true = refl
+neither found false = refl
+
+-- a node that is found at a path without a fault is found within the limits of a path
+found-within : (nodes : List Node) (path : List (List ℕ)) (found : Option ℕ) → found ≡ number_at nodes path → OnSome found (path_fault path ≡ None) → found ≡ node_found nodes path
+found-within nodes path (Some node) is sound = rw (sound, ← is) refl
+found-within nodes path None is sound = rw (← is) (neither None (is_none (path_fault path)))
+
+-- and so below the node at which somebody stands
+pub found-below :
+    (nodes : List Node) (performer : Who) (path : List (List ℕ)) (node : ℕ) (found : Option ℕ) → node ≡ node_of performer → found ≡ number_at nodes (path_at nodes node ++ path) → OnSome found (path_fault (path_at nodes node ++ path) ≡ None)
+    → found ≡ node_below nodes performer path
+unfolding node_below
+found-below nodes performer path node found at is sound =
+    found-within nodes (path_at nodes node ++ path) found is sound ∙ ap (λ (n : ℕ). node_found nodes (path_at nodes n ++ path)) at

@@ -15,7 +15,7 @@ use bench_world::World;
 use std::alloc::AllocError;
 use uvm_object::{Call, Fatal, Passage, Reason, Who};
 use uvm_phase::{Cause, Due, Phase, Schedule};
-use uvm_sequencer::SeqId;
+use uvm_sequences::SeqId;
 use uvm_tree::NodeId;
 
 /// An entry that the machine makes by itself.

@@ -13,7 +13,7 @@ use Rattle.uvm_sequencer.specs.Drivers.{wait_of}
 use Rattle.uvm_sequencer.specs.Laws as sequencer
 use Rattle.uvm_sequencer.specs.Laws.{is_as_urgent}
 use Rattle.uvm_sequencer.specs.Queues.{is_candidate, is_item, item_request, lock_in, lock_request, priority_of}
-use Rattle.uvm_sequencer.specs.Sequences.{is_under}
+use Rattle.uvm_sequences.specs.Sequences.{is_under}
 use Rattle.uvm_sequencer.specs.Sequencers.{candidates_at, choice_at, ready_at, lock_at}
 use Rattle.uvm_tree.specs.Sorted.{path_order}
 use Rattle.uvm_object.specs.declared.entries.Grant as entries

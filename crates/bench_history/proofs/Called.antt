@@ -1,7 +1,7 @@
 -- Who is called: a component, which is a node of the tree, or a sequence that lives.
 use Rattle.std.proofs.Common.{◌≡◌, ℕ, ◌<◌, ◌≤◌, ◌==◌, ◌⊎◌, inl, inr, true, false, not, List, [], ◌∷◌, length, Option, Some, None, option_and_then, IfSome, refl, ap, ◌∙◌, sym, subst, arith, option_map}
 use Rattle.uvm_tree.specs.Sorted.{path_order}
-use Rattle.uvm_sequencer.specs.Sequences.{numbered}
+use Rattle.uvm_sequences.specs.Sequences.{numbered}
 use Rattle.uvm_sequencer.specs.Sequencers.{SequencerValue, candidates_at, choice_at, lock_at}
 use Rattle.uvm_sequencer.specs.Drivers.{hand_of}
 use Rattle.uvm_sequencer.specs.Queues.{lock_request}

@@ -12,7 +12,7 @@ use Rattle.uvm_sequencer.specs.Choices.{choice}
 use Rattle.uvm_sequencer.specs.Laws as sequencer
 use Rattle.uvm_sequencer.specs.Laws.{are_nested}
 use Rattle.uvm_sequencer.specs.Queues.{is_held, released}
-use Rattle.uvm_sequencer.specs.Sequences.{Start, is_under, numbered}
+use Rattle.uvm_sequences.specs.Sequences.{Start, is_under, numbered}
 use Rattle.uvm_sequencer.specs.Sequencers.{candidates_at, choice_at, lock_at}
 use Rattle.uvm_object.specs.declared.acts.Who.{Who}
 use Rattle.uvm_object.specs.declared.acts.Call.{Call}

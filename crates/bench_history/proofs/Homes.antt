@@ -7,7 +7,7 @@ use Rattle.std.proofs.lemmas.List.Elements.{All-nil, All-cons, All-weaker}
 use Rattle.uvm_glob.specs.Lists.{first_given}
 use Rattle.uvm_glob.specs.Faults.{fault_if}
 use Rattle.uvm_phase.specs.Laws.{OrderKeepsAll}
-use Rattle.uvm_sequencer.specs.Sequences.{numbered}
+use Rattle.uvm_sequences.specs.Sequences.{numbered}
 use Rattle.uvm_tree.specs.Nodes.{Node, node_at}
 use Rattle.uvm_object.specs.declared.acts.Who.{Who}
 use Rattle.uvm_object.specs.declared.acts.Who.TheVariants as who

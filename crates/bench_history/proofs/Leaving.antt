@@ -8,7 +8,7 @@ use Rattle.std.proofs.lemmas.List.Elements.{All-nil, All-cons, All-head, All-tai
 use Rattle.uvm_phase.specs.declared.phases.Phase.{Phase}
 use Rattle.uvm_phase.specs.Phases.{same_phase}
 use Rattle.uvm_phase.specs.Laws.{OrderKeepsAll}
-use Rattle.uvm_sequencer.specs.Sequences.{numbered}
+use Rattle.uvm_sequences.specs.Sequences.{numbered}
 use Rattle.uvm_tree.specs.Nodes.{Node}
 use Rattle.uvm_object.specs.Objects.{same_who}
 use Rattle.uvm_object.specs.declared.acts.Who.{Who}

@@ -22,7 +22,7 @@ use Rattle.bench_history.specs.History.{nodes_of, left_of, rest_of, speaker_of}
 use Rattle.bench_history.specs.Refusals.{Creation, Starting, type_asked, type_made, child_refusal, fatal_of, creation_refusal, starting_refusal, is_open_to}
 use Rattle.bench_history.specs.Sequences.{next_step, sequences_of}
 use Rattle.bench_history.specs.Upshots.{Upshot, Needs, unless_refused, needed_object, needed_sequence, creation_now, creation_upshot, starting_now, starting_upshot, step_upshot, open_upshot, upshot_of, asked_upshot}
-use Rattle.uvm_sequencer.specs.declared.starts.SeqStep.{SeqStep}
+use Rattle.uvm_sequences.specs.declared.starts.SeqStep.{SeqStep}
 use Rattle.bench_history.specs.Cases.{Next, Need}
 use Rattle.bench_history.specs.Next.{next_of, need_in, IsAct}
 use Rattle.bench_history.specs.Laws.{IsMadeBy, IsWanted, NeedsAreWanted}

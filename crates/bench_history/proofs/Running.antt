@@ -5,7 +5,7 @@ use Rattle.std.specs.Option.{option_map_or}
 use Rattle.std.proofs.lemmas.List.Elements.{All-nil, All-cons, All-weaker}
 use Rattle.uvm_phase.specs.declared.phases.Phase.{Phase}
 use Rattle.uvm_phase.specs.Phases.{same_phase}
-use Rattle.uvm_sequencer.specs.Sequences.{numbered}
+use Rattle.uvm_sequences.specs.Sequences.{numbered}
 use Rattle.uvm_object.specs.declared.acts.Who.{Who}
 use Rattle.uvm_object.specs.declared.acts.Act.{Act}
 use Rattle.uvm_object.specs.declared.entries.Outcome.{Outcome}

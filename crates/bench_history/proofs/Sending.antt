@@ -13,7 +13,7 @@ use Rattle.uvm_sequencer.specs.declared.drivers.Driver.{Driver}
 use Rattle.uvm_sequencer.specs.declared.drivers.Driver.TheVariants as driver
 use Rattle.uvm_sequencer.specs.Drivers.{grant_of, granted_by, hand_of, is_idle, lapsed, left_by, sent}
 use Rattle.uvm_sequencer.specs.Laws.{LockExcludes}
-use Rattle.uvm_sequencer.specs.Sequences.{numbered}
+use Rattle.uvm_sequences.specs.Sequences.{numbered}
 use Rattle.uvm_tlm.specs.Wirings.{targets_of}
 use Rattle.uvm_tlm.specs.declared.ends.PortKind.TheVariants.{Seq}
 use Rattle.uvm_tlm.specs.declared.items.Item.{Item}

@@ -9,7 +9,7 @@ use Rattle.uvm_sequencer.specs.declared.drivers.How.TheVariants as how
 use Rattle.uvm_sequencer.specs.declared.drivers.Driver.{Driver}
 use Rattle.uvm_sequencer.specs.declared.drivers.Driver.TheVariants as driver
 use Rattle.uvm_sequencer.specs.Drivers.{grant_of, granted_by, lapsed, left_by, sent}
-use Rattle.uvm_sequencer.specs.Sequences.{Start}
+use Rattle.uvm_sequences.specs.Sequences.{Start}
 use Rattle.uvm_object.specs.declared.acts.Who.{Who}
 use Rattle.uvm_object.specs.declared.entries.Entry.{Entry}
 use Rattle.std.proofs.Common.{IfSome}

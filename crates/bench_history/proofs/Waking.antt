@@ -7,12 +7,12 @@ use Rattle.uvm_phase.specs.declared.agendas.Cause.{Cause}
 use Rattle.uvm_objection.specs.declared.objections.Due as drain
 use Rattle.uvm_objection.specs.Nodes as objection
 use Rattle.uvm_objection.specs.Totals.{drains_begun, drains_ended}
-use Rattle.uvm_sequencer.specs.declared.starts.SeqStep.{SeqStep}
-use Rattle.uvm_sequencer.specs.declared.starts.SeqStep.TheVariants.{PreStart, Body, PostStart}
+use Rattle.uvm_sequences.specs.declared.starts.SeqStep.{SeqStep}
+use Rattle.uvm_sequences.specs.declared.starts.SeqStep.TheVariants.{PreStart, Body, PostStart}
 use Rattle.uvm_sequencer.specs.declared.drivers.How.{How}
 use Rattle.uvm_sequencer.specs.declared.drivers.How.TheVariants as how
 use Rattle.uvm_sequencer.specs.Drivers.{grant_of, hand_of, is_try}
-use Rattle.uvm_sequencer.specs.Sequences.{numbered}
+use Rattle.uvm_sequences.specs.Sequences.{numbered}
 use Rattle.uvm_tlm.specs.declared.fifos.MoveKind.{MoveKind}
 use Rattle.uvm_tlm.specs.declared.fifos.MoveKind.TheVariants as move
 use Rattle.uvm_tlm.specs.declared.items.Item.{Item}

@@ -12,7 +12,7 @@ use Rattle.uvm_sequencer.specs.declared.drivers.Driver.TheVariants.{Idle, Waitin
 use Rattle.uvm_sequencer.specs.declared.requests.Request.{Request}
 use Rattle.uvm_sequencer.specs.Drivers.{grant_of, granted_by, left_by, sent}
 use Rattle.uvm_sequencer.specs.Queues.{is_item, item_request, lock_request, released}
-use Rattle.uvm_sequencer.specs.Sequences.{Start}
+use Rattle.uvm_sequences.specs.Sequences.{Start}
 use Rattle.uvm_sequencer.specs.Sequencers.{SequencerValue, lock_at, ready_at}
 use Rattle.uvm_tlm.specs.declared.ends.PortKind.TheVariants.{Seq}
 use Rattle.uvm_tlm.specs.Wirings.{targets_of}

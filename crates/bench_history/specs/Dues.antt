@@ -9,9 +9,9 @@ use Rattle.uvm_phase.specs.Dues.{same_cause, in_order}
 use Rattle.uvm_objection.specs.declared.objections.Due as drain
 use Rattle.uvm_objection.specs.Nodes.{Node}
 use Rattle.uvm_objection.specs.Totals.{drains_begun, drains_ended}
-use Rattle.uvm_sequencer.specs.declared.starts.SeqStep.{SeqStep}
-use Rattle.uvm_sequencer.specs.declared.starts.SeqStep.TheVariants.{PreStart, Body, PostStart}
-use Rattle.uvm_sequencer.specs.Sequences.{numbered}
+use Rattle.uvm_sequences.specs.declared.starts.SeqStep.{SeqStep}
+use Rattle.uvm_sequences.specs.declared.starts.SeqStep.TheVariants.{PreStart, Body, PostStart}
+use Rattle.uvm_sequences.specs.Sequences.{numbered}
 use Rattle.uvm_sequencer.specs.declared.drivers.How.{How}
 use Rattle.uvm_sequencer.specs.declared.drivers.How.TheVariants.{Get as ByGet}
 use Rattle.uvm_sequencer.specs.Drivers.{grant_of, hand_of, is_try}

@@ -18,7 +18,7 @@ use Rattle.uvm_sequencer.specs.Choices.{is_greatest}
 use Rattle.uvm_sequencer.specs.Drivers.{grant_of, hand_of}
 use Rattle.uvm_sequencer.specs.Laws.{IsFirst, is_as_urgent}
 use Rattle.uvm_sequencer.specs.Queues.{is_blocked, is_candidate, is_item_of, lock_request, priority_of}
-use Rattle.uvm_sequencer.specs.Sequences.{is_under}
+use Rattle.uvm_sequences.specs.Sequences.{is_under}
 use Rattle.uvm_object.specs.declared.acts.Who.{Who}
 use Rattle.uvm_object.specs.declared.acts.Call.{Call}
 use Rattle.uvm_object.specs.declared.acts.Call.TheVariants as call

@@ -9,7 +9,7 @@ use Rattle.uvm_report.specs.declared.messages.Fate.{Fate}
 use Rattle.uvm_report.specs.Fates.{displayed_as}
 use Rattle.uvm_report.specs.Commands.{Command, SetVerbosity, SetAction, SetSeverity, SetQuitLimit, Issue, fate_in, is_exit_asked}
 use Rattle.uvm_report.specs.Lines.{report_line}
-use Rattle.uvm_sequencer.specs.Sequences.{Start}
+use Rattle.uvm_sequences.specs.Sequences.{Start}
 use Rattle.uvm_tree.specs.Nodes.{Node, path_at}
 use Rattle.uvm_object.specs.Acts.{node_of}
 use Rattle.uvm_object.specs.declared.acts.Act.{Act}

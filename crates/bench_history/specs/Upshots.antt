@@ -3,10 +3,10 @@ use Rattle.std.specs.Prelude.{ℕ, ℤ, suc, Bool, false, not, nat_lt, List, len
 use Rattle.std.specs.Option.{option_map_or}
 use Rattle.uvm_glob.specs.Faults.{fault_if}
 use Rattle.uvm_glob.specs.Paths.{path_text}
-use Rattle.uvm_sequencer.specs.declared.starts.SeqStep.{SeqStep}
+use Rattle.uvm_sequences.specs.declared.starts.SeqStep.{SeqStep}
 use Rattle.uvm_sequencer.specs.declared.drivers.How.{How}
 use Rattle.uvm_sequencer.specs.declared.drivers.How.TheVariants.{Try}
-use Rattle.uvm_sequencer.specs.Sequences.{Start as Beginnings}
+use Rattle.uvm_sequences.specs.Sequences.{Start as Beginnings}
 use Rattle.uvm_sequencer.specs.Sequencers.{SequencerValue, candidates_at}
 use Rattle.uvm_config.specs.Answers.{config_answer}
 use Rattle.uvm_factory.specs.declared.types.Kind.TheVariants.{Component, Sequence}

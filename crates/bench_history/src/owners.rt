@@ -7,7 +7,7 @@ use uvm_object::Who;
 use uvm_tree::NodeId;
 
 /// Whose an event of the agenda is. The drain of a node is not its component's, so that taking out the one leaves the other.
-#[derive(Clone, Copy, PartialEq, Eq)]
+#[derive(Clone, Copy, PartialEq, Eq, Hash)]
 pub enum Owner {
     /// Who is to be called.
     Object(Who),

@@ -7,7 +7,7 @@ use Rattle.std.proofs.lemmas.List.Sorted.{Contains-permutation}
 use Rattle.std.proofs.lemmas.Option.{same_Some}
 use Rattle.std.specs.Prelude.{◌⊎◌, All, Contains}
 use Rattle.std.specs.List.Sorted.{IsPermutation}
-use Rattle.uvm_sequencer.specs.Sequences.{numbered}
+use Rattle.uvm_sequences.specs.Sequences.{numbered}
 use Rattle.uvm_object.specs.Objects.{life_of, same_who}
 use Rattle.uvm_object.specs.declared.acts.Who.{Who}
 use Rattle.uvm_object.specs.declared.acts.Who.TheVariants.{Node, Sequence}

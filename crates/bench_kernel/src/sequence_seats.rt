@@ -13,7 +13,7 @@ use slab::Slab;
 use std::alloc::{AllocError, Global};
 use std::marker::Model;
 use uvm_object::{Acts, Call, UvmObject, Who};
-use uvm_sequencer::SeqId;
+use uvm_sequences::SeqId;
 use uvm_tree::NodeId;
 
 /// The seats of the objects of sequences that are held (IEEE 1800.2-2020, Clause 14). Contracts see who sits with which object, by

@@ -8,7 +8,7 @@ use Rattle.bench_history.specs.History.{nodes_of}
 use Rattle.bench_history.specs.Wires.{wiring_of}
 use Rattle.bench_history.specs.Next.{EachIsNext}
 use Rattle.bench_history.specs.Laws.{ConnectFollowsBuild, is_at_check}
-use Rattle.bench_world.specs.declared.making.Waiting.{Waiting}
+use Rattle.world_deeds.specs.declared.making.Waiting.{Waiting}
 use Rattle.world_services.specs.declared.services.Services.{Services}
 use Rattle.world_wiring.specs.Connectings.{IsConnecting, IsClosing}
 use Rattle.world_services.specs.Services.{ServicesMatch}
@@ -31,15 +31,17 @@ closed-ready r = record {
   needed = r.needed;
   home = r.home;
   room = r.room;
-  log_spare = r.log_spare;
-  tree_spare = r.tree_spare;
-  objection_spare = r.objection_spare;
-  turns = r.turns;
-  sequence_spare = r.sequence_spare;
-  beginnings = r.beginnings;
-  agenda_spare = r.agenda_spare;
   declined = r.declined;
-  report_room = r.report_room;
+  has_room = record {
+    log_spare = r.has_room.log_spare;
+    tree_spare = r.has_room.tree_spare;
+    objection_spare = r.has_room.objection_spare;
+    turns = r.has_room.turns;
+    sequence_spare = r.has_room.sequence_spare;
+    beginnings = r.has_room.beginnings;
+    agenda_spare = r.has_room.agenda_spare;
+    report_room = r.has_room.report_room;
+  };
 }
 
 -- it is as good as before

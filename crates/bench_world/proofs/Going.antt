@@ -1,5 +1,5 @@
 -- A world goes on with one more entry.
-use Rattle.std.proofs.Common.{◌≡◌, ℕ, ◌<◌, true, List, ◌∷◌, length, Option, None, refl, ap, subst, ◌∙◌, arith, sym, Bool}
+use Rattle.std.proofs.Common.{◌≡◌, ◌<◌, true, List, ◌∷◌, length, Option, None, refl, ap, subst, ◌∙◌, arith, sym, Bool}
 use Rattle.uvm_object.specs.declared.acts.Act.{Act}
 use Rattle.uvm_object.specs.declared.acts.Who.{Who}
 use Rattle.uvm_object.specs.declared.entries.Entry.{Entry}
@@ -14,13 +14,13 @@ use Rattle.world_entries.specs.Coming.{Comes, GoesOn, IsComing, IsDue}
 use Rattle.bench_world.specs.Worlds.{IsWorld}
 use Rattle.uvm_object.specs.declared.entries.Entry.TheVariants.{Did}
 use Rattle.uvm_object.specs.declared.entries.Outcome.{Outcome}
-use Rattle.bench_world.specs.declared.making.Waiting.{Waiting}
+use Rattle.world_deeds.specs.declared.making.Waiting.{Waiting}
 use Rattle.bench_history.specs.History.{left_of, rest_of, speaker_of}
 use Rattle.bench_history.specs.Upshots.{Upshot, Needs, Does, Finds, Stores, Takes, Asks, Finishes, Refuses, upshot_of}
 use Rattle.bench_history.specs.Cases.{by_act, by_upshot}
 use Rattle.bench_history.specs.Laws.{DriversAreThere, IsSettled, PerformersAreThere, PhasesGoInOrder}
 use Rattle.world_services.specs.Attempts.{TakesIn, IsPerformed, one_done}
-use Rattle.world_services.proofs.Later.{acted, scene-of}
+use Rattle.world_services.proofs.Later.{scene-of}
 
 -- a legal log goes on with an entry that is next
 pub legal-more : {script : ScriptValue} {before : List Entry} (entry : Entry) → IsNext script before entry → length before < log_limit script → IsLegal script before → IsLegal script (entry ∷ before)

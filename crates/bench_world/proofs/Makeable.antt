@@ -1,6 +1,6 @@
 -- The object of an act that waits.
 use Rattle.std.proofs.Common.{◌≡◌, ℕ, suc, List, [], length, Option, Some, None, IsSome, option_map, ◌⊎◌, inl, inr, refl, ap, sym, ◌∙◌, subst}
-use Rattle.uvm_sequencer.specs.Sequences.{Start, numbered}
+use Rattle.uvm_sequences.specs.Sequences.{Start, numbered}
 use Rattle.uvm_tree.specs.Nodes.{Node, node_at}
 use Rattle.uvm_object.specs.Acts.{node_of}
 use Rattle.uvm_object.specs.Logs.{LogValue}
@@ -15,7 +15,7 @@ use Rattle.bench_history.specs.History.{nodes_of, opening, speaker_of}
 use Rattle.bench_history.specs.Laws.{IsBegun, IsCreated, IsCreation, IsMadeBy, IsThere}
 use Rattle.bench_history.specs.Sequences.{Beginning, begun_of, home_asked, leaving_after, sequence_in, sequences_of, start_by}
 use Rattle.bench_history.specs.Upshots.{starting_now}
-use Rattle.bench_world.specs.declared.making.Waiting.{Waiting}
+use Rattle.world_deeds.specs.declared.making.Waiting.{Waiting}
 use Rattle.world_services.specs.declared.services.Services.{Services}
 use Rattle.world_services.specs.Makings.{CanMake, outcome_made, who_made}
 use Rattle.world_sequences.specs.Sequencings.{home_for}
@@ -54,11 +54,11 @@ module _ {script : ScriptValue} {log : LogValue} {services : Services} (waiting 
           creates = w.creates;
           free = rw (m.tree, m.answer.speaker) w.free;
           building = m.built ∙ w.building;
-          tree_spare = ready.tree_spare there;
+          tree_spare = ready.has_room.tree_spare there;
           speaks = rw (m.tree, m.answer.speaker) m.speaks;
           numbered = rw (m.objections.are, m.tree) m.objections.numbered;
-          objection_spare = ready.objection_spare;
-          turns = ready.turns;
+          objection_spare = ready.has_room.objection_spare;
+          turns = ready.has_room.turns;
         };
         made_is = ap (λ (name : List ℕ). Made name) (w.type_is ∙ ap (λ (n : needs.Need). n.type_name) same);
         who_is = rw m.tree refl;
@@ -78,9 +78,9 @@ module _ {script : ScriptValue} {log : LogValue} {services : Services} (waiting 
           task = rw m.stage u.task;
           positive = rw b.starts u.positive;
           parent = λ above e. parent performs above (rw m.answer.speaker at e);
-          sequence_spare = ready.sequence_spare;
-          beginnings = ready.beginnings;
-          agenda_spare = ready.agenda_spare;
+          sequence_spare = ready.has_room.sequence_spare;
+          beginnings = ready.has_room.beginnings;
+          agenda_spare = ready.has_room.agenda_spare;
         };
         made_is = ap (λ (n : ℕ). Started n) number;
         who_is = ap (λ (h : ℕ). Some (who.Sequence id h)) (started-at (nodes_of history) (sequences_of history) (speaker_of history) waiting.deed b.asked b.name b.on b.priority u.home b.starts u.home_is) ∙ ap (λ (n : ℕ). Some (who.Sequence n u.home)) number;

@@ -1,21 +1,18 @@
 -- What contracts see of a world.
-use Rattle.std.specs.Prelude.{◌≡◌, ◌<◌, ℕ, Bool, true, false, List, ◌∷◌, length, Option, Some, None, is_some, IsSome, vec_len, vec_capacity, IsTrue}
+use Rattle.std.specs.Prelude.{◌≡◌, ◌<◌, ℕ, Bool, true, false, List, ◌∷◌, length, Option, Some, None, is_some}
 use Rattle.std.specs.Option.{ForSome}
-use Rattle.uvm_tree.specs.Nodes.{node_at}
 use Rattle.uvm_object.specs.declared.acts.Who.{Who}
 use Rattle.uvm_object.specs.declared.acts.Act.{Act}
 use Rattle.uvm_object.specs.declared.acts.Act.TheVariants.{Create, Start}
 use Rattle.uvm_object.specs.declared.entries.Outcome.TheVariants.{Made, Started}
-use Rattle.uvm_object.specs.Acts.{node_of}
 use Rattle.uvm_object.specs.declared.entries.Entry.{Entry}
 use Rattle.world_services.specs.declared.services.Services.{Services}
-use Rattle.uvm_report.specs.Observed.{has_room}
 use Rattle.uvm_object.specs.Fatals.{id_of, fatal_report}
 use Rattle.uvm_object.specs.declared.fatals.Fatal.TheVariants.{NoObject}
 use Rattle.uvm_object.specs.declared.entries.Entry.TheVariants.{Granted}
 use Rattle.uvm_object.specs.Logs.{LogValue}
 use Rattle.bench_script.specs.Scripts.{ScriptValue}
-use Rattle.bench_world.specs.declared.making.Waiting.{Waiting}
+use Rattle.world_deeds.specs.declared.making.Waiting.{Waiting}
 use Rattle.bench_history.specs.Limits.{log_limit}
 use Rattle.bench_history.specs.History.{left_of, nodes_of, rest_of, speaker_of}
 use Rattle.bench_history.specs.Sequences.{leaving_of, sequences_of, start_by}
@@ -24,6 +21,7 @@ use Rattle.bench_history.specs.Cases.{Next, Exactly, Need, Grant, by_act, chosen
 use Rattle.bench_history.specs.Next.{next_of, need_in, IsAct, IsLegal}
 use Rattle.bench_history.specs.Laws.{IsSettled}
 use Rattle.world_services.specs.Services.{ServicesMatch}
+use Rattle.world_deeds.specs.Rooms.{HasRoom}
 use Rattle.uvm_object.specs.declared.acts.Who.TheVariants as who
 use Rattle.bench_history.specs.declared.needs.Need as needs
 
@@ -49,22 +47,14 @@ world_after entry world = record world { history = entry ∷ world.history; wait
 abbrev pub broken : WorldValue → WorldValue
 broken world = record world { sound = false; waiting = None }
 
--- a creation or a start waits: it is the next act, and needs this object; there is room for its entry, for a node under its performer, for a sequence
--- and its first call, and for the report of an object that is declined
+-- a creation or a start waits: it is the next act, and needs this object; there is room for its entry, and for the report of an object that is declined
 pub record IsReady (waiting : Waiting) (script : ScriptValue) (log : LogValue) (services : Services) : Type 0 where
   pub left : left_of script log.entries ≡ waiting.deed ∷ rest_of (left_of script log.entries)
   pub needed : need_in (next_of script log.entries) ≡ Some waiting.need
   pub home : waiting.home ≡ home_for services.tree.nodes services.answer.speaker waiting.deed
   pub room : length log.entries < log_limit script
-  pub log_spare : 0 < log.spare
-  pub tree_spare : IsSome (node_at services.tree.nodes (node_of services.answer.speaker)) → services.tree.spare ≡ Some (node_of services.answer.speaker)
-  pub objection_spare : 0 < services.objection.spare
-  pub turns : vec_len services.turns.late < vec_capacity services.turns.late
-  pub sequence_spare : 0 < services.sequences.spare
-  pub beginnings : vec_len services.beginnings < vec_capacity services.beginnings
-  pub agenda_spare : 0 < services.agenda.spare
   pub declined : waiting.declined ≡ fatal_report NoObject
-  pub report_room : IsTrue (has_room services.reporting.reports (id_of NoObject))
+  pub has_room : HasRoom (id_of NoObject) log services
 
 -- the log is legal, and while the world is sound its services are what the log says, and those that leave are kept
 pub record IsWorld (sound : Bool) (script : ScriptValue) (log : LogValue) (services : Services) (waiting : Option Waiting) (leaving : List Who) : Type 0 where

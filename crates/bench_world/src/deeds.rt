@@ -1,27 +1,23 @@
 //! The last answer, and its next act.
 
-ghost use Rattle.std.specs.Prelude.{◌≡◌, length, OnOk, OnErr, IfOk, Some, slice_get, true};
+ghost use Rattle.std.specs.Prelude.{◌≡◌, length, OnOk, OnErr, IfOk, true};
 ghost use Rattle.std.specs.Option.{option_copied};
-ghost use Rattle.uvm_object.specs.declared.acts.Act.{Act};
 ghost use Rattle.bench_history.specs.History.{left_of, head_of, speaker_of};
 ghost use Rattle.uvm_object.specs.declared.acts.Act.TheVariants.{Create};
-ghost use Rattle.bench_history.specs.Sequences.{leaving_after};
 ghost use Rattle.bench_history.specs.Upshots.{open_upshot, refusal_in, upshot_of};
 ghost use Rattle.bench_world.specs.Worlds.{IsMaking, IsActed, MayAct, MayPerform, broken};
 ghost use Rattle.world_sequences.specs.Sequencings.{IsStart};
 ghost use Rattle.bench_history.specs.Next.{next_of};
-ghost use Rattle.world_services.specs.Services.{acts_at};
 ghost use Rattle.world_services.specs.Creations.{IsUnmade, MayWantMemoryFor};
 
-use crate::making::{Waiting, make_room};
-use crate::performing::{enter, perform};
 use crate::worlds::World;
 use bench_history::laws;
-use std::alloc::{AllocError, Global};
+use std::alloc::AllocError;
 use uvm_glob::Name;
-use uvm_object::{Act, Deed, Entry, Fatal, Log, LoggedOutcome, Outcome, Who};
+use uvm_object::{Act, Deed, Fatal, Who};
+use world_deeds::deeds::{CarriedOut, carry_out, deed_at};
 use world_sequencer_acts::starts::what_is_started;
-use world_services::attempts::{Attempt, is_open_to};
+use world_services::attempts::is_open_to;
 use world_services::creations::{Uncreated, what_is_created};
 
 impl World {
@@ -180,18 +176,13 @@ impl World {
         laws::drivers_are_there();
         self.sound = false;
         self.waiting = None;
-        let place = self.log.len();
-        let performer = self.services.answer.speaker;
-        match perform(&mut self.services, self.alloc, place, deed.act())? {
-            Attempt::Became(outcome) => {
-                self.leaving = leaving_after(self.alloc, performer, &outcome)?;
-                enter(&mut self.log, &mut self.services.answer, outcome, deed)?;
+        match carry_out(&mut self.log, &mut self.services, self.alloc, deed)? {
+            CarriedOut::Entered(leaving) => {
+                self.leaving = leaving;
                 self.sound = true;
                 Ok(())
             }
-            Attempt::Needed { need, home } => {
-                let waiting = Waiting::new(self.alloc, need, deed, home)?;
-                make_room(&mut self.log, &mut self.services, &waiting.declined.id)?;
+            CarriedOut::Waits(waiting) => {
                 self.waiting = Some(waiting);
                 self.sound = true;
                 Ok(())
@@ -206,30 +197,5 @@ impl World {
         self.sound = false;
         self.waiting = None;
         AllocError
-    }
-}
-
-// The sequence that an act has ended, if it has.
-fn leaving_after(
-    alloc: Global,
-    performer: Who,
-    outcome: &LoggedOutcome,
-) -> Result<Vec<Who>, AllocError>
-    ensures { IfOk result (λ leaving. leaving.items ≡ leaving_after performer outcome.now) }
-{
-    let mut leaving = Vec::new(alloc);
-    if let Outcome::Finished = outcome.get() {
-        leaving.push(performer)?;
-    }
-    Ok(leaving)
-}
-
-// The act at a place of an answer.
-fn deed_at(log: &Log, place: usize, act: usize) -> Option<&Deed>
-    ensures { (opening : Act) → option_copied result ≡ slice_get (acts_at opening log.now.entries (Some place)) act }
-{
-    match log.get(place) {
-        Some(Entry::Heard { acts, .. }) => acts.get().deed(act),
-        _ => None,
     }
 }

@@ -14,8 +14,9 @@ use uvm_object::{
     Acts, Call, Entry, Fatal, Grant, Log, LoggedGrant, LoggedPassage, Passage, Reason, Who,
 };
 use uvm_phase::{Cause, Phase};
-use uvm_sequencer::SeqId;
+use uvm_sequences::SeqId;
 use uvm_tree::{NodeId, laws as trees};
+use world_deeds::logs::{noted_end, push};
 use world_entries::{answers, grants, phases};
 use world_services::turns::direction_of;
 
@@ -253,36 +254,5 @@ impl World {
         trees::one_is_least();
         let services = &self.services;
         services.turns.first(&services.tree, direction_of(phase))
-    }
-}
-
-// Why the run is given up, if an entry notes it.
-fn noted_end(entry: &Entry) -> Option<Reason>
-    ensures { result ≡ noted_end entry.now }
-{
-    match entry {
-        Entry::Note {
-            fatal: Fatal::Timeout,
-            ..
-        } => Some(Reason::Timeout),
-        Entry::Note {
-            fatal: Fatal::Stall,
-            ..
-        } => Some(Reason::Stall),
-        _ => None,
-    }
-}
-
-// Adds an entry to a log that is not full.
-pub(crate) fn push(log: &mut Log, entry: Entry) -> Result<(), AllocError>
-    requires { length log.old.entries < log.old.limit }
-    ensures ok { OnOk result (log.new.entries ≡ entry ∷ log.old.entries) }
-    ensures err { OnErr result (log.new.entries ≡ log.old.entries) }
-    ensures limit { log.new.limit ≡ log.old.limit }
-    ensures room { 0 < log.old.spare → IsOk result }
-{
-    match log.push(entry) {
-        Ok(()) => Ok(()),
-        Err(_) => Err(AllocError),
     }
 }

@@ -1,7 +1,6 @@
 //! The world.
 
 ghost use Rattle.std.specs.Prelude.{◌≡◌, ℕ, [], IfOk, true, IsSome, None, length, nat_le, nat_lt, if◌then◌else◌};
-ghost use Rattle.bench_script.specs.Factories.{IsFactoryOf};
 ghost use Rattle.bench_history.specs.Limits.{log_limit};
 ghost use Rattle.bench_history.specs.History.{opening, stage_of, running, now_of, nodes_of, overrides_of};
 ghost use Rattle.bench_history.specs.Objections.{objections_of, stands};
@@ -23,10 +22,9 @@ ghost use Rattle.bench_history.specs.Next.{IsLegal};
 ghost use Rattle.bench_history.specs.Arbitration.{next_locked, next_served, waiters_at};
 ghost use Rattle.bench_history.specs.Passing.{next_passed};
 ghost use Rattle.bench_history.specs.Sequences.{leaving_of, sequences_of, step_of};
-ghost use Rattle.uvm_sequencer.specs.Sequences.{step_at};
+ghost use Rattle.uvm_sequences.specs.Sequences.{step_at};
 ghost use Rattle.bench_world.specs.Worlds.{WorldValue};
 
-use crate::making::Waiting;
 use bench_history::{Owner, Stage};
 use bench_script::Script;
 use std::alloc::{AllocError, Global};
@@ -34,13 +32,14 @@ use std::marker::Model;
 use uvm_config::Settings;
 use uvm_factory::Factory;
 use uvm_glob::{Name, Path};
-use uvm_object::{Act, Call, Deed, Log, Passage, Who};
+use uvm_object::{Call, Deed, Log, Passage, Who};
 use uvm_objection::Objection;
 use uvm_phase::{Agenda, Due, Phase};
 use uvm_report::{Fate, Reports};
-use uvm_sequencer::{SeqId, Sequences};
+use uvm_sequences::{SeqId, Sequences};
 use uvm_tlm::Wiring;
 use uvm_tree::{NodeId, Tree};
+use world_deeds::making::{Waiting, opening};
 use world_fifos::stations::{first_passing, waiting_at};
 use world_sequencers::arbiters::{first_locked, first_served, requests_at};
 use world_services::services::Services;
@@ -341,27 +340,5 @@ impl World {
         ensures { result.now.nodes ≡ nodes_of self.now.history }
     {
         &self.services.tree
-    }
-}
-
-// The creation of the test of a script, by its factory.
-#[tactic(auto, unfolding(uvm_glob::specs::Names::name_fault))]
-fn opening(script: &Script, factory: &Factory) -> Act
-    requires test { IsSome script.now.test }
-    requires factory { IsFactoryOf script.now factory.now }
-    ensures { result ≡ opening script.now }
-{
-    let Some(test) = script.test() else {
-        unreachable!()
-    };
-    let Some(type_name) = factory.name_of(test) else {
-        unreachable!()
-    };
-    let Ok(name) = Name::new(b"uvm_test_top") else {
-        unreachable!()
-    };
-    Act::Create {
-        type_name: *type_name,
-        name,
     }
 }

@@ -4,7 +4,7 @@ use std::alloc::Global;
 use uvm_glob::Name;
 use uvm_object::Call;
 use uvm_phase::Phase;
-use uvm_sequencer::Sequences;
+use uvm_sequences::Sequences;
 use uvm_tlm::Item;
 use uvm_tree::NodeId;
 

@@ -11,7 +11,7 @@ use uvm_glob::Name;
 use uvm_lines::line_of;
 use uvm_object::{Act, Acts, Deed, Entry, LoggedOutcome, UvmObject, Who};
 use uvm_report::Report;
-use uvm_sequencer::Sequences;
+use uvm_sequences::Sequences;
 use uvm_tree::{NodeId, Tree};
 
 // Whether a new object of a type says this: it is asked by each line `> CALL`, and answers with the acts behind.

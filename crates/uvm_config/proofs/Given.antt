@@ -1,9 +1,9 @@
 -- What one more setting does to the answer.
-use Rattle.std.proofs.Common.{◌≡◌, ℕ, ◌+◌, ◌<◌, ◌++◌, length, take, reverse, get_or, Bool, true, false, List, [], ◌∷◌, Option, Some, None, ◌&&◌, nat_le, if◌then◌else◌, MatchOption, filter, option_map, refl, ap, ◌∙◌, sym, inl, inr, arith}
+use Rattle.std.proofs.Common.{◌≡◌, ℕ, ◌<◌, ◌++◌, reverse, Bool, true, false, List, [], ◌∷◌, Option, Some, None, ◌&&◌, nat_le, if◌then◌else◌, MatchOption, filter, option_map, refl, ap, ◌∙◌, sym, inl, inr, arith}
 use Rattle.std.specs.List.{list_all}
 use Rattle.std.proofs.lemmas.Bool.{and_parts, and_cases, cases_Bool, false≢true, leb-true, leb-false}
 use Rattle.std.proofs.lemmas.Bool.Decides.{nat_tests}
-use Rattle.std.proofs.lemmas.List.{take_more, reverse-append}
+use Rattle.std.proofs.lemmas.List.{reverse-append}
 use Rattle.uvm_config.specs.Choice.{gives_way, answer_after}
 use Rattle.uvm_glob.specs.Lists.{newest}
 use Rattle.uvm_config.specs.Answers.{Setting, answers_at, answering, is_greatest, greatest, answer_of, strongest_answer, NoneSetNoAnswer, AnswersAreGiven}
@@ -103,10 +103,6 @@ answer-given s older text asked =
 pub answer-push : (settings : List Setting) (s : Setting) (text asked : List ℕ) → strongest_answer (reverse (settings ++ s ∷ [])) text asked ≡ answer_after s.scope s.field s.precedence s.value text asked (strongest_answer (reverse settings) text asked)
 answer-push settings s text asked =
     ap (λ l. strongest_answer l text asked) (reverse-append settings (s ∷ [])) ∙ answer-given s (reverse settings) text asked
-
-pub answer-more : (settings : List Setting) (i : ℕ) (d : Setting) (text asked : List ℕ) → i < length settings → strongest_answer (reverse (take (i + 1) settings)) text asked ≡ answer_after (get_or settings i d).scope (get_or settings i d).field (get_or settings i d).precedence (get_or settings i d).value text asked (strongest_answer (reverse (take i settings)) text asked)
-answer-more settings i d text asked within =
-    ap (λ l. strongest_answer (reverse l) text asked) (take_more settings i d within) ∙ answer-push (take i settings) (get_or settings i d) text asked
 
 pub none_set_no_answer : NoneSetNoAnswer
 none_set_no_answer text asked = answer-none text asked

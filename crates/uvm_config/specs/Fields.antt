@@ -1,10 +1,9 @@
 -- The settings of one field, and which of them answers.
 use Rattle.std.specs.Prelude.{ℕ, ℤ, List, [], Option, map, reverse, nat_eq, option_and_then}
-use Rattle.std.specs.List.{IsDistinct}
 use Rattle.std.specs.Map.{lookup}
 use Rattle.std.specs.Cmp.Lexicographic.{pointwise}
 use Rattle.uvm_config.specs.Choice.{Answer}
-use Rattle.uvm_config.specs.Answers.{Setting, answer_of, strongest_answer}
+use Rattle.uvm_config.specs.Answers.{Setting, strongest_answer}
 
 -- a value of a field that is known, for the paths that the scope matches
 pub record FieldSetting : Type 0 where
@@ -16,13 +15,9 @@ pub record FieldSetting : Type 0 where
 abbrev pub setting_of : FieldSetting → Setting
 setting_of s = record { scope = s.scope; field = []; precedence = s.precedence; value = s.value }
 
--- what a setting of the field answers
-abbrev pub field_answer_of : FieldSetting → Answer
-field_answer_of s = answer_of (setting_of s)
-
--- no two settings have one scope
-abbrev pub HaveScopesOnce : List FieldSetting → Type 0
-HaveScopesOnce settings = IsDistinct (pointwise nat_eq) (map (λ s. s.scope) settings)
+-- the setting of a scope with what it gives
+abbrev pub field_setting : List ℕ × Answer → FieldSetting
+field_setting kept = record { scope = kept.0; precedence = kept.1.precedence; value = kept.1.value }
 
 -- what answers at a path's text, of the settings in the order in which they were set
 unfoldable pub field_answer : List FieldSetting → List ℕ → Option Answer

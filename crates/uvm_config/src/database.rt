@@ -1,6 +1,6 @@
 //! The settings.
 
-ghost use Rattle.std.specs.Prelude.{◌≡◌, ◌+◌, ◌≤◌, ◌↔◌, ℕ, List, None, OnOk, OnErr, nat_le, option_map, option_copied};
+ghost use Rattle.std.specs.Prelude.{◌≡◌, ◌+◌, ◌≤◌, ◌↔◌, ℕ, List, None, OnOk, OnErr, nat_le};
 ghost use Rattle.uvm_glob.specs.Limits.{most_names};
 ghost use Rattle.uvm_glob.specs.Paths.{path_text};
 ghost use Rattle.uvm_config.specs.Answers.{most_settings};
@@ -81,12 +81,8 @@ impl Settings {
             return Err(ConfigFault::Full);
         }
         let precedence = precedence_of(building, depth);
-        let setting = Resource {
-            scope,
-            precedence,
-            value,
-        };
-        fields::add(&mut self.fields, self.alloc, field, setting)?;
+        let resource = Resource { precedence, value };
+        fields::add(&mut self.fields, self.alloc, field, scope, resource)?;
         self.count += 1;
         Ok(())
     }

@@ -1,33 +1,34 @@
 //! The settings of one field.
 
-ghost use Rattle.std.specs.Prelude.{◌≡◌, ◌∷◌, ◌++◌, ℕ, List, [], None, OnOk, OnErr, nat_eq, option_map, option_copied, position};
+ghost use Rattle.std.specs.Prelude.{◌≡◌, ◌∷◌, ◌++◌, ℕ, List, [], OnOk, OnErr, nat_eq};
 ghost use Rattle.std.specs.Cmp.Lexicographic.{pointwise};
+ghost use Rattle.indexmap.specs.IndexMap.{get, shift_remove_entry};
 ghost use Rattle.uvm_glob.specs.Paths.{path_text};
-ghost use Rattle.uvm_config.specs.Choice.{answer_after};
-ghost use Rattle.uvm_config.specs.Fields.{answer_among, field_answer, field_answer_of};
+ghost use Rattle.uvm_config.specs.Choice.{answer_after, gives_way};
+ghost use Rattle.uvm_config.specs.Fields.{answer_among, field_answer};
 
 use crate::resources::{Resource, stronger};
+use indexmap::IndexMap;
 use std::alloc::{AllocError, Global};
 use std::collections::HashMap;
 use std::marker::Model;
-use uvm_glob::{Name, Path};
+use uvm_glob::{Glob, Name, Path};
 
 /// The settings of one field that may answer, in the order in which they were set: of those with one scope the strongest
 /// alone, and of equals the last. Contracts see them as a list.
 #[derive(Drop)]
 pub(crate) struct FieldSettings {
-    settings: Vec<Resource>,
+    // What each scope gives.
+    settings: IndexMap<Glob, Resource>,
 }
 
 impl Model for FieldSettings {
-    ghost use Rattle.std.specs.Prelude.{List};
-    ghost use Rattle.uvm_config.specs.Fields.{FieldSetting, HaveScopesOnce};
+    ghost use Rattle.std.specs.Prelude.{List, map};
+    ghost use Rattle.uvm_config.specs.Fields.{FieldSetting, field_setting};
 
     ghost Value = { List FieldSetting };
 
-    ghost view = { λ f. f.settings.items };
-
-    ghost invariant = { λ f. HaveScopesOnce f.settings.items };
+    ghost view = { λ f. map field_setting f.settings.entries };
 }
 
 impl FieldSettings {
@@ -36,37 +37,31 @@ impl FieldSettings {
         ensures { result ≡ [] }
     {
         FieldSettings {
-            settings: Vec::new(alloc),
+            settings: IndexMap::new(alloc),
         }
     }
 
     /// Adds a setting, which takes the place of the one with its scope; where that one is stronger, nothing changes. Gives
     /// an error where memory was refused.
-    pub fn add(&mut self, setting: Resource) -> Result<(), AllocError>
+    pub fn add(&mut self, scope: Glob, resource: Resource) -> Result<(), AllocError>
         ensures answers { OnOk result ((text : List ℕ) →
             field_answer self.new text
-            ≡ answer_after setting.scope [] setting.precedence setting.value text [] (field_answer self.old text)) }
+            ≡ answer_after scope [] resource.precedence resource.value text [] (field_answer self.old text)) }
         ensures unchanged { OnErr result (self.new ≡ self.old) }
     {
-        match place_of(&self.settings, setting.scope.as_bytes()) {
-            None => self.settings.push(setting)?,
-            Some(place) => {
-                if self.settings[place].precedence <= setting.precedence {
-                    self.settings.push(setting)?;
-                    self.settings.remove(place);
-                }
-            }
+        if !gives_way(&self.settings, &scope, resource) {
+            return Ok(());
         }
-        Ok(())
+        put_last(&mut self.settings, scope, resource)
     }
 
-    /// The setting that answers at a path.
-    pub fn strongest(&self, path: &Path) -> Option<&Resource>
-        ensures { option_map field_answer_of (option_copied result) ≡ field_answer self.now (path_text path.now) }
+    /// What answers at a path.
+    pub fn strongest(&self, path: &Path) -> Option<Resource>
+        ensures { result ≡ field_answer self.now (path_text path.now) }
     {
         let mut strongest = None;
-        for resource in &self.settings {
-            strongest = stronger(resource, path, strongest);
+        for (scope, resource) in self.settings.iter() {
+            strongest = stronger(scope, *resource, path, strongest);
         }
         strongest
     }
@@ -77,29 +72,47 @@ pub(crate) fn add(
     fields: &mut HashMap<Name, FieldSettings>,
     alloc: Global,
     field: Name,
-    setting: Resource,
+    scope: Glob,
+    resource: Resource,
 ) -> Result<(), AllocError>
     ensures answers { OnOk result ((text asked : List ℕ) →
         answer_among fields.new.entries text asked
-        ≡ answer_after setting.scope field setting.precedence setting.value text asked (answer_among fields.old.entries text asked)) }
+        ≡ answer_after scope field resource.precedence resource.value text asked (answer_among fields.old.entries text asked)) }
     ensures unchanged { OnErr result (fields.new.entries ≡ fields.old.entries) }
 {
     match fields.get_mut(&field) {
-        Some(settings) => settings.add(setting),
+        Some(settings) => settings.add(scope, resource),
         None => {
             let mut settings = FieldSettings::new(alloc);
-            settings.add(setting)?;
+            settings.add(scope, resource)?;
             fields.insert(field, settings)?;
             Ok(())
         }
     }
 }
 
-// The place of the setting with a scope.
-fn place_of(settings: &Vec<Resource>, scope: &[u8]) -> Option<usize>
-    ensures { result ≡ position (λ kept. pointwise nat_eq kept.scope scope.now) settings.now.items }
+// Whether no setting with the scope has a greater precedence than a later one.
+fn gives_way(settings: &IndexMap<Glob, Resource>, scope: &Glob, later: Resource) -> bool
+    ensures { result ≡ gives_way later.precedence (get (pointwise nat_eq) settings.now scope.now) }
 {
-    settings
-        .iter()
-        .position(|kept| kept.scope.as_bytes() == scope)
+    match settings.get(scope) {
+        Some(earlier) => earlier.precedence <= later.precedence,
+        None => true,
+    }
+}
+
+// Puts a setting behind the others, in the place of the one with its scope.
+#[tactic(auto, using(crate::proofs::Put::goes_last))]
+fn put_last(
+    settings: &mut IndexMap<Glob, Resource>,
+    scope: Glob,
+    resource: Resource,
+) -> Result<(), AllocError>
+    ensures ok { OnOk result (settings.new.entries ≡ shift_remove_entry (pointwise nat_eq scope) settings.old.entries ++ (scope, resource) ∷ []) }
+    ensures unchanged { OnErr result (settings.new.entries ≡ settings.old.entries) }
+{
+    settings.reserve(1)?;
+    settings.shift_remove(&scope);
+    settings.insert(scope, resource)?;
+    Ok(())
 }

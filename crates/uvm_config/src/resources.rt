@@ -1,18 +1,16 @@
-//! One setting, and which of two answers.
+//! The value of a setting with its precedence, and which of two answers.
 
-ghost use Rattle.std.specs.Prelude.{◌≡◌, [], option_map, option_copied};
+ghost use Rattle.std.specs.Prelude.{◌≡◌, []};
 ghost use Rattle.uvm_glob.specs.Paths.{path_text};
 ghost use Rattle.uvm_config.specs.Choice.{answer_after};
-ghost use Rattle.uvm_config.specs.Fields.{field_answer_of};
 
 use std::marker::Model;
 use uvm_glob::{Glob, Path};
 
-// A setting of a field that is known, which the standard calls a resource. Contracts see it as a `FieldSetting`.
-#[derive(Drop)]
+// What a setting gives its field at the paths that its scope matches, which the standard calls a resource. Contracts see
+// it as an `Answer`.
+#[derive(Clone, Copy)]
 pub(crate) struct Resource {
-    /// Matches the whole paths at which it answers.
-    pub scope: Glob,
     /// How strong it is; of those that match the greatest answers.
     pub precedence: u16,
     /// The value of the field.
@@ -20,26 +18,28 @@ pub(crate) struct Resource {
 }
 
 impl Model for Resource {
-    ghost use Rattle.uvm_config.specs.Fields.{FieldSetting};
+    ghost use Rattle.uvm_config.specs.Choice.{Answer};
 
-    ghost Value = { FieldSetting };
+    ghost Value = { Answer };
 
-    ghost view = { λ r. record { scope = r.scope; precedence = r.precedence; value = r.value } };
+    ghost view = { λ r. record { precedence = r.precedence; value = r.value } };
+
+    ghost inverse = { λ a. record { precedence = a.precedence; value = a.value } };
 }
 
 // Of a setting and the one that answers so far, which was set earlier, the one that answers at a path.
 #[tactic(auto, unfolding(crate::specs::Choice::answer_after))]
-pub(crate) fn stronger<'a>(
-    later: &'a Resource,
+pub(crate) fn stronger(
+    scope: &Glob,
+    later: Resource,
     path: &Path,
-    before: Option<&'a Resource>,
-) -> Option<&'a Resource>
-    ensures { option_map field_answer_of (option_copied result)
-        ≡ answer_after later.now.scope [] later.now.precedence later.now.value (path_text path.now) [] (option_map field_answer_of (option_copied before.entry)) }
+    before: Option<Resource>,
+) -> Option<Resource>
+    ensures { result ≡ answer_after scope.now [] later.precedence later.value (path_text path.now) [] before }
 {
     match before {
         Some(earlier) if earlier.precedence > later.precedence => before,
-        _ if later.scope.matches(path) => Some(later),
+        _ if scope.matches(path) => Some(later),
         _ => before,
     }
 }

@@ -2,4 +2,3 @@ pub mod Rows
 pub mod Ends
 pub mod Given
 pub mod Standings
-pub mod Once

@@ -1,6 +1,5 @@
 -- What stands for one type: the type override in force, and its instance overrides.
-use Rattle.std.specs.Prelude.{◌≡◌, ℕ, false, not, List, AllPairs, Option, Some, ◌&&◌, find, nat_eq, option_map, option_and_then, if◌then◌else◌}
-use Rattle.std.specs.Cmp.Lexicographic.{pointwise}
+use Rattle.std.specs.Prelude.{ℕ, false, not, List, Option, Some, ◌&&◌, nat_eq, option_map, option_and_then, if◌then◌else◌}
 use Rattle.std.specs.Map.{lookup}
 use Rattle.uvm_glob.specs.Globs.{matches}
 use Rattle.uvm_factory.specs.declared.overrides.OverrideStep.{OverrideStep}
@@ -10,23 +9,15 @@ use Rattle.uvm_factory.specs.declared.overrides.Override.TheVariants.{Instance, 
 use Rattle.uvm_factory.specs.Steps.{is_by_instance, takes_effect}
 use Rattle.uvm_factory.specs.Overrides.{step_from}
 
--- an instance override of a type that is known: the type that replaces it at the paths that the scope matches
-pub record Placed : Type 0 where
-  pub scope : List ℕ
-  pub replacement : ℕ
-
--- the type that replaces it everywhere, if one does, and the instance overrides in the order in which they were given
+-- the type that replaces it everywhere, if one does, and the scopes of the instance overrides in the order in which they were
+-- given, each with the type that replaces it at the paths that the scope matches
 pub record Standing : Type 0 where
   pub by_type : Option ℕ
-  pub instances : List Placed
+  pub instances : List (List ℕ × ℕ)
 
--- no two have one scope
-abbrev pub HaveScopesOnce : List Placed → Type 0
-HaveScopesOnce instances = AllPairs (λ earlier later. pointwise nat_eq earlier.scope later.scope ≡ false) instances
-
--- the type that replaces it by an instance override at a path's text: that of the first which matches
-abbrev pub placed_at : List Placed → List ℕ → Option ℕ
-placed_at instances text = option_map (λ i. i.replacement) (find (λ i. matches i.scope text) instances)
+-- the type that replaces it by an instance override at a path's text: that of the first scope which matches
+abbrev pub placed_at : List (List ℕ × ℕ) → List ℕ → Option ℕ
+placed_at instances text = lookup (λ scope. matches scope text) instances
 
 -- the override that the type meets at a path's text
 unfoldable pub standing_step : Standing → List ℕ → Option OverrideStep

@@ -1,54 +1,34 @@
 //! What overrides one type.
 
-ghost use Rattle.std.specs.Prelude.{◌≡◌, ℕ, List, [], None, OnOk, OnErr, find, nat_eq, option_copied};
-ghost use Rattle.std.specs.Cmp.Lexicographic.{pointwise};
-ghost use Rattle.std.specs.List.{list_any};
-ghost use Rattle.uvm_glob.specs.Globs.{matches};
+ghost use Rattle.std.specs.Prelude.{◌≡◌, ℕ, List, [], None, OnOk, OnErr};
 ghost use Rattle.uvm_glob.specs.Paths.{path_text};
 ghost use Rattle.uvm_factory.specs.Steps.{after_override};
-ghost use Rattle.uvm_factory.specs.Standing.{standing_step, after_own, step_among};
+ghost use Rattle.uvm_factory.specs.Standing.{standing_step, after_own, placed_at, step_among};
 
 use crate::overrides::{Override, OverrideStep};
 use crate::types::TypeId;
+use indexmap::IndexMap;
 use std::alloc::{AllocError, Global};
 use std::collections::HashMap;
 use std::marker::Model;
 use uvm_glob::{Glob, Path};
-
-// An instance override of a type that is known. Contracts see it as a `Placed`.
-#[derive(Drop)]
-struct InstanceOverride {
-    // Matches the whole paths at which it holds.
-    scope: Glob,
-    // The type that replaces.
-    replacement: TypeId,
-}
-
-impl Model for InstanceOverride {
-    ghost use Rattle.uvm_factory.specs.Standing.{Placed};
-
-    ghost Value = { Placed };
-
-    ghost view = { λ i. record { scope = i.scope; replacement = i.replacement } };
-}
 
 /// What overrides one type. Contracts see it as a `Standing`.
 #[derive(Drop)]
 pub(crate) struct TypeOverrides {
     // The type that replaces it in the one type override that is in force, if one was given.
     by_type: Option<TypeId>,
-    // The instance overrides in the order in which they were given, but for those behind one of the same scope.
-    instances: Vec<InstanceOverride>,
+    // The types that replace it at the paths that a scope matches, in the order in which they were given, but for those behind
+    // one of the same scope.
+    instances: IndexMap<Glob, TypeId>,
 }
 
 impl Model for TypeOverrides {
-    ghost use Rattle.uvm_factory.specs.Standing.{HaveScopesOnce, Standing};
+    ghost use Rattle.uvm_factory.specs.Standing.{Standing};
 
     ghost Value = { Standing };
 
-    ghost view = { λ t. record { by_type = t.by_type; instances = t.instances.items } };
-
-    ghost invariant = { λ t. HaveScopesOnce t.instances.items };
+    ghost view = { λ t. record { by_type = t.by_type; instances = t.instances.entries } };
 }
 
 impl TypeOverrides {
@@ -59,7 +39,7 @@ impl TypeOverrides {
     {
         TypeOverrides {
             by_type: None,
-            instances: Vec::new(alloc),
+            instances: IndexMap::new(alloc),
         }
     }
 
@@ -72,13 +52,10 @@ impl TypeOverrides {
         match given {
             Override::Instance { new, scope, .. } => {
                 // Behind one at its scope it can never prevail.
-                if has_scope(&self.instances, &scope) {
+                if self.instances.contains_key(&scope) {
                     return Ok(());
                 }
-                self.instances.push(InstanceOverride {
-                    scope,
-                    replacement: new,
-                })?;
+                self.instances.insert(scope, new)?;
             }
             Override::Whole { new, replace, .. } => {
                 if replace || self.by_type.is_none() {
@@ -95,29 +72,22 @@ impl TypeOverrides {
         ensures { result ≡ standing_step self.now (path_text path.now) }
     {
         match first_matching(&self.instances, path) {
-            Some(given) => Some(OverrideStep::ByInstance(given.replacement)),
+            Some(new) => Some(OverrideStep::ByInstance(new)),
             None => self.by_type.map(|by_type| OverrideStep::ByType(by_type)),
         }
     }
 }
 
-// Whether an instance override has a scope.
-fn has_scope(instances: &Vec<InstanceOverride>, scope: &Glob) -> bool
-    ensures { result ≡ list_any (λ given. pointwise nat_eq given.scope scope.now) instances.now.items }
+// The type of the first instance override that holds at a path.
+fn first_matching(instances: &IndexMap<Glob, TypeId>, path: &Path) -> Option<TypeId>
+    ensures { result ≡ placed_at instances.now.entries (path_text path.now) }
 {
-    instances
-        .iter()
-        .any(|given| given.scope.as_bytes() == scope.as_bytes())
-}
-
-// The first instance override that holds at a path.
-fn first_matching<'a>(
-    instances: &'a Vec<InstanceOverride>,
-    path: &Path,
-) -> Option<&'a InstanceOverride>
-    ensures { option_copied result ≡ find (λ given. matches given.scope (path_text path.now)) instances.now.items }
-{
-    instances.iter().find(|given| given.scope.matches(path))
+    for (scope, new) in instances {
+        if scope.matches(path) {
+            return Some(*new);
+        }
+    }
+    None
 }
 
 /// Adds an override to those of its type. Gives an error where memory was refused.

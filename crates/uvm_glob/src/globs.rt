@@ -1,7 +1,12 @@
 //! Globs, and which paths they match.
 
-ghost use Rattle.std.specs.Prelude.{◌≡◌, ◌↔◌, IsTrue, IfOk, IfErr, None};
+ghost use Rattle.std.specs.Prelude.{◌≡◌, ◌↔◌, IsTrue, IfOk, IfErr, None, nat_eq};
 ghost use Rattle.std.specs.List.{list_all};
+ghost use Rattle.std.specs.Cmp.{partial_equiv_from_equiv};
+ghost use Rattle.std.specs.Cmp.Lexicographic.{pointwise, nat_list_eq_equiv};
+ghost use Rattle.std.specs.Cmp.Rules.{hashing};
+ghost use Rattle.std.specs.Hash.{slice, u8};
+ghost use Rattle.std.proofs.Common.{rules};
 ghost use Rattle.uvm_glob.specs.Faults.{refusal};
 ghost use Rattle.uvm_glob.specs.Globs.{Matches, matches, glob_fault, is_glob, is_glob_byte};
 ghost use Rattle.uvm_glob.specs.Paths.{dotted, path_text};
@@ -12,6 +17,7 @@ use crate::paths::{Path, dotted};
 use crate::texts::as_text;
 use std::alloc::{AllocError, Global};
 use std::fmt;
+use std::hash::{Hash, Hasher};
 use std::marker::Model;
 
 /// A glob: bytes of 0x21 to 0x7E without `/`. `*` stands for zero or more characters, `+` for one or more, `?` for
@@ -98,6 +104,31 @@ impl Glob {
         Ok(Glob {
             text: self.text.clone()?,
         })
+    }
+}
+
+/// Two globs are equal where their texts are, byte by byte: others may match the same paths.
+impl PartialEq for Glob {
+    ghost eq = { pointwise nat_eq };
+
+    ghost laws = { partial_equiv_from_equiv nat_list_eq_equiv };
+
+    fn eq(&self, other: &Glob) -> bool {
+        self.as_bytes() == other.as_bytes()
+    }
+}
+
+impl Eq for Glob {
+    ghost laws = { nat_list_eq_equiv };
+}
+
+impl Hash for Glob {
+    ghost hash_input = { slice u8 };
+
+    ghost respects_eq = { Prim.search (hashing, rules) };
+
+    fn hash<H: Hasher>(&self, state: &mut H) {
+        self.as_bytes().hash(state);
     }
 }
 

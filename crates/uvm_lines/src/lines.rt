@@ -13,7 +13,7 @@ use itoa::Buffer;
 use std::alloc::{AllocError, Global};
 use uvm_glob::Name;
 use uvm_object::{Call, Entry, Outcome, Passage, Reason, Who};
-use uvm_sequencer::Sequences;
+use uvm_sequences::Sequences;
 use uvm_sources::push_node;
 use uvm_tlm::Item;
 use uvm_tree::{NodeId, Tree};

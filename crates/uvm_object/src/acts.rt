@@ -12,12 +12,13 @@ use std::slice;
 use uvm_glob::{Glob, Name, Path};
 use uvm_phase::Phase;
 use uvm_report::{Actions, Report, Severity, Which};
-use uvm_sequencer::{How, Mode, SeqId};
+use uvm_sequencer::{How, Mode};
+use uvm_sequences::SeqId;
 use uvm_tlm::{Item, PortKind};
 use uvm_tree::NodeId;
 
 /// Who is called, and performs what it answers.
-#[derive(Clone, Copy, PartialEq, Eq)]
+#[derive(Clone, Copy, PartialEq, Eq, Hash)]
 pub enum Who {
     /// The component at a node.
     Node(NodeId),

@@ -11,7 +11,7 @@ use std::marker::Model;
 use std::rc::Rc;
 use uvm_glob::Name;
 use uvm_phase::{Cause, Phase};
-use uvm_sequencer::SeqId;
+use uvm_sequences::SeqId;
 use uvm_tlm::{Item, MoveKind};
 use uvm_tree::NodeId;
 

@@ -1,3 +1,4 @@
 pub mod Before
 pub mod Ordered
+pub mod Owning
 pub mod Places

@@ -1,3 +1,4 @@
 pub mod Phases
 pub mod Dues
+pub mod Owners
 pub mod Laws

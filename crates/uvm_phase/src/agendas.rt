@@ -1,13 +1,16 @@
 //! The calls that are due, each at its time.
 
-ghost use Rattle.std.specs.Prelude.{◌≡◌, ◌==◌, ◌<◌, ◌≤◌, [], not, length, filter, drop, insert, slice_get, All, OnOk, OnErr, IsOk, IfSome, option_copied, false};
+ghost use Rattle.std.specs.Prelude.{◌≡◌, ◌==◌, ◌<◌, ◌≤◌, [], not, length, filter, drop, insert, slice_get, List, All, OnOk, OnErr, IsOk, IfSome, option_copied, false};
 ghost use Rattle.std.specs.VecDeque.{deque_capacity, deque_len};
 ghost use Rattle.uvm_phase.specs.Phases.{same_phase};
 ghost use Rattle.uvm_phase.specs.Dues.{is_due_before, insert_due, capacity_of, IsInOrder};
+ghost use Rattle.uvm_phase.specs.Owners.{AreCounted, HasAt, owners_of, times};
 
+use crate::owners::{Key, Owned, Owners};
 use crate::phases::Phase;
 use std::alloc::{AllocError, Global};
 use std::collections::VecDeque;
+use std::hash::Hash;
 use std::marker::Model;
 
 /// What caused a call.
@@ -35,6 +38,15 @@ pub struct Due<O, N> {
 }
 
 impl<O, N> Due<O, N> {
+    // When it is due, and why.
+    pub(crate) fn key(&self) -> Key {
+        Key {
+            time: self.time,
+            place: self.cause.place,
+            number: self.cause.number,
+        }
+    }
+
     // Whether it comes due before another.
     #[tactic(auto, unfolding(crate::specs::Dues::is_due_before))]
     fn is_due_before(&self, other: &Due<O, N>) -> bool
@@ -51,33 +63,38 @@ impl<O, N> Due<O, N> {
 /// The calls that are due while a phase runs (IEEE 1800.2-2020, Clause 9). They come due by time, at one time by the place of the cause, then
 /// by its number, and where these are equal in the order in which they were added. Contracts see them in this order, and
 /// beside them for how many more there is room. To add one takes few looks, as in a binary search, and moves those in front of it
-/// or those behind it, to take the first takes a constant time, and to take out those of a phase or of an owner that of a look at
-/// all.
+/// or those behind it; to take the first takes a constant time. To take out those of an owner takes a constant time where nothing
+/// is due to it, few looks where one call is, which was added last, and else the time of a look at all, as it takes to take out
+/// those of a phase.
 #[derive(Drop)]
-pub struct Agenda<O, N> {
+pub struct Agenda<O: Eq + Hash, N> {
     // In the order in which they come due.
     dues: VecDeque<Due<O, N>>,
+    // How many of them are whose.
+    owners: Owners<O>,
 }
 
-impl<O, N> Model for Agenda<O, N> {
+impl<O: Eq + Hash, N> Model for Agenda<O, N> {
     ghost use Rattle.std.specs.Prelude.{◌-◌};
     ghost use Rattle.std.specs.VecDeque.{deque_capacity, deque_len};
     ghost use Rattle.uvm_phase.specs.Dues.{AgendaValue, IsInOrder};
+    ghost use Rattle.uvm_phase.specs.Owners.{AreCounted, owners_of};
 
     ghost Value = { AgendaValue O N };
 
     ghost view = { λ a. record { dues = a.dues.items; spare = deque_capacity a.dues - deque_len a.dues } };
 
-    ghost invariant = { λ a. IsInOrder a.dues.items };
+    ghost invariant = { λ a. IsInOrder a.dues.items × AreCounted O.eq a.owners (owners_of a.dues.items) };
 }
 
-impl<O: Drop, N: Drop> Agenda<O, N> {
+impl<O: Copy + Eq + Hash + Drop, N: Drop> Agenda<O, N> {
     /// Nothing is due, and there is room for nothing.
     pub fn new(alloc: Global) -> Agenda<O, N>
         ensures { result.dues ≡ [] }
     {
         Agenda {
             dues: VecDeque::new(alloc),
+            owners: Owners::new(alloc),
         }
     }
 
@@ -89,11 +106,13 @@ impl<O: Drop, N: Drop> Agenda<O, N> {
         ensures room { 0 < self.old.spare → IsOk result }
         ensures capacity { capacity_of self.old ≤ capacity_of self.new }
     {
-        self.dues.reserve(1)
+        make_room(&mut self.dues, &mut self.owners)?;
+        self.owners.reserve(1);
+        Ok(())
     }
 
-    /// Adds a call that is due at a time, in ticks. An error where there is no room for it and memory is refused; then
-    /// nothing was added.
+    /// Adds a call that is due at a time, in ticks. Takes no memory where there is room for it. An error where there is none and
+    /// memory is refused; then nothing was added.
     pub fn due(
         &mut self,
         time: u64,
@@ -107,6 +126,7 @@ impl<O: Drop, N: Drop> Agenda<O, N> {
         ensures room { 0 < self.old.spare → IsOk result }
         ensures capacity { capacity_of self.old ≤ capacity_of self.new }
     {
+        make_room(&mut self.dues, &mut self.owners)?;
         let due = Due {
             time,
             cause,
@@ -114,8 +134,9 @@ impl<O: Drop, N: Drop> Agenda<O, N> {
             owner,
             notice,
         };
-        let place = place_of(&self.dues, &due);
+        let (place, key) = (place_of(&self.dues, &due), due.key());
         self.dues.insert(place, due)?;
+        self.owners.add(owner, key);
         Ok(())
     }
 
@@ -134,15 +155,18 @@ impl<O: Drop, N: Drop> Agenda<O, N> {
         ensures rest { self.new.dues ≡ drop 1 self.old.dues }
         ensures capacity { capacity_of self.new ≡ capacity_of self.old }
     {
-        self.dues.pop_front()
+        let first = self.dues.pop_front()?;
+        self.owners.subtract(&first.owner);
+        Some(first)
     }
 
-    /// Takes out the calls of a phase. Takes no memory, and leaves room for as many.
+    /// Takes out the calls of a phase. Takes no memory, and leaves room for as many. Takes the time of a look at all.
     pub fn clear(&mut self, phase: Phase)
         ensures dues { self.new.dues ≡ filter (λ due. not (same_phase due.phase phase)) self.old.dues }
         ensures capacity { capacity_of self.new ≡ capacity_of self.old }
     {
         take_out_phase(&mut self.dues, phase);
+        self.owners.count_anew(&self.dues);
     }
 
     /// How many calls are due. None comes due before one that stands in front of it.
@@ -159,16 +183,43 @@ impl<O: Drop, N: Drop> Agenda<O, N> {
     {
         self.dues.is_empty()
     }
-}
 
-impl<O: PartialEq + Drop, N: Drop> Agenda<O, N> {
-    /// Takes out the calls of an owner. Takes no memory, and leaves room for as many.
+    /// Takes out the calls of an owner. Takes no memory, and leaves room for as many. Where nothing is due to the owner it takes a
+    /// constant time. Where one call is, which was added last, it takes few looks, as in a binary search, and moves those in front
+    /// of it or those behind it. Else it takes the time of a look at all: where several are due, where the one is not that which was
+    /// added last, and where calls were added without `reserve` for more owners than there was room for.
     pub fn cancel(&mut self, owner: &O)
         ensures dues { self.new.dues ≡ filter (λ due. not (O.eq due.owner owner.now)) self.old.dues }
         ensures capacity { capacity_of self.new ≡ capacity_of self.old }
     {
-        take_out_owner(&mut self.dues, owner);
+        if !self.owners.complete {
+            take_out_owner(&mut self.dues, owner);
+            self.owners.count_anew(&self.dues);
+            return;
+        }
+        if let Some(owned) = self.owners.take(owner) {
+            take_out_owned(&mut self.dues, owner, &owned);
+        }
     }
+}
+
+// Makes room for a call where there is none, and then for as many owners as for calls. The error is want of memory for calls.
+fn make_room<O: Copy + Eq + Hash + Drop, N: Drop>(
+    dues: &mut VecDeque<Due<O, N>>,
+    owners: &mut Owners<O>,
+) -> Result<(), AllocError>
+    ensures items { dues.new.items ≡ dues.old.items }
+    ensures counts { (whose : List O) → AreCounted O.eq owners.old whose → AreCounted O.eq owners.new whose }
+    ensures ok { OnOk result (deque_len dues.new < deque_capacity dues.new) }
+    ensures room { deque_len dues.old < deque_capacity dues.old → IsOk result }
+    ensures capacity { deque_capacity dues.old ≤ deque_capacity dues.new }
+{
+    if dues.len() < dues.capacity() {
+        return Ok(());
+    }
+    dues.reserve(1)?;
+    owners.reserve(dues.capacity() - dues.len());
+    Ok(())
 }
 
 // Where a call stands that is added: in front of the first that comes after it.
@@ -192,4 +243,33 @@ fn take_out_owner<O: PartialEq + Drop, N: Drop>(dues: &mut VecDeque<Due<O, N>>, 
     ensures capacity { deque_capacity dues.new ≡ deque_capacity dues.old }
 {
     dues.retain(|due| due.owner != *owner);
+}
+
+// Takes out the calls of an owner of which it is known how many there are.
+fn take_out_owned<O: Eq + Drop, N: Drop>(dues: &mut VecDeque<Due<O, N>>, owner: &O, owned: &Owned)
+    requires { owned.now.count ≡ times O.eq owner.now (owners_of dues.old.items) }
+    ensures left { dues.new.items ≡ filter (λ due. not (O.eq due.owner owner.now)) dues.old.items }
+    ensures capacity { deque_capacity dues.new ≡ deque_capacity dues.old }
+{
+    if owned.count == 1 {
+        if let Some(place) = place_of_last(dues, owner, owned.last) {
+            dues.remove(place);
+            return;
+        }
+    }
+    take_out_owner(dues, owner);
+}
+
+// Where the call of an owner stands that was added last, under a key, if it is due and no other was added later under that key.
+fn place_of_last<O: Eq, N>(dues: &VecDeque<Due<O, N>>, owner: &O, last: Key) -> Option<usize>
+    ensures { IfSome result (λ place. HasAt (λ due. O.eq due.owner owner.now) dues.now.items place) }
+{
+    let place = dues
+        .partition_point(|due| due.key() <= last)
+        .checked_sub(1)?;
+    if dues[place].owner == *owner {
+        Some(place)
+    } else {
+        None
+    }
 }

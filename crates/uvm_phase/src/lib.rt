@@ -3,6 +3,7 @@
 
 mod agendas;
 pub mod laws;
+mod owners;
 mod phases;
 
 pub use agendas::{Agenda, Cause, Due};

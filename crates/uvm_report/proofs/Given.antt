@@ -1,15 +1,17 @@
 -- What one more setting does to what prevails.
-use Rattle.std.proofs.Common.{◌≡◌, ℕ, ◌+◌, ◌<◌, ◌++◌, length, take, reverse, get_or, Bool, true, false, List, [], ◌∷◌, Option, Some, None, ◌&&◌, if◌then◌else◌, MatchOption, filter, option_map, refl, ap, ◌∙◌, inl, inr}
+use Rattle.std.proofs.Common.{◌≡◌, ℕ, ◌++◌, reverse, Bool, true, false, List, [], ◌∷◌, Option, Some, None, ◌&&◌, if◌then◌else◌, MatchOption, filter, map, fold, option_map, refl, ap, ◌∙◌, sym, inl, inr, append_assoc}
 use Rattle.std.proofs.lemmas.Bool.{cases_Bool, eqb-true}
-use Rattle.std.proofs.lemmas.List.{take_more, reverse-append}
+use Rattle.std.proofs.lemmas.List.{append-nil, reverse-append}
 use Rattle.uvm_glob.specs.Lists.{newest, first_given}
 use Rattle.uvm_report.specs.declared.severities.Severity.{Severity}
 use Rattle.uvm_report.specs.declared.settings.Which.{Which}
 use Rattle.uvm_report.specs.declared.settings.Which.TheVariants as which
+use Rattle.uvm_report.specs.declared.settings.Reach.{Reach}
 use Rattle.uvm_report.specs.declared.settings.Class.{Class}
 use Rattle.uvm_report.specs.declared.settings.Class.TheVariants as class
-use Rattle.uvm_report.specs.Choice.{class_of, class_number, gives_way, after_setting}
+use Rattle.uvm_report.specs.Choice.{class_of, class_number, gives_way, Choice, after_setting}
 use Rattle.uvm_report.specs.Settings.{Setting, applies, settings_for, is_of, last_of_first_class, choice_of, choice_among}
+use Rattle.uvm_report.specs.Reaches.{setting_of}
 
 module _ {A : Type 0} where
   -- a setting that was found is of that class
@@ -103,13 +105,26 @@ module _ {A : Type 0} where
   unfolding choice_among
   choice-none text severity id = refl
 
-  -- the same where the settings are kept in the order in which they were set
-  pub choice-push : (settings : List (Setting A)) (s : Setting A) (text : List ℕ) (severity : Severity) (id : List ℕ) → choice_among (reverse (settings ++ s ∷ [])) text severity id ≡ after_setting s.scope s.which s.value text severity id (choice_among (reverse settings) text severity id)
-  choice-push settings s text severity id =
-      ap (λ l. choice_among l text severity id) (reverse-append settings (s ∷ [])) ∙ choice-given s (reverse settings) text severity id
+  -- the choice after one more entry
+  abbrev pub after_entry : List ℕ → Severity → List ℕ → Option (Choice A) → Reach × A → Option (Choice A)
+  after_entry text severity id before entry = after_setting entry.0.scope entry.0.which entry.1 text severity id before
 
-  pub choice-more : (settings : List (Setting A)) (i : ℕ) (d : Setting A) (text : List ℕ) (severity : Severity) (id : List ℕ) → i < length settings → choice_among (reverse (take (i + 1) settings)) text severity id ≡ after_setting (get_or settings i d).scope (get_or settings i d).which (get_or settings i d).value text severity id (choice_among (reverse (take i settings)) text severity id)
-  choice-more settings i d text severity id within =
-      ap (λ l. choice_among (reverse l) text severity id) (take_more settings i d within) ∙ choice-push (take i settings) (get_or settings i d) text severity id
+  -- what is kept in front of others stands behind them where the newest is first
+  pub reverse-entry : (e : Reach × A) (es : List (Reach × A)) (older : List (Setting A)) → reverse (map setting_of (e ∷ es)) ++ older ≡ reverse (map setting_of es) ++ setting_of e ∷ older
+  reverse-entry e es older =
+      ap (λ l. l ++ older) (reverse-append (setting_of e ∷ []) (map setting_of es)) ∙ append_assoc (reverse (map setting_of es)) (setting_of e ∷ []) older
 
-pub ruleset given = (choice-none, choice-push)
+  -- the entries come to the choice, one after another
+  pub choice-in_turn : (es : List (Reach × A)) (older : List (Setting A)) (text : List ℕ) (severity : Severity) (id : List ℕ) → fold (after_entry text severity id) (choice_among older text severity id) es ≡ choice_among (reverse (map setting_of es) ++ older) text severity id
+  choice-in_turn [] older text severity id = refl
+  choice-in_turn (e ∷ es) older text severity id =
+      ap (λ before. fold (after_entry text severity id) before es) (sym (choice-given (setting_of e) older text severity id))
+      ∙ choice-in_turn es (setting_of e ∷ older) text severity id
+      ∙ ap (λ l. choice_among l text severity id) (sym (reverse-entry e es older))
+
+  pub choice-all : (es : List (Reach × A)) (text : List ℕ) (severity : Severity) (id : List ℕ) → fold (after_entry text severity id) None es ≡ choice_among (reverse (map setting_of es)) text severity id
+  choice-all es text severity id =
+      ap (λ before. fold (after_entry text severity id) before es) (sym (choice-none text severity id))
+      ∙ (simp append-nil at (choice-in_turn es [] text severity id))
+
+pub ruleset given = choice-none

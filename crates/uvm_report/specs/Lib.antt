@@ -2,7 +2,7 @@ pub mod Severities
 pub mod Texts
 pub mod Choice
 pub mod Settings
-pub mod Once
+pub mod Reaches
 pub mod Counts
 pub mod Fates
 pub mod Commands

@@ -11,7 +11,7 @@ ghost use Rattle.uvm_report.specs.Lines.{summary_text};
 
 use crate::lines::push_summary;
 use crate::messages::{Fate, Report};
-use crate::settings::{Scoped, ScopedSettings, Which};
+use crate::settings::{Reach, ScopedSettings, Which};
 use crate::severities::{Actions, Severity, verbosity};
 use crate::tallies::Tally;
 use std::alloc::{AllocError, Global};
@@ -69,11 +69,7 @@ impl Reports {
         ensures err { OnErr result (IsSame self.old self.new) }
         ensures room { (asked : List ℕ) → has_room self.new asked ≡ has_room self.old asked }
     {
-        self.levels.add(Scoped {
-            scope,
-            which,
-            value: level,
-        })?;
+        self.levels.add(Reach { scope, which }, level)?;
         Ok(())
     }
 
@@ -90,11 +86,7 @@ impl Reports {
         ensures err { OnErr result (IsSame self.old self.new) }
         ensures room { (asked : List ℕ) → has_room self.new asked ≡ has_room self.old asked }
     {
-        self.actions.add(Scoped {
-            scope,
-            which,
-            value: actions,
-        })?;
+        self.actions.add(Reach { scope, which }, actions)?;
         Ok(())
     }
 
@@ -117,11 +109,7 @@ impl Reports {
             None => Which::Severity(from),
             Some(id) => Which::Both(from, id),
         };
-        self.severities.add(Scoped {
-            scope,
-            which,
-            value: to,
-        })?;
+        self.severities.add(Reach { scope, which }, to)?;
         Ok(())
     }
 

@@ -1,12 +1,12 @@
 //! Settings, and which of two prevails.
 
-ghost use Rattle.std.specs.Prelude.{◌≡◌, ℕ, List, [], OnOk, OnErr, nat_lt, reverse, option_map, option_copied, position};
+ghost use Rattle.std.specs.Prelude.{◌≡◌, ℕ, List, [], OnOk, OnErr, nat_lt};
 ghost use Rattle.uvm_glob.specs.Paths.{path_text};
 ghost use Rattle.uvm_report.specs.Choice.{names, class_of, class_number, after_setting};
-ghost use Rattle.uvm_report.specs.Settings.{choice_of, choice_among};
-ghost use Rattle.uvm_report.specs.Once.{is_replaced_by};
+ghost use Rattle.uvm_report.specs.Settings.{choice_among};
 
 use crate::severities::Severity;
+use indexmap::IndexMap;
 use std::alloc::{AllocError, Global};
 use std::marker::Model;
 use uvm_glob::{Glob, Name, Path};
@@ -14,7 +14,7 @@ use uvm_glob::{Glob, Name, Path};
 /// Which reports a setting is for. Of the settings that are for a report, those of a severity with an id go before those of an
 /// id, these before those of a severity, and these before those of all; within each of these four classes the last that was set
 /// prevails (IEEE 1800.2-2020, Clause 6).
-#[derive(Clone, Copy, PartialEq, Eq)]
+#[derive(Clone, Copy, PartialEq, Eq, Hash)]
 pub enum Which {
     /// All reports.
     All,
@@ -35,90 +35,77 @@ pub(crate) enum Class {
     All,
 }
 
-// A setting as it is kept. Contracts see it as a `Setting`.
-#[derive(Drop)]
-pub(crate) struct Scoped<T> {
-    /// Matches the whole paths at which it holds.
+// What a setting is for: the reports that `which` names, at the whole paths that the scope matches.
+#[derive(PartialEq, Eq, Hash, Drop)]
+pub(crate) struct Reach {
     pub scope: Glob,
-    /// The reports that it is for.
     pub which: Which,
-    /// What is set.
+}
+
+// Of the setting that prevails its class and its value. Contracts see it as a `Choice`.
+#[derive(Drop)]
+pub(crate) struct Chosen<T> {
+    class: Class,
     pub value: T,
 }
 
-impl<T> Model for Scoped<T> {
-    ghost use Rattle.uvm_report.specs.Settings.{Setting};
+impl<T> Model for Chosen<T> {
+    ghost use Rattle.uvm_report.specs.Choice.{Choice};
 
-    ghost Value = { Setting T };
+    ghost Value = { Choice T };
 
-    ghost view = { λ s. record { scope = s.scope; which = s.which; value = s.value } };
+    ghost view = { λ c. record { class = c.class; value = c.value } };
 }
 
-/// Settings of one sort, in the order in which they were set. No two of them have one scope and are for the same reports.
-/// Contracts see them with the newest first.
+/// Settings of one sort: the value that was last set for each scope and the reports there, in the order in which these were last
+/// set. Contracts see them with the newest first.
 #[derive(Drop)]
 pub(crate) struct ScopedSettings<T> {
-    settings: Vec<Scoped<T>>,
+    settings: IndexMap<Reach, T>,
 }
 
 impl<T> Model for ScopedSettings<T> {
-    ghost use Rattle.std.specs.Prelude.{List, reverse};
+    ghost use Rattle.std.specs.Prelude.{List, reverse, map};
     ghost use Rattle.uvm_report.specs.Settings.{Setting};
-    ghost use Rattle.uvm_report.specs.Once.{HaveScopesOnce};
+    ghost use Rattle.uvm_report.specs.Reaches.{setting_of};
 
     ghost Value = { List (Setting T) };
 
-    ghost view = { λ s. reverse s.settings.items };
-
-    ghost invariant = { λ s. HaveScopesOnce s.settings.items };
+    ghost view = { λ s. reverse (map setting_of s.settings.entries) };
 }
 
-impl<T: Drop> ScopedSettings<T> {
+impl<T: Copy> ScopedSettings<T> {
     /// No settings.
     pub fn new(alloc: Global) -> ScopedSettings<T>
         ensures { result ≡ [] }
     {
         ScopedSettings {
-            settings: Vec::new(alloc),
+            settings: IndexMap::new(alloc),
         }
     }
 
-    /// Adds a setting, which takes the place of the one that has its scope and is for the same reports. The error is want of
-    /// memory, which changes nothing.
-    pub fn add(&mut self, setting: Scoped<T>) -> Result<(), AllocError>
+    /// Adds a setting, the newest. It takes the place of the one with the same scope that is for the same reports. The error is
+    /// want of memory, which changes nothing.
+    pub fn add(&mut self, reach: Reach, value: T) -> Result<(), AllocError>
         ensures choices { OnOk result ((text : List ℕ) (severity : Severity) (id : List ℕ) →
             choice_among self.new text severity id
-            ≡ after_setting setting.scope setting.which setting.value text severity id (choice_among self.old text severity id)) }
+            ≡ after_setting reach.scope reach.which value text severity id (choice_among self.old text severity id)) }
         ensures unchanged { OnErr result (self.new ≡ self.old) }
     {
-        match place_of(&self.settings, &setting) {
-            None => self.settings.push(setting)?,
-            Some(place) => {
-                self.settings.push(setting)?;
-                self.settings.remove(place);
-            }
-        }
+        self.settings
+            .insert_before(self.settings.len(), reach, value)?;
         Ok(())
     }
 
-    /// The setting that prevails at a path for a severity and an id.
-    pub fn prevailing(&self, path: &Path, severity: Severity, id: &Name) -> Option<&Scoped<T>>
-        ensures { option_map choice_of (option_copied result) ≡ choice_among self.now (path_text path.now) severity id.now }
+    /// What prevails at a path for a severity and an id, if a setting is for them.
+    pub fn prevailing(&self, path: &Path, severity: Severity, id: &Name) -> Option<Chosen<T>>
+        ensures { result ≡ choice_among self.now (path_text path.now) severity id.now }
     {
         let mut prevailing = None;
-        for setting in &self.settings {
-            prevailing = stronger(setting, path, severity, id, prevailing);
+        for (reach, value) in self.settings.iter() {
+            prevailing = stronger(reach, *value, path, severity, id, prevailing);
         }
         prevailing
-    }
-}
-
-impl<T> Scoped<T> {
-    // Whether a newer setting takes its place: that one has its scope, and is for the same reports.
-    fn is_replaced_by(&self, newer: &Scoped<T>) -> bool
-        ensures { result ≡ is_replaced_by self.now newer.now }
-    {
-        self.which == newer.which && self.scope.as_bytes() == newer.scope.as_bytes()
     }
 }
 
@@ -156,30 +143,24 @@ impl Class {
     }
 }
 
-// The place of the setting that a newer one replaces.
-fn place_of<T>(settings: &Vec<Scoped<T>>, newer: &Scoped<T>) -> Option<usize>
-    ensures { result ≡ position (λ kept. is_replaced_by kept newer.now) settings.now.items }
-{
-    settings.iter().position(|kept| kept.is_replaced_by(newer))
-}
-
-// Of a setting and the one that prevails so far, which was set earlier, the one that prevails.
+// What prevails of a setting and of what prevails so far, which was set earlier.
 #[tactic(auto, unfolding(crate::specs::Choice::after_setting))]
-fn stronger<'a, T>(
-    later: &'a Scoped<T>,
+fn stronger<T: Copy>(
+    later: &Reach,
+    value: T,
     path: &Path,
     severity: Severity,
     id: &Name,
-    before: Option<&'a Scoped<T>>,
-) -> Option<&'a Scoped<T>>
-    ensures { option_map choice_of (option_copied result)
-        ≡ after_setting later.now.scope later.now.which later.now.value (path_text path.now) severity id.now (option_map choice_of (option_copied before.entry)) }
+    before: Option<Chosen<T>>,
+) -> Option<Chosen<T>>
+    ensures { result ≡ after_setting later.now.scope later.now.which value (path_text path.now) severity id.now before }
 {
     if !later.which.names(severity, id) || !later.scope.matches(path) {
         return before;
     }
+    let class = later.which.class();
     match before {
-        Some(earlier) if earlier.which.class().goes_before(later.which.class()) => before,
-        _ => Some(later),
+        Some(earlier) if earlier.class.goes_before(class) => Some(earlier),
+        _ => Some(Chosen { class, value }),
     }
 }

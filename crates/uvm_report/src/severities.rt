@@ -6,7 +6,7 @@ ghost use Rattle.uvm_report.specs.Severities.{severity_name, same_severity, defa
 use std::fmt;
 
 /// How severe a report is (IEEE 1800.2-2020, Clause 6), from the least to the most.
-#[derive(Clone, Copy, PartialEq, Eq)]
+#[derive(Clone, Copy, PartialEq, Eq, Hash)]
 pub enum Severity {
     /// Something to know. Reports of this severity alone have a verbosity.
     Info,

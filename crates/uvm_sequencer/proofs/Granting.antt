@@ -10,7 +10,7 @@ use Rattle.uvm_sequencer.specs.declared.modes.Mode.TheVariants.{Fifo, Weighted, 
 use Rattle.uvm_sequencer.specs.declared.requests.Request.{Request}
 use Rattle.uvm_sequencer.specs.declared.requests.Want.{Want}
 use Rattle.uvm_sequencer.specs.declared.requests.Want.TheVariants.{Item, Lock}
-use Rattle.uvm_sequencer.specs.Sequences.{Start, is_under}
+use Rattle.uvm_sequences.specs.Sequences.{Start, is_under}
 use Rattle.uvm_sequencer.specs.Queues.{AreSingle, is_blocked, is_candidate, is_item, is_item_of, is_lock_of, leading, lock_in, lock_request, priority_of}
 use Rattle.uvm_sequencer.specs.Choices.{choice, contenders, drawn, first_over, is_greatest, is_strict}
 use Rattle.uvm_sequencer.specs.Sequencers.{SequencerValue, candidates_at, choice_at, granted, lock_at, locked}

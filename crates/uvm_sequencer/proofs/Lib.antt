@@ -1,15 +1,12 @@
 pub mod Contenders
 pub mod Granting
-pub mod Living
+pub mod Hands
 pub mod Marks
 pub mod Nesting
-pub mod Numbers
 pub mod Ordering
 pub mod Passing
 pub mod Releases
 pub mod Singles
 pub mod Starting
-pub mod Steps
 pub mod Taking
-pub mod Unders
 pub mod Waiting

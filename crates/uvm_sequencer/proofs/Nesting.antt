@@ -2,14 +2,13 @@
 use Rattle.std.proofs.Common.{◌≡◌, ◌<◌, ℕ, Bool, true, false, not, List, [], ◌∷◌, ◌++◌, length, filter, refl, sym, ap, ◌∙◌, arith, if◌then◌else◌}
 use Rattle.std.specs.Prelude.{◌==◌, ◌||◌, ◌&&◌}
 use Rattle.std.proofs.lemmas.Bool.Decides.{nat_tests}
-use Rattle.std.specs.List.{list_all}
+use Rattle.std.specs.List.{list_all, list_any}
 use Rattle.std.specs.Option.{option_map_or}
-use Rattle.uvm_sequencer.specs.Sequences.{Start, ancestors_of, is_under}
+use Rattle.uvm_sequences.specs.Sequences.{Start, ancestors_of, is_under}
 use Rattle.uvm_sequencer.specs.Queues.{is_held, released}
 use Rattle.uvm_sequencer.specs.Sequencers.{is_live_at}
 use Rattle.uvm_sequencer.specs.Laws.{are_nested, HoldersStayNested}
 use Rattle.uvm_sequencer.proofs.Granting.{lock-free}
-use Rattle.uvm_sequencer.proofs.Unders.{is_among}
 use Rattle.uvm_sequencer.proofs.Waiting.{all-filter}
 
 and_left : (a b : Bool) → (a && b) ≡ true → a ≡ true
@@ -63,6 +62,10 @@ module _ (started : List Start) where
   nested-left : (keep : ℕ → Bool) (holders : List ℕ) → are_nested started holders ≡ true → are_nested started (filter keep holders) ≡ true
   nested-left keep [] nested = refl
   nested-left keep (first ∷ later) nested = left_by keep first later (keep first) refl nested (nested-left keep later (and_right (list_all (over first) later) (are_nested started later) nested))
+
+-- one is among some ancestors
+abbrev is_among : ℕ → List ℕ → Bool
+is_among above ancestors = list_any (λ ancestor. ancestor == above) ancestors
 
 -- who stands under another still does, whoever is started
 out_by : (start : Start) (older : List Start) (id : ℕ) (b : Bool) → (id == length (start ∷ older)) ≡ b → length (start ∷ older) < id → ancestors_of older id ≡ []

@@ -8,7 +8,7 @@ use Rattle.std.specs.List.{slice_get}
 use Rattle.uvm_sequencer.specs.declared.modes.Mode.{Mode}
 use Rattle.uvm_sequencer.specs.declared.modes.Mode.TheVariants.{StrictFifo}
 use Rattle.uvm_sequencer.specs.declared.requests.Request.{Request}
-use Rattle.uvm_sequencer.specs.Sequences.{Start}
+use Rattle.uvm_sequences.specs.Sequences.{Start}
 use Rattle.uvm_sequencer.specs.Queues.{is_candidate, priority_of}
 use Rattle.uvm_sequencer.specs.Choices.{choice, contenders, first_over, is_strict}
 use Rattle.uvm_sequencer.specs.Contending.{bar_of, highest, is_contending}

@@ -10,7 +10,7 @@ use Rattle.uvm_sequencer.specs.Choices.{choice, contenders, is_strict, readiness
 use Rattle.uvm_sequencer.specs.Drivers.{wait_of}
 use Rattle.uvm_sequencer.specs.Marks.{has_priority}
 use Rattle.uvm_sequencer.specs.Passed.{IsPassed}
-use Rattle.uvm_sequencer.specs.Sequences.{Start}
+use Rattle.uvm_sequences.specs.Sequences.{Start}
 use Rattle.uvm_sequencer.specs.Queues.{candidates, is_blocked, is_item, is_item_of, item_request, leading, lock_request}
 use Rattle.uvm_sequencer.specs.Sequencers.{SequencerValue, candidates_at, granted, ready_at}
 use Rattle.uvm_sequencer.specs.Laws.{PassedStays}

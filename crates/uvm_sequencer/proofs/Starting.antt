@@ -5,10 +5,10 @@ use Rattle.std.proofs.lemmas.Bool.Decides.{nat_tests}
 use Rattle.std.specs.List.{list_all, list_any}
 use Rattle.std.specs.Option.{option_and_then}
 use Rattle.uvm_sequencer.specs.declared.requests.Request.{Request}
-use Rattle.uvm_sequencer.specs.Sequences.{Start}
+use Rattle.uvm_sequences.specs.Sequences.{Start}
 use Rattle.uvm_sequencer.specs.Queues.{candidates, is_blocked, is_candidate, is_item, leading, lock_in}
 use Rattle.uvm_sequencer.specs.Laws.{StartsChangeNothing, are_known}
-use Rattle.uvm_sequencer.proofs.Unders.{ancestors-older, is_among}
+use Rattle.uvm_sequences.specs.Laws.{AncestorsStay}
 
 le_of : (m n : ℕ) (b : Bool) → (nat_le m n && b) ≡ true → m ≤ n
 le_of m n b e = first (nat_le m n) b refl e
@@ -21,9 +21,9 @@ rest_of : (a b : Bool) → (a && b) ≡ true → b ≡ true
 rest_of true b e = e
 rest_of false b e = absurd cc
 
-module _ (start : Start) (older : List Start) (holders : List ℕ) where
+module _ (stay : AncestorsStay) (start : Start) (older : List Start) (holders : List ℕ) where
   blocked-started : (id : ℕ) → id ≤ length older → is_blocked (start ∷ older) holders id ≡ is_blocked older holders id
-  blocked-started id old = ap (λ l. list_any (λ holder. not ((id == holder) || is_among holder l)) holders) (ancestors-older start older id old)
+  blocked-started id old = ap (λ l. list_any (λ holder. not ((id == holder) || list_any (λ ancestor. ancestor == holder) l)) holders) (stay start older id old)
 
   candidates-started : (queue : List Request) → are_known older queue ≡ true → candidates (start ∷ older) holders queue ≡ candidates older holders queue
   candidates-started [] known = refl
@@ -45,9 +45,9 @@ module _ (start : Start) (older : List Start) (holders : List ℕ) where
       ap (λ b. b && list_all (λ x. is_blocked (start ∷ older) holders x.seq) (take known rs)) (blocked-started r.seq (le_of r.seq (length older) (are_known older rs) all))
       ∙ ap (λ b. is_blocked older holders r.seq && b) (blocked-started_all rs known (rest_of (nat_le r.seq (length older)) (are_known older rs) all))
 
-pub starts_change_nothing : StartsChangeNothing
-starts_change_nothing = record {
-  locks = λ start started s known. ap (option_and_then lock_in) (leading-started start started s.holders s.queue known);
-  items = λ start started s known. candidates-started start started s.holders s.queue known;
-  blocked = λ start started s all known. blocked-started_all start started s.holders s.queue known all;
+pub starts_change_nothing : AncestorsStay → StartsChangeNothing
+starts_change_nothing stay = record {
+  locks = λ start started s known. ap (option_and_then lock_in) (leading-started stay start started s.holders s.queue known);
+  items = λ start started s known. candidates-started stay start started s.holders s.queue known;
+  blocked = λ start started s all known. blocked-started_all stay start started s.holders s.queue known all;
 }

@@ -5,26 +5,13 @@ use Rattle.std.specs.Option.{option_map_or}
 use Rattle.uvm_sequencer.specs.declared.modes.Mode.{Mode}
 use Rattle.uvm_sequencer.specs.declared.modes.Mode.TheVariants.{Fifo, StrictFifo}
 use Rattle.uvm_sequencer.specs.declared.requests.Request.{Request}
-use Rattle.uvm_sequencer.specs.declared.starts.SeqStep.{SeqStep}
+use Rattle.uvm_sequences.specs.declared.starts.SeqStep.{SeqStep}
 use Rattle.uvm_sequencer.specs.Choices.{choice, first_over, is_strict}
 use Rattle.uvm_sequencer.specs.Drivers.{grant_of, hand_of, wait_of}
 use Rattle.uvm_sequencer.specs.Passed.{IsPassed, are_blocked}
 use Rattle.uvm_sequencer.specs.Queues.{AreSingle, is_candidate, is_item, lock_request, priority_of}
-use Rattle.uvm_sequencer.specs.Sequences.{Start, SequencesValue, IsSequences, AreStarted, ancestors_of, is_under, numbered, parent_of, step_at, with_step}
+use Rattle.uvm_sequences.specs.Sequences.{Start, is_under}
 use Rattle.uvm_sequencer.specs.Sequencers.{SequencerValue, after_leave, after_phase, ask_fault, candidates_at, choice_at, granted, lock_at, lock_fault, locked, new_sequencer, request_fault, unlocked, with_grab, with_item, with_lock}
-
--- the ancestors of a sequence are its parent and the ancestors of that
-abbrev pub AncestorsByParents : Type 0
-AncestorsByParents = (started : List Start) → AreStarted started → (id : ℕ) → ancestors_of started id ≡ option_map_or (λ parent. parent ∷ ancestors_of started parent) (parent_of started id) []
-
--- a live sequence was started
-abbrev pub LiveIsStarted : Type 0
-LiveIsStarted = (s : SequencesValue) → IsSequences s → (id : ℕ) → IsSome (step_at s.steps id) → IsSome (numbered s.started id)
-
--- another step of one sequence is that of no other
-abbrev pub StepsChangeAlone : Type 0
-StepsChangeAlone = (steps : List (Option SeqStep)) (id : ℕ) (step : Option SeqStep) (other : ℕ) →
-    numbered (with_step id step steps) other ≡ (if other == id then option_map (λ _. step) (numbered steps other) else numbered steps other)
 
 -- a request waits, and its sequence is each holder or one of those under it
 pub record IsFree (started : List Start) (s : SequencerValue) (request : Request) : Type 0 where

@@ -5,9 +5,7 @@ pub mod Laws
 pub mod Passed
 pub mod Queues
 pub mod Sequencers
-pub mod Sequences
 -- what the bodies go by, and no caller cites
 pub mod Contending
-pub mod Kept
 pub mod Marks
 pub mod Rooms

@@ -2,7 +2,7 @@
 use Rattle.std.specs.Prelude.{◌≡◌, ◌≤◌, ℕ, Bool, true, List, length, take}
 use Rattle.std.specs.List.{list_all}
 use Rattle.uvm_sequencer.specs.Queues.{is_blocked}
-use Rattle.uvm_sequencer.specs.Sequences.{Start}
+use Rattle.uvm_sequences.specs.Sequences.{Start}
 use Rattle.uvm_sequencer.specs.Sequencers.{SequencerValue}
 
 -- the first so many requests of the queue are of sequences that are blocked

@@ -5,7 +5,7 @@ use Rattle.std.specs.List.{list_any}
 use Rattle.uvm_sequencer.specs.declared.requests.Request.{Request}
 use Rattle.uvm_sequencer.specs.declared.requests.Want.{Want}
 use Rattle.uvm_sequencer.specs.declared.requests.Want.TheVariants.{Item, Lock}
-use Rattle.uvm_sequencer.specs.Sequences.{Start, is_under}
+use Rattle.uvm_sequences.specs.Sequences.{Start, is_under}
 
 -- a request to send an item, and one for a lock
 abbrev pub item_request : ℕ → ℕ → Request

@@ -17,8 +17,8 @@ use Rattle.uvm_sequencer.specs.Choices.{choice, readiness}
 use Rattle.uvm_sequencer.specs.Drivers.{is_idle, asked_by, grant_of, granted_by, hand_of, left_by, sent, wait_of}
 use Rattle.uvm_sequencer.specs.Faults.{or_fault}
 use Rattle.uvm_sequencer.specs.Queues.{item_request, lock_request, is_item_of, is_lock_of, without, without_item, without_lock, candidates, leading_lock, is_held, released, all_released}
-use Rattle.uvm_sequencer.specs.declared.starts.SeqStep.{SeqStep}
-use Rattle.uvm_sequencer.specs.Sequences.{Start, step_at}
+use Rattle.uvm_sequences.specs.declared.starts.SeqStep.{SeqStep}
+use Rattle.uvm_sequences.specs.Sequences.{Start, step_at}
 
 -- how it chooses, the port that drives it and where that driver stands, what was asked for in the order of the queue, and the
 -- holders in the order of granting: a sequence stands there once for each lock that it holds

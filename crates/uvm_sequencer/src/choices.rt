@@ -11,7 +11,7 @@ ghost use Rattle.uvm_sequencer.specs.Marks.{has_priority};
 use crate::modes::Mode;
 use crate::requests::Request;
 use crate::scans::is_candidate;
-use crate::starts::{SeqId, Sequences};
+use uvm_sequences::{SeqId, Sequences};
 
 // A queue, and what decides who of it is blocked.
 #[derive(Clone, Copy)]

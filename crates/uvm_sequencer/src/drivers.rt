@@ -3,7 +3,7 @@
 ghost use Rattle.std.specs.Prelude.{◌≡◌};
 ghost use Rattle.uvm_sequencer.specs.Drivers.{is_idle, wait_of, grant_of, hand_of};
 
-use crate::starts::SeqId;
+use uvm_sequences::SeqId;
 
 /// How a driver asks for an item.
 #[derive(Clone, Copy, PartialEq, Eq)]

@@ -1,21 +1,8 @@
 //! Laws of the definitions. The functions do nothing; their contracts are the laws.
 
-ghost use Rattle.uvm_sequencer.specs.Laws.{AncestorsByParents, EachGrantEndsAWait, FifoOrder, HoldersStayNested, LiveIsStarted, LockExcludes, OneItemOut, PassedStays, StartsChangeNothing, StepsChangeAlone, StrictPriority, WaitsStaySingle, WeightsShareTheDraws};
+ghost use Rattle.uvm_sequencer.specs.Laws.{EachGrantEndsAWait, FifoOrder, HoldersStayNested, LockExcludes, OneItemOut, PassedStays, StartsChangeNothing, StrictPriority, WaitsStaySingle, WeightsShareTheDraws};
 
-/// The ancestors of a sequence are its parent and the ancestors of that, whether they live or not.
-pub fn ancestors_by_parents()
-    ensures { AncestorsByParents }
-{}
-
-/// A live sequence was started.
-pub fn live_is_started()
-    ensures { LiveIsStarted }
-{}
-
-/// When a sequence comes to another step or ends, no other does.
-pub fn steps_change_alone()
-    ensures { StepsChangeAlone }
-{}
+use uvm_sequences::laws as sequences;
 
 /// Who is granted a lock or an item waited for it, and is each holder of the sequencer or stands under it: a holder keeps all
 /// others back.
@@ -54,7 +41,9 @@ pub fn one_item_out()
 /// which all that wait were started: so a queue that has not changed need not be looked at again.
 pub fn starts_change_nothing()
     ensures { StartsChangeNothing }
-{}
+{
+    sequences::ancestors_stay();
+}
 
 /// When the first so many requests of a queue are of blocked sequences, they stay so after another request or lock was put behind
 /// all, and after an item was granted: so a later look may begin behind them.

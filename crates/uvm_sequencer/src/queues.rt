@@ -8,10 +8,10 @@ ghost use Rattle.uvm_sequencer.specs.Marks.{has_priority};
 ghost use Rattle.uvm_sequencer.specs.Sequencers.{is_live_at};
 
 use crate::requests::{Request, Want, keep_live, put_first, put_last, take_all};
-use crate::starts::{SeqId, Sequences};
 use std::alloc::{AllocError, Global};
 use std::collections::HashSet;
 use std::marker::Model;
+use uvm_sequences::{SeqId, Sequences};
 
 // The requests in the order of the queue. Marks tell who waits without a look at them.
 #[derive(Drop)]

@@ -4,8 +4,8 @@ ghost use Rattle.std.specs.Prelude.{◌≡◌, ◌∷◌, ◌++◌, [], filter, 
 ghost use Rattle.uvm_sequencer.specs.Sequencers.{is_live_at};
 ghost use Rattle.uvm_sequencer.specs.Queues.{is_item, is_of, lock_in, priority_of, without};
 
-use crate::starts::{SeqId, Sequences};
 use std::alloc::AllocError;
+use uvm_sequences::{SeqId, Sequences};
 
 /// What a sequence wants.
 #[derive(Clone, Copy, PartialEq, Eq)]

@@ -5,7 +5,7 @@ ghost use Rattle.std.specs.List.{position_or_len};
 ghost use Rattle.uvm_sequencer.specs.Queues.{is_blocked, is_candidate, candidates};
 
 use crate::requests::Request;
-use crate::starts::{SeqId, Sequences};
+use uvm_sequences::{SeqId, Sequences};
 
 // Whether some holder keeps a sequence back.
 fn is_blocked(sequences: &Sequences, holders: &[SeqId], seq: SeqId) -> bool

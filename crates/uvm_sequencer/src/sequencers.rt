@@ -19,9 +19,9 @@ use crate::faults::SeqFault;
 use crate::modes::Mode;
 use crate::queues::Queue;
 use crate::scans;
-use crate::starts::{SeqId, Sequences};
 use std::alloc::Global;
 use std::marker::Model;
+use uvm_sequences::{SeqId, Sequences};
 use uvm_tree::NodeId;
 
 /// A sequencer (IEEE 1800.2-2020, Clause 15): which sequence may send an item to the driver next. Sequences request to send,

@@ -1,7 +1,7 @@
 -- How nodes and sequences are shown.
 use Rattle.std.specs.Prelude.{ℕ, List, [], ◌∷◌, ◌++◌, codes}
 use Rattle.uvm_glob.specs.Paths.{path_text}
-use Rattle.uvm_sequencer.specs.Sequences.{Start, names_of}
+use Rattle.uvm_sequences.specs.Sequences.{Start, names_of}
 use Rattle.uvm_tree.specs.Nodes.{Node, path_at}
 use Rattle.uvm_object.specs.declared.acts.Who.{Who}
 use Rattle.uvm_object.specs.declared.acts.Who.TheVariants as who

@@ -8,7 +8,7 @@ ghost use Rattle.uvm_sources.specs.Sources.{sequence_text, shown_path, source_te
 use std::alloc::{AllocError, Global};
 use uvm_glob::Name;
 use uvm_object::Who;
-use uvm_sequencer::{SeqId, Sequences};
+use uvm_sequences::{SeqId, Sequences};
 use uvm_tree::{NodeId, Tree};
 
 /// How a node is shown in lines: by its path; the top, and a node that the tree does not have, is `uvm_top`. Takes no memory.

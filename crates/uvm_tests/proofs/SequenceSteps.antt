@@ -1,9 +1,9 @@
 -- Where sequences stand: whose children they are, what they are called, and at which step they are.
 use Rattle.std.proofs.Common.{◌≡◌, ℕ, List, [], ◌∷◌, Some, None, refl}
 use Rattle.std.specs.Prelude.{Bool, true, false, Option, is_some, option_map, option_and_then, codes}
-use Rattle.uvm_sequencer.specs.declared.starts.SeqStep.{SeqStep}
-use Rattle.uvm_sequencer.specs.declared.starts.SeqStep.TheVariants.{PreStart, Body, PostStart}
-use Rattle.uvm_sequencer.specs.Sequences.{Start, is_under, name_at, names_of, numbered, parent_of, step_after, step_at, with_step}
+use Rattle.uvm_sequences.specs.declared.starts.SeqStep.{SeqStep}
+use Rattle.uvm_sequences.specs.declared.starts.SeqStep.TheVariants.{PreStart, Body, PostStart}
+use Rattle.uvm_sequences.specs.Sequences.{Start, is_under, name_at, names_of, numbered, parent_of, step_after, step_at, with_step}
 
 -- a sequence 1, its child 2, the child 3 of that, and another sequence 4
 abbrev start : Option ℕ → Start

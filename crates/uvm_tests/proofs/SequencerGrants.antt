@@ -9,10 +9,10 @@ use Rattle.uvm_sequencer.specs.declared.faults.SeqFault.{SeqFault}
 use Rattle.uvm_sequencer.specs.declared.faults.SeqFault.TheVariants.{NoDriver, Twice, NothingOut, NotGranted, NotHeld, Memory}
 use Rattle.uvm_sequencer.specs.declared.modes.Mode.{Mode}
 use Rattle.uvm_sequencer.specs.declared.modes.Mode.TheVariants.{Fifo, Weighted, Random, StrictFifo, StrictRandom}
-use Rattle.uvm_sequencer.specs.declared.starts.SeqStep.TheVariants.{PreStart}
+use Rattle.uvm_sequences.specs.declared.starts.SeqStep.TheVariants.{PreStart}
 use Rattle.uvm_sequencer.specs.Drivers.{grant_of, is_try}
 use Rattle.uvm_sequencer.specs.Faults.{fault_text, or_fault}
-use Rattle.uvm_sequencer.specs.Sequences.{Start}
+use Rattle.uvm_sequences.specs.Sequences.{Start}
 use Rattle.uvm_sequencer.specs.Sequencers.{SequencerValue, new_sequencer, with_port, with_item, with_lock, with_grab, locked, unlocked, after_ask, granted, after_send, with_idle, after_leave, after_phase, request_fault, lock_fault, ask_fault, answer, done_by, unlocked_by, candidates_at, lock_at, ready_at, choice_at}
 
 -- a sequence that no sequence started, four of them, and a child of one

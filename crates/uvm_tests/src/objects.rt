@@ -12,7 +12,7 @@ use uvm_object::{
 };
 use uvm_phase::{Cause, Phase};
 use uvm_report::{Report, Severity};
-use uvm_sequencer::{SeqId, Sequences};
+use uvm_sequences::{SeqId, Sequences};
 use uvm_tlm::{Item, MoveKind};
 use uvm_tree::NodeId;
 

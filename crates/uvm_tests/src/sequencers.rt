@@ -4,7 +4,8 @@
 use std::alloc::Global;
 use std::test::Fail;
 use uvm_glob::Name;
-use uvm_sequencer::{Asked, How, Mode, SeqFault, SeqId, SeqStep, Sequencer, Sequences};
+use uvm_sequencer::{Asked, How, Mode, SeqFault, Sequencer};
+use uvm_sequences::{SeqId, SeqStep, Sequences};
 use uvm_tree::NodeId;
 
 // The names of a sequence and its child.

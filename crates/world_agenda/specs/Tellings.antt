@@ -6,8 +6,8 @@ use Rattle.uvm_object.specs.declared.acts.Call.{Call}
 use Rattle.bench_history.specs.declared.owners.Owner.TheVariants.{Object}
 use Rattle.bench_history.specs.Dues.{event_in}
 use Rattle.bench_history.specs.Owners.{Event}
-use Rattle.uvm_sequencer.specs.declared.starts.SeqStep.{SeqStep}
-use Rattle.uvm_sequencer.specs.Sequences.{step_at}
+use Rattle.uvm_sequences.specs.declared.starts.SeqStep.{SeqStep}
+use Rattle.uvm_sequences.specs.Sequences.{step_at}
 use Rattle.uvm_tree.specs.Nodes.{Node}
 use Rattle.uvm_object.specs.declared.acts.Call.TheVariants as call
 use Rattle.uvm_object.specs.declared.acts.Who.TheVariants as who

@@ -13,9 +13,10 @@ ghost use Rattle.world_agenda.specs.Tellings.{if_told, living_numbered, is_told}
 
 use bench_history::{Owner, Stage};
 use std::alloc::AllocError;
+use std::hash::Hash;
 use uvm_object::{Call, Who};
 use uvm_phase::{Agenda, Cause, laws as agendas};
-use uvm_sequencer::Sequences;
+use uvm_sequences::Sequences;
 use uvm_tree::NodeId;
 
 /// Takes the end of a drain out of what is due, where a drain has ended: the node is the one that held something back.
@@ -54,7 +55,7 @@ pub fn caused_at(place: usize) -> Cause
 
 /// Adds an event that is due at a time, in ticks, while a phase runs; at another stage it adds nothing. Its error is want of
 /// memory. It does not come where the agenda has room.
-pub fn add_event<O: Drop, N: Drop>(
+pub fn add_event<O: Copy + Eq + Hash + Drop, N: Drop>(
     agenda: &mut Agenda<O, N>,
     stage: Stage,
     time: u64,

@@ -15,7 +15,7 @@ use Rattle.bench_history.specs.Laws.{IsLiving}
 use Rattle.bench_history.specs.Sequences.{begun_of, finished_of, is_live, sequences_of, starts_in}
 use Rattle.world_services.specs.declared.services.Services.{Services}
 use Rattle.uvm_sequencer.specs.Laws.{PassedStays}
-use Rattle.uvm_sequencer.specs.Sequences.{Start}
+use Rattle.uvm_sequences.specs.Sequences.{Start}
 use Rattle.world_sequencers.specs.declared.contests.Contest.{Contest}
 use Rattle.world_sequencers.specs.Contests.{IsKnown, LearnsAt, known_at}
 use Rattle.world_sequencers.specs.Arbiters.{ArbiterValue, ChangesAt, Kept, at_sequencer, lock_in, ready_in}

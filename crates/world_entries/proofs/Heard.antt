@@ -13,7 +13,7 @@ use Rattle.uvm_tree.specs.Cursors.{IsLeast, LeastIsLeast, OrdersNodes, is_before
 use Rattle.bench_history.specs.Laws.{HasTurn, IsThere}
 use Rattle.bench_history.specs.History.{called_of, components_of, had_call, next_call, nodes_of, phase_order, stage_of}
 use Rattle.bench_history.specs.Sequences.{Beginning, begun_of}
-use Rattle.uvm_sequencer.specs.Sequences.{numbered}
+use Rattle.uvm_sequences.specs.Sequences.{numbered}
 use Rattle.world_sequences.proofs.Numbered.{numbered-holds}
 use Rattle.uvm_object.specs.declared.entries.Entry.{Entry}
 use Rattle.uvm_object.specs.declared.entries.Entry.TheVariants.{Heard}

@@ -11,7 +11,7 @@ ghost use Rattle.bench_history.specs.Reports.{deed_command, line_under};
 use std::alloc::{AllocError, Global};
 use uvm_object::{Act, Fatal, Outcome, Who};
 use uvm_report::{Report, Severity};
-use uvm_sequencer::Sequences;
+use uvm_sequences::Sequences;
 use uvm_sources::{shown_path, source_of};
 use uvm_tree::{NodeId, Tree};
 

@@ -6,8 +6,8 @@ use Rattle.std.proofs.lemmas.List.Elements.{All-weaker}
 use Rattle.std.proofs.lemmas.List.Folds.{list_any_none}
 use Rattle.uvm_phase.specs.declared.phases.Phase.{Phase}
 use Rattle.uvm_phase.specs.Phases.{phase_number}
-use Rattle.uvm_sequencer.specs.declared.starts.SeqStep.TheVariants.{PreStart}
-use Rattle.uvm_sequencer.specs.Sequences.{SequencesValue, Start, numbered}
+use Rattle.uvm_sequences.specs.declared.starts.SeqStep.TheVariants.{PreStart}
+use Rattle.uvm_sequences.specs.Sequences.{SequencesValue, Start, numbered}
 use Rattle.uvm_tree.specs.Nodes.{Node}
 use Rattle.uvm_object.specs.declared.acts.Act.{Act}
 use Rattle.uvm_object.specs.declared.acts.Who.{Who}

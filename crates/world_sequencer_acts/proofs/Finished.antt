@@ -4,8 +4,8 @@ use Rattle.std.specs.Option.{option_map_or}
 use Rattle.std.proofs.lemmas.List.Elements.{All-cons}
 use Rattle.uvm_phase.specs.Phases.{phase_number}
 use Rattle.uvm_phase.specs.Dues.{in_order}
-use Rattle.uvm_sequencer.specs.Laws.{StepsChangeAlone}
-use Rattle.uvm_sequencer.specs.Sequences.{name_at, numbered}
+use Rattle.uvm_sequences.specs.Laws.{StepsChangeAlone}
+use Rattle.uvm_sequences.specs.Sequences.{name_at, numbered}
 use Rattle.uvm_object.specs.declared.acts.Who.{Who}
 use Rattle.uvm_object.specs.declared.acts.Call.{Call}
 use Rattle.uvm_object.specs.declared.acts.Act.{Act}
@@ -36,7 +36,7 @@ use Rattle.world_sequences.proofs.Sequenced.{starter-open}
 use Rattle.world_sequences.proofs.Starters.{kept-at}
 use Rattle.world_agenda.proofs.Told.{agenda-finished, open-finished}
 use Rattle.world_agenda.proofs.Lists.{filter-twice}
-use Rattle.uvm_sequencer.specs.Sequences as service
+use Rattle.uvm_sequences.specs.Sequences as service
 use Rattle.uvm_object.specs.declared.acts.Who.TheVariants as who
 use Rattle.uvm_object.specs.declared.acts.Call.TheVariants as call
 

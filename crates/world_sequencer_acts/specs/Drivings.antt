@@ -5,7 +5,7 @@ use Rattle.uvm_phase.specs.Dues.{in_order}
 use Rattle.uvm_tlm.specs.declared.ends.PortKind.TheVariants.{Seq}
 use Rattle.uvm_tlm.specs.Wirings.{WiringValue, targets_of}
 use Rattle.uvm_sequencer.specs.Drivers.{grant_of, is_try}
-use Rattle.uvm_sequencer.specs.Sequences.{finished, name_at}
+use Rattle.uvm_sequences.specs.Sequences.{finished, name_at}
 use Rattle.uvm_sequencer.specs.Sequencers.{after_leave}
 use Rattle.uvm_sequencer.specs.declared.drivers.How.{How}
 use Rattle.uvm_sequencer.specs.declared.drivers.How.TheVariants.{Try}

@@ -2,7 +2,7 @@
 
 ghost use Rattle.std.specs.Prelude.{◌≡◌, ◌∷◌, ◌++◌, ◌+◌, ◌<◌, ℕ, suc, [], List, None, Some, IfOk, IfErr, IfSome, length, option_and_then};
 ghost use Rattle.uvm_glob.specs.Paths.{path_fault};
-ghost use Rattle.uvm_sequencer.specs.declared.starts.SeqStep.TheVariants.{PreStart};
+ghost use Rattle.uvm_sequences.specs.declared.starts.SeqStep.TheVariants.{PreStart};
 ghost use Rattle.uvm_factory.specs.declared.overrides.Override.{Override};
 ghost use Rattle.uvm_factory.specs.declared.types.Kind.TheVariants.{Sequence};
 ghost use Rattle.uvm_factory.specs.Faults.{Types, type_named};
@@ -25,7 +25,8 @@ use std::alloc::{AllocError, Global};
 use uvm_factory::{Factory, Kind, TypeId};
 use uvm_glob::{Name, Path, PathFault};
 use uvm_object::{Act, Call, Fatal, Who};
-use uvm_sequencer::{SeqId, laws as sequencers};
+use uvm_sequencer::laws as sequencers;
+use uvm_sequences::SeqId;
 use uvm_tree::{NodeId, NodeKind, Tree};
 use world_agenda::stages::{in_task, phase_of};
 use world_sequences::beginnings::{

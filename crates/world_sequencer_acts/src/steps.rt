@@ -1,7 +1,7 @@
 //! The steps of sequences (IEEE 1800.2-2020, Clause 14).
 
 ghost use Rattle.std.specs.Prelude.{◌≡◌, ◌∷◌, ◌++◌, [], true, OnOk, IfOk};
-ghost use Rattle.uvm_sequencer.specs.Sequences.{finished, name_at};
+ghost use Rattle.uvm_sequences.specs.Sequences.{finished, name_at};
 ghost use Rattle.uvm_object.specs.declared.acts.Act.TheVariants.{EndStep};
 ghost use Rattle.bench_history.specs.Dues.{step_call};
 ghost use Rattle.bench_history.specs.Refusals.{is_open_to};
@@ -12,7 +12,7 @@ ghost use Rattle.world_services.specs.Attempts.{IsAttempt};
 use crate::requests::push_item;
 use std::alloc::{AllocError, Global};
 use uvm_object::{Call, LoggedOutcome, Who};
-use uvm_sequencer::{SeqId, laws};
+use uvm_sequences::{SeqId, laws};
 use uvm_tree::laws as trees;
 use world_agenda::events::cancel;
 use world_sequencers::arbiters::{driver_at, leave_at};

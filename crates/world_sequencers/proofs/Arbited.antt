@@ -8,10 +8,10 @@ use Rattle.uvm_sequencer.specs.declared.modes.Mode.{Mode}
 use Rattle.uvm_sequencer.specs.declared.drivers.Driver.{Driver}
 use Rattle.uvm_sequencer.specs.declared.drivers.Driver.TheVariants.{Idle}
 use Rattle.uvm_sequencer.specs.declared.requests.Request.{Request}
-use Rattle.uvm_sequencer.specs.declared.starts.SeqStep.{SeqStep}
+use Rattle.uvm_sequences.specs.declared.starts.SeqStep.{SeqStep}
 use Rattle.uvm_sequencer.specs.Drivers.{grant_of, granted_by, left_by}
 use Rattle.uvm_sequencer.specs.Queues.{is_held, is_item, is_item_of, is_lock_of, is_of, released}
-use Rattle.uvm_sequencer.specs.Sequences.{numbered}
+use Rattle.uvm_sequences.specs.Sequences.{numbered}
 use Rattle.uvm_sequencer.specs.Laws.{are_known}
 use Rattle.uvm_sequencer.specs.Sequencers.{after_leave, after_phase, granted, is_live_at, locked, unlocked}
 use Rattle.bench_history.specs.declared.askers.DriverPort.{DriverPort}

@@ -10,7 +10,7 @@ use Rattle.uvm_tree.specs.Nodes.{Node}
 use Rattle.uvm_tree.specs.Sorted.{path_order}
 use Rattle.uvm_sequencer.specs.declared.modes.Mode.{Mode}
 use Rattle.uvm_sequencer.specs.Passed.{IsPassed}
-use Rattle.uvm_sequencer.specs.Sequences.{Start}
+use Rattle.uvm_sequences.specs.Sequences.{Start}
 use Rattle.uvm_sequencer.specs.Sequencers.{lock_at, ready_at}
 use Rattle.uvm_object.specs.declared.acts.Who.{Who}
 use Rattle.uvm_object.specs.declared.entries.Entry.{Entry}

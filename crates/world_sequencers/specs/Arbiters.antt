@@ -8,7 +8,7 @@ use Rattle.uvm_glob.specs.Faults.{unless}
 use Rattle.uvm_sequencer.specs.declared.modes.Mode.{Mode}
 use Rattle.uvm_sequencer.specs.declared.drivers.Asked.{Asked}
 use Rattle.uvm_sequencer.specs.declared.drivers.How.{How}
-use Rattle.uvm_sequencer.specs.Sequences.{Start}
+use Rattle.uvm_sequences.specs.Sequences.{Start}
 use Rattle.uvm_sequencer.specs.Sequencers.{SequencerValue, after_ask, after_send, answer, candidates_at, lock_at, new_sequencer, ready_at, unlocked, with_grab, with_item, with_lock}
 use Rattle.uvm_object.specs.declared.acts.What.{What}
 use Rattle.uvm_object.specs.declared.fatals.Fatal.{Fatal}

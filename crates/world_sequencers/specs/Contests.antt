@@ -4,7 +4,7 @@ use Rattle.std.specs.Option.{option_map_or}
 use Rattle.std.specs.HashMap.{get}
 use Rattle.uvm_sequencer.specs.declared.modes.Mode.{Mode}
 use Rattle.uvm_sequencer.specs.Passed.{IsPassed}
-use Rattle.uvm_sequencer.specs.Sequences.{Start}
+use Rattle.uvm_sequences.specs.Sequences.{Start}
 use Rattle.world_sequencers.specs.declared.contests.Contest.{Contest}
 use Rattle.world_sequencers.specs.Arbiters.{ArbiterValue, Kept}
 

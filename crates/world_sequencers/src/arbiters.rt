@@ -17,7 +17,8 @@ use std::alloc::{AllocError, Global};
 use std::collections::HashMap;
 use std::marker::Model;
 use uvm_object::{Fatal, What};
-use uvm_sequencer::{Asked, How, Mode, SeqFault, SeqId, Sequencer, Sequences};
+use uvm_sequencer::{Asked, How, Mode, SeqFault, Sequencer};
+use uvm_sequences::{SeqId, Sequences};
 use uvm_tree::NodeId;
 
 /// A port, and the sequencer that is reached through it.

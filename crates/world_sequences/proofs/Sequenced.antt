@@ -6,10 +6,10 @@ use Rattle.std.proofs.lemmas.Bool.Decides.{nat_tests}
 use Rattle.std.proofs.lemmas.List.Elements.{All-nil, All-cons, All-head, All-tail, All-weaker}
 use Rattle.std.proofs.lemmas.List.Folds.{list_any_none}
 use Rattle.uvm_phase.specs.declared.phases.Phase.{Phase}
-use Rattle.uvm_sequencer.specs.declared.starts.SeqStep.{SeqStep}
-use Rattle.uvm_sequencer.specs.declared.starts.SeqStep.TheVariants.{PreStart, Body, PostStart}
-use Rattle.uvm_sequencer.specs.Laws.{StepsChangeAlone}
-use Rattle.uvm_sequencer.specs.Sequences.{SequencesValue, Start, numbered, step_after, step_at, with_step}
+use Rattle.uvm_sequences.specs.declared.starts.SeqStep.{SeqStep}
+use Rattle.uvm_sequences.specs.declared.starts.SeqStep.TheVariants.{PreStart, Body, PostStart}
+use Rattle.uvm_sequences.specs.Laws.{StepsChangeAlone}
+use Rattle.uvm_sequences.specs.Sequences.{SequencesValue, Start, numbered, step_after, step_at, with_step}
 use Rattle.uvm_object.specs.declared.acts.Who.{Who}
 use Rattle.bench_history.specs.Sequences.{Beginning, all_steps, is_over_phase, is_sequence, sequence_in}
 use Rattle.bench_history.specs.declared.owners.Owner.TheVariants.{Object}
@@ -20,7 +20,7 @@ use Rattle.world_sequences.proofs.Starters.{has-parent}
 use Rattle.world_sequences.specs.Sequencings.{IsSequencing, IsStarter, live_by, lives_by, step_by, steps_ended}
 use Rattle.world_agenda.specs.Tellings.{is_told}
 use Rattle.world_sequences.proofs.Numbered.{numbered-within}
-use Rattle.uvm_sequencer.specs.Sequences as service
+use Rattle.uvm_sequences.specs.Sequences as service
 use Rattle.uvm_object.specs.declared.acts.Who.TheVariants as who
 use Rattle.world_sequences.specs.declared.beginnings.Beginning as kept
 

@@ -3,8 +3,8 @@
 ghost use Rattle.std.specs.Prelude.{◌≡◌, [], IfOk, None, ◌∷◌, ◌++◌, ◌+◌, ◌<◌, ℕ, Some, false, IfErr, IsOk, IsSome, OnOk, length, vec_len, vec_capacity};
 ghost use Rattle.std.specs.Option.{ForSome, option_copied};
 ghost use Rattle.uvm_glob.specs.Paths.{path_fault};
-ghost use Rattle.uvm_sequencer.specs.declared.starts.SeqStep.TheVariants.{PreStart};
-ghost use Rattle.uvm_sequencer.specs.Sequences.{numbered};
+ghost use Rattle.uvm_sequences.specs.declared.starts.SeqStep.TheVariants.{PreStart};
+ghost use Rattle.uvm_sequences.specs.Sequences.{numbered};
 ghost use Rattle.uvm_factory.specs.declared.types.Kind.TheVariants.{Sequence};
 ghost use Rattle.uvm_object.specs.declared.acts.Act.TheVariants.{Start};
 ghost use Rattle.bench_history.specs.Refusals.{is_none_at_all};
@@ -16,7 +16,7 @@ use std::alloc::{AllocError, Global};
 use uvm_glob::{Name, Path, PathFault};
 use uvm_object::{Act, Call, Who};
 use uvm_phase::Phase;
-use uvm_sequencer::{SeqId, SeqStep, Sequences};
+use uvm_sequences::{SeqId, SeqStep, Sequences};
 use uvm_tree::NodeId;
 
 /// A sequence that was started, by whom, and in which phase.

@@ -7,7 +7,7 @@ use crate::beginnings::Beginning;
 use std::alloc::{AllocError, Global};
 use uvm_object::Who;
 use uvm_phase::Phase;
-use uvm_sequencer::{Sequences, laws};
+use uvm_sequences::{Sequences, laws};
 
 /// Answers the sequences that were started in a phase and live, in the order of their starts. Its error is want of memory.
 pub fn leaving_with(

@@ -14,7 +14,7 @@ use Rattle.bench_history.specs.Sequences.{begun_of, finished_of, starts_in}
 use Rattle.world_services.specs.declared.services.Services.{Services}
 use Rattle.world_sequencers.specs.Arbiters.{ArbiterValue, lock_in, locked_in, ready_in, served_in}
 use Rattle.world_sequencers.specs.Arbitratings.{IsArbitrating, arbiter_of, ledger_at}
-use Rattle.uvm_sequencer.specs.Sequences.{Start}
+use Rattle.uvm_sequences.specs.Sequences.{Start}
 use Rattle.world_sequencers.specs.Contests.{AreKnown, IsKnown, known_at}
 use Rattle.world_sequencers.specs.declared.contests.Contest.{Contest}
 use Rattle.world_sequences.specs.Sequencings.{live_by}

@@ -20,7 +20,7 @@ use uvm_factory::Factory;
 use uvm_object::{Call, Who};
 use uvm_objection::{Objection, laws as objections};
 use uvm_phase::Agenda;
-use uvm_sequencer::Sequences;
+use uvm_sequences::Sequences;
 use uvm_tlm::Wiring;
 use uvm_tree::{NodeId, Tree};
 use world_fifos::stations::Stations;

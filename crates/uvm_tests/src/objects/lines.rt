@@ -12,7 +12,7 @@ use uvm_object::{
     Reason, What, Who,
 };
 use uvm_phase::Phase;
-use uvm_sequencer::{SeqId, Sequences};
+use uvm_sequences::{SeqId, Sequences};
 use uvm_sources::{shown_path, source_of};
 use uvm_tlm::MoveKind;
 use uvm_tree::{NodeId, Tree};

@@ -1,4 +1,4 @@
-use Rattle.uvm_sequencer.proofs.Living.{one_item_out}
+use Rattle.uvm_sequencer.proofs.Hands.{one_item_out}
 use Rattle.uvm_sequencer.proofs.laws.one_item_out.Goals as goal
 
 pub returns : goal.returns

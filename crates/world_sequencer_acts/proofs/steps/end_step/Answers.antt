@@ -1,6 +1,6 @@
 use Rattle.std.proofs.Common.{◌≡◌, ◌∷◌, ℕ, suc, nat_eq, IsSome, ap, length, filter, Some, None, option_and_then, refl, sym, ◌∙◌, rules}
 use Rattle.std.specs.HashMap.{get}
-use Rattle.uvm_sequencer.specs.Sequences.{finished, step_after, step_at}
+use Rattle.uvm_sequences.specs.Sequences.{finished, step_after, step_at}
 use Rattle.uvm_object.specs.Acts.{node_of}
 use Rattle.uvm_object.specs.declared.acts.Who.TheVariants as who
 use Rattle.bench_history.specs.Arbitration.{mode_at}

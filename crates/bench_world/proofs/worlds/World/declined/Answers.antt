@@ -17,7 +17,7 @@ refused_by-requires-clause-report c = (c.self.invariant.1.ready c.in-Some.waitin
 pub unreachable-requires-in_default-refused_by : goal.unreachable-requires-in_default-refused_by
 unreachable-requires-in_default-refused_by c =
     let ready = c.self.invariant.1.ready c.in-Some.waiting (sym c.take.ensures.value ∙ c.in-Some.is) in
-    ok-not-err c.refused_by.result c.in_default-refused_by.field-0 (c.refused_by.ensures.memory (rw ready.declined ready.report_room)) c.in_default-refused_by.is
+    ok-not-err c.refused_by.result c.in_default-refused_by.field-0 (c.refused_by.ensures.memory (rw ready.declined ready.has_room.report_room)) c.in_default-refused_by.is
 
 pub enter-requires-clause-room : goal.enter-requires-clause-room
 enter-requires-clause-room c =
@@ -35,7 +35,7 @@ enter-requires-clause-open c =
 pub unreachable-requires-in_default-enter : goal.unreachable-requires-in_default-enter
 unreachable-requires-in_default-enter c =
     let ready = c.self.invariant.1.ready c.in-Some.waiting (sym c.take.ensures.value ∙ c.in-Some.is) in
-    ok-not-err c.enter.result c.in_default-enter.field-0 (c.enter.ensures.memory ready.log_spare) c.in_default-enter.is
+    ok-not-err c.enter.result c.in_default-enter.field-0 (c.enter.ensures.memory ready.has_room.log_spare) c.in_default-enter.is
 
 pub returns : goal.returns
 returns c =

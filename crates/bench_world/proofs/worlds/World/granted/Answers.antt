@@ -1,4 +1,4 @@
-use Rattle.std.proofs.Common.{length, refl, is_some}
+use Rattle.std.proofs.Common.{refl, is_some}
 use Rattle.uvm_object.specs.declared.entries.Entry.TheVariants.{Granted}
 use Rattle.uvm_object.specs.declared.entries.Grant.{Grant}
 use Rattle.bench_history.specs.Cases.{chosen_at}

@@ -1,4 +1,4 @@
-use Rattle.std.proofs.Common.{Some, length, refl, sym}
+use Rattle.std.proofs.Common.{Some, refl, sym}
 use Rattle.uvm_object.specs.declared.entries.Entry.TheVariants.{Heard}
 use Rattle.bench_history.specs.Cases.{Answer}
 use Rattle.bench_world.proofs.Going.{due-here, entered}

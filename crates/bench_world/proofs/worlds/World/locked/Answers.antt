@@ -1,4 +1,4 @@
-use Rattle.std.proofs.Common.{length, refl}
+use Rattle.std.proofs.Common.{refl}
 use Rattle.uvm_object.specs.declared.entries.Entry.TheVariants.{Locked}
 use Rattle.bench_history.specs.Cases.{Exactly}
 use Rattle.bench_world.proofs.Going.{due-here, entered}

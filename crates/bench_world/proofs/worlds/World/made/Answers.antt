@@ -38,7 +38,7 @@ enter-requires-clause-open c =
 pub unreachable-requires-in_default-enter : goal.unreachable-requires-in_default-enter
 unreachable-requires-in_default-enter c =
     let ready = c.self.invariant.1.ready c.in-Some.waiting (sym c.take.ensures.value ∙ c.in-Some.is) in
-    ok-not-err c.enter.result c.in_default-enter.field-0 (c.enter.ensures.memory ready.log_spare) c.in_default-enter.is
+    ok-not-err c.enter.result c.in_default-enter.field-0 (c.enter.ensures.memory ready.has_room.log_spare) c.in_default-enter.is
 
 pub invariant_of-self : goal.invariant_of-self
 invariant_of-self c =

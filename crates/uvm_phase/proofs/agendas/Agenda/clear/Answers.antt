@@ -2,4 +2,4 @@ use Rattle.uvm_phase.proofs.Places.{left-in-order}
 use Rattle.uvm_phase.proofs.agendas.Agenda.clear.Goals as goal
 
 pub invariant_of-self : goal.invariant_of-self
-invariant_of-self g c = left-in-order _ c.self.inside.dues.items c.take_out_phase.new.dues.items c.self.invariant c.take_out_phase.ensures.left
+invariant_of-self g c = (left-in-order _ c.self.inside.dues.items c.take_out_phase.new.dues.items c.self.invariant.0 c.take_out_phase.ensures.left, c.count_anew.ensures)

@@ -1,5 +1,12 @@
+use Rattle.std.proofs.Common.{◌≡◌, ◌∷◌, rules}
+use Rattle.uvm_phase.specs.Owners.{owners_of}
 use Rattle.uvm_phase.proofs.Places.{rest-in-order}
 use Rattle.uvm_phase.proofs.agendas.Agenda.take_first.Goals as goal
 
-pub invariant_of-self : goal.invariant_of-self
-invariant_of-self g c = rest-in-order c.self.inside.dues.items c.pop_front.new.self.items c.self.invariant c.pop_front.ensures.rest
+pub invariant_of-self-2 : goal.invariant_of-self-2
+invariant_of-self-2 g c =
+    let rest = c.pop_front.new.self.items in
+    let is : c.self.inside.dues.items ≡ c.in_ok-first.first ∷ rest = search rules in (
+      rest-in-order c.self.inside.dues.items rest c.self.invariant.0 c.pop_front.ensures.rest,
+      c.subtract.ensures.counts (owners_of rest) (rw is at c.self.invariant.1),
+    )

@@ -1,9 +1,9 @@
-use Rattle.std.proofs.Common.{◌≡◌, take, reverse, option_map}
-use Rattle.std.specs.Option.{option_copied}
+use Rattle.std.proofs.Common.{◌≡◌, fold}
 use Rattle.uvm_glob.specs.Paths.{path_text}
-use Rattle.uvm_report.specs.Settings.{choice_of, choice_among}
+use Rattle.uvm_report.specs.Settings.{choice_among}
+use Rattle.uvm_report.proofs.Given.{after_entry}
 use Rattle.uvm_report.proofs.settings.ScopedSettings.prevailing.Given as goal
 
--- what prevails of the settings so far
-abbrev pub invariant-loop-setting : goal.invariant-loop-setting
-invariant-loop-setting g l = option_map choice_of (option_copied l.prevailing) ≡ choice_among (reverse (take l.setting-index l.setting-items)) (path_text l.path) l.severity l.id
+-- the settings that are left complete the choice
+abbrev pub invariant-loop-reach : goal.invariant-loop-reach
+invariant-loop-reach g l = fold (after_entry (path_text l.path) l.severity l.id) l.prevailing l.reach-iterator ≡ choice_among l.self (path_text l.path) l.severity l.id

@@ -1,15 +1,26 @@
-use Rattle.std.proofs.Common.{[], refl, arith, rules}
+use Rattle.std.proofs.Common.{◌≡◌, List, [], refl, arith, rules}
 use Rattle.uvm_tree.specs.Sorted.{path_order}
 use Rattle.bench_history.specs.History.{nodes_of}
+use Rattle.bench_history.specs.Owners.{Event}
 use Rattle.bench_history.specs.Passing.{passing_at}
 use Rattle.world_fifos.specs.Passings.{AreUnsettled}
 use Rattle.world_sequencers.proofs.Arbiting.{arbitrating-first}
+use Rattle.world_agenda.specs.Agendas.{IsAgenda}
 use Rattle.world_agenda.proofs.Objected.{objecting-first}
 use Rattle.world_services.proofs.Passages.{passed-first, stations-first, unsettled-none}
 use Rattle.world_sequences.specs.Sequencings.{IsSequencing}
 use Rattle.world_sequences.proofs.Sequenced.{sequencing-first}
 use Rattle.world_services.proofs.Waiting.{turns-none}
 use Rattle.world_services.proofs.services.Services.new.Goals as goal
+
+-- nothing is due
+agenda-first : (dues : List Event) → dues ≡ [] → IsAgenda [] [] [] [] 0 dues
+agenda-first dues none = record {
+  are = none;
+  distinct = λ i j d before within. absurd (omega arith);
+  caused_within = λ k d within. absurd (omega arith);
+  heard_within = λ k d within. absurd (omega arith);
+}
 
 pub returns : goal.returns
 returns c = λ script factory settings reporting.
@@ -37,7 +48,7 @@ returns c = λ script factory settings reporting.
       built = refl;
       reporting = reporting;
       settings = settings;
-      agenda = search rules;
+      agenda = agenda-first c.new-10.result.dues c.new-10.ensures;
       events = search rules;
       test_refused = refl;
     }

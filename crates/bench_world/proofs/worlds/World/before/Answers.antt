@@ -1,0 +1,9 @@
+use Rattle.std.proofs.Common.{[], arith}
+use Rattle.bench_history.specs.Next.{IsLegal}
+use Rattle.bench_world.proofs.Going.{sound-again}
+use Rattle.bench_world.proofs.worlds.World.before.Goals as goal
+
+pub invariant_of-result : goal.invariant_of-result
+invariant_of-result c =
+    let legal : IsLegal c.args.script [] = record { each = tt; few = omega arith } in
+    (c.requires.creation, sound-again [] c.new.ensures.entries c.new.ensures.limit legal c.new-2.ensures.items c.requires.services)

@@ -1,5 +1,0 @@
-use Rattle.uvm_sequencer.proofs.Living.{ancestors_by_parents}
-use Rattle.uvm_sequencer.proofs.laws.ancestors_by_parents.Goals as goal
-
-pub returns : goal.returns
-returns c = ancestors_by_parents

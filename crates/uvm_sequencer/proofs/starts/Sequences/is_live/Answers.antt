@@ -1,7 +1,0 @@
-use Rattle.std.proofs.Common.{subst}
-use Rattle.uvm_sequencer.specs.Sequences.{IsSequences}
-use Rattle.uvm_sequencer.proofs.Steps.{are-sequences}
-use Rattle.uvm_sequencer.proofs.starts.Sequences.is_live.Goals as goal
-
-pub returns-clause-sequences : goal.returns-clause-sequences
-returns-clause-sequences c = subst IsSequences c.self.view_is (are-sequences c.self.inside.sequences.items _ c.self.invariant)

@@ -1,0 +1,4 @@
+pub mod Living
+pub mod Numbers
+pub mod Steps
+pub mod Unders

@@ -1,0 +1,296 @@
+//! The sequences that were started.
+
+ghost use Rattle.std.specs.Prelude.{◌≡◌, ◌+◌, ◌<◌, ◌≤◌, ◌∷◌, ◌++◌, [], length, None, Some, OnOk, OnErr, IfOk, IfSome, IsOk, IsSome, is_some, option_map, vec_len, vec_capacity};
+ghost use Rattle.std.specs.Option.{option_copied, option_and_then, option_to_list, ForSome};
+ghost use Rattle.uvm_sequences.specs.Sequences.{capacity_of, name_at, names_of, numbered, parent_of, step_at, step_after, with_step, stepped, finished, is_under, IsSequences};
+ghost use Rattle.uvm_sequences.specs.Kept.{place_in, start_of, starts_of, steps_of};
+
+use std::alloc::{AllocError, Global};
+use std::marker::Model;
+use uvm_glob::Name;
+use uvm_tree::NodeId;
+
+/// A sequence: its number, from 1, in the order in which sequences were started. `Sequences::start` gives these numbers; one
+/// of another list of sequences stands for the sequence of that number.
+#[derive(Clone, Copy, PartialEq, Eq, Hash)]
+pub struct SeqId {
+    number: u64,
+}
+
+impl Model for SeqId {
+    ghost use Rattle.std.specs.Prelude.{ℕ};
+
+    ghost Value = { ℕ };
+
+    ghost view = { λ id. id.number };
+
+    ghost inverse = { λ n. record { number = n } };
+}
+
+impl SeqId {
+    /// The number.
+    pub fn number(self) -> u64
+        ensures { result ≡ self }
+    {
+        self.number
+    }
+}
+
+/// Where a live sequence stands (the standard's `pre_start`, `body` and `post_start`).
+#[derive(Clone, Copy, PartialEq, Eq)]
+pub enum SeqStep {
+    /// Before its body.
+    PreStart,
+    /// In its body.
+    Body,
+    /// Behind its body.
+    PostStart,
+}
+
+impl SeqStep {
+    // The step after one, none after the last.
+    fn following(self) -> Option<SeqStep>
+        ensures { result ≡ step_after self }
+    {
+        match self {
+            SeqStep::PreStart => Some(SeqStep::Body),
+            SeqStep::Body => Some(SeqStep::PostStart),
+            SeqStep::PostStart => None,
+        }
+    }
+}
+
+// How a sequence was started, and the step at which it is while it lives.
+#[derive(Drop)]
+struct Sequence {
+    home: NodeId,
+    parent: Option<SeqId>,
+    name: Name,
+    priority: u16,
+    step: Option<SeqStep>,
+}
+
+/// The sequences that were started (IEEE 1800.2-2020, Clause 14): on which sequencer, by which sequence, with what name and
+/// priority, and at which step each of them is while it lives. A sequence that ended keeps its number, its parent and its
+/// children.
+///
+/// Contracts see how each was started and its step, the newest first, and beside them for how many more there is room. The
+/// time of a call does not grow with the sequences, but where `start` or `reserve` moves them to find room, and for `is_under` and
+/// `names`, which go up from parent to parent. None but `start`, `reserve` and `names` takes memory.
+#[derive(Drop)]
+pub struct Sequences {
+    // By their numbers.
+    sequences: Vec<Sequence>,
+}
+
+impl Model for Sequences {
+    ghost use Rattle.std.specs.Prelude.{◌-◌, vec_len, vec_capacity};
+    ghost use Rattle.uvm_sequences.specs.Sequences.{SequencesValue, AreStarted};
+    ghost use Rattle.uvm_sequences.specs.Kept.{starts_of, steps_of};
+
+    ghost Value = { SequencesValue };
+
+    ghost view = { λ s. record { started = starts_of s.sequences.items; steps = steps_of s.sequences.items; spare = vec_capacity s.sequences - vec_len s.sequences } };
+
+    ghost invariant = { λ s. AreStarted (starts_of s.sequences.items) };
+}
+
+impl Sequences {
+    /// No sequence. Takes no memory.
+    pub fn new(alloc: Global) -> Sequences
+        ensures started { result.started ≡ [] }
+        ensures steps { result.steps ≡ [] }
+    {
+        Sequences {
+            sequences: Vec::new(alloc),
+        }
+    }
+
+    /// Makes room for a sequence: the next `start` then takes no memory. Its error is want of memory, which changes no sequence,
+    /// and does not come where there is room. No room is given up.
+    pub fn reserve(&mut self) -> Result<(), AllocError>
+        ensures started { self.new.started ≡ self.old.started }
+        ensures steps { self.new.steps ≡ self.old.steps }
+        ensures spare { OnOk result (0 < self.new.spare) }
+        ensures room { 0 < self.old.spare → IsOk result }
+        ensures kept { self.old.spare ≤ self.new.spare }
+    {
+        self.sequences.reserve(1)
+    }
+
+    /// Starts a sequence on a sequencer, its home, with a priority of at least 1 (the standard's `start`): it stands before its
+    /// body. The parent, if one is given, was started here, and may have ended. Its error is want of memory, which starts
+    /// nothing, and does not come where there is room. No room is given up, also where it fails.
+    pub fn start(
+        &mut self,
+        home: NodeId,
+        parent: Option<SeqId>,
+        name: Name,
+        priority: u16,
+    ) -> Result<SeqId, AllocError>
+        requires parent { ForSome parent (λ above. IsSome (numbered self.old.started above)) }
+        requires priority { 0 < priority }
+        ensures id { IfOk result (λ id. id ≡ length self.old.started + 1) }
+        ensures started { OnOk result (self.new.started ≡ record { home = home; parent = parent; name = name; priority = priority } ∷ self.old.started) }
+        ensures steps { OnOk result (self.new.steps ≡ Some SeqStep.PreStart ∷ self.old.steps) }
+        ensures unchanged { OnErr result ((self.new.started ≡ self.old.started) × (self.new.steps ≡ self.old.steps)) }
+        ensures room { 0 < self.old.spare → IsOk result }
+        ensures capacity { capacity_of self.old ≤ capacity_of self.new }
+    {
+        self.sequences.push(Sequence {
+            home,
+            parent,
+            name,
+            priority,
+            step: Some(SeqStep::PreStart),
+        })?;
+        Ok(SeqId {
+            number: self.sequences.len() as u64,
+        })
+    }
+
+    /// Moves a live sequence to its next step, and answers that. In its last step, where `finish` follows, and where the sequence
+    /// does not live, nothing changes.
+    pub fn step(&mut self, id: SeqId) -> Option<SeqStep>
+        ensures value { result ≡ option_and_then step_after (step_at self.old.steps id) }
+        ensures after { self.new ≡ stepped id result self.old }
+    {
+        let step = self.step_of(id)?.following()?;
+        write_step(&mut self.sequences, id, Some(step));
+        Some(step)
+    }
+
+    /// Ends a sequence, if it lives.
+    pub fn finish(&mut self, id: SeqId)
+        ensures { self.new ≡ finished id self.old }
+    {
+        write_step(&mut self.sequences, id, None);
+    }
+
+    /// Whether a sequence was started and has not ended.
+    pub fn is_live(&self, id: SeqId) -> bool
+        ensures live { result ≡ is_some (step_at self.now.steps id) }
+        ensures sequences { IsSequences self.now }
+    {
+        let _ = &self.sequences;
+        self.step_of(id).is_some()
+    }
+
+    /// The step at which a live sequence is.
+    pub fn step_of(&self, id: SeqId) -> Option<SeqStep>
+        ensures { result ≡ step_at self.now.steps id }
+    {
+        self.sequence(id)?.step
+    }
+
+    /// The sequence that started a sequence, if one did. It has a smaller number, so that the way up from parent to parent ends.
+    pub fn parent(&self, id: SeqId) -> Option<SeqId>
+        ensures parent { result ≡ parent_of self.now.started id }
+        ensures older { IfSome result (λ parent. parent < id) }
+    {
+        let _ = &self.sequences;
+        self.sequence(id)?.parent
+    }
+
+    /// The sequencer on which a sequence was started.
+    pub fn home(&self, id: SeqId) -> Option<NodeId>
+        ensures { result ≡ option_map (λ start. start.home) (numbered self.now.started id) }
+    {
+        Some(self.sequence(id)?.home)
+    }
+
+    /// The name of a sequence. Sequences may have one name.
+    pub fn name(&self, id: SeqId) -> Option<&Name>
+        ensures { option_copied result ≡ name_at self.now.started id }
+    {
+        Some(&self.sequence(id)?.name)
+    }
+
+    /// The priority of a sequence, which is at least 1.
+    pub fn priority(&self, id: SeqId) -> Option<u16>
+        ensures priority { result ≡ option_map (λ start. start.priority) (numbered self.now.started id) }
+        ensures positive { IfSome result (λ priority. 0 < priority) }
+    {
+        let _ = &self.sequences;
+        Some(self.sequence(id)?.priority)
+    }
+
+    /// The names from the root of a sequence, which no sequence started, down to itself; none where it was not started. The error is
+    /// want of memory.
+    pub fn names(&self, alloc: Global, id: SeqId) -> Result<Vec<Name>, AllocError>
+        ensures { IfOk result (λ names. names.items ≡ names_of self.now.started id) }
+    {
+        let _ = &self.sequences;
+        let mut names = Vec::new(alloc);
+        let mut next = Some(id);
+        while let Some(at) = next {
+            push_some(&mut names, self.name(at))?;
+            next = self.parent(at);
+        }
+        names.reverse();
+        Ok(names)
+    }
+
+    /// Whether a sequence is another, or the other is its parent, the parent of that, and so on. Dead ones count as live ones.
+    pub fn is_under(&self, id: SeqId, above: SeqId) -> bool
+        ensures { result ≡ is_under self.now.started id above }
+    {
+        let _ = &self.sequences;
+        let mut at = id;
+        // A parent has a smaller number than its child.
+        while at.number() > above.number() {
+            match self.parent(at) {
+                Some(parent) => at = parent,
+                None => return false,
+            }
+        }
+        at == above
+    }
+
+    // The sequence of a number.
+    fn sequence(&self, id: SeqId) -> Option<&Sequence>
+        ensures start { option_map start_of (option_copied result) ≡ numbered self.now.started id }
+        ensures step { option_map (λ s. s.step) (option_copied result) ≡ numbered self.now.steps id }
+    {
+        match place_of(id) {
+            Some(place) => self.sequences.get(place),
+            None => None,
+        }
+    }
+}
+
+// Puts a name behind others, if there is one. The error is want of memory.
+fn push_some(names: &mut Vec<Name>, name: Option<&Name>) -> Result<(), AllocError>
+    ensures { OnOk result (names.new.items ≡ names.old.items ++ option_to_list (option_copied name.entry)) }
+{
+    if let Some(name) = name {
+        names.push(*name)?;
+    }
+    Ok(())
+}
+
+// Writes the step of a sequence, if it was started.
+fn write_step(sequences: &mut Vec<Sequence>, id: SeqId, step: Option<SeqStep>)
+    ensures steps { steps_of sequences.new.items ≡ with_step id step (steps_of sequences.old.items) }
+    ensures started { starts_of sequences.new.items ≡ starts_of sequences.old.items }
+    ensures length { vec_len sequences.new ≡ vec_len sequences.old }
+    ensures capacity { vec_capacity sequences.new ≡ vec_capacity sequences.old }
+{
+    let Some(place) = place_of(id) else {
+        return;
+    };
+    if place < sequences.len() {
+        let sequence = &mut sequences[place];
+        sequence.step = step;
+    }
+}
+
+// Where the sequence of a number stands.
+fn place_of(id: SeqId) -> Option<usize>
+    ensures { result ≡ place_in id }
+{
+    match id.number {
+        0 => None,
+        number => Some(number as usize - 1),
+    }
+}

@@ -1,0 +1,165 @@
+//! The object that a creation or a start needs, and room for it.
+
+ghost use Rattle.std.specs.Prelude.{◌≡◌, ℕ, List, OnOk, IfOk, IsSome, length};
+ghost use Rattle.uvm_object.specs.declared.entries.Outcome.TheVariants.{Made};
+ghost use Rattle.bench_script.specs.Factories.{IsFactoryOf};
+ghost use Rattle.bench_history.specs.History.{created_name, opening};
+ghost use Rattle.bench_history.specs.Laws.{IsCreation};
+ghost use Rattle.uvm_object.specs.Fatals.{fatal_report};
+ghost use Rattle.uvm_object.specs.declared.fatals.Fatal.TheVariants.{NoObject};
+ghost use Rattle.world_services.specs.Makings.{CanGrow, CanMake, outcome_made, who_made};
+ghost use Rattle.world_services.specs.Attempts.{TakesIn};
+ghost use Rattle.world_deeds.specs.Rooms.{GiveTheSame, HasRoom};
+
+use bench_history::Need;
+use bench_script::Script;
+use std::alloc::{AllocError, Global};
+use uvm_factory::Factory;
+use uvm_glob::Name;
+use uvm_object::{Act, Deed, Fatal, Log, LoggedOutcome, Who};
+use uvm_objection::laws as objections;
+use uvm_report::Report;
+use uvm_tree::{NodeId, NodeKind};
+use world_sequencer_acts::starts::begin;
+use world_services::nodes::add_child;
+use world_services::rooms::{reserve_component, reserve_sequence};
+use world_services::services::Services;
+
+/// A creation or a start that waits for its object: what it needs, the act, the sequencer of a sequence, room for the name of the
+/// type that is made, and the report of an object that is declined.
+#[derive(Drop)]
+pub struct Waiting {
+    pub need: Need,
+    pub deed: Deed,
+    pub home: Option<NodeId>,
+    pub name: Box<Name>,
+    pub declined: Report,
+}
+
+impl Waiting {
+    /// What waits, before its object is there. The error is want of memory.
+    pub fn new(
+        alloc: Global,
+        need: Need,
+        deed: Deed,
+        home: Option<NodeId>,
+    ) -> Result<Waiting, AllocError>
+        ensures { IfOk result (λ waiting. (waiting.need ≡ need) × (waiting.deed ≡ deed) × (waiting.declined ≡ fatal_report NoObject) × (waiting.home ≡ home)) }
+    {
+        let name = Box::new(alloc, placeholder())?;
+        let declined = Fatal::NoObject.report(alloc)?;
+        Ok(Waiting {
+            need,
+            deed,
+            home,
+            name,
+            declined,
+        })
+    }
+}
+
+// A name that is written over.
+#[tactic(auto, unfolding(uvm_glob::specs::Names::name_fault))]
+fn placeholder() -> Name {
+    let Ok(name) = Name::new(b"-") else {
+        unreachable!()
+    };
+    name
+}
+
+/// Makes room for the entry of a creation or a start: for a component under the speaker's node, for a sequence with its first call, and
+/// for a report of an id. The error is want of memory.
+pub fn make_room(log: &mut Log, services: &mut Services, id: &Name) -> Result<(), AllocError>
+    ensures entries { log.new.entries ≡ log.old.entries }
+    ensures limit { log.new.limit ≡ log.old.limit }
+    ensures same { GiveTheSame services.old services.new }
+    ensures room { OnOk result (HasRoom id.now log.new services.new) }
+{
+    reserve_component(services)?;
+    reserve_sequence(services)?;
+    services.reporting.reserve_id(id)?;
+    log.reserve()
+}
+
+/// Takes in the object that an act makes, in the room for it, a component of a type or a sequence on this sequencer: answers who it is, and
+/// the outcome, whose entry will stand at a place. Takes no memory.
+pub fn make(
+    services: &mut Services,
+    act: &Act,
+    home: Option<NodeId>,
+    room: Box<Name>,
+    type_name: Name,
+    place: usize,
+) -> (Who, LoggedOutcome)
+    requires { CanMake act.now home services.old }
+    ensures who { result.0 ≡ who_made services.old home }
+    ensures outcome { result.1 ≡ outcome_made services.old type_name home }
+    ensures kept { TakesIn act.now (outcome_made services.old type_name home) place services.old services.new }
+{
+    match home {
+        None => {
+            let node = grow(services, act);
+            (Who::Node(node), LoggedOutcome::made(room, type_name))
+        }
+        Some(home) => {
+            let id = begin(services, act, &home, place);
+            (Who::Sequence { id, home }, LoggedOutcome::started(id))
+        }
+    }
+}
+
+// The component that an act creates is added, in the room for it.
+fn grow(services: &mut Services, act: &Act) -> NodeId
+    requires { CanGrow act.now services.old }
+    ensures node { result ≡ length services.old.tree.nodes }
+    ensures kept { (type_name : List ℕ) (place : ℕ) → TakesIn act.now (Made type_name) place services.old services.new }
+{
+    objections::nodes_grow();
+    let parent = services.answer.speaker.node();
+    let name = created_name(act);
+    let Ok(node) = add_child(&mut services.tree, parent, name, NodeKind::Component) else {
+        unreachable!()
+    };
+    let Ok(()) = services.objection.add(node, parent) else {
+        unreachable!()
+    };
+    services.turns.make(&services.tree, node);
+    services.reporting.newest = None;
+    // Nothing passes and nothing is granted anywhere.
+    services.unsettled.clear();
+    services.contest.node = None;
+    node
+}
+
+// The name of what an act creates.
+fn created_name(act: &Act) -> Name
+    requires { IsCreation act.now }
+    ensures { result ≡ created_name act.now }
+{
+    match act {
+        Act::Create { name, .. } => *name,
+        _ => unreachable!(),
+    }
+}
+
+/// Answers the creation of the test of a script, by its factory.
+#[tactic(auto, unfolding(uvm_glob::specs::Names::name_fault))]
+pub fn opening(script: &Script, factory: &Factory) -> Act
+    requires test { IsSome script.now.test }
+    requires factory { IsFactoryOf script.now factory.now }
+    ensures { result ≡ opening script.now }
+{
+    let Some(test) = script.test() else {
+        unreachable!()
+    };
+    let Some(type_name) = factory.name_of(test) else {
+        unreachable!()
+    };
+    let Ok(name) = Name::new(b"uvm_test_top") else {
+        unreachable!()
+    };
+    Act::Create {
+        type_name: *type_name,
+        name,
+    }
+}

@@ -7,8 +7,8 @@ use crate::texts::joined;
 use bus_jobs::{Verdict, run_bench};
 use std::alloc::Global;
 
-// All types of the bench, and the test `bus_test`.
-const BUS: &str = r#"
+/// All types of the bench, and the test `bus_test`.
+pub(crate) const BUS: &str = r#"
 version = 1
 test = "bus_test"
 type = [

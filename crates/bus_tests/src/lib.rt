@@ -15,6 +15,8 @@ mod example;
 #[cfg(test)]
 mod files;
 #[cfg(test)]
+mod hostile;
+#[cfg(test)]
 mod memories;
 #[cfg(test)]
 mod objects;

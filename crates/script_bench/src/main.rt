@@ -4,6 +4,7 @@
 mod commands;
 mod program;
 
+use bus_jobs::Breakage;
 use std::io::BufWriter;
 use std::process::ExitCode;
 
@@ -11,6 +12,6 @@ fn main(rt: HostRuntime) -> ExitCode {
     let mut err = rt.stderr();
     ExitCode::from(match BufWriter::new(rt.alloc(), rt.stdout()) {
         Ok(mut out) => program::run(&rt, &mut out, &mut err),
-        Err(_) => program::BROKEN,
+        Err(_) => program::broken(Breakage::Memory, &mut err),
     })
 }

@@ -7,17 +7,17 @@ use clap::error::ErrorKind;
 use clap::{ArgMatches, Error};
 use script_jobs::{Verdict, run_bench};
 use std::alloc::Global;
-use std::env;
 use std::fs::File;
 use std::io::Write;
 use std::rt::{Env, Files};
+use std::{env, io};
 use uvm_glob::{Name, PathFault};
 
 /// The exit status where words or a file are refused.
 const REFUSED: u8 = 2;
 
-/// The exit status where something broke off.
-pub const BROKEN: u8 = 3;
+// The exit status where something broke off.
+const BROKEN: u8 = 3;
 
 /// Does what the words of the command line ask for, and answers the exit status: the greatest of those of the files (0 clean, 1 faulty, 2
 /// refused, 3 broken); 0 for help, or 3 where that could not be written; 2 for words that it does not take, and 3 for want of memory.
@@ -26,14 +26,18 @@ pub fn run<R: Env + Files + AllocGlobal, O: Write, E: Write>(
     out: &mut O,
     err: &mut E,
 ) -> u8 {
-    let Ok(words) = env::args(rt) else {
-        let _ = writeln!(err, "script_bench: the command line is not UTF-8");
-        return REFUSED;
-    };
-    match words.collect::<Vec<String>>(rt.alloc()) {
+    match words(rt) {
         Ok(words) => serve(rt, words.as_slice(), out, err),
-        Err(_) => broken(Breakage::Memory, err),
+        Err(error) if error.kind() == io::ErrorKind::OutOfMemory => broken(Breakage::Memory, err),
+        Err(_) => {
+            let _ = writeln!(err, "script_bench: the command line is not UTF-8");
+            REFUSED
+        }
     }
+}
+
+fn words<R: Env + AllocGlobal>(rt: &R) -> io::Result<Vec<String>> {
+    Ok(env::args(rt)?.collect(rt.alloc())?)
 }
 
 fn serve<R: Files + AllocGlobal, O: Write, E: Write>(
@@ -69,8 +73,8 @@ fn refuse<O: Write, E: Write>(error: &Error, out: &mut O, err: &mut E) -> u8 {
     }
 }
 
-// Tells what broke, of no file.
-fn broken<E: Write>(breakage: Breakage, err: &mut E) -> u8 {
+/// Tells what broke, of no file, and answers the exit status.
+pub fn broken<E: Write>(breakage: Breakage, err: &mut E) -> u8 {
     let message = breakage.message();
     let _ = writeln!(err, "script_bench: {message}");
     BROKEN

@@ -1,0 +1,115 @@
+//! The objects of a random bench.
+
+use crate::acts::{Theme, act_of};
+use crate::counts::Ticket;
+use crate::dice::Dice;
+use crate::habits::{Nature, habit};
+use std::alloc::{AllocError, Global};
+use uvm_object::{Act, Acts, Answers, Call};
+use uvm_phase::Phase;
+
+// So many objects of a bench are made before its components create no more by habit.
+const CROWD: u64 = 12;
+
+/// Answers each call with random acts, some that it may do and some that it may not.
+#[derive(Drop)]
+pub(crate) struct Wild {
+    /// Its ticket, which counts it.
+    pub(crate) ticket: Ticket,
+    dice: Dice,
+    nature: Nature,
+    // Of so many acts one is not by habit.
+    whims: u64,
+}
+
+impl Wild {
+    /// Makes an object with its ticket.
+    pub(crate) fn new(ticket: Ticket, nature: Nature, seed: u64) -> Wild {
+        let mut dice = Dice::new(seed.wrapping_add(ticket.number.wrapping_mul(7919)));
+        let whims = match nature {
+            Nature::Chain => 100,
+            _ => dice.pick(&[1, 8, 8], 8),
+        };
+        Wild {
+            ticket,
+            dice,
+            nature,
+            whims,
+        }
+    }
+
+    // How many acts answer a call.
+    fn act_count(&mut self, call: &Call) -> u64 {
+        if self.dice.one_in(250) {
+            return self.dice.below(2).wrapping_add(64);
+        }
+        if let Nature::Chain = self.nature {
+            return self.dice.below(2).wrapping_add(1);
+        }
+        match call {
+            Call::Phase(Phase::Build) if self.whims > 1 => self.dice.below(7).wrapping_add(6),
+            Call::Phase(Phase::Connect) if self.whims > 1 => self.dice.below(6).wrapping_add(3),
+            Call::Phase(Phase::Build | Phase::Connect | Phase::Run) => self.dice.below(9),
+            Call::Phase(_) => self.dice.below(3),
+            Call::NextItem { .. }
+            | Call::Grant
+            | Call::Held
+            | Call::PreStart
+            | Call::Body
+            | Call::PostStart => self.dice.below(3).wrapping_add(1),
+            _ => self.dice.below(5),
+        }
+    }
+
+    // Some acts that answer a call.
+    fn acts(&mut self, alloc: Global, call: &Call, count: u64) -> Result<Acts, AllocError> {
+        let mut acts = Acts::new(alloc);
+        for place in 0..count {
+            let act = self.act(alloc, call, place)?;
+            acts.push(act)?;
+        }
+        Ok(acts)
+    }
+
+    // What the answer to a call is about.
+    fn theme(&self, call: &Call, is_crowded: bool) -> Theme {
+        if let Nature::Sequence = self.nature {
+            return Theme::Sequencing;
+        }
+        match call {
+            Call::Phase(Phase::Build) if is_crowded => Theme::Adding,
+            Call::Phase(Phase::Build) => Theme::Building,
+            Call::Phase(Phase::Connect) => Theme::Connecting,
+            Call::Phase(Phase::Run) => Theme::Running,
+            Call::Phase(_) => Theme::Telling,
+            _ => Theme::Running,
+        }
+    }
+
+    // An act of an answer, mostly the one that is usual there.
+    fn act(&mut self, alloc: Global, call: &Call, place: u64) -> Result<Act, AllocError> {
+        let is_crowded = self.ticket.counts.made.get() > CROWD;
+        if !self.dice.one_in(self.whims) {
+            let dice = &mut self.dice;
+            if let Some(act) = habit(alloc, dice, self.nature, is_crowded, call, place) {
+                return Ok(act);
+            }
+        }
+        let theme = self.theme(call, is_crowded);
+        act_of(alloc, &mut self.dice, theme)
+    }
+}
+
+impl Answers for Wild {
+    fn answer(&mut self, alloc: Global, call: &Call) -> Result<Acts, AllocError> {
+        let count = self.act_count(call);
+        if count == 0 || !self.ticket.counts.take_answer() {
+            return Ok(Acts::new(alloc));
+        }
+        if self.dice.one_in(4000) {
+            self.ticket.counts.silenced.set(true);
+            return Err(AllocError);
+        }
+        self.acts(alloc, call, count)
+    }
+}

@@ -9,10 +9,10 @@ use Rattle.bench_history.specs.Next.{IsLegal, next_of}
 use Rattle.bench_history.specs.Laws.{AskedAreThere, IsSomething, SomethingBeforeOver}
 use Rattle.bench_core.specs.declared.cores.Turn as turn
 use Rattle.bench_core.specs.declared.faults.CoreFault.{CoreFault}
-use Rattle.bench_core.specs.Cores.{Standing, Nothing, Needed, Asked, CoreValue, Comes, HasRoom, IsTurn, IsRequest, IsNextTurn, AsksThere, turn_of}
+use Rattle.bench_core.specs.Cores.{Standing, Nothing, Needed, Asked, CoreValue, IsAskedNext, HasRoom, IsTurn, IsRequest, IsNextTurn, AsksThere, turn_of}
 
 -- who was asked is there
-pub told-there : AskedAreThere → (script : ScriptValue) (history : List Entry) (standing : Standing) (told : turn.Turn) → IsLegal script history → Comes standing (next_of script history) → turn_of standing ≡ Some told → AsksThere told history
+pub told-there : AskedAreThere → (script : ScriptValue) (history : List Entry) (standing : Standing) (told : turn.Turn) → IsLegal script history → IsAskedNext standing (next_of script history) → turn_of standing ≡ Some told → AsksThere told history
 told-there components script history Nothing told legal comes e = cc
 told-there components script history (Needed need) told legal comes e = let same : turn.TheVariants.Need ≡ told = cc in subst (λ t. AsksThere t history) same tt
 told-there components script history (Asked hearer call cause) told legal comes e =

@@ -63,10 +63,10 @@ abbrev pub failed_from : Health → CoreValue → CoreValue
 failed_from health core = record core { standing = Nothing; health = health }
 
 -- what was asked is what comes next
-abbrev pub Comes : Standing → next.Next → Type 0
-Comes Nothing comes = Unit {0}
-Comes (Needed need) comes = need_in comes ≡ Some need
-Comes (Asked hearer call cause) comes = comes ≡ next.Answer hearer call cause
+abbrev pub IsAskedNext : Standing → next.Next → Type 0
+IsAskedNext Nothing comes = Unit {0}
+IsAskedNext (Needed need) comes = need_in comes ≡ Some need
+IsAskedNext (Asked hearer call cause) comes = comes ≡ next.Answer hearer call cause
 
 -- something was asked
 abbrev pub AsksSomething : Standing → Type 0
@@ -77,7 +77,7 @@ AsksSomething standing = Unit {0}
 -- all sequences that have ended, and so has one that asks for something
 pub record IsCore (world : WorldValue) (question : Option Question) (health : Health) (leaving : List Who) : Type 0 where
   pub sound : is_sound health ≡ true → world.sound ≡ true
-  pub comes : Comes (standing_of world.waiting question) (next_of world.script world.history)
+  pub comes : IsAskedNext (standing_of world.waiting question) (next_of world.script world.history)
   pub one : IsSome world.waiting → question ≡ None
   pub room : AsksSomething (standing_of world.waiting question) → length world.history < log_limit world.script
   pub none : is_good health ≡ false → standing_of world.waiting question ≡ Nothing

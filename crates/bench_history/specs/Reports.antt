@@ -23,9 +23,9 @@ use Rattle.uvm_object.specs.declared.entries.Reason.{Reason}
 use Rattle.uvm_object.specs.declared.entries.Reason.TheVariants as reason
 use Rattle.uvm_object.specs.declared.entries.Entry.{Entry}
 use Rattle.uvm_object.specs.declared.entries.Entry.TheVariants.{Did, Note}
-use Rattle.bench_script.specs.declared.report_settings.VerbositySetting.{VerbositySetting}
-use Rattle.bench_script.specs.declared.report_settings.ActionSetting.{ActionSetting}
-use Rattle.bench_script.specs.declared.report_settings.SeverityChange.{SeverityChange}
+use Rattle.script_tables.specs.declared.report_settings.VerbositySetting.{VerbositySetting}
+use Rattle.script_tables.specs.declared.report_settings.ActionSetting.{ActionSetting}
+use Rattle.script_tables.specs.declared.report_settings.SeverityChange.{SeverityChange}
 use Rattle.bench_script.specs.Scripts.{ScriptValue}
 use Rattle.bench_history.specs.History.{now_of, nodes_of}
 use Rattle.bench_history.specs.Sequences.{sequences_of}

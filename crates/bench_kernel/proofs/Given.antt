@@ -11,7 +11,7 @@ use Rattle.bench_core.specs.Cores.{CoreValue}
 use Rattle.bench_kernel.specs.Kernels.{AreSeated, IsKernel, KernelValue, is_done}
 use Rattle.bench_kernel.specs.Orders.{IsFirstBack}
 use Rattle.bench_kernel.specs.Seating.{all_held}
-use Rattle.bench_kernel.specs.Seats.{IsTakenOut, Taken, held_in, paths_in}
+use Rattle.object_seats.specs.Seats.{IsTakenOut, Taken, held_in, paths_in}
 use Rattle.bench_kernel.proofs.Kept.{kept-given}
 use Rattle.bench_kernel.proofs.Seated.{seated-first, seated-out}
 use Rattle.bench_kernel.proofs.Sitting.{first-component, out-held}

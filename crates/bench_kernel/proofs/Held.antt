@@ -17,7 +17,7 @@ use Rattle.uvm_object.specs.declared.entries.Entry.{Entry}
 use Rattle.bench_script.specs.Scripts.{ScriptValue}
 use Rattle.bench_history.specs.History.{nodes_of}
 use Rattle.bench_history.specs.Laws.{NodesStay}
-use Rattle.bench_kernel.specs.Asked.{IsAsked}
+use Rattle.object_seats.specs.Asked.{IsAsked}
 use Rattle.bench_kernel.specs.Kernels.{AreAllHeld, AreHeld, WasMade, types_made}
 use Rattle.bench_kernel.proofs.Custody.{AreAllHeld-more}
 use Rattle.bench_kernel.proofs.Lists.{recursion-from_All}

@@ -30,10 +30,10 @@ use Rattle.bench_history.specs.Laws.{IsLiving, IsMachines, IsSomething, IsThere,
 use Rattle.bench_world.specs.Worlds.{made_who}
 use Rattle.bench_core.specs.Cores.{CoreValue, Nothing, Needed, core_after}
 use Rattle.bench_core.specs.declared.cores.Health.TheVariants.{Good}
-use Rattle.bench_kernel.specs.Asked.{IsAsked}
+use Rattle.object_seats.specs.Asked.{IsAsked}
 use Rattle.bench_kernel.specs.Laws.{LogLaws}
 use Rattle.bench_kernel.specs.Seating.{all_held}
-use Rattle.bench_kernel.specs.Seats.{Taken, paths_in}
+use Rattle.object_seats.specs.Seats.{Taken, paths_in}
 use Rattle.bench_kernel.specs.Kernels.{AreSeated, AreToldNext, HasEnded, IsKernel, KernelValue, WasMade, is_done, types_made, who_held}
 use Rattle.bench_kernel.specs.Steps.{IsSameLog}
 use Rattle.bench_kernel.proofs.Custody.{AreAllHeld-come, AreAllHeld-later, AreAllHeld-told, WasMade-same, has-come, told-less, told-next, types-same}

@@ -1,7 +1,5 @@
 pub mod Lists
 pub mod Numbers
-pub mod Places
-pub mod Sitters
 pub mod Rising
 pub mod Custody
 pub mod Lives

@@ -18,7 +18,7 @@ use Rattle.uvm_object.specs.declared.acts.Act.{Act}
 use Rattle.uvm_object.specs.declared.entries.Entry.{Entry}
 use Rattle.uvm_object.specs.declared.entries.Entry.TheVariants.{Heard}
 use Rattle.uvm_object.specs.Objects.{View, Says, SameSays, Exchange, IsHonest, IsHonestNow, exchanged_in, life_of, same_who}
-use Rattle.bench_kernel.specs.Asked.{IsAsked}
+use Rattle.object_seats.specs.Asked.{IsAsked}
 use Rattle.bench_kernel.specs.Kernels.{LiveHonestly}
 use Rattle.bench_kernel.proofs.Lists.{All-from_recursion, All-unmap}
 use Rattle.bench_kernel.proofs.Numbers.{eq-flips, eq-self}

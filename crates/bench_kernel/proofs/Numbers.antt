@@ -10,6 +10,3 @@ eq-self n = grind (arith, nat_tests)
 
 pub eq-apart : (m n : ℕ) → m ≢ n → nat_eq m n ≡ false
 eq-apart m n apart = grind (arith, nat_tests)
-
-pub apart-eq : (m n : ℕ) → nat_eq m n ≡ false → m ≢ n
-apart-eq m n test same = grind (arith, nat_tests)

@@ -6,7 +6,7 @@ use Rattle.std.specs.Prelude.{All}
 use Rattle.std.specs.Map.{keys_of}
 use Rattle.uvm_object.specs.declared.acts.Who.{Who}
 use Rattle.uvm_object.specs.declared.acts.Who.TheVariants.{Node, Sequence}
-use Rattle.bench_kernel.specs.SequenceSeats.{AreRisingWithin, IsWithout}
+use Rattle.object_seats.specs.SequenceSeats.{AreRisingWithin, IsWithout}
 
 -- a sequence with a number over the one and no greater than the other
 pub record IsBetween (low high : ℕ) (who : Who) : Type 0 where

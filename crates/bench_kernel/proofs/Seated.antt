@@ -25,8 +25,8 @@ use Rattle.bench_world.specs.Worlds.{made_who}
 use Rattle.bench_kernel.specs.Laws.{LogLaws}
 use Rattle.bench_kernel.specs.Kernels.{AreSeated}
 use Rattle.bench_kernel.specs.Seating.{IsFree, IsSeated}
-use Rattle.bench_kernel.specs.Seats.{IsTakenOut, Taken, held_in, paths_in}
-use Rattle.bench_kernel.specs.SequenceSeats.{AreRisingWithin, IsWithout, SequenceSeatsValue}
+use Rattle.object_seats.specs.Seats.{IsTakenOut, Taken, held_in, paths_in}
+use Rattle.object_seats.specs.SequenceSeats.{AreRisingWithin, IsWithout, SequenceSeatsValue}
 use Rattle.bench_kernel.proofs.Held.{Sits, placed-later}
 use Rattle.bench_kernel.proofs.Lists.{All-unmap}
 use Rattle.bench_kernel.proofs.Rising.{rising-push, rising-rest, rising-without}

@@ -15,12 +15,12 @@ use Rattle.uvm_object.specs.declared.acts.Who.TheVariants.{Node, Sequence}
 use Rattle.uvm_object.specs.declared.acts.Call.{Call}
 use Rattle.uvm_object.specs.declared.acts.Act.{Act}
 use Rattle.uvm_object.specs.declared.entries.Entry.{Entry}
-use Rattle.bench_kernel.specs.Asked.{IsAsked}
+use Rattle.object_seats.specs.Asked.{IsAsked}
 use Rattle.bench_kernel.specs.Kernels.{HasEnded}
 use Rattle.bench_kernel.specs.Orders.{GoesBefore, IsFirstBack}
 use Rattle.bench_kernel.specs.Seating.{IsSeated, all_held}
-use Rattle.bench_kernel.specs.Seats.{IsTakenOut, Taken, held_in, paths_in}
-use Rattle.bench_kernel.specs.SequenceSeats.{AreRisingWithin, SequenceSeatsValue}
+use Rattle.object_seats.specs.Seats.{IsTakenOut, Taken, held_in, paths_in}
+use Rattle.object_seats.specs.SequenceSeats.{AreRisingWithin, SequenceSeatsValue}
 use Rattle.bench_kernel.proofs.Lists.{All-unmap, Contains-map}
 use Rattle.bench_kernel.proofs.Rising.{IsBetween, all-between}
 

@@ -22,9 +22,9 @@ use Rattle.bench_core.specs.declared.cores.Health.{Health}
 use Rattle.bench_core.specs.declared.cores.Health.TheVariants.{Good}
 use Rattle.bench_core.specs.declared.faults.CoreFault.{CoreFault}
 use Rattle.bench_core.specs.declared.faults.CoreFault.TheVariants.{Memory, LogFull, Failed, NoTest}
-use Rattle.bench_core.specs.Cores.{CoreValue, IsTurn, IsNextTurn, IsRefusedTurn, IsToldTurn, Comes, core_after, answer_in, failed_from, need_of}
+use Rattle.bench_core.specs.Cores.{CoreValue, IsTurn, IsNextTurn, IsRefusedTurn, IsToldTurn, IsAskedNext, core_after, answer_in, failed_from, need_of}
 use Rattle.bench_kernel.specs.Kernels.{KernelValue}
-use Rattle.bench_kernel.specs.Asked.{IsAsked}
+use Rattle.object_seats.specs.Asked.{IsAsked}
 use Rattle.bench_kernel.specs.Steps.{IsBack, IsReady, IsWaiting, IsMoved, IsRefusedStep, IsSameLog, WasGiven, unanswered_from}
 use Rattle.bench_kernel.proofs.Lives.{same_who-self}
 
@@ -124,12 +124,12 @@ need-by (next.Grant sequencer drawn chosen) old new is t = absurd (let e = t.0 i
 need-by (next.Need need made performer act) old new is t = record { need = need; is = t.1; comes = rw is refl }
 need-by next.Nothing old new is t = absurd (let e = t.0 in cc)
 
-need-at : (standing : Standing) (old new : CoreValue) → old.standing ≡ standing → Comes standing (next_of old.script old.history) → IsNextTurn standing (Ok turn.TheVariants.Need) old new → HasNeeded old new
+need-at : (standing : Standing) (old new : CoreValue) → old.standing ≡ standing → IsAskedNext standing (next_of old.script old.history) → IsNextTurn standing (Ok turn.TheVariants.Need) old new → HasNeeded old new
 need-at Nothing old new is comes t = need-by (next_of old.script old.history) old new refl t.1
 need-at (Needed need) old new is comes t = record { need = need; is = t.1 ∙ ap (λ s. record old { standing = s }) is; comes = comes }
 need-at (Asked performer call cause) old new is comes t = absurd (let e = t.0 in cc)
 
-pub need-turn : (old new : CoreValue) → Comes old.standing (next_of old.script old.history) → IsNextTurn old.standing (Ok turn.TheVariants.Need) old new → HasNeeded old new
+pub need-turn : (old new : CoreValue) → IsAskedNext old.standing (next_of old.script old.history) → IsNextTurn old.standing (Ok turn.TheVariants.Need) old new → HasNeeded old new
 need-turn old new comes t = need-at old.standing old new refl comes t
 
 -- the run is over: nothing changes
@@ -171,7 +171,7 @@ ask-by (next.Grant sequencer drawn chosen) performer call old new comes none t =
 ask-by (next.Need need made other act) performer call old new comes none t = absurd (let e = t.0 in cc)
 ask-by next.Nothing performer call old new comes none t = absurd (let e = t.0 in cc)
 
-ask-at : (standing : Standing) (performer : Who) (call : Call) (old new : CoreValue) → old.standing ≡ standing → Comes standing (next_of old.script old.history)
+ask-at : (standing : Standing) (performer : Who) (call : Call) (old new : CoreValue) → old.standing ≡ standing → IsAskedNext standing (next_of old.script old.history)
     → IsNextTurn standing (Ok (turn.TheVariants.Ask performer call)) old new → HasAsked performer call old new
 ask-at Nothing performer call old new is comes t = ask-by (next_of old.script old.history) performer call old new refl is t.1
 ask-at (Needed need) performer call old new is comes t = absurd (let e = t.0 in cc)
@@ -187,7 +187,7 @@ ask-at (Asked other told cause) performer call old new is comes t =
       nothing_needed = rw is refl;
     }
 
-pub ask-turn : (performer : Who) (call : Call) (old new : CoreValue) → Comes old.standing (next_of old.script old.history)
+pub ask-turn : (performer : Who) (call : Call) (old new : CoreValue) → IsAskedNext old.standing (next_of old.script old.history)
     → IsNextTurn old.standing (Ok (turn.TheVariants.Ask performer call)) old new → HasAsked performer call old new
 ask-turn performer call old new comes t = ask-at old.standing performer call old new refl comes t
 

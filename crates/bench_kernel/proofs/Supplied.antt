@@ -19,12 +19,12 @@ use Rattle.bench_history.specs.History.{nodes_of}
 use Rattle.bench_history.specs.Sequences.{begun_of}
 use Rattle.bench_history.specs.declared.needs.Need.{Need}
 use Rattle.bench_world.specs.Worlds.{made_who}
-use Rattle.bench_core.specs.Cores.{Comes, CoreValue, Standing, Nothing, Needed, Asked, core_after, need_of}
+use Rattle.bench_core.specs.Cores.{IsAskedNext, CoreValue, Standing, Nothing, Needed, Asked, core_after, need_of}
 use Rattle.bench_kernel.specs.Kernels.{AreSeated, KernelValue, IsKernel, open_need, wanted_in}
 use Rattle.bench_kernel.specs.Laws.{LogLaws}
 use Rattle.bench_kernel.specs.Seating.{IsFree, IsSeated}
-use Rattle.bench_kernel.specs.Seats.{Taken, paths_in}
-use Rattle.bench_kernel.specs.SequenceSeats.{SequenceSeatsValue}
+use Rattle.object_seats.specs.Seats.{Taken, paths_in}
+use Rattle.object_seats.specs.SequenceSeats.{SequenceSeatsValue}
 use Rattle.bench_kernel.specs.Steps.{IsSupplied}
 use Rattle.bench_kernel.proofs.Kept.{kept-declined, kept-supplied}
 use Rattle.bench_kernel.proofs.Seated.{free-for, seated-come, seated-later}
@@ -38,7 +38,7 @@ pub going-where-needed : {O : Type 0} (kernel : KernelValue O) → IsSome (open_
 going-where-needed kernel some = going-by kernel.failed (need_of kernel.core.standing) some
 
 -- what stands is what is needed next
-need-comes : (standing : Standing) (need : Need) (comes : next.Next) → need_of standing ≡ Some need → Comes standing comes → coming.need_in comes ≡ Some need
+need-comes : (standing : Standing) (need : Need) (comes : next.Next) → need_of standing ≡ Some need → IsAskedNext standing comes → coming.need_in comes ≡ Some need
 need-comes Nothing need comes e c = cc
 need-comes (Needed other) need comes e c = c ∙ e
 need-comes (Asked performer call cause) need comes e c = cc
@@ -64,7 +64,7 @@ needed-by (next.Grant sequencer drawn chosen) script history need is wants = cc
 needed-by next.Nothing script history need is wants = cc
 
 -- a kernel that needs an object does so for an act
-pub needed-now : {O : Type 0} (kernel : KernelValue O) (need : Need) → need_of kernel.core.standing ≡ Some need → Comes kernel.core.standing (next_of kernel.core.script kernel.core.history) → IsNeeded kernel.core.script kernel.core.history need
+pub needed-now : {O : Type 0} (kernel : KernelValue O) (need : Need) → need_of kernel.core.standing ≡ Some need → IsAskedNext kernel.core.standing (next_of kernel.core.script kernel.core.history) → IsNeeded kernel.core.script kernel.core.history need
 needed-now kernel need standing comes =
     needed-by (next_of kernel.core.script kernel.core.history) kernel.core.script kernel.core.history need refl (need-comes kernel.core.standing need (next_of kernel.core.script kernel.core.history) standing comes)
 

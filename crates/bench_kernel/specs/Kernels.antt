@@ -17,10 +17,10 @@ use Rattle.bench_history.specs.History.{nodes_of, components_of, is_over}
 use Rattle.bench_history.specs.Sequences.{all_begun, begun_of, sequences_of, start_by}
 use Rattle.bench_history.specs.Laws.{AreRising, IsLiving}
 use Rattle.bench_history.specs.Next.{EachIsNext, need_in, next_of}
-use Rattle.bench_core.specs.Cores.{Comes, CoreValue, need_of}
+use Rattle.bench_core.specs.Cores.{IsAskedNext, CoreValue, need_of}
 use Rattle.bench_history.specs.declared.needs.Need.{Need}
 use Rattle.bench_core.specs.declared.cores.Health.TheVariants.{Good}
-use Rattle.bench_kernel.specs.SequenceSeats.{AreRisingWithin}
+use Rattle.object_seats.specs.SequenceSeats.{AreRisingWithin}
 
 -- the machine, who is held with which object, in no order, whether the kernel has failed, and whose object gave no answer, if one did not
 pub record KernelValue (O : Type 0) : Type 0 where
@@ -116,6 +116,6 @@ pub record IsKernel {O : Type 0} (view : O → View) (name : O → List ℕ) (sa
   pub honest : AreHonest view says kernel
   pub custody : AreHeld name (is_done kernel) kernel.core.script kernel.core.history kernel.core.leaving kernel.held
   pub good : kernel.failed ≡ false → kernel.core.health ≡ Good
-  pub comes : kernel.failed ≡ false → Comes kernel.core.standing (next_of kernel.core.script kernel.core.history)
+  pub comes : kernel.failed ≡ false → IsAskedNext kernel.core.standing (next_of kernel.core.script kernel.core.history)
   pub told : kernel.failed ≡ false → AreToldNext kernel.core.history kernel.core.leaving
   pub known : kernel.failed ≡ false → kernel.unknown ≡ None

@@ -1,10 +1,5 @@
 pub mod Laws
-pub mod Seats
-pub mod Places
-pub mod SequenceSeats
-pub mod Numbered
 pub mod Seating
-pub mod Asked
 pub mod Kernels
 pub mod Orders
 pub mod Steps

@@ -4,8 +4,8 @@ use Rattle.std.specs.List.Sorted.{IsPermutation}
 use Rattle.std.specs.Map.{keys_of}
 use Rattle.uvm_object.specs.declared.acts.Who.{Who}
 use Rattle.uvm_object.specs.declared.acts.Who.TheVariants.{Node, Sequence}
-use Rattle.bench_kernel.specs.Seats.{Taken, held_in}
-use Rattle.bench_kernel.specs.SequenceSeats.{SequenceSeatsValue}
+use Rattle.object_seats.specs.Seats.{Taken, held_in}
+use Rattle.object_seats.specs.SequenceSeats.{SequenceSeatsValue}
 
 module _ {O : Type 0} where
   -- who is held, each with the object: the components, in no order, and the sequences by rising number

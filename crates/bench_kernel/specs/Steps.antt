@@ -25,7 +25,7 @@ use Rattle.bench_kernel.specs.declared.kernels.Step.{Step}
 use Rattle.bench_kernel.specs.declared.kernels.Step.TheVariants.{Need, Moved, Back, Over}
 use Rattle.bench_kernel.specs.declared.kernels.Misfit.{Misfit}
 use Rattle.bench_kernel.specs.declared.kernels.Misfit.TheVariants as misfit
-use Rattle.bench_kernel.specs.Asked.{IsAsked}
+use Rattle.object_seats.specs.Asked.{IsAsked}
 use Rattle.bench_kernel.specs.Kernels.{KernelValue, open_need, wanted_in}
 
 -- what is left of the machine where memory is refused: it waits on for an object that gave no answer, and has failed where

@@ -17,10 +17,9 @@ ghost use Rattle.bench_kernel.specs.Steps.{IsMisfit, IsStep, IsSupplied, drawn_i
 
 use crate::laws;
 use crate::seating::{hear, reserve, seat};
-use crate::seats::Seats;
-use crate::sequence_seats::SequenceSeats;
 use bench_core::{Core, CoreFault, Need, Turn};
 use bench_script::Script;
+use object_seats::{Seats, SequenceSeats};
 use rand_core::Rng;
 use std::alloc::Global;
 use std::marker::Model;
@@ -76,7 +75,7 @@ pub struct Kernel<O: UvmObject> {
 }
 
 impl<O: UvmObject> Model for Kernel<O> {
-    ghost use Rattle.bench_kernel.specs.Seats.{paths_in};
+    ghost use Rattle.object_seats.specs.Seats.{paths_in};
     ghost use Rattle.bench_kernel.specs.Seating.{all_held};
     ghost use Rattle.bench_kernel.specs.Kernels.{KernelValue, IsKernel, AreSeated};
 

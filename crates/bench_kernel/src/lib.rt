@@ -4,7 +4,5 @@
 mod kernels;
 pub mod laws;
 mod seating;
-mod seats;
-mod sequence_seats;
 
 pub use kernels::{Kernel, Misfit, Step, Unfit};

@@ -3,13 +3,12 @@
 ghost use Rattle.std.specs.Prelude.{◌≡◌, ◌<◌, Contains, OnOk};
 ghost use Rattle.std.specs.List.Sorted.{IsPermutation};
 ghost use Rattle.std.specs.Map.{keys_of};
-ghost use Rattle.bench_kernel.specs.Asked.{IsAsked};
+ghost use Rattle.object_seats.specs.Asked.{IsAsked};
 ghost use Rattle.bench_kernel.specs.Seating.{IsFree, IsSeated, all_held};
-ghost use Rattle.bench_kernel.specs.Seats.{paths_in};
-ghost use Rattle.bench_kernel.specs.SequenceSeats.{AreRisingWithin};
+ghost use Rattle.object_seats.specs.Seats.{paths_in};
+ghost use Rattle.object_seats.specs.SequenceSeats.{AreRisingWithin};
 
-use crate::seats::Seats;
-use crate::sequence_seats::SequenceSeats;
+use object_seats::{Seats, SequenceSeats};
 use std::alloc::{AllocError, Global};
 use uvm_glob::Path;
 use uvm_object::{Acts, Call, UvmObject, Who};

@@ -14,8 +14,8 @@ use Rattle.script_values.specs.Values.{integer_in, number_in, name_in}
 use Rattle.bench_script.specs.Limits.{most_time, most_quit_limit, most_script_bytes}
 use Rattle.script_values.specs.Keys.{only_keys, required, optional, some_of}
 use Rattle.bench_script.specs.Scripts.{ScriptValue}
-use Rattle.bench_script.specs.Tables.{types_in, overrides_in, settings_in, probes_in}
-use Rattle.bench_script.specs.ReportTables.{verbosities_in, actions_in, severities_in}
+use Rattle.script_tables.specs.Tables.{types_in, overrides_in, settings_in, probes_in}
+use Rattle.script_tables.specs.ReportTables.{verbosities_in, actions_in, severities_in}
 
 -- the version is 1
 abbrev pub version_one : ℤ → Result (Unit {0}) ScriptFault

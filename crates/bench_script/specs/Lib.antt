@@ -1,10 +1,8 @@
 pub mod Documents
 pub mod Factories
 pub mod Limits
-pub mod ReportTables
 pub mod Scripts
 pub mod Sound
-pub mod Tables
 pub use Rattle.uvm_config.specs.Answers
 pub use Rattle.uvm_factory.specs.Faults
 pub use Rattle.uvm_factory.specs.Overrides

@@ -12,7 +12,3 @@ most_quit_limit = 65535
 -- the most bytes of a script
 abbrev pub most_script_bytes : ℕ
 most_script_bytes = 1048576
-
--- the greatest level of verbosity
-abbrev pub most_level : ℕ
-most_level = 10000

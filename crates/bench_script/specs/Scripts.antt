@@ -2,11 +2,11 @@
 use Rattle.std.specs.Prelude.{ℕ, List, Option}
 use Rattle.uvm_factory.specs.declared.overrides.Override.{Override}
 use Rattle.uvm_factory.specs.Faults.{Types}
-use Rattle.bench_script.specs.declared.scripts.Probe.{Probe}
-use Rattle.bench_script.specs.declared.scripts.Setting.{Setting}
-use Rattle.bench_script.specs.declared.report_settings.VerbositySetting.{VerbositySetting}
-use Rattle.bench_script.specs.declared.report_settings.ActionSetting.{ActionSetting}
-use Rattle.bench_script.specs.declared.report_settings.SeverityChange.{SeverityChange}
+use Rattle.script_tables.specs.declared.rows.Probe.{Probe}
+use Rattle.script_tables.specs.declared.rows.Setting.{Setting}
+use Rattle.script_tables.specs.declared.report_settings.VerbositySetting.{VerbositySetting}
+use Rattle.script_tables.specs.declared.report_settings.ActionSetting.{ActionSetting}
+use Rattle.script_tables.specs.declared.report_settings.SeverityChange.{SeverityChange}
 
 -- the test, a type's place, where there is one; the limits of a run; the types in order, what replaces them, what is set, also for reports, and the questions
 -- to the factory

@@ -1,13 +1,12 @@
 //! Copies of a script, and a script with another test.
 
 ghost use Rattle.std.specs.Prelude.{◌≡◌, IfOk, IfErr};
-ghost use Rattle.uvm_factory.specs.Faults.{type_named};
 ghost use Rattle.script_values.specs.Reading.{IsFaultOf};
 ghost use Rattle.bench_script.specs.Documents.{test_among};
 ghost use Rattle.bench_script.specs.Sound.{IsComponentAt};
 
-use crate::report_settings::{ActionSetting, SeverityChange, VerbositySetting};
-use crate::scripts::{Probe, Script, Setting};
+use crate::scripts::Script;
+use script_tables::{ActionSetting, Probe, Setting, SeverityChange, VerbositySetting, type_among};
 use script_values::ScriptFault;
 use std::alloc::{AllocError, Global};
 use uvm_factory::{Kind, Override, TypeId};
@@ -41,11 +40,11 @@ impl Script {
             × (script ≡ record self.now { test = script.test })) }
         ensures err { IfErr result (IsFaultOf (test_among self.now.types (Some name.now))) }
     {
-        let Some(place) = place_named(self.types(), name) else {
+        let Some(test) = type_among(self.types(), name) else {
             return Err(ScriptFault::UnknownType);
         };
-        match self.types()[place].1 {
-            Kind::Component => Ok(self.with_component(TypeId::new(place as u16))?),
+        match self.types()[test.place()].1 {
+            Kind::Component => Ok(self.with_component(test)?),
             Kind::Sequence => Err(ScriptFault::WrongKind),
         }
     }
@@ -59,16 +58,6 @@ impl Script {
         script.test = Some(test);
         Ok(script)
     }
-}
-
-// The place of the type of a name, if there is one.
-fn place_named(types: &[(Name, Kind)], name: &Name) -> Option<usize>
-    ensures { result ≡ type_named types.now name.now }
-{
-    types
-        .iter()
-        .map(|row| row.0)
-        .position(|known| *name == known)
 }
 
 fn copied_overrides(alloc: Global, overrides: &[Override]) -> Result<Vec<Override>, AllocError>

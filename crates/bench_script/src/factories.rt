@@ -5,7 +5,7 @@ ghost use Rattle.uvm_glob.specs.Paths.{path_text};
 ghost use Rattle.uvm_factory.specs.Faults.{refusal};
 ghost use Rattle.uvm_factory.specs.Steps.{after_override};
 ghost use Rattle.uvm_factory.specs.Observed.{types_of, step_at};
-ghost use Rattle.bench_script.specs.Sound.{CanRegister, CanOverride};
+ghost use Rattle.script_tables.specs.Rows.{CanRegister, CanOverride};
 ghost use Rattle.bench_script.specs.Factories.{IsFactoryOf};
 
 use crate::scripts::Script;

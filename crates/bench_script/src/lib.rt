@@ -5,13 +5,9 @@ mod copying;
 mod factories;
 mod heads;
 mod reading;
-mod report_settings;
-mod report_tables;
 mod scripts;
-mod tables;
-mod type_tables;
 
 pub use reading::{read, read_document, read_table};
-pub use report_settings::{ActionSetting, SeverityChange, VerbositySetting};
+pub use script_tables::{ActionSetting, Probe, Setting, SeverityChange, VerbositySetting};
 pub use script_values::ScriptFault;
-pub use scripts::{Probe, Script, Setting};
+pub use scripts::Script;

@@ -8,10 +8,11 @@ ghost use Rattle.bench_script.specs.Sound.{IsComponentAt};
 ghost use Rattle.bench_script.specs.Documents.{IsReadable, script_beside, script_of_bytes, test_among, tree_in, tree_of_bytes};
 
 use crate::heads::read_head;
-use crate::report_tables::{read_actions, read_severities, read_verbosities};
 use crate::scripts::Script;
-use crate::tables::{read_overrides, read_probes, read_settings, read_types};
-use crate::type_tables::TypeTable;
+use script_tables::{
+    TypeTable, read_actions, read_overrides, read_probes, read_settings, read_severities,
+    read_types, read_verbosities,
+};
 use script_values::ScriptFault;
 use std::alloc::Global;
 use std::str;

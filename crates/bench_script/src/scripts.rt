@@ -3,58 +3,13 @@
 ghost use Rattle.std.specs.Prelude.{◌≡◌, ◌≤◌, [], All, IfOk, length};
 ghost use Rattle.uvm_config.specs.Answers.{most_settings};
 ghost use Rattle.bench_script.specs.Limits.{most_time};
-ghost use Rattle.bench_script.specs.Sound.{IsComponentAt, CanRegister, CanOverride, CanProbe, HasLevelInRange};
+ghost use Rattle.script_tables.specs.Rows.{CanRegister, CanOverride, CanProbe, HasLevelInRange};
+ghost use Rattle.bench_script.specs.Sound.{IsComponentAt};
 
-use crate::report_settings::{ActionSetting, SeverityChange, VerbositySetting};
-use std::alloc::AllocError;
+use script_tables::{ActionSetting, Probe, Setting, SeverityChange, VerbositySetting};
 use std::marker::Model;
 use uvm_factory::{Kind, Override, TypeId};
-use uvm_glob::{Glob, Name, Path};
-
-/// A question to the factory: which type is made for a type at a path.
-#[derive(Drop)]
-pub struct Probe {
-    /// The type that is asked for, one of the script's.
-    pub type_id: TypeId,
-    /// The path at which an object of it would stand.
-    pub path: Path,
-}
-
-impl Probe {
-    // An equal probe.
-    pub(crate) fn copy(&self) -> Result<Probe, AllocError>
-        ensures { IfOk result (λ probe. probe ≡ self.now) }
-    {
-        Ok(Probe {
-            type_id: self.type_id,
-            path: self.path.copy()?,
-        })
-    }
-}
-
-/// A setting of the configuration: the value of a field at the paths that the glob matches (IEEE 1800.2-2020, Annex C).
-#[derive(Drop)]
-pub struct Setting {
-    /// The paths at which it holds.
-    pub scope: Glob,
-    /// The field that is set.
-    pub field: Name,
-    /// The value that the field has there.
-    pub value: i64,
-}
-
-impl Setting {
-    // An equal setting.
-    pub(crate) fn copy(&self) -> Result<Setting, AllocError>
-        ensures { IfOk result (λ setting. setting ≡ self.now) }
-    {
-        Ok(Setting {
-            scope: self.scope.copy()?,
-            field: self.field,
-            value: self.value,
-        })
-    }
-}
+use uvm_glob::Name;
 
 /// A script. Contracts see what it says; a type is its place among the types of the script, from 0.
 #[derive(Drop)]

@@ -15,6 +15,7 @@ use std::alloc::{AllocError, Global};
 use toml::Table;
 use uvm_glob::Name;
 use uvm_object::UvmObject;
+use watched_runs::end;
 
 /// A kernel that has not begun, and what is looked at in it.
 #[derive(Clone, Copy)]
@@ -133,13 +134,6 @@ fn kernel_shows<O: UvmObject, F: Fn(&Name) -> Result<Option<O>, AllocError>>(
     }
 }
 
-// Abandons a kernel, gives back each object that it holds, and ends it.
-fn end<O: UvmObject>(mut kernel: Kernel<O>) {
-    kernel.abandon();
-    while let Some((_, _)) = kernel.give_back() {}
-    kernel.finish();
-}
-
 fn is_right<O: UvmObject, F: Fn(&Name) -> Result<Option<O>, AllocError>>(
     alloc: Global,
     kernel: &mut Kernel<O>,
@@ -183,14 +177,15 @@ pub(crate) fn make_mute(type_name: &Name) -> Result<Option<Mute>, AllocError> {
 pub(crate) fn make_spinner(type_name: &Name) -> Result<Option<Spinner>, AllocError> {
     Ok(Some(Spinner {
         type_name: *type_name,
+        waits: 1,
     }))
 }
 
-/// Whether a scene is as it should be, over boxes of objects that wait again and again.
-pub(crate) fn shows_in_boxes(alloc: Global, file: &[u8], look: Look) -> bool {
+/// Whether a scene is as it should be, over boxes of objects that wait so many times in run, and then again and again.
+pub(crate) fn shows_in_boxes(alloc: Global, file: &[u8], waits: usize, look: Look) -> bool {
     let make = |type_name: &Name| -> Result<Option<Box<dyn UvmObject>>, AllocError> {
         let type_name = *type_name;
-        match Box::new(alloc, Spinner { type_name }) {
+        match Box::new(alloc, Spinner { type_name, waits }) {
             Ok(object) => Ok(Some(object)),
             Err(_) => Err(AllocError),
         }

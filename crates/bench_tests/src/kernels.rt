@@ -273,7 +273,7 @@ live 0
 
 #[test]
 fn boxed_spinner_comes_back_after_a_full_log(rt: HostRuntime) {
-    assert!(rt; shows_in_boxes(rt.alloc(), IDLE, Look::Break(SPUN)));
+    assert!(rt; shows_in_boxes(rt.alloc(), IDLE, 1, Look::Break(SPUN)));
 }
 
 #[test]
@@ -285,6 +285,37 @@ const SPUN: &str = "log full
 1000000 entries
 did uvm_test_top wait 0 1: done
 failed
+live 1
+uvm_test_top
+none
+live 0
+";
+
+#[test]
+fn boxed_object_of_too_many_acts_comes_back(rt: HostRuntime) {
+    let look = Look::Run(NEVER, NEVER, TOO_MANY_ACTS);
+    assert!(rt; shows_in_boxes(rt.alloc(), IDLE, 65, look));
+}
+
+const TOO_MANY_ACTS: &str = "did uvm_top create idle uvm_test_top: made idle
+begin build
+heard uvm_test_top build: 0
+end build
+begin connect
+heard uvm_test_top connect: 0
+end connect
+begin end_of_elaboration
+heard uvm_test_top end_of_elaboration: 0
+end end_of_elaboration
+begin start_of_simulation
+heard uvm_test_top start_of_simulation: 0
+end start_of_simulation
+begin run
+heard uvm_test_top run: 65
+note ACTLIM uvm_test_top
+UVM_FATAL @ 0: uvm_test_top [ACTLIM] more than 64 acts
+over exit
+over
 live 1
 uvm_test_top
 none

@@ -53,10 +53,11 @@ impl UvmObject for Mute {
     }
 }
 
-/// Waits for no ticks in run, and again whenever that is over.
+/// Waits for no ticks in run, so many times, and again whenever a wait is over.
 #[derive(Drop)]
 pub(crate) struct Spinner {
     pub(crate) type_name: Name,
+    pub(crate) waits: usize,
 }
 
 impl UvmObject for Spinner {
@@ -74,17 +75,20 @@ impl UvmObject for Spinner {
 
     fn hear(&mut self, alloc: Global, call: &Call) -> Result<Acts, AllocError> {
         match call {
-            Call::Phase(Phase::Run) | Call::Wake { .. } => waits(alloc),
+            Call::Phase(Phase::Run) => waits(alloc, self.waits),
+            Call::Wake { .. } => waits(alloc, 1),
             _ => Ok(Acts::new(alloc)),
         }
     }
 }
 
-// A wait of no ticks.
-fn waits(alloc: Global) -> Result<Acts, AllocError> {
+// Some waits of no ticks.
+fn waits(alloc: Global, count: usize) -> Result<Acts, AllocError> {
     let mut acts = Acts::new(alloc);
-    match acts.push(Act::Wait { ticks: 0, tag: 1 }) {
-        Ok(()) => Ok(acts),
-        Err(_) => Err(AllocError),
+    for _ in 0..count {
+        if acts.push(Act::Wait { ticks: 0, tag: 1 }).is_err() {
+            return Err(AllocError);
+        }
     }
+    Ok(acts)
 }

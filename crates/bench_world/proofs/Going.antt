@@ -10,7 +10,7 @@ use Rattle.bench_history.specs.Limits.{log_limit}
 use Rattle.bench_history.specs.Sequences.{leaving_of, leaving_after}
 use Rattle.bench_history.specs.Next.{Allows, EachIsNext, IsNext, IsLegal, next_of, IsAct}
 use Rattle.world_services.specs.Services.{ServicesMatch}
-use Rattle.world_entries.specs.Coming.{Comes, GoesOn, IsComing, IsDue}
+use Rattle.world_entries.specs.Coming.{Comes, GoesOnWith, IsComing, IsDueNext}
 use Rattle.bench_world.specs.Worlds.{IsWorld}
 use Rattle.uvm_object.specs.declared.entries.Entry.TheVariants.{Did}
 use Rattle.uvm_object.specs.declared.entries.Outcome.{Outcome}
@@ -38,7 +38,7 @@ here comes each next = record { each = each; next = next; place_is = refl }
 
 pub due-here :
     {P : Type 0} {sound : Bool} {script : ScriptValue} {log : LogValue} {services : Services} {waiting : Option Waiting} {left : List Who} (comes : Comes)
-    → P × IsWorld sound script log services waiting left → sound ≡ true → next_of script log.entries ≡ comes log.entries → IsDue comes (length log.entries) services
+    → P × IsWorld sound script log services waiting left → sound ≡ true → next_of script log.entries ≡ comes log.entries → IsDueNext comes (length log.entries) services
 due-here {script = script} {log} comes p sound next = record { script = script; history = log.entries; coming = here comes p.1.legal.each next; known = p.1.services_match sound }
 
 -- a world goes on with an entry that is next
@@ -55,7 +55,7 @@ goes-on {log} entry p sound room next is limit leaves match =
 pub entered :
     {P : Type 0} {sound : Bool} {script : ScriptValue} {log more : LogValue} {old services : Services} {waiting : Option Waiting} {left leaving : List Who} (comes : Comes) (entry : Entry)
     → P × IsWorld sound script log old waiting left → sound ≡ true → length log.entries < log_limit script → next_of script log.entries ≡ comes log.entries → Allows (comes log.entries) entry
-    → more.entries ≡ entry ∷ log.entries → more.limit ≡ log.limit → (ServicesMatch script log.entries old → leaving ≡ leaving_of (entry ∷ log.entries)) → GoesOn comes entry (length log.entries) old services
+    → more.entries ≡ entry ∷ log.entries → more.limit ≡ log.limit → (ServicesMatch script log.entries old → leaving ≡ leaving_of (entry ∷ log.entries)) → GoesOnWith comes entry (length log.entries) old services
     → P × IsWorld true script more services None leaving
 entered {script = script} {log} comes entry p sound room next allowed is limit leaves goes_on =
     goes-on entry p sound room (rw next allowed) is limit (leaves (p.1.services_match sound)) (λ m. goes_on script log.entries (here comes p.1.legal.each next) m)

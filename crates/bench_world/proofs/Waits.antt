@@ -22,7 +22,7 @@ use Rattle.world_services.specs.Services.{ServicesMatch}
 use Rattle.world_services.proofs.Waiting.{turns-same}
 use Rattle.world_agenda.specs.Agendas.{IsAgenda}
 use Rattle.world_services.specs.Attempts.{IsScene}
-use Rattle.world_deeds.specs.Deeds.{IsEntered, IsWaiting}
+use Rattle.world_deeds.specs.Deeds.{IsEntered, WaitsForObject}
 use Rattle.world_deeds.specs.Rooms.{GiveTheSame}
 use Rattle.bench_world.specs.Worlds.{IsActed, IsWorld, IsReady, WorldValue}
 use Rattle.world_services.proofs.Entered.{for-some}
@@ -54,7 +54,7 @@ pub waits :
     {P : Type 0} {sound : Bool} {script : ScriptValue} {log more : LogValue} {old services : Services} {waiting : Option Waiting} {leaving : List Who} (act : Act) (wait : Waiting)
     → P × IsWorld sound script log old waiting leaving → sound ≡ true → length log.entries < log_limit script
     → IsSettled log.entries → left_of script log.entries ≡ act ∷ rest_of (left_of script log.entries) → next_of script log.entries ≡ by_act script log.entries (speaker_of log.entries) act
-    → PhasesGoInOrder → PerformersAreThere → DriversAreThere → IsWaiting act wait log more old services → more.limit ≡ log.limit
+    → PhasesGoInOrder → PerformersAreThere → DriversAreThere → WaitsForObject act wait log more old services → more.limit ≡ log.limit
     → P × IsWorld true script more services (Some wait) leaving
 waits {script = script} {log} {more} {old} {services} act wait p sound room settled left next order performers drivers w limit =
     let m = p.1.services_match sound in

@@ -21,7 +21,7 @@ use Rattle.bench_history.specs.Cases.{Next, Exactly, Need, Grant, by_act, chosen
 use Rattle.bench_history.specs.Next.{next_of, need_in, IsAct, IsLegal}
 use Rattle.bench_history.specs.Laws.{IsSettled}
 use Rattle.world_services.specs.Services.{ServicesMatch}
-use Rattle.world_deeds.specs.Rooms.{HasRoom}
+use Rattle.world_deeds.specs.Rooms.{HasRoomToMake}
 use Rattle.uvm_object.specs.declared.acts.Who.TheVariants as who
 use Rattle.bench_history.specs.declared.needs.Need as needs
 
@@ -54,7 +54,7 @@ pub record IsReady (waiting : Waiting) (script : ScriptValue) (log : LogValue) (
   pub home : waiting.home ≡ home_for services.tree.nodes services.answer.speaker waiting.deed
   pub room : length log.entries < log_limit script
   pub declined : waiting.declined ≡ fatal_report NoObject
-  pub has_room : HasRoom (id_of NoObject) log services
+  pub has_room : HasRoomToMake (id_of NoObject) log services
 
 -- the log is legal, and while the world is sound its services are what the log says, and those that leave are kept
 pub record IsWorld (sound : Bool) (script : ScriptValue) (log : LogValue) (services : Services) (waiting : Option Waiting) (leaving : List Who) : Type 0 where

@@ -4,7 +4,7 @@ use Rattle.std.specs.List.{concat}
 use Rattle.std.proofs.lemmas.List.{append_assoc, append-nil, take-map, take_more, take_all, map-append, length-map}
 use Rattle.uvm_factory.specs.Steps.{made, next_type}
 use Rattle.uvm_factory.specs.Observed.{Kept, types_of, made_at, next_at}
-use Rattle.bench_script.specs.declared.scripts.Probe.{Probe}
+use Rattle.script_tables.specs.declared.rows.Probe.{Probe}
 use Rattle.bench_script.specs.Scripts.{ScriptValue}
 use Rattle.bench_script.specs.Factories.{IsFactoryOf}
 use Rattle.bus_jobs.specs.Debugging.{answer_line, made_for, probe_line, debug_lines}

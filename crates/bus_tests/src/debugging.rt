@@ -1,7 +1,8 @@
 //! What the command `debug` writes of a script, and how it ends.
 
 use crate::texts::joined;
-use crate::verdicts::{Failing, is_told};
+use crate::verdicts::is_told;
+use crate::writers::Narrow;
 use bus_jobs::{Breakage, Verdict, debug_bench};
 use std::alloc::Global;
 
@@ -160,7 +161,11 @@ fn spaces_are_refused(alloc: Global, count: usize, line: &str) -> bool {
 
 // The verdict on the two probes, where the writer fails behind so many writes.
 fn verdict_behind(alloc: Global, writes: usize) -> Verdict {
-    debug_bench(alloc, PROBES.as_bytes(), &mut Failing { left: writes })
+    debug_bench(
+        alloc,
+        PROBES.as_bytes(),
+        &mut Narrow::failing(alloc, writes),
+    )
 }
 
 #[test]

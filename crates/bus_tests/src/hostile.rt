@@ -1,11 +1,11 @@
-//! Writers that fail or take little, and scripts that are cut off.
+//! Writers that fail or take little, scripts that are cut off, and objects that give no answer or are of another type.
 
 use crate::bus_runs::BUS;
+use crate::writers::Narrow;
 use bench_script::read;
 use bus_jobs::{Breakage, Verdict, run_bench};
+use counted_files::{Checked, check_bytes};
 use std::alloc::Global;
-use std::io;
-use std::io::{ErrorKind, Write};
 
 // Reports of each severity; the second ERROR reaches the quit limit.
 const LOUD: &[u8] =
@@ -14,43 +14,9 @@ const LOUD: &[u8] =
 // No run here has as many writes.
 const MOST_WRITES: usize = 1_000;
 
-// Takes so many writes, of so many bytes at most, and fails at the next.
-#[derive(Drop)]
-struct Narrow {
-    writes: usize,
-    most: usize,
-    taken: Vec<u8>,
-}
-
-impl Write for Narrow {
-    fn write(&mut self, buf: &[u8]) -> io::Result<usize> {
-        if self.writes == 0 {
-            return Err(io::Error::from(ErrorKind::Other));
-        }
-        self.writes -= 1;
-        let count = buf.len().min(self.most);
-        match self.taken.extend_from_slice(&buf[..count]) {
-            Ok(()) => Ok(count),
-            Err(_) => Err(io::Error::from(ErrorKind::OutOfMemory)),
-        }
-    }
-
-    fn flush(&mut self) -> io::Result<()> {
-        Ok(())
-    }
-}
-
 // A run with a trace, by the seed 1.
 fn run(alloc: Global, script: &[u8], out: &mut Narrow) -> Verdict {
     run_bench(alloc, script, 1, None, true, out)
-}
-
-fn taking(alloc: Global, writes: usize, most: usize) -> Narrow {
-    Narrow {
-        writes,
-        most,
-        taken: Vec::new(alloc),
-    }
 }
 
 // Whether what is written is the beginning of a text, in whole lines.
@@ -60,7 +26,7 @@ fn is_beginning(taken: &[u8], text: &[u8]) -> bool {
 
 // Whether a run breaks at each write that fails, with the lines before it written, and comes to its own verdict where none does.
 fn breaks_at_each_write(alloc: Global, script: &[u8], own: Verdict) -> bool {
-    let mut whole = taking(alloc, MOST_WRITES, usize::MAX);
+    let mut whole = Narrow::failing(alloc, MOST_WRITES);
     if run(alloc, script, &mut whole) != own {
         return false;
     }
@@ -74,14 +40,14 @@ fn breaks_at_each_write(alloc: Global, script: &[u8], own: Verdict) -> bool {
 }
 
 fn breaks_behind(alloc: Global, script: &[u8], writes: usize, text: &[u8]) -> bool {
-    let mut out = taking(alloc, writes, usize::MAX);
+    let mut out = Narrow::failing(alloc, writes);
     run(alloc, script, &mut out) == Verdict::Broken(Breakage::Output)
         && out.writes == 0
         && is_beginning(out.taken.as_slice(), text)
 }
 
 fn ends_behind(alloc: Global, script: &[u8], writes: usize, own: Verdict) -> bool {
-    let mut out = taking(alloc, writes, usize::MAX);
+    let mut out = Narrow::failing(alloc, writes);
     run(alloc, script, &mut out) == own
 }
 
@@ -94,8 +60,8 @@ fn a_run_breaks_at_each_write_that_fails(rt: HostRuntime) {
 
 // Whether a run over a writer that takes one byte at a time writes the text that it writes otherwise.
 fn writes_the_same_byte_by_byte(alloc: Global, script: &[u8]) -> bool {
-    let mut whole = taking(alloc, MOST_WRITES, usize::MAX);
-    let mut bytes = taking(alloc, usize::MAX, 1);
+    let mut whole = Narrow::failing(alloc, MOST_WRITES);
+    let mut bytes = Narrow::new(alloc, usize::MAX, 1);
     run(alloc, script, &mut whole) == run(alloc, script, &mut bytes)
         && whole.taken.as_slice() == bytes.taken.as_slice()
 }
@@ -121,4 +87,15 @@ fn beginnings_are_read_alike(alloc: Global, script: &[u8]) -> bool {
 #[test]
 fn each_beginning_of_the_bus_script_is_read_the_same_twice(rt: HostRuntime) {
     assert!(rt; beginnings_are_read_alike(rt.alloc(), BUS.as_bytes()));
+}
+
+// The bus hears 89 calls, and needs eight objects.
+const BUS_CHECKED: Checked = Checked {
+    calls: 89,
+    turned_away: 8,
+};
+
+#[test]
+fn bus_withstands_each_call_without_an_answer_and_objects_of_another_type(rt: HostRuntime) {
+    assert!(rt; check_bytes(rt.alloc(), BUS.as_bytes()).ok() == Some(BUS_CHECKED));
 }

@@ -28,3 +28,5 @@ mod scripts;
 mod texts;
 #[cfg(test)]
 mod verdicts;
+#[cfg(test)]
+mod writers;

@@ -1,6 +1,7 @@
 //! Runs of scripts of a few types: what they write, and how they end.
 
-use crate::verdicts::{Failing, is_told};
+use crate::verdicts::is_told;
+use crate::writers::Narrow;
 use bench_script::ScriptFault;
 use bus_jobs::{Breakage, Verdict, run_bench};
 use std::alloc::Global;
@@ -171,7 +172,7 @@ fn verdict_behind(alloc: Global, writes: usize) -> Verdict {
         1,
         None,
         true,
-        &mut Failing { left: writes },
+        &mut Narrow::failing(alloc, writes),
     )
 }
 

@@ -1,37 +1,16 @@
 //! The exit status of a verdict, and the line that tells its fault.
 
+use crate::writers::Narrow;
 use bench_script::ScriptFault;
 use bus_jobs::{Breakage, Verdict, tell};
 use std::alloc::Global;
-use std::io;
-use std::io::{ErrorKind, Write};
-
-// A writer that takes so many writes and fails at the next.
-#[derive(Drop)]
-pub(crate) struct Failing {
-    pub(crate) left: usize,
-}
-
-impl Write for Failing {
-    fn write(&mut self, buf: &[u8]) -> io::Result<usize> {
-        if self.left == 0 {
-            return Err(io::Error::from(ErrorKind::Other));
-        }
-        self.left -= 1;
-        Ok(buf.len())
-    }
-
-    fn flush(&mut self) -> io::Result<()> {
-        Ok(())
-    }
-}
 
 /// Whether a verdict is told by this status and this line, and by the same status where no line can be written.
 pub(crate) fn is_told(alloc: Global, verdict: Verdict, status: u8, line: &str) -> bool {
     let mut err = Vec::new(alloc);
     tell(&verdict, &mut err) == status
         && err.as_slice() == line.as_bytes()
-        && tell(&verdict, &mut Failing { left: 0 }) == status
+        && tell(&verdict, &mut Narrow::failing(alloc, 0)) == status
 }
 
 #[test]

@@ -1,11 +1,15 @@
 //! The checks of random benches.
 
-use crate::flaws::Flaw;
-use crate::runs::{Play, run_script};
 use crate::scripts::random_script;
+use crate::whims::Moods;
+use crate::wild::Wild;
 use bench_script::{ScriptFault, read};
-use std::alloc::Global;
+use std::alloc::{AllocError, Global};
 use std::io::Write;
+use watched_runs::{Flaw, Play, run_script};
+
+// So many answers of the objects of a bench have acts.
+const ANSWERS: u64 = 150;
 
 /// Runs the benches of so many seeds from the first, each twice. It writes a line for each that fails a check, and one that says how many
 /// did, and answers the exit status: 0 where none did, and 1 else; 3 where it could not write.
@@ -42,31 +46,40 @@ fn write_end<O: Write>(first: u64, count: u64, failed: u64, out: &mut O) -> bool
     written.is_ok()
 }
 
+// What the run of a seed goes by.
+fn play_of(alloc: Global, seed: u64) -> Result<Play<Moods>, AllocError> {
+    Play::new(alloc, seed, ANSWERS, Moods::new(seed))
+}
+
 // The first check that the bench of a seed fails.
 fn check_bench<O: Write>(alloc: Global, seed: u64, shows: bool, out: &mut O) -> Result<(), Flaw> {
     let script = random_script(alloc, seed)?;
-    let mut first = Play::new(alloc, seed)?;
+    let mut first = play_of(alloc, seed)?;
     let ended = run_bytes(alloc, script.as_slice(), &mut first);
     if shows {
         let _ = out.write_all(script.as_slice());
-        let _ = out.write_all(first.record.text.as_slice());
+        let _ = out.write_all(first.record().text());
     }
     let refused = ended?;
-    let mut second = Play::new(alloc, seed)?;
+    let mut second = play_of(alloc, seed)?;
     if run_bytes(alloc, script.as_slice(), &mut second)? != refused {
         return Err(Flaw::Differs);
     }
-    if !first.record.is_same(&second.record) {
+    if !first.record().is_same(second.record()) {
         return Err(Flaw::Differs);
     }
     Ok(())
 }
 
 // Runs the script in some bytes, or gives the fault for which it is refused.
-fn run_bytes(alloc: Global, bytes: &[u8], play: &mut Play) -> Result<Option<ScriptFault>, Flaw> {
+fn run_bytes(
+    alloc: Global,
+    bytes: &[u8],
+    play: &mut Play<Moods>,
+) -> Result<Option<ScriptFault>, Flaw> {
     match read(alloc, bytes) {
         Ok(script) => {
-            run_script(alloc, script, play)?;
+            run_script::<Wild, Moods>(alloc, script, play)?;
             Ok(None)
         }
         Err(ScriptFault::Memory) => Err(Flaw::Memory),

@@ -10,16 +10,21 @@ const ABOUT_RANDOM: &str =
 
 const ABOUT_COUNTED: &str = "Runs a file as script_bench does, over objects that are counted";
 
-/// Makes the command line: `random [--trace] FIRST COUNT`, or `counted FILE`.
+const ABOUT_CHECKED: &str =
+    "Runs a file once for each call, which is not answered, and with objects of another type first";
+
+/// Makes the command line: `random [--trace] FIRST COUNT`, `counted FILE` or `checked FILE`.
 pub(crate) fn command<'a>(alloc: Global) -> Result<Command<'a>, AllocError> {
     let random = random_command(alloc)?;
-    let counted = counted_command(alloc)?;
+    let counted = file_command(alloc, "counted", ABOUT_COUNTED)?;
+    let checked = file_command(alloc, "checked", ABOUT_CHECKED)?;
     Command::new(alloc, "hostile_bench")
         .about(ABOUT)
         .version("1.0.0")
         .subcommand_required(true)
         .subcommand(random)?
-        .subcommand(counted)
+        .subcommand(counted)?
+        .subcommand(checked)
 }
 
 fn random_command<'a>(alloc: Global) -> Result<Command<'a>, AllocError> {
@@ -48,12 +53,14 @@ fn number<'a>(alloc: Global, id: &'a str) -> Arg<'a> {
         .value_parser(value_parser!(u64))
 }
 
-fn counted_command<'a>(alloc: Global) -> Result<Command<'a>, AllocError> {
+fn file_command<'a>(
+    alloc: Global,
+    name: &'a str,
+    about: &'a str,
+) -> Result<Command<'a>, AllocError> {
     let file = Arg::new(alloc, "file")
         .value_name("FILE")
         .help("A script with the answers of its objects, in TOML")
         .required(true);
-    Command::new(alloc, "counted")
-        .about(ABOUT_COUNTED)
-        .arg(file)
+    Command::new(alloc, name).about(about).arg(file)
 }

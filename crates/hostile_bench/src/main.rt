@@ -1,21 +1,15 @@
-//! The program `hostile_bench`: `random FIRST COUNT` runs benches that are made to break the kernel, and checks what can be seen from
-//! outside; `counted FILE` runs a bench over objects that are counted as they are made and dropped.
+//! The program `hostile_bench`: it runs benches that are made to break the kernel, and checks what can be seen from outside.
 #![tactic(auto)]
 
 mod acts;
 mod arguments;
 mod checks;
 mod commands;
-mod counted;
-mod counts;
 mod dice;
-mod endings;
-mod flaws;
 mod habits;
 mod program;
-mod records;
-mod runs;
 mod scripts;
+mod whims;
 mod wild;
 
 use std::process::ExitCode;

@@ -2,9 +2,9 @@
 
 use crate::checks::check_benches;
 use crate::commands::command;
-use crate::counted::{End, run_counted, tell};
 use clap::error::ErrorKind;
 use clap::{ArgMatches, Error};
+use counted_files::{Checked, End, check_file, run_counted, tell};
 use std::io::Write;
 use std::rt::{Env, Files};
 use std::{env, io};
@@ -90,6 +90,29 @@ fn obey<R: Files + AllocGlobal, O: Write, E: Write>(
             Some(file) => run_counted(rt, file, out, err),
             None => REFUSED,
         },
+        Some(("checked", checked)) => match checked.get_str("file") {
+            Some(file) => tell_checks(check_file(rt, file), out, err),
+            None => REFUSED,
+        },
         _ => REFUSED,
+    }
+}
+
+// Writes what the checks of a file came to, and answers the exit status: 0 where none failed, 1 where one did, and 3 where the file is no
+// bench, or memory or output was wanting.
+fn tell_checks<O: Write, E: Write>(checks: Result<Checked, End>, out: &mut O, err: &mut E) -> u8 {
+    match checks {
+        Ok(Checked { calls, turned_away }) => match writeln!(
+            out,
+            "{calls} calls, each not answered once; {turned_away} objects, each behind one of another type"
+        ) {
+            Ok(()) => 0,
+            Err(_) => BROKEN,
+        },
+        Err(End::Flaw(flaw)) => {
+            let _ = writeln!(err, "{flaw}");
+            1
+        }
+        Err(end) => tell(0, 0, end, err),
     }
 }

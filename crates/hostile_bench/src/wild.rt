@@ -1,12 +1,12 @@
 //! The objects of a random bench.
 
 use crate::acts::{Theme, act_of};
-use crate::counts::Ticket;
 use crate::dice::Dice;
 use crate::habits::{Nature, habit};
 use std::alloc::{AllocError, Global};
 use uvm_object::{Act, Acts, Answers, Call};
 use uvm_phase::Phase;
+use watched_runs::{Part, Ticket};
 
 // So many objects of a bench are made before its components create no more by habit.
 const CROWD: u64 = 12;
@@ -14,8 +14,7 @@ const CROWD: u64 = 12;
 /// Answers each call with random acts, some that it may do and some that it may not.
 #[derive(Drop)]
 pub(crate) struct Wild {
-    /// Its ticket, which counts it.
-    pub(crate) ticket: Ticket,
+    ticket: Ticket,
     dice: Dice,
     nature: Nature,
     // Of so many acts one is not by habit.
@@ -25,7 +24,7 @@ pub(crate) struct Wild {
 impl Wild {
     /// Makes an object with its ticket.
     pub(crate) fn new(ticket: Ticket, nature: Nature, seed: u64) -> Wild {
-        let mut dice = Dice::new(seed.wrapping_add(ticket.number.wrapping_mul(7919)));
+        let mut dice = Dice::new(seed.wrapping_add(ticket.number().wrapping_mul(7919)));
         let whims = match nature {
             Nature::Chain => 100,
             _ => dice.pick(&[1, 8, 8], 8),
@@ -88,7 +87,7 @@ impl Wild {
 
     // An act of an answer, mostly the one that is usual there.
     fn act(&mut self, alloc: Global, call: &Call, place: u64) -> Result<Act, AllocError> {
-        let is_crowded = self.ticket.counts.made.get() > CROWD;
+        let is_crowded = self.ticket.counts().made() > CROWD;
         if !self.dice.one_in(self.whims) {
             let dice = &mut self.dice;
             if let Some(act) = habit(alloc, dice, self.nature, is_crowded, call, place) {
@@ -100,14 +99,20 @@ impl Wild {
     }
 }
 
+impl Part for Wild {
+    fn ticket(&self) -> &Ticket {
+        &self.ticket
+    }
+}
+
 impl Answers for Wild {
     fn answer(&mut self, alloc: Global, call: &Call) -> Result<Acts, AllocError> {
         let count = self.act_count(call);
-        if count == 0 || !self.ticket.counts.take_answer() {
+        if count == 0 || !self.ticket.counts().take_answer() {
             return Ok(Acts::new(alloc));
         }
         if self.dice.one_in(4000) {
-            self.ticket.counts.silenced.set(true);
+            self.ticket.fall_silent();
             return Err(AllocError);
         }
         self.acts(alloc, call, count)

@@ -9,7 +9,7 @@ use Rattle.uvm_phase.specs.declared.agendas.Due.{Due}
 use Rattle.uvm_phase.specs.declared.owners.Owned.{Owned}
 use Rattle.uvm_phase.specs.declared.owners.Owners.{Owners}
 use Rattle.uvm_phase.specs.Dues.{insert_due}
-use Rattle.uvm_phase.specs.Owners.{owners_of, times, counted, count_at, AreCounted, HasAt}
+use Rattle.uvm_phase.specs.Owners.{owners_of, times, counted, count_at, CountsEach, HasAt}
 use Rattle.uvm_phase.proofs.Ordered.{IsPermutation-insert_due}
 
 -- two that are the same are so to each other
@@ -130,11 +130,11 @@ has-at test (x ∷ xs) (suc place) read within is passes = has-at test xs place 
 times-moved : {O : Type 0} (same : O → O → Bool) (owner : O) (xs ys : List O) → IsPermutation xs ys → times same owner xs ≡ times same owner ys
 times-moved same owner xs ys moved = length-filter (λ other. same other owner) xs ∙ sym (sum_by-IsPermutation _ xs ys moved) ∙ sym (length-filter (λ other. same other owner) ys)
 
-pub counted-moved : {O : Type 0} (same : O → O → Bool) (kept : Owners O) (xs ys : List O) → IsPermutation xs ys → AreCounted same kept xs → AreCounted same kept ys
+pub counted-moved : {O : Type 0} (same : O → O → Bool) (kept : Owners O) (xs ys : List O) → IsPermutation xs ys → CountsEach same kept xs → CountsEach same kept ys
 counted-moved same kept xs ys moved counts complete owner = counts complete owner ∙ ap counted (times-moved same owner xs ys moved)
 
 -- with one more call, wherever it stands
-pub counted-inserted : {O N : Type 0} (same : O → O → Bool) (kept : Owners O) (due : Due O N) (old new : List (Due O N)) → new ≡ insert_due due old → AreCounted same kept (due.owner ∷ owners_of old) → AreCounted same kept (owners_of new)
+pub counted-inserted : {O N : Type 0} (same : O → O → Bool) (kept : Owners O) (due : Due O N) (old new : List (Due O N)) → new ≡ insert_due due old → CountsEach same kept (due.owner ∷ owners_of old) → CountsEach same kept (owners_of new)
 counted-inserted same kept due old new is counts =
     rw is (counted-moved same kept (owners_of (due ∷ old)) (owners_of (insert_due due old)) (IsPermutation-map (λ d. d.owner) (due ∷ old) (insert_due due old) (IsPermutation-insert_due due old)) counts)
 
@@ -146,13 +146,13 @@ taken-further (y ∷ ys) (suc k) x within is =
 
 -- with the next of a list
 pub counted-further : {O N : Type 0} (same : O → O → Bool) (kept : Owners O) (dues : List (Due O N)) (k : ℕ) (due : Due O N) → k < length dues → due ≡ get_or dues k due
-    → AreCounted same kept (due.owner ∷ owners_of (take k dues)) → AreCounted same kept (owners_of (take (k + 1) dues))
+    → CountsEach same kept (due.owner ∷ owners_of (take k dues)) → CountsEach same kept (owners_of (take (k + 1) dues))
 counted-further same kept dues k due within is counts =
     let next : k + 1 ≡ suc k = omega arith in
     rw next (counted-moved same kept (owners_of (due ∷ take k dues)) (owners_of (take (suc k) dues)) (IsPermutation-map (λ d. d.owner) (due ∷ take k dues) (take (suc k) dues) (taken-further dues k due within is)) counts)
 
 -- without an owner's
-pub counted-left : {O N : Type 0} (same : O → O → Bool) (kept : Owners O) (owner : O) (old new : List (Due O N)) → new ≡ filter (λ due. not (same due.owner owner)) old → AreCounted same kept (filter (λ other. not (same other owner)) (owners_of old)) → AreCounted same kept (owners_of new)
+pub counted-left : {O N : Type 0} (same : O → O → Bool) (kept : Owners O) (owner : O) (old new : List (Due O N)) → new ≡ filter (λ due. not (same due.owner owner)) old → CountsEach same kept (filter (λ other. not (same other owner)) (owners_of old)) → CountsEach same kept (owners_of new)
 counted-left same kept owner old new is counts = rw (is, owners-left (λ other. not (same other owner)) old) counts
 
 counted-none : (n : ℕ) → None ≡ counted n → n ≡ 0
@@ -178,7 +178,7 @@ filter-le {X} test (x ∷ xs) = by (test x) (filter-le test xs)
     by false le = omega (arith, le)
 
 -- what is kept is no more than there is
-pub count-le : {O N : Type 0} (same : O → O → Bool) (kept : Owners O) (owner : O) (dues : List (Due O N)) → AreCounted same kept (owners_of dues) → kept.complete ≡ true → count_at same kept owner ≤ length dues
+pub count-le : {O N : Type 0} (same : O → O → Bool) (kept : Owners O) (owner : O) (dues : List (Due O N)) → CountsEach same kept (owners_of dues) → kept.complete ≡ true → count_at same kept owner ≤ length dues
 count-le same kept owner dues counts complete =
     let is : count_at same kept owner ≡ times same owner (owners_of dues) = ap (λ o. unwrap_or o 0) (counts complete owner) ∙ counted-is (times same owner (owners_of dues)) in
     let le = filter-le (λ other. same other owner) (owners_of dues) in

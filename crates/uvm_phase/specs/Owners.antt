@@ -26,8 +26,8 @@ abbrev pub count_at : {O : Type 0} → (O → O → Bool) → Owners O → O →
 count_at same owners owner = unwrap_or (kept_count same owners owner) 0
 
 -- where the counts are complete, the one kept of each owner is how often it is there, and none is kept where that is 0
-abbrev pub AreCounted : {O : Type 0} → (O → O → Bool) → Owners O → List O → Type 0
-AreCounted {O} same kept owners = kept.complete ≡ true → (owner : O) → kept_count same kept owner ≡ counted (times same owner owners)
+abbrev pub CountsEach : {O : Type 0} → (O → O → Bool) → Owners O → List O → Type 0
+CountsEach {O} same kept owners = kept.complete ≡ true → (owner : O) → kept_count same kept owner ≡ counted (times same owner owners)
 
 -- a list has one at a place that passes a test
 abbrev pub HasAt : {X : Type 0} → (X → Bool) → List X → ℕ → Type 0

@@ -4,7 +4,7 @@ ghost use Rattle.std.specs.Prelude.{◌≡◌, ◌==◌, ◌<◌, ◌≤◌, [],
 ghost use Rattle.std.specs.VecDeque.{deque_capacity, deque_len};
 ghost use Rattle.uvm_phase.specs.Phases.{same_phase};
 ghost use Rattle.uvm_phase.specs.Dues.{is_due_before, insert_due, capacity_of, IsInOrder};
-ghost use Rattle.uvm_phase.specs.Owners.{AreCounted, HasAt, owners_of, times};
+ghost use Rattle.uvm_phase.specs.Owners.{CountsEach, HasAt, owners_of, times};
 
 use crate::owners::{Key, Owned, Owners};
 use crate::phases::Phase;
@@ -78,13 +78,13 @@ impl<O: Eq + Hash, N> Model for Agenda<O, N> {
     ghost use Rattle.std.specs.Prelude.{◌-◌};
     ghost use Rattle.std.specs.VecDeque.{deque_capacity, deque_len};
     ghost use Rattle.uvm_phase.specs.Dues.{AgendaValue, IsInOrder};
-    ghost use Rattle.uvm_phase.specs.Owners.{AreCounted, owners_of};
+    ghost use Rattle.uvm_phase.specs.Owners.{CountsEach, owners_of};
 
     ghost Value = { AgendaValue O N };
 
     ghost view = { λ a. record { dues = a.dues.items; spare = deque_capacity a.dues - deque_len a.dues } };
 
-    ghost invariant = { λ a. IsInOrder a.dues.items × AreCounted O.eq a.owners (owners_of a.dues.items) };
+    ghost invariant = { λ a. IsInOrder a.dues.items × CountsEach O.eq a.owners (owners_of a.dues.items) };
 }
 
 impl<O: Copy + Eq + Hash + Drop, N: Drop> Agenda<O, N> {
@@ -209,7 +209,7 @@ fn make_room<O: Copy + Eq + Hash + Drop, N: Drop>(
     owners: &mut Owners<O>,
 ) -> Result<(), AllocError>
     ensures items { dues.new.items ≡ dues.old.items }
-    ensures counts { (whose : List O) → AreCounted O.eq owners.old whose → AreCounted O.eq owners.new whose }
+    ensures counts { (whose : List O) → CountsEach O.eq owners.old whose → CountsEach O.eq owners.new whose }
     ensures ok { OnOk result (deque_len dues.new < deque_capacity dues.new) }
     ensures room { deque_len dues.old < deque_capacity dues.old → IsOk result }
     ensures capacity { deque_capacity dues.old ≤ deque_capacity dues.new }

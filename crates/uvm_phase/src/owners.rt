@@ -2,7 +2,7 @@
 
 ghost use Rattle.std.specs.Prelude.{◌≡◌, ◌<◌, ◌+◌, ◌^◌, ◌∷◌, List, [], true, not, filter, option_map};
 ghost use Rattle.std.specs.HashMap.{spare};
-ghost use Rattle.uvm_phase.specs.Owners.{AreCounted, count_at, counted, owners_of, times};
+ghost use Rattle.uvm_phase.specs.Owners.{CountsEach, count_at, counted, owners_of, times};
 
 use crate::agendas::Due;
 use std::alloc::Global;
@@ -37,7 +37,7 @@ pub(crate) struct Owners<O: Eq + Hash> {
 impl<O: Copy + Eq + Hash + Drop> Owners<O> {
     // Nothing is due, and there is room for nothing.
     pub(crate) fn new(alloc: Global) -> Owners<O>
-        ensures counts { AreCounted O.eq result [] }
+        ensures counts { CountsEach O.eq result [] }
         ensures complete { result.complete ≡ true }
     {
         Owners {
@@ -48,7 +48,7 @@ impl<O: Copy + Eq + Hash + Drop> Owners<O> {
 
     // Makes room for as many more owners. Where memory is refused there is none; the counts stay in any case.
     pub(crate) fn reserve(&mut self, additional: usize)
-        ensures counts { (owners : List O) → AreCounted O.eq self.old owners → AreCounted O.eq self.new owners }
+        ensures counts { (owners : List O) → CountsEach O.eq self.old owners → CountsEach O.eq self.new owners }
         ensures complete { self.new.complete ≡ self.old.complete }
     {
         let _room = self.counts.reserve(additional);
@@ -57,7 +57,7 @@ impl<O: Copy + Eq + Hash + Drop> Owners<O> {
     // Counts one more call of an owner. Takes no memory: where there is no room the counts become incomplete.
     pub(crate) fn add(&mut self, owner: O, last: Key)
         requires { self.old.complete ≡ true → count_at O.eq self.old owner + 1 < 2 ^ 64 }
-        ensures counts { (owners : List O) → AreCounted O.eq self.old owners → AreCounted O.eq self.new (owner ∷ owners) }
+        ensures counts { (owners : List O) → CountsEach O.eq self.old owners → CountsEach O.eq self.new (owner ∷ owners) }
         ensures complete { 0 < spare self.old.counts → self.new.complete ≡ self.old.complete }
     {
         if !self.complete {
@@ -80,7 +80,7 @@ impl<O: Copy + Eq + Hash + Drop> Owners<O> {
 
     // Counts one call less of an owner.
     pub(crate) fn subtract(&mut self, owner: &O)
-        ensures counts { (owners : List O) → AreCounted O.eq self.old (owner.now ∷ owners) → AreCounted O.eq self.new owners }
+        ensures counts { (owners : List O) → CountsEach O.eq self.old (owner.now ∷ owners) → CountsEach O.eq self.new owners }
         ensures complete { self.new.complete ≡ self.old.complete }
     {
         if let Some(owned) = self.counts.get_mut(owner) {
@@ -94,8 +94,8 @@ impl<O: Copy + Eq + Hash + Drop> Owners<O> {
 
     // Takes an owner out: what is due to it, if something is.
     pub(crate) fn take(&mut self, owner: &O) -> Option<Owned>
-        ensures count { (owners : List O) → AreCounted O.eq self.old owners → self.old.complete ≡ true → option_map (λ owned. owned.count) result ≡ counted (times O.eq owner.now owners) }
-        ensures left { (owners : List O) → AreCounted O.eq self.old owners → AreCounted O.eq self.new (filter (λ other. not (O.eq other owner.now)) owners) }
+        ensures count { (owners : List O) → CountsEach O.eq self.old owners → self.old.complete ≡ true → option_map (λ owned. owned.count) result ≡ counted (times O.eq owner.now owners) }
+        ensures left { (owners : List O) → CountsEach O.eq self.old owners → CountsEach O.eq self.new (filter (λ other. not (O.eq other owner.now)) owners) }
         ensures complete { self.new.complete ≡ self.old.complete }
     {
         self.counts.remove(owner)
@@ -103,7 +103,7 @@ impl<O: Copy + Eq + Hash + Drop> Owners<O> {
 
     // Counts anew whose the calls are. Takes no memory.
     pub(crate) fn count_anew<N>(&mut self, dues: &VecDeque<Due<O, N>>)
-        ensures { AreCounted O.eq self.new (owners_of dues.now.items) }
+        ensures { CountsEach O.eq self.new (owners_of dues.now.items) }
     {
         self.counts.clear();
         self.complete = true;

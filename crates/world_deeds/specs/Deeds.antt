@@ -14,7 +14,7 @@ use Rattle.world_services.specs.Attempts.{IsInNeed, IsPerformed, one_done}
 use Rattle.world_deeds.specs.declared.making.Waiting.{Waiting}
 use Rattle.world_deeds.specs.declared.deeds.CarriedOut.{CarriedOut}
 use Rattle.world_deeds.specs.declared.deeds.CarriedOut.TheVariants.{Entered, Waits}
-use Rattle.world_deeds.specs.Rooms.{GiveTheSame, HasRoom}
+use Rattle.world_deeds.specs.Rooms.{GiveTheSame, HasRoomToMake}
 
 -- it was performed or refused, and its entry stands in the log: the outcome, what was kept before the entry, and who has ended with it
 pub record IsEntered (act : Act) (leaving : List Who) (log more : LogValue) (old new : Services) : Type 0 where
@@ -26,15 +26,15 @@ pub record IsEntered (act : Act) (leaving : List Who) (log more : LogValue) (old
   pub done : new ≡ one_done kept
 
 -- it waits for the object that it needs, with room for its entry, and nothing else has changed
-pub record IsWaiting (act : Act) (waiting : Waiting) (log more : LogValue) (old new : Services) : Type 0 where
+pub record WaitsForObject (act : Act) (waiting : Waiting) (log more : LogValue) (old new : Services) : Type 0 where
   pub need : IsInNeed by_act act waiting.need waiting.home (length log.entries) old old
   pub deed : waiting.deed ≡ act
   pub declined : waiting.declined ≡ fatal_report NoObject
   pub entries : more.entries ≡ log.entries
   pub same : GiveTheSame old new
-  pub has_room : HasRoom (id_of NoObject) more new
+  pub has_room : HasRoomToMake (id_of NoObject) more new
 
 -- one or the other
 abbrev pub IsCarriedOut : Act → CarriedOut → LogValue → LogValue → Services → Services → Type 0
 IsCarriedOut act (Entered leaving) log more old new = IsEntered act leaving.items log more old new
-IsCarriedOut act (Waits waiting) log more old new = IsWaiting act waiting log more old new
+IsCarriedOut act (Waits waiting) log more old new = WaitsForObject act waiting log more old new

@@ -21,7 +21,7 @@ pub record GiveTheSame (old new : Services) : Type 0 where
 
 -- there is room for the entry of a creation or a start by the speaker: for a node under its performer, for a sequence and its first call, and for a report
 -- of an id
-pub record HasRoom (id : List ℕ) (log : LogValue) (services : Services) : Type 0 where
+pub record HasRoomToMake (id : List ℕ) (log : LogValue) (services : Services) : Type 0 where
   pub log_spare : 0 < log.spare
   pub tree_spare : IsSome (node_at services.tree.nodes (node_of services.answer.speaker)) → services.tree.spare ≡ Some (node_of services.answer.speaker)
   pub objection_spare : 0 < services.objection.spare

@@ -9,7 +9,7 @@ ghost use Rattle.uvm_object.specs.Fatals.{fatal_report};
 ghost use Rattle.uvm_object.specs.declared.fatals.Fatal.TheVariants.{NoObject};
 ghost use Rattle.world_services.specs.Makings.{CanGrow, CanMake, outcome_made, who_made};
 ghost use Rattle.world_services.specs.Attempts.{TakesIn};
-ghost use Rattle.world_deeds.specs.Rooms.{GiveTheSame, HasRoom};
+ghost use Rattle.world_deeds.specs.Rooms.{GiveTheSame, HasRoomToMake};
 
 use bench_history::Need;
 use bench_script::Script;
@@ -73,7 +73,7 @@ pub fn make_room(log: &mut Log, services: &mut Services, id: &Name) -> Result<()
     ensures entries { log.new.entries ≡ log.old.entries }
     ensures limit { log.new.limit ≡ log.old.limit }
     ensures same { GiveTheSame services.old services.new }
-    ensures room { OnOk result (HasRoom id.now log.new services.new) }
+    ensures room { OnOk result (HasRoomToMake id.now log.new services.new) }
 {
     reserve_component(services)?;
     reserve_sequence(services)?;

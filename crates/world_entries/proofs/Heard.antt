@@ -19,7 +19,7 @@ use Rattle.uvm_object.specs.declared.entries.Entry.{Entry}
 use Rattle.uvm_object.specs.declared.entries.Entry.TheVariants.{Heard}
 use Rattle.world_services.specs.declared.turns.Turns.{Turns}
 use Rattle.bench_history.specs.declared.stages.Stage.{Stage}
-use Rattle.world_services.specs.Services.{acts_in, IsAnswer}
+use Rattle.world_services.specs.Services.{acts_in, IsLastAnswer}
 use Rattle.world_services.specs.Turns.{AreTurns, IsHeardIn}
 use Rattle.world_services.proofs.Waiting.{turns-heard}
 use Rattle.world_services.proofs.Entered.{get-last, answered-last}
@@ -54,7 +54,7 @@ heard-turns history performer {old} {new} turn orders leasts turns heard =
 -- the answer is the last one, and all of it is left
 pub heard-answer :
     (opening : Act) (before : List Entry) (performer : Who) (call : Call) (cause : Option Cause) (acts : List Act)
-    → IsAnswer opening (Heard performer call cause acts ∷ before) acts performer (record { speaker = performer; place = Some (length before); count = length acts; done = 0; noted = false })
+    → IsLastAnswer opening (Heard performer call cause acts ∷ before) acts performer (record { speaker = performer; place = Some (length before); count = length acts; done = 0; noted = false })
 heard-answer opening before performer call cause acts =
     let last = ap acts_in (get-last (Heard performer call cause acts) before) in
     record {

@@ -18,12 +18,12 @@ pub record IsComing (script : ScriptValue) (history : List Entry) (comes : Comes
   pub place_is : length history ≡ place
 
 -- what is kept goes on with an entry that comes so: it is then what the log says
-abbrev pub GoesOn : Comes → Entry → ℕ → Services → Services → Type 0
-GoesOn comes entry place old new =
+abbrev pub GoesOnWith : Comes → Entry → ℕ → Services → Services → Type 0
+GoesOnWith comes entry place old new =
     (script : ScriptValue) (history : List Entry) → IsComing script history comes place → ServicesMatch script history old → ServicesMatch script (entry ∷ history) new
 
 -- what is kept is what a log says in which this comes next
-pub record IsDue (comes : Comes) (place : ℕ) (services : Services) : Type 0 where
+pub record IsDueNext (comes : Comes) (place : ℕ) (services : Services) : Type 0 where
   pub script : ScriptValue
   pub history : List Entry
   pub coming : IsComing script history comes place

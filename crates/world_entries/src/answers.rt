@@ -6,7 +6,7 @@ ghost use Rattle.uvm_object.specs.declared.acts.Act.{Act};
 ghost use Rattle.uvm_object.specs.declared.acts.Call as calls;
 ghost use Rattle.uvm_object.specs.declared.entries.Entry.TheVariants.{Heard};
 ghost use Rattle.bench_history.specs.Cases.{Answer};
-ghost use Rattle.world_entries.specs.Coming.{GoesOn, IsDue};
+ghost use Rattle.world_entries.specs.Coming.{GoesOnWith, IsDueNext};
 
 use bench_history::{Owner, laws};
 use uvm_object::{Call, Who};
@@ -16,7 +16,7 @@ use world_services::services::{LastAnswer, Services};
 
 /// Keeps that somebody was called in the running phase and answered with so many acts, in the entry at a place.
 pub fn hear(services: &mut Services, place: usize, who: Who, count: usize)
-    ensures { (call : calls.Call) (acts : List Act) → length acts ≡ count → GoesOn (λ _. Answer who call None) (Heard who call None acts) place services.old services.new }
+    ensures { (call : calls.Call) (acts : List Act) → length acts ≡ count → GoesOnWith (λ _. Answer who call None) (Heard who call None acts) place services.old services.new }
 {
     // Who is asked is there, and stands at a node: a sequence at its home.
     laws::asked_are_there();
@@ -34,8 +34,8 @@ pub fn hear(services: &mut Services, place: usize, who: Who, count: usize)
 
 /// Keeps that somebody had a call that was due, and answered with so many acts, in the entry at a place.
 pub fn hear_due(services: &mut Services, place: usize, who: Who, count: usize)
-    requires { (call : calls.Call) × (cause : causes.Cause) × IsDue (λ _. Answer who call (Some cause)) place services.old }
-    ensures { (call : calls.Call) (cause : causes.Cause) (acts : List Act) → length acts ≡ count → GoesOn (λ _. Answer who call (Some cause)) (Heard who call (Some cause) acts) place services.old services.new }
+    requires { (call : calls.Call) × (cause : causes.Cause) × IsDueNext (λ _. Answer who call (Some cause)) place services.old }
+    ensures { (call : calls.Call) (cause : causes.Cause) (acts : List Act) → length acts ≡ count → GoesOnWith (λ _. Answer who call (Some cause)) (Heard who call (Some cause) acts) place services.old services.new }
 {
     // The call is the first of the agenda, which is then taken from it.
     laws::due_calls_go_in_order();

@@ -7,7 +7,7 @@ ghost use Rattle.bench_script.specs.Scripts.{ScriptValue};
 ghost use Rattle.bench_history.specs.Cases.{Exactly, chosen_at};
 ghost use Rattle.bench_history.specs.Cases as cases;
 ghost use Rattle.world_services.specs.Services.{ServicesMatch};
-ghost use Rattle.world_entries.specs.Coming.{GoesOn, IsDue};
+ghost use Rattle.world_entries.specs.Coming.{GoesOnWith, IsDueNext};
 
 use bench_history::laws;
 use std::alloc::AllocError;
@@ -28,8 +28,8 @@ pub fn lock(
     sequencer: NodeId,
     id: SeqId,
 ) -> Result<(), AllocError>
-    requires { IsDue (λ _. Exactly (Locked sequencer id)) place services.old }
-    ensures { OnOk result (GoesOn (λ _. Exactly (Locked sequencer id)) (Locked sequencer id) place services.old services.new) }
+    requires { IsDueNext (λ _. Exactly (Locked sequencer id)) place services.old }
+    ensures { OnOk result (GoesOnWith (λ _. Exactly (Locked sequencer id)) (Locked sequencer id) place services.old services.new) }
 {
     // It is the lock that leads first, and its sequence lives.
     laws::locks_go_in_order();
@@ -65,9 +65,9 @@ pub fn grant(
     sequencer: NodeId,
     word: Option<u64>,
 ) -> Result<SeqId, AllocError>
-    requires { IsDue (λ history. cases.Grant sequencer (is_some word) (chosen_at history sequencer)) place services.old }
+    requires { IsDueNext (λ history. cases.Grant sequencer (is_some word) (chosen_at history sequencer)) place services.old }
     ensures chosen { IfOk result (λ id. (script : ScriptValue) (history : List Entry) → ServicesMatch script history services.old → chosen_at history sequencer word ≡ Some id) }
-    ensures goes_on { IfOk result (λ id. GoesOn (λ history. cases.Grant sequencer (is_some word) (chosen_at history sequencer)) (Granted sequencer (record { id = id; word = word })) place services.old services.new) }
+    ensures goes_on { IfOk result (λ id. GoesOnWith (λ history. cases.Grant sequencer (is_some word) (chosen_at history sequencer)) (Granted sequencer (record { id = id; word = word })) place services.old services.new) }
 {
     // It is the first whose driver can be served, and the one that is chosen lives.
     laws::grants_go_in_order();
@@ -102,7 +102,7 @@ pub fn pass_item(
     fifo: NodeId,
     passage: &Passage,
 ) -> Result<(), AllocError>
-    ensures { OnOk result (GoesOn (λ _. Exactly (Passed fifo passage.now)) (Passed fifo passage.now) place services.old services.new) }
+    ensures { OnOk result (GoesOnWith (λ _. Exactly (Passed fifo passage.now)) (Passed fifo passage.now) place services.old services.new) }
 {
     // It is what is next to pass.
     laws::passages_go_in_order();

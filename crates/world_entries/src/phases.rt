@@ -12,7 +12,7 @@ ghost use Rattle.bench_history.specs.Sequences.{leaving_of};
 ghost use Rattle.bench_history.specs.Wires.{ends_connect};
 ghost use Rattle.world_reports.specs.Reportings.{CanReport};
 ghost use Rattle.world_services.specs.Services.{ServicesMatch};
-ghost use Rattle.world_entries.specs.Coming.{GoesOn, IsDue};
+ghost use Rattle.world_entries.specs.Coming.{GoesOnWith, IsDueNext};
 
 use bench_history::{Owner, Stage, laws};
 use std::alloc::{AllocError, Global};
@@ -31,7 +31,7 @@ use world_wiring::connections::close_after;
 
 /// Keeps that a phase begins (IEEE 1800.2-2020, Clause 9).
 pub fn begin(services: &mut Services, phase: Phase)
-    ensures { (place : ℕ) → GoesOn (λ _. Exactly (Begin phase)) (Begin phase) place services.old services.new }
+    ensures { (place : ℕ) → GoesOnWith (λ _. Exactly (Begin phase)) (Begin phase) place services.old services.new }
 {
     laws::wiring_stays();
     services.reporting.newest = None;
@@ -42,9 +42,9 @@ pub fn begin(services: &mut Services, phase: Phase)
 /// Keeps that a phase ends (Clause 9), and with it all sequences that live (Clause 14), which it answers. Its error is want of
 /// memory.
 pub fn end(services: &mut Services, alloc: Global, phase: Phase) -> Result<Vec<Who>, AllocError>
-    requires { (place : ℕ) × IsDue (λ _. Exactly (End phase)) place services.old }
+    requires { (place : ℕ) × IsDueNext (λ _. Exactly (End phase)) place services.old }
     ensures leaving { IfOk result (λ leaving. (script : ScriptValue) (history : List Entry) → ServicesMatch script history services.old → leaving.items ≡ leaving_of (End phase ∷ history)) }
-    ensures goes_on { OnOk result ((place : ℕ) → GoesOn (λ _. Exactly (End phase)) (End phase) place services.old services.new) }
+    ensures goes_on { OnOk result ((place : ℕ) → GoesOnWith (λ _. Exactly (End phase)) (End phase) place services.old services.new) }
 {
     agenda::order_keeps_filters::<Owner, Option<Call>>();
     laws::wiring_stays();
@@ -86,7 +86,7 @@ fn is_past_connect_with(phase: Phase, past: bool) -> bool
 /// Keeps that time passes to a moment, in ticks (Clause 9).
 pub fn pass_time(services: &mut Services, time: u64)
     requires { time ≤ 10 ^ 18 }
-    ensures { (place : ℕ) → GoesOn (λ _. Exactly (Time time)) (Time time) place services.old services.new }
+    ensures { (place : ℕ) → GoesOnWith (λ _. Exactly (Time time)) (Time time) place services.old services.new }
 {
     laws::wiring_stays();
     services.reporting.newest = None;
@@ -95,8 +95,8 @@ pub fn pass_time(services: &mut Services, time: u64)
 
 /// Keeps that the drain of a node ends: what was held back is passed up (IEEE 1800.2-2020, 10.5). Its error is want of memory.
 pub fn end_drain(services: &mut Services, place: usize, node: NodeId) -> Result<(), AllocError>
-    requires { (cause : causes.Cause) × IsDue (λ _. Exactly (Drained node cause)) place services.old }
-    ensures { OnOk result ((cause : causes.Cause) → GoesOn (λ _. Exactly (Drained node cause)) (Drained node cause) place services.old services.new) }
+    requires { (cause : causes.Cause) × IsDueNext (λ _. Exactly (Drained node cause)) place services.old }
+    ensures { OnOk result ((cause : causes.Cause) → GoesOnWith (λ _. Exactly (Drained node cause)) (Drained node cause) place services.old services.new) }
 {
     // It is the first event of the agenda, so that something is held back, and due now.
     laws::drains_go_in_order();
@@ -122,7 +122,7 @@ pub fn note(
     node: NodeId,
 ) -> Result<(), AllocError>
     requires { CanReport services.old.reporting }
-    ensures { OnOk result ((place : ℕ) → GoesOn (λ _. Exactly (Note fatal node)) (Note fatal node) place services.old services.new) }
+    ensures { OnOk result ((place : ℕ) → GoesOnWith (λ _. Exactly (Note fatal node)) (Note fatal node) place services.old services.new) }
 {
     laws::wiring_stays();
     let report = fatal.report(alloc)?;
@@ -133,7 +133,7 @@ pub fn note(
 
 /// Keeps that nothing comes after.
 pub fn finish(services: &mut Services)
-    ensures { (reason : reasons.Reason) (place : ℕ) → GoesOn (λ _. Exactly (Over reason)) (Over reason) place services.old services.new }
+    ensures { (reason : reasons.Reason) (place : ℕ) → GoesOnWith (λ _. Exactly (Over reason)) (Over reason) place services.old services.new }
 {
     laws::wiring_stays();
     services.reporting.newest = None;

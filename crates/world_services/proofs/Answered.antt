@@ -6,7 +6,7 @@ use Rattle.uvm_object.specs.declared.acts.Act.{Act}
 use Rattle.uvm_object.specs.declared.entries.Entry.{Entry}
 use Rattle.world_services.specs.declared.services.LastAnswer.{LastAnswer}
 use Rattle.bench_history.specs.History.{rest_of, head_of}
-use Rattle.world_services.specs.Services.{acts_at, unless_noted, IsAnswer}
+use Rattle.world_services.specs.Services.{acts_at, unless_noted, IsLastAnswer}
 use Rattle.world_services.proofs.Entered.{acts-later, answered-later}
 
 within-drop : (n : ℕ) (xs : List Act) (y : Act) (ys : List Act) → drop n xs ≡ y ∷ ys → n < length xs
@@ -22,13 +22,13 @@ left-within false n xs act rest e = within-drop n xs act rest e
 
 pub answer-open :
     {opening : Act} {history : List Entry} {left : List Act} {last : Who} {kept : LastAnswer} (act : Act)
-    → left ≡ act ∷ rest_of left → IsAnswer opening history left last kept → kept.done < kept.count
+    → left ≡ act ∷ rest_of left → IsLastAnswer opening history left last kept → kept.done < kept.count
 answer-open {opening} {history} {left} {kept = kept} act first a = rw a.count (left-within kept.noted kept.done (acts_at opening history kept.place) act (rest_of left) (a.rest ∙ first))
 
 -- with one more entry the answer stays
 pub answer-later :
     {opening : Act} {history : List Entry} {left : List Act} {last : Who} {kept : LastAnswer} {entry : Entry}
-    → IsAnswer opening history left last kept → IsAnswer opening (entry ∷ history) left last kept
+    → IsLastAnswer opening history left last kept → IsLastAnswer opening (entry ∷ history) left last kept
 answer-later {opening} {history} {kept = kept} {entry} a =
     let same = acts-later opening entry history kept.place a.within in
     record {
@@ -52,7 +52,7 @@ rest-unless false n xs = rest-drop n xs
 -- with one more act one more is done
 pub answer-next :
     {opening : Act} {history : List Entry} {left : List Act} {last : Who} {kept : LastAnswer} {entry : Entry} {act : Act}
-    → left ≡ act ∷ rest_of left → IsAnswer opening history left last kept → IsAnswer opening (entry ∷ history) (rest_of left) last (record kept { done = kept.done + 1 })
+    → left ≡ act ∷ rest_of left → IsLastAnswer opening history left last kept → IsLastAnswer opening (entry ∷ history) (rest_of left) last (record kept { done = kept.done + 1 })
 answer-next {opening} {history} {left} {kept = kept} {entry} {act} first a =
     let same = acts-later opening entry history kept.place a.within in
     let open_ : kept.done < kept.count = answer-open act first a in
@@ -67,7 +67,7 @@ answer-next {opening} {history} {left} {kept = kept} {entry} {act} first a =
 -- a note ends it
 pub answer-noted :
     {opening : Act} {history : List Entry} {left : List Act} {last : Who} {kept : LastAnswer} {entry : Entry}
-    → IsAnswer opening history left last kept → IsAnswer opening (entry ∷ history) [] last (record kept { noted = true })
+    → IsLastAnswer opening history left last kept → IsLastAnswer opening (entry ∷ history) [] last (record kept { noted = true })
 answer-noted {opening} {history} {kept = kept} {entry} a =
     let same = acts-later opening entry history kept.place a.within in
     record {
@@ -81,7 +81,7 @@ answer-noted {opening} {history} {kept = kept} {entry} a =
 -- and so does the end of a sequence, with one more act done
 pub answer-finished :
     {opening : Act} {history : List Entry} {left : List Act} {last : Who} {kept : LastAnswer} {entry : Entry} {act : Act}
-    → left ≡ act ∷ rest_of left → IsAnswer opening history left last kept → IsAnswer opening (entry ∷ history) [] last (record kept { noted = true; done = kept.done + 1 })
+    → left ≡ act ∷ rest_of left → IsLastAnswer opening history left last kept → IsLastAnswer opening (entry ∷ history) [] last (record kept { noted = true; done = kept.done + 1 })
 answer-finished {opening} {history} {kept = kept} {entry} {act} first a =
     let same = acts-later opening entry history kept.place a.within in
     let open_ : kept.done < kept.count = answer-open act first a in
@@ -102,13 +102,13 @@ head-drop (suc n) (x ∷ xs) = head-drop n xs
 -- the next act
 pub answer-head :
     {opening : Act} {history : List Entry} {left : List Act} {last : Who} {kept : LastAnswer}
-    → kept.noted ≡ false → IsAnswer opening history left last kept → slice_get (acts_at opening history kept.place) kept.done ≡ head_of left
+    → kept.noted ≡ false → IsLastAnswer opening history left last kept → slice_get (acts_at opening history kept.place) kept.done ≡ head_of left
 answer-head {opening} {history} {kept = kept} on a =
     let here = rw on at a.rest in
     head-drop kept.done (acts_at opening history kept.place) ∙ ap head_of here
 
 -- how many are left
-pub answer-count : {opening : Act} {history : List Entry} {left : List Act} {last : Who} {kept : LastAnswer} → kept.noted ≡ false → IsAnswer opening history left last kept → kept.count - kept.done ≡ length left
+pub answer-count : {opening : Act} {history : List Entry} {left : List Act} {last : Who} {kept : LastAnswer} → kept.noted ≡ false → IsLastAnswer opening history left last kept → kept.count - kept.done ≡ length left
 answer-count {opening} {history} {kept = kept} on a =
     let here = rw on at a.rest in
     rw a.count (sym (length-drop kept.done (acts_at opening history kept.place)) ∙ ap length here)

@@ -17,7 +17,7 @@ use Rattle.bench_history.specs.Refusals.{is_open_to}
 use Rattle.bench_history.specs.Cases.{Exactly, by_act, by_open}
 use Rattle.bench_history.specs.Next.{next_of, EachIsNext, IsAct}
 use Rattle.bench_history.specs.Laws.{DriversAreThere, IsSettled, PerformersAreThere, PhasesGoInOrder}
-use Rattle.world_services.specs.Attempts.{Comes, TakesIn, IsScene, IsTried, IsAttempt, IsAttemptOfAny, IsRefusing}
+use Rattle.world_services.specs.Attempts.{ComesBy, TakesIn, IsScene, IsTried, IsAttempt, IsAttemptOfAny, IsRefusing}
 use Rattle.world_services.specs.Services.{ServicesMatch}
 use Rattle.world_services.proofs.Answered.{answer-later, answer-next, answer-noted}
 use Rattle.world_reports.proofs.Reported.{quiet}
@@ -53,7 +53,7 @@ refused-taken-in {old} {new} {place} act fatal kept =
     })
 
 refused-tried :
-    (by : Comes) (result : Result Attempt AllocError) (old new : Services) (act : Act) (fatal : Fatal) (place : ℕ) → IfOk result (λ attempt. attempt ≡ Became (Refused fatal)) → OnOk result (IsRefusing fatal old new)
+    (by : ComesBy) (result : Result Attempt AllocError) (old new : Services) (act : Act) (fatal : Fatal) (place : ℕ) → IfOk result (λ attempt. attempt ≡ Became (Refused fatal)) → OnOk result (IsRefusing fatal old new)
     → ((script : ScriptValue) (history : List Entry) → ServicesMatch script history old → by script history old.answer.speaker act ≡ Exactly (Did old.answer.speaker (Refused fatal) act))
     → IfOk result (λ attempt. IsTried by act attempt place old new)
 refused-tried by (Ok attempt) old new act fatal place is kept comes = rw is (record { comes = λ script history s. comes script history s.known; kept = refused-taken-in act fatal kept })

@@ -74,22 +74,22 @@ pub record TakesIn (act : Act) (outcome : Outcome) (place : ℕ) (old new : Serv
   pub with_entry : (script : ScriptValue) (history : List Entry) → IsScene script history act place old → ServicesMatch script (Did old.answer.speaker outcome act ∷ history) (one_done new)
 
 -- what may come of an act by its performer: of any, or of one that is open to the performer
-abbrev pub Comes : Type 0
-Comes = ScriptValue → List Entry → Who → Act → Next
+abbrev pub ComesBy : Type 0
+ComesBy = ScriptValue → List Entry → Who → Act → Next
 
 -- an act is performed or refused: this is what it comes to, and what is kept goes on with it
-pub record IsPerformed (by : Comes) (act : Act) (outcome : Outcome) (place : ℕ) (old new : Services) : Type 0 where
+pub record IsPerformed (by : ComesBy) (act : Act) (outcome : Outcome) (place : ℕ) (old new : Services) : Type 0 where
   pub comes : (script : ScriptValue) (history : List Entry) → IsScene script history act place old → by script history old.answer.speaker act ≡ Exactly (Did old.answer.speaker outcome act)
   pub kept : TakesIn act outcome place old new
 
 -- an act needs an object, which an outcome makes; a sequence's is for this sequencer. Nothing has changed
-pub record IsInNeed (by : Comes) (act : Act) (need : needs.Need) (home : Option ℕ) (place : ℕ) (old new : Services) : Type 0 where
+pub record IsInNeed (by : ComesBy) (act : Act) (need : needs.Need) (home : Option ℕ) (place : ℕ) (old new : Services) : Type 0 where
   pub comes : (script : ScriptValue) (history : List Entry) → IsScene script history act place old → (made : Outcome) × (by script history old.answer.speaker act ≡ Need need made old.answer.speaker act)
   pub home_is : home ≡ home_for old.tree.nodes old.answer.speaker act
   pub same : new ≡ old
 
 -- what an attempt to perform an act comes to
-abbrev pub IsTried : Comes → Act → Attempt → ℕ → Services → Services → Type 0
+abbrev pub IsTried : ComesBy → Act → Attempt → ℕ → Services → Services → Type 0
 IsTried by act (Became outcome) place old new = IsPerformed by act outcome place old new
 IsTried by act (Needed need home) place old new = IsInNeed by act need home place old new
 

@@ -58,7 +58,7 @@ unless_noted false acts = acts
 
 -- who gave the last answer, where it stands, how many acts it has and how many have their entry, and whether it ended with a note, or its speaker has
 -- finished: else the others are left
-pub record IsAnswer (opening : Act) (history : List Entry) (left : List Act) (last : Who) (kept : LastAnswer) : Type 0 where
+pub record IsLastAnswer (opening : Act) (history : List Entry) (left : List Act) (last : Who) (kept : LastAnswer) : Type 0 where
   pub speaker : kept.speaker ≡ last
   pub rest : unless_noted kept.noted (drop kept.done (acts_at opening history kept.place)) ≡ left
   pub within : ForSome kept.place (λ place. place < length history)
@@ -88,7 +88,7 @@ pub record ServicesMatch (script : ScriptValue) (history : List Entry) (services
   pub objections : IsObjecting (objections_of history) (length (nodes_of history)) (length history) services.objection
   pub factory : IsFactory script.types (overrides_of script history) services.factory
   pub turns : AreTurns (stage_of history) (nodes_of history) (components_of history) (called_of history) services.turns
-  pub answer : IsAnswer (opening script) history (left_of script history) (speaker_of history) services.answer
+  pub answer : IsLastAnswer (opening script) history (left_of script history) (speaker_of history) services.answer
   pub speaks : node_of (speaker_of history) < length (nodes_of history)
   pub built : services.built ≡ list_any ends_build history
   pub reporting : IsReporting (report_commands script history) (newest_fate script history) services.reporting

@@ -1,6 +1,6 @@
 use Rattle.std.proofs.Common.{◌≡◌, ℕ, List, take, drop}
 use Rattle.uvm_factory.specs.Observed.{types_of, step_at}
-use Rattle.bench_script.specs.Sound.{CanRegister}
+use Rattle.script_tables.specs.Rows.{CanRegister}
 use Rattle.bench_script.proofs.factories.register_all.Given as goal
 
 -- the types so far are registered, and the others can be

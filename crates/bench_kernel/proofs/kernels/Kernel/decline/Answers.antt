@@ -1,5 +1,5 @@
 use Rattle.bench_kernel.specs.Seating.{all_held}
-use Rattle.bench_kernel.specs.Seats.{paths_in}
+use Rattle.object_seats.specs.Seats.{paths_in}
 use Rattle.std.proofs.Common.{refl}
 use Rattle.bench_kernel.specs.Kernels.{KernelValue}
 use Rattle.bench_kernel.proofs.Kept.{below}

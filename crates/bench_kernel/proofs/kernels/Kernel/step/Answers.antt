@@ -4,7 +4,7 @@ use Rattle.uvm_object.specs.declared.entries.Entry.TheVariants.{Heard}
 use Rattle.bench_core.specs.declared.faults.CoreFault.TheVariants.{Memory}
 use Rattle.bench_core.specs.declared.cores.Health.TheVariants.{Broken}
 use Rattle.bench_kernel.specs.Seating.{all_held}
-use Rattle.bench_kernel.specs.Seats.{held_in, paths_in}
+use Rattle.object_seats.specs.Seats.{held_in, paths_in}
 use Rattle.bench_kernel.specs.Kernels.{KernelValue}
 use Rattle.bench_kernel.proofs.Kept.{asked-held, below, kept-failed, kept-heard, kept-moved, kept-needed, kept-told, kept-unanswered, leaver-ended, leaver-held}
 use Rattle.bench_kernel.proofs.Seated.{nodes-asked, seated-asked, seated-later, seated-told}

@@ -1,7 +1,7 @@
 use Rattle.std.proofs.Common.{◌≡◌, ◌∷◌, refl, sym, rules}
 use Rattle.std.specs.List.Sorted.{IsPermutation}
 use Rattle.bench_kernel.specs.Seating.{all_held}
-use Rattle.bench_kernel.specs.Seats.{paths_in}
+use Rattle.object_seats.specs.Seats.{paths_in}
 use Rattle.bench_kernel.specs.Kernels.{AreSeated, KernelValue, wanted_in}
 use Rattle.bench_kernel.proofs.Kept.{below}
 use Rattle.bench_kernel.proofs.Sitting.{seated-held}

@@ -1,5 +1,5 @@
 use Rattle.std.proofs.Common.{length, take}
-use Rattle.uvm_phase.specs.Owners.{AreCounted, owners_of}
+use Rattle.uvm_phase.specs.Owners.{CountsEach, owners_of}
 use Rattle.uvm_phase.proofs.owners.Owners.count_anew.Given as goal
 
 -- those so far are counted
@@ -7,4 +7,4 @@ abbrev pub invariant-loop-due : goal.invariant-loop-due
 invariant-loop-due g l =
     (goal.iterator-loop-due g).can_next l.due-iterator ×
     (goal.iterator-loop-due g).is_finite l.due-iterator ×
-    AreCounted g.O.PartialEq.eq l.self (owners_of (take (length l.yielded) l.dues.items))
+    CountsEach g.O.PartialEq.eq l.self (owners_of (take (length l.yielded) l.dues.items))

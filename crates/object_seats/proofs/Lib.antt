@@ -1,0 +1,4 @@
+mod Lists
+mod Numbers
+mod Places
+mod Sitters

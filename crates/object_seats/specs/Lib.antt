@@ -1,0 +1,5 @@
+pub mod Seats
+pub mod Places
+pub mod SequenceSeats
+pub mod Numbered
+pub mod Asked

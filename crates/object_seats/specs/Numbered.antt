@@ -1,0 +1,65 @@
+-- How the seats of the objects of sequences are kept: by their numbers.
+use Rattle.std.specs.Prelude.{◌≡◌, ◌<◌, ◌≤◌, ◌+◌, ℕ, zero, suc, List, [], ◌∷◌, ◌++◌, length, take, drop, slice_set, Option, None, Some, option_map, option_and_then}
+use Rattle.std.specs.List.{filter_map, slice_index_or}
+use Rattle.slab.specs.Slab.{Slab, get, slab_len}
+use Rattle.uvm_object.specs.declared.acts.Who.{Who}
+use Rattle.uvm_object.specs.declared.acts.Who.TheVariants.{Node, Sequence}
+use Rattle.object_seats.specs.declared.sequence_seats.SequenceSeat.{SequenceSeat}
+
+-- the place of a number, from 1
+abbrev pub place_in : ℕ → Option ℕ
+place_in zero = None
+place_in (suc place) = Some place
+
+-- the place of a sequence
+abbrev pub place_of : Who → Option ℕ
+place_of (Node node) = None
+place_of (Sequence id home) = place_in id
+
+-- the key of the seat of a sequence
+abbrev pub key_of : List (Option ℕ) → Who → Option ℕ
+key_of keys who = option_and_then (λ place. slice_index_or keys place None) (place_of who)
+
+module _ {O : Type 0} where
+  -- who sits in a seat, with the object
+  abbrev pub sitter_of : SequenceSeat O → Who × O
+  sitter_of seat = (Sequence seat.id seat.home, seat.object)
+
+  -- who sits at a place that has a key, if somebody does
+  abbrev pub sitter_at : Slab (SequenceSeat O) → Option ℕ → Option (Who × O)
+  sitter_at slab None = None
+  sitter_at slab (Some key) = option_map sitter_of (get slab key)
+
+  abbrev pub sitters_in : Slab (SequenceSeat O) → List (Option ℕ) → List (Who × O)
+  sitters_in slab keys = filter_map (sitter_at slab) keys
+
+  -- the sequence of a number sits at a key
+  pub record SitsAt (slab : Slab (SequenceSeat O)) (key number : ℕ) : Type 0 where
+    pub seat : SequenceSeat O
+    pub there : get slab key ≡ Some seat
+    pub is : seat.id ≡ number
+
+  -- if there is a key, the sequence of that number sits at it
+  abbrev pub IsNumbered : Slab (SequenceSeat O) → ℕ → Option ℕ → Type 0
+  IsNumbered slab number None = Unit {0}
+  IsNumbered slab number (Some key) = SitsAt slab key number
+
+  -- and so on, from a number up
+  abbrev pub AreNumbered : Slab (SequenceSeat O) → ℕ → List (Option ℕ) → Type 0
+  AreNumbered slab number [] = Unit {0}
+  AreNumbered slab number (key ∷ keys) = IsNumbered slab number key × AreNumbered slab (suc number) keys
+
+  -- each key leads to the sequence of its place's number, nobody else sits, and no place below this one has a key
+  pub record AreSequenceSeats (slab : Slab (SequenceSeat O)) (keys : List (Option ℕ)) (first : ℕ) : Type 0 where
+    pub numbered : AreNumbered slab 1 keys
+    pub full : length (sitters_in slab keys) ≡ slab_len slab
+    pub within : first ≤ length keys
+    pub empty : (place : ℕ) → place < first → slice_index_or keys place None ≡ None
+
+  -- who sat at a place has left, and the others are who they were
+  pub record IsLeft (back : Who × O) (slab new : Slab (SequenceSeat O)) (keys : List (Option ℕ)) (place : ℕ) : Type 0 where
+    pub found : sitter_at slab (slice_index_or keys place None) ≡ Some back
+    pub was : sitters_in slab keys ≡ sitters_in slab (take place keys) ++ back ∷ sitters_in slab (drop (suc place) keys)
+    pub is : sitters_in new (slice_set keys place None) ≡ sitters_in slab (take place keys) ++ sitters_in slab (drop (suc place) keys)
+    pub numbered : AreNumbered new 1 (slice_set keys place None)
+    pub fewer : slab_len new + 1 ≡ slab_len slab

@@ -1,0 +1,10 @@
+use Rattle.std.proofs.Common.{◌≡◌, drop}
+use Rattle.toml.specs.View.{table_view, items_view}
+use Rattle.script_values.specs.Elements.{rows_from}
+use Rattle.script_tables.specs.ReportTables.{severity_row, severities_in}
+use Rattle.script_tables.proofs.report_tables.read_severities.Given as goal
+
+-- the rows so far, and those of the elements that are left
+abbrev pub invariant-loop-element : goal.invariant-loop-element
+invariant-loop-element l =
+    severities_in (table_view l.root) ≡ rows_from (λ _. severity_row) l.rows.items (items_view (drop l.element-index l.element-items))

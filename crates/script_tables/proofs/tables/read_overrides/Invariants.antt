@@ -1,0 +1,12 @@
+use Rattle.std.proofs.Common.{◌≡◌, drop, All}
+use Rattle.toml.specs.View.{table_view, items_view}
+use Rattle.script_tables.specs.Rows.{CanOverride}
+use Rattle.script_values.specs.Elements.{rows_from}
+use Rattle.script_tables.specs.Tables.{override_row, overrides_in}
+use Rattle.script_tables.proofs.tables.read_overrides.Given as goal
+
+-- the rows so far, and those of the elements that are left
+abbrev pub invariant-loop-element : goal.invariant-loop-element
+invariant-loop-element l =
+    (overrides_in l.types (table_view l.root) ≡ rows_from (λ _. override_row l.types) l.rows.items (items_view (drop l.element-index l.element-items)))
+    × All (CanOverride l.types) l.rows.items

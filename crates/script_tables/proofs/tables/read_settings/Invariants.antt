@@ -1,0 +1,13 @@
+use Rattle.std.proofs.Common.{◌≡◌, ◌≤◌, length, drop}
+use Rattle.toml.specs.View.{table_view, items_view}
+use Rattle.uvm_config.specs.Answers.{most_settings}
+use Rattle.script_values.specs.Elements.{rows_from}
+use Rattle.script_tables.specs.Tables.{setting_row, settings_in}
+use Rattle.script_tables.proofs.tables.read_settings.Given as goal
+
+-- the rows so far, and those of the elements that are left
+abbrev pub invariant-loop-element : goal.invariant-loop-element
+invariant-loop-element l =
+    (settings_in (table_view l.root) ≡ rows_from (λ _. setting_row) l.rows.items (items_view (drop l.element-index l.element-items)))
+    × (length l.rows.items ≡ l.element-index)
+    × (length l.element-items ≤ most_settings)

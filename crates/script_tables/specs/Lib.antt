@@ -1,0 +1,11 @@
+pub mod Rows
+pub mod Tables
+pub mod ReportTables
+pub use Rattle.uvm_config.specs.Answers
+pub use Rattle.uvm_factory.specs.Faults
+pub use Rattle.uvm_factory.specs.Overrides
+pub use Rattle.uvm_factory.specs.Steps
+pub use Rattle.uvm_glob.specs.Globs
+pub use Rattle.uvm_glob.specs.Names
+pub use Rattle.uvm_glob.specs.Paths
+pub use Rattle.uvm_report.specs.Severities

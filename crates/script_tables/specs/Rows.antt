@@ -1,0 +1,28 @@
+-- What holds of the rows of every script.
+use Rattle.std.specs.Prelude.{◌≡◌, ℕ, ◌<◌, ◌≤◌, [], ◌∷◌, ◌++◌, length, None}
+use Rattle.uvm_factory.specs.declared.overrides.Override.{Override}
+use Rattle.uvm_factory.specs.Faults.{Types, register_fault, override_fault}
+use Rattle.uvm_factory.specs.Steps.{original_of, new_of}
+use Rattle.script_tables.specs.declared.rows.Probe.{Probe}
+use Rattle.script_tables.specs.declared.report_settings.VerbositySetting.{VerbositySetting}
+
+-- the greatest level of verbosity
+abbrev pub most_level : ℕ
+most_level = 10000
+
+-- each of the types may be registered after those before it
+abbrev pub CanRegister : Types → Types → Type 0
+CanRegister before [] = Unit {0}
+CanRegister before (t ∷ types) = (register_fault before t.0 ≡ None) × CanRegister (before ++ t ∷ []) types
+
+-- an override goes from a type to one of its kind
+abbrev pub CanOverride : Types → Override → Type 0
+CanOverride types o = override_fault types (original_of o) (new_of o) ≡ None
+
+-- a probe asks for a type
+abbrev pub CanProbe : Types → Probe → Type 0
+CanProbe types probe = probe.type_id < length types
+
+-- a level of verbosity is in range
+abbrev pub HasLevelInRange : VerbositySetting → Type 0
+HasLevelInRange setting = setting.level ≤ most_level

@@ -1,0 +1,14 @@
+//! The arrays of tables of a script: what their rows say, and how they are read.
+#![tactic(auto)]
+
+mod report_settings;
+mod report_tables;
+mod rows;
+mod tables;
+mod type_tables;
+
+pub use report_settings::{ActionSetting, SeverityChange, VerbositySetting};
+pub use report_tables::{read_actions, read_severities, read_verbosities};
+pub use rows::{Probe, Setting};
+pub use tables::{read_overrides, read_probes, read_settings, read_types};
+pub use type_tables::{TypeTable, type_among};

@@ -45,9 +45,11 @@ impl<'a> Whims<Counted<'a>> for Supplies<'a> {
         false
     }
 
-    fn other_type(&mut self) -> Option<Name> {
+    fn other_type(&mut self, needed: &Name) -> Option<Name> {
+        let idle = Name::literal("idle");
         match self.others_first {
-            true => Some(Name::literal("idle")),
+            true if idle == *needed => Some(Name::literal("loud")),
+            true => Some(idle),
             false => None,
         }
     }
@@ -63,10 +65,10 @@ pub fn check_file<R: Files + AllocGlobal>(rt: &R, file: &str) -> Result<Checked,
     check_bytes(rt.alloc(), bytes.as_slice())
 }
 
-/// Runs a bench that needs no object of the type `idle`: as it is; with an object of that type supplied first wherever one is needed, which
-/// is turned away and changes nothing; and once for each call that it hears, to which the object gives no answer. Then the run breaks off for
-/// want of memory, with the log before that call, and each later step answers that it failed. Each object comes back and is dropped, once.
-/// The error says that it is no bench, or which check fails.
+/// Runs a bench as it is; with an object of another type supplied first wherever one is needed (of the type `idle`, or where that is
+/// needed `loud`), which is turned away and changes nothing; and once for each call that it hears, to which the object gives no answer. Then
+/// the run breaks off for want of memory, with the log before that call, and each later step answers that it failed. Each object comes back
+/// and is dropped, once. The error says that it is no bench, or which check fails.
 pub fn check_bytes(alloc: Global, bytes: &[u8]) -> Result<Checked, End> {
     let root = read_document(alloc, bytes)?;
     check_table(alloc, &root)

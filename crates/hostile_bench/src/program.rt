@@ -104,7 +104,7 @@ fn tell_checks<O: Write, E: Write>(checks: Result<Checked, End>, out: &mut O, er
     match checks {
         Ok(Checked { calls, turned_away }) => match writeln!(
             out,
-            "{calls} calls, each not answered once; {turned_away} objects, each behind one of another type"
+            "calls: {calls}, each not answered once; objects: {turned_away}, each behind one of another type"
         ) {
             Ok(()) => 0,
             Err(_) => BROKEN,

@@ -42,7 +42,7 @@ impl Whims<Wild> for Moods {
         self.dice.one_in(12)
     }
 
-    fn other_type(&mut self) -> Option<Name> {
+    fn other_type(&mut self, _needed: &Name) -> Option<Name> {
         match self.dice.one_in(12) {
             true => Some(Name::literal("other")),
             false => None,

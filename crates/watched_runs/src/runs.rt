@@ -34,8 +34,8 @@ pub trait Whims<P: Part>: Drop {
     /// Tells whether the kernel is asked once more where an object is needed.
     fn asks_again(&mut self) -> bool;
 
-    /// Gives the type of an object that is supplied first where another is needed, if one is.
-    fn other_type(&mut self) -> Option<Name>;
+    /// Gives the type of an object that is supplied first where one of a type is needed, if one is: another than that.
+    fn other_type(&mut self, needed: &Name) -> Option<Name>;
 
     /// Tells whether there is no object where one is needed.
     fn declines(&mut self) -> bool;
@@ -187,9 +187,7 @@ fn meet<P: Part, W: Whims<P>>(
     if play.whims.asks_again() {
         asks_again(kernel, play)?;
     }
-    if let Some(other) = play.whims.other_type() {
-        supply_another(alloc, kernel, play, &other)?;
-    }
+    supply_another(alloc, kernel, play)?;
     if play.whims.declines() {
         decline(kernel)?;
     } else {
@@ -209,17 +207,19 @@ fn asks_again<P: Part, W: Whims<P>>(
     }
 }
 
-// Supplies an object of another type than is needed, which is to come back as it is.
+// Supplies an object of another type than is needed, if one comes first, which is to come back as it is.
 fn supply_another<P: Part, W: Whims<P>>(
     alloc: Global,
     kernel: &mut Kernel<Object<P>>,
     play: &mut Play<W>,
-    other: &Name,
 ) -> Result<(), Flaw> {
-    let object = object(alloc, play, other)?;
-    let Some(_) = kernel.need() else {
+    let Some(need) = kernel.need() else {
         return Err(Flaw::NeedLost);
     };
+    let Some(other) = play.whims.other_type(&need.type_name) else {
+        return Ok(());
+    };
+    let object = object(alloc, play, &other)?;
     match kernel.supply(object) {
         Ok(()) => Err(Flaw::WrongTaken),
         Err(unfit) => note_unfit(&unfit, play),

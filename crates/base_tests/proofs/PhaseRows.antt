@@ -2,7 +2,7 @@
 use Rattle.std.proofs.Common.{◌≡◌, ℕ, List, Some, None, refl}
 use Rattle.std.specs.Prelude.{codes, Bool, true, false, Option}
 use Rattle.uvm_phase.specs.declared.phases.Phase.{Phase}
-use Rattle.uvm_phase.specs.declared.phases.Phase.TheVariants.{Build, Connect, EndOfElaboration, StartOfSimulation, Run, Extract, Check, Report, Final}
+use Rattle.uvm_phase.specs.declared.phases.Phase.TheVariants.{Build, Connect, EndOfElaboration, StartOfSimulation, Run, Extract, Check, Report, Final, PreReset, Reset, PostReset, PreConfigure, Configure, PostConfigure, PreMain, Main, PostMain, PreShutdown, Shutdown, PostShutdown}
 use Rattle.uvm_phase.specs.Phases.{phase_number, phase_name, phase_after, is_top_down, is_task}
 
 -- what is said of a phase
@@ -35,3 +35,39 @@ report-comes-after-check = refl
 
 final-is-last-and-top-down : said Final ≡ (8, codes "final", None, true, false)
 final-is-last-and-top-down = refl
+
+pre-reset-comes-before-reset : said PreReset ≡ (9, codes "pre_reset", Some Reset, false, true)
+pre-reset-comes-before-reset = refl
+
+reset-comes-before-post-reset : said Reset ≡ (10, codes "reset", Some PostReset, false, true)
+reset-comes-before-post-reset = refl
+
+post-reset-comes-before-pre-configure : said PostReset ≡ (11, codes "post_reset", Some PreConfigure, false, true)
+post-reset-comes-before-pre-configure = refl
+
+pre-configure-comes-before-configure : said PreConfigure ≡ (12, codes "pre_configure", Some Configure, false, true)
+pre-configure-comes-before-configure = refl
+
+configure-comes-before-post-configure : said Configure ≡ (13, codes "configure", Some PostConfigure, false, true)
+configure-comes-before-post-configure = refl
+
+post-configure-comes-before-pre-main : said PostConfigure ≡ (14, codes "post_configure", Some PreMain, false, true)
+post-configure-comes-before-pre-main = refl
+
+pre-main-comes-before-main : said PreMain ≡ (15, codes "pre_main", Some Main, false, true)
+pre-main-comes-before-main = refl
+
+main-comes-before-post-main : said Main ≡ (16, codes "main", Some PostMain, false, true)
+main-comes-before-post-main = refl
+
+post-main-comes-before-pre-shutdown : said PostMain ≡ (17, codes "post_main", Some PreShutdown, false, true)
+post-main-comes-before-pre-shutdown = refl
+
+pre-shutdown-comes-before-shutdown : said PreShutdown ≡ (18, codes "pre_shutdown", Some Shutdown, false, true)
+pre-shutdown-comes-before-shutdown = refl
+
+shutdown-comes-before-post-shutdown : said Shutdown ≡ (19, codes "shutdown", Some PostShutdown, false, true)
+shutdown-comes-before-post-shutdown = refl
+
+post-shutdown-comes-before-extract-as-run-does : said PostShutdown ≡ (20, codes "post_shutdown", Some Extract, false, true)
+post-shutdown-comes-before-extract-as-run-does = refl

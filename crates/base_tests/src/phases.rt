@@ -24,6 +24,29 @@ fn nine_phases_follow_one_another(rt: HostRuntime) {
     assert!(rt; phase == None);
 }
 
+#[test]
+fn twelve_runtime_phases_follow_one_another_and_then_comes_extract(rt: HostRuntime) {
+    let mut phase = Some(Phase::PreReset);
+    for name in [
+        "pre_reset",
+        "reset",
+        "post_reset",
+        "pre_configure",
+        "configure",
+        "post_configure",
+        "pre_main",
+        "main",
+        "post_main",
+        "pre_shutdown",
+        "shutdown",
+        "post_shutdown",
+    ] {
+        assert!(rt; is_named(phase, name), "{name}");
+        phase = after(phase);
+    }
+    assert!(rt; phase == Some(Phase::Extract));
+}
+
 fn is_named(phase: Option<Phase>, name: &str) -> bool {
     match phase {
         Some(phase) => phase.name() == name,
@@ -40,6 +63,7 @@ fn build_and_final_are_top_down_and_run_takes_time(rt: HostRuntime) {
     assert!(rt; Phase::Build.is_top_down() && Phase::Final.is_top_down());
     assert!(rt; !Phase::Run.is_top_down() && Phase::Run.is_task() && !Phase::Build.is_task());
     assert!(rt; Phase::Run.number() == 4);
+    assert!(rt; Phase::Main.is_runtime() && Phase::Main.is_task() && !Phase::Run.is_runtime());
 }
 
 // A call at 5, another at 5 with an earlier cause, and one at 2, each of an owner of its own. The last is of another phase.

@@ -4,7 +4,6 @@ use Rattle.std.specs.List.{All, list_any}
 use Rattle.std.proofs.lemmas.Bool.Decides.{nat_tests}
 use Rattle.std.proofs.lemmas.List.Elements.{All-head, All-tail}
 use Rattle.uvm_phase.specs.declared.phases.Phase.{Phase}
-use Rattle.uvm_phase.specs.declared.phases.Phase.TheVariants.{Build, Connect, EndOfElaboration, StartOfSimulation, Run, Extract, Check, Report, Final}
 use Rattle.uvm_phase.specs.Phases.{same_phase}
 use Rattle.uvm_sequences.specs.Sequences.{numbered}
 use Rattle.uvm_tree.specs.Nodes.{Node}
@@ -172,15 +171,7 @@ pub begin-runs : (script : ScriptValue) (history : List Entry) (phase other : Ph
 begin-runs script history phase other next runs = none-runs (stage_of history) other phase (begins-case script history phase (next_of script history) (begin-alone phase (next_of script history) next) (case-of script history)) runs
 
 pub same-itself : (phase : Phase) → same_phase phase phase ≡ true
-same-itself Build = refl
-same-itself Connect = refl
-same-itself EndOfElaboration = refl
-same-itself StartOfSimulation = refl
-same-itself Run = refl
-same-itself Extract = refl
-same-itself Check = refl
-same-itself Report = refl
-same-itself Final = refl
+same-itself phase = grind (arith, nat_tests)
 
 -- a phase runs, or has ended
 pub data Stands (history : List Entry) (phase : Phase) : Type 0 where

@@ -5,7 +5,7 @@ use Rattle.bench_history.specs.Arbitration.{next_locked, next_served}
 use Rattle.std.specs.List.{list_any}
 use Rattle.uvm_phase.specs.declared.phases.Phase.{Phase}
 use Rattle.uvm_phase.specs.declared.phases.Phase.TheVariants.{Build, Connect, EndOfElaboration, StartOfSimulation, Run, Extract, Check, Report, Final}
-use Rattle.uvm_phase.specs.Phases.{phases}
+use Rattle.uvm_phase.specs.Phases.{common_phases}
 use Rattle.uvm_object.specs.declared.acts.Act.{Act}
 use Rattle.uvm_object.specs.declared.fatals.Fatal.{Fatal}
 use Rattle.uvm_object.specs.declared.entries.Reason.{Reason}
@@ -23,7 +23,7 @@ use Rattle.bench_history.specs.Wires.{is_past_connect, ends_connect, next_unsoun
 use Rattle.bench_history.specs.Passing.{next_passed}
 use Rattle.bench_history.specs.Cases.{Next, Exactly}
 use Rattle.bench_history.specs.Next.{next_of, Allows, IsNext}
-use Rattle.bench_history.specs.Laws.{WiringStays, ConnectFollowsBuild, TasksFollowConnect, is_connect_last, is_in_connect, has_nothing_left, next_number}
+use Rattle.bench_history.specs.Laws.{WiringStays, ConnectFollowsBuild, TasksFollowConnect, is_common, is_connect_last, is_in_connect, has_nothing_left, next_number}
 use Rattle.bench_history.specs.Refusals.{in_task}
 use Rattle.bench_history.proofs.Ended.{nothing-comes}
 use Rattle.bench_history.proofs.Phased.{phases_go_in_order}
@@ -131,7 +131,7 @@ built-ended (End phase ∷ history) = ap (λ b. ends_build (End phase) || b) (bu
 built-ended (entry ∷ history) = built-ended history
 
 -- and so it is where connect runs, or has just ended
-build-first : (stage : Stage) (ended : List Phase) → is_in_connect stage ≡ true → ((stage ≡ Ended → ⊥) → ended ≡ reverse (take (next_number stage) phases)) → list_any (λ phase. ends_build (End phase)) ended ≡ true
+build-first : (stage : Stage) (ended : List Phase) → is_in_connect stage ≡ true → ((stage ≡ Ended → ⊥) → ended ≡ reverse (take (next_number stage) common_phases)) → list_any (λ phase. ends_build (End phase)) ended ≡ true
 build-first (During Connect) ended runs are = rw (are (λ e. cc)) refl
 build-first (After Connect) ended runs are = rw (are (λ e. cc)) refl
 build-first stage ended runs are = cc
@@ -146,19 +146,22 @@ past-ended (End phase ∷ history) = ap (λ b. ends_connect (End phase) || b) (p
 past-ended (entry ∷ history) = past-ended history
 
 -- and connect has ended where a phase runs that takes time
-task-after : (stage : Stage) (ended : List Phase) → in_task (running stage) ≡ true → ((stage ≡ Ended → ⊥) → ended ≡ reverse (take (next_number stage) phases)) → list_any (λ phase. ends_connect (End phase)) ended ≡ true
-task-after (During Run) ended task are = rw (are (λ e. cc)) refl
-task-after (During Build) ended task are = cc
-task-after (During Connect) ended task are = cc
-task-after (During EndOfElaboration) ended task are = cc
-task-after (During StartOfSimulation) ended task are = cc
-task-after (During Extract) ended task are = cc
-task-after (During Check) ended task are = cc
-task-after (During Report) ended task are = cc
-task-after (During Final) ended task are = cc
-task-after Before ended task are = cc
-task-after (After phase) ended task are = cc
-task-after Ended ended task are = cc
+task-after : (stage : Stage) (ended : List Phase) → is_common stage ≡ true → in_task (running stage) ≡ true → ((stage ≡ Ended → ⊥) → ended ≡ reverse (take (next_number stage) common_phases)) → list_any (λ phase. ends_connect (End phase)) ended ≡ true
+task-after (During Run) ended common task are = rw (are (λ e. cc)) refl
+task-after (During Build) ended common task are = cc
+task-after (During Connect) ended common task are = cc
+task-after (During EndOfElaboration) ended common task are = cc
+task-after (During StartOfSimulation) ended common task are = cc
+task-after (During Extract) ended common task are = cc
+task-after (During Check) ended common task are = cc
+task-after (During Report) ended common task are = cc
+task-after (During Final) ended common task are = cc
+task-after (During phase) ended common task are = cc
+task-after Before ended common task are = cc
+task-after (After phase) ended common task are = cc
+task-after Ended ended common task are = cc
 
 pub tasks_follow_connect : TasksFollowConnect
-tasks_follow_connect script history each task = past-ended history ∙ task-after (stage_of history) (ended_of history) task (phases_go_in_order script history each).are
+tasks_follow_connect script history each task =
+    let order = phases_go_in_order script history each in
+    past-ended history ∙ task-after (stage_of history) (ended_of history) order.common task order.are

@@ -1,9 +1,9 @@
 -- What holds of all logs, or of all in which each entry was next, as in each legal one, and of what comes next in them.
-use Rattle.std.specs.Prelude.{◌≡◌, ◌<◌, ◌≤◌, ◌+◌, ◌⊎◌, ℕ, suc, Bool, true, false, ◌&&◌, is_none, List, [], ◌∷◌, ◌++◌, length, reverse, take, Option, Some, None, option_and_then, option_map, IsSome, IfSome, All, Contains}
+use Rattle.std.specs.Prelude.{◌≡◌, ◌<◌, ◌≤◌, ◌+◌, ◌⊎◌, ℕ, suc, Bool, true, false, not, ◌&&◌, is_none, List, [], ◌∷◌, ◌++◌, length, reverse, take, Option, Some, None, option_and_then, option_map, IsSome, IfSome, All, Contains}
 use Rattle.uvm_phase.specs.declared.agendas.Cause.{Cause}
 use Rattle.uvm_phase.specs.declared.phases.Phase.TheVariants.{Connect}
 use Rattle.uvm_phase.specs.declared.phases.Phase.{Phase}
-use Rattle.uvm_phase.specs.Phases.{phases, phase_number}
+use Rattle.uvm_phase.specs.Phases.{common_phases, is_runtime, phase_number}
 use Rattle.uvm_sequencer.specs.Drivers.{hand_of}
 use Rattle.uvm_sequences.specs.Sequences.{numbered}
 use Rattle.uvm_tree.specs.Nodes.{Node, AreNodes, node_at, path_at}
@@ -39,17 +39,24 @@ use Rattle.bench_history.specs.Upshots.{starting_now}
 use Rattle.bench_history.specs.Cases.{Next, Exactly, Answer, Need, Grant, Nothing, by_act, chosen_at}
 use Rattle.bench_history.specs.Next.{next_of, need_in, IsAct, IsNext, EachIsNext}
 
--- the number of the next phase that may begin, or of the one that runs; at the end that of all phases
+-- the number of the next phase that may begin, or of the one that runs; at the end that of all common phases
 abbrev pub next_number : Stage → ℕ
 next_number Before = 0
 next_number (During phase) = phase_number phase
 next_number (After phase) = phase_number phase + 1
-next_number Ended = length phases
+next_number Ended = length common_phases
 
--- the phases go in their order: until the end those that have ended are the first of the nine, each once, and so they stand before the one
--- that runs, or may begin next
+-- no run-time phase runs, and none has just ended
+abbrev pub is_common : Stage → Bool
+is_common (During phase) = not (is_runtime phase)
+is_common (After phase) = not (is_runtime phase)
+is_common stage = true
+
+-- the phases go in their order: none is a run-time phase, until the end those that have ended are the first of the nine common ones, each
+-- once, and so they stand before the one that runs, or may begin next
 pub record ArePhasesInOrder (history : List Entry) : Type 0 where
-  pub are : (stage_of history ≡ Ended → ⊥) → ended_of history ≡ reverse (take (next_number (stage_of history)) phases)
+  pub common : is_common (stage_of history) ≡ true
+  pub are : (stage_of history ≡ Ended → ⊥) → ended_of history ≡ reverse (take (next_number (stage_of history)) common_phases)
   pub before : All (λ phase. phase_number phase < next_number (stage_of history)) (ended_of history)
 
 abbrev pub PhasesGoInOrder : Type 0

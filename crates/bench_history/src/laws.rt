@@ -10,8 +10,8 @@ use uvm_report::laws as reports;
 use uvm_sequencer::laws as sequencers;
 use uvm_tree::laws as trees;
 
-/// The phases go in their order (IEEE 1800.2-2020, Clause 9): until the end of the run those that have ended are the first of the
-/// nine, each once, and so they stand before the one that runs, or may begin next.
+/// The phases go in their order (IEEE 1800.2-2020, Clause 9): none is a run-time phase, until the end of the run those that have ended
+/// are the first of the nine common ones, each once, and so they stand before the one that runs, or may begin next.
 #[tactic(auto, using(crate::proofs::Phased::phases_go_in_order))]
 pub fn phases_go_in_order()
     ensures { PhasesGoInOrder }

@@ -1,11 +1,19 @@
 -- The phases in order.
-use Rattle.std.specs.Prelude.{ℕ, Bool, true, false, ◌==◌, ◌+◌, List, [], ◌∷◌, Option, slice_get, codes}
+use Rattle.std.specs.Prelude.{ℕ, Bool, true, false, ◌||◌, ◌==◌, ◌+◌, nat_lt, List, [], ◌∷◌, ◌++◌, Option, Some, None, slice_get, codes}
 use Rattle.uvm_phase.specs.declared.phases.Phase.{Phase}
-use Rattle.uvm_phase.specs.declared.phases.Phase.TheVariants.{Build, Connect, EndOfElaboration, StartOfSimulation, Run, Extract, Check, Report, Final}
+use Rattle.uvm_phase.specs.declared.phases.Phase.TheVariants.{Build, Connect, EndOfElaboration, StartOfSimulation, Run, Extract, Check, Report, Final, PreReset, Reset, PostReset, PreConfigure, Configure, PostConfigure, PreMain, Main, PostMain, PreShutdown, Shutdown, PostShutdown}
 
--- all phases in the order in which they run
+-- the common phases in the order in which they run
+abbrev pub common_phases : List Phase
+common_phases = Build ∷ Connect ∷ EndOfElaboration ∷ StartOfSimulation ∷ Run ∷ Extract ∷ Check ∷ Report ∷ Final ∷ []
+
+-- the run-time phases, which run one after another beside run
+abbrev pub runtime_phases : List Phase
+runtime_phases = PreReset ∷ Reset ∷ PostReset ∷ PreConfigure ∷ Configure ∷ PostConfigure ∷ PreMain ∷ Main ∷ PostMain ∷ PreShutdown ∷ Shutdown ∷ PostShutdown ∷ []
+
+-- all phases by their numbers
 abbrev pub phases : List Phase
-phases = Build ∷ Connect ∷ EndOfElaboration ∷ StartOfSimulation ∷ Run ∷ Extract ∷ Check ∷ Report ∷ Final ∷ []
+phases = common_phases ++ runtime_phases
 
 -- where a phase stands among them
 abbrev pub phase_number : Phase → ℕ
@@ -18,13 +26,27 @@ phase_number Extract = 5
 phase_number Check = 6
 phase_number Report = 7
 phase_number Final = 8
+phase_number PreReset = 9
+phase_number Reset = 10
+phase_number PostReset = 11
+phase_number PreConfigure = 12
+phase_number Configure = 13
+phase_number PostConfigure = 14
+phase_number PreMain = 15
+phase_number Main = 16
+phase_number PostMain = 17
+phase_number PreShutdown = 18
+phase_number Shutdown = 19
+phase_number PostShutdown = 20
 
 -- whether two phases are one
 abbrev pub same_phase : Phase → Phase → Bool
 same_phase a b = phase_number a == phase_number b
 
--- the phase after one, in that list
+-- the phase after one, of its sort; behind the last run-time phase, as behind run, comes extract
 abbrev pub phase_after : Phase → Option Phase
+phase_after Final = None
+phase_after PostShutdown = Some Extract
 phase_after phase = slice_get phases (phase_number phase + 1)
 
 -- whether a phase comes to parents before their children: build and final do
@@ -33,10 +55,13 @@ is_top_down Build = true
 is_top_down Final = true
 is_top_down phase = false
 
--- whether a phase takes simulated time: run does
+-- whether it is a run-time phase: these have the numbers behind those of the common ones
+abbrev pub is_runtime : Phase → Bool
+is_runtime phase = nat_lt (phase_number Final) (phase_number phase)
+
+-- whether a phase takes simulated time: run does, and so does each run-time phase
 abbrev pub is_task : Phase → Bool
-is_task Run = true
-is_task phase = false
+is_task phase = same_phase phase Run || is_runtime phase
 
 abbrev pub phase_name : Phase → List ℕ
 phase_name Build = codes "build"
@@ -48,3 +73,15 @@ phase_name Extract = codes "extract"
 phase_name Check = codes "check"
 phase_name Report = codes "report"
 phase_name Final = codes "final"
+phase_name PreReset = codes "pre_reset"
+phase_name Reset = codes "reset"
+phase_name PostReset = codes "post_reset"
+phase_name PreConfigure = codes "pre_configure"
+phase_name Configure = codes "configure"
+phase_name PostConfigure = codes "post_configure"
+phase_name PreMain = codes "pre_main"
+phase_name Main = codes "main"
+phase_name PostMain = codes "post_main"
+phase_name PreShutdown = codes "pre_shutdown"
+phase_name Shutdown = codes "shutdown"
+phase_name PostShutdown = codes "post_shutdown"

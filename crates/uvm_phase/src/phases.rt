@@ -1,9 +1,10 @@
 //! The phases and their order.
 
 ghost use Rattle.std.specs.Prelude.{◌≡◌, Some};
-ghost use Rattle.uvm_phase.specs.Phases.{phase_number, phase_after, is_top_down, is_task, phase_name};
+ghost use Rattle.uvm_phase.specs.Phases.{phase_number, phase_after, is_top_down, is_runtime, is_task, phase_name};
 
-/// A phase, in the order in which they run (IEEE 1800.2-2020, Clause 9). `Run` alone takes simulated time.
+/// A phase (IEEE 1800.2-2020, Clause 9): the nine common phases in the order in which they run, and behind them the twelve run-time
+/// phases, which run one after another beside `Run`. `Run` and the run-time phases take simulated time.
 #[derive(Clone, Copy, PartialEq, Eq)]
 pub enum Phase {
     /// Components are made and configured.
@@ -24,10 +25,34 @@ pub enum Phase {
     Report,
     /// What is open is closed.
     Final,
+    /// The design is about to be reset.
+    PreReset,
+    /// The design is reset.
+    Reset,
+    /// The design was reset.
+    PostReset,
+    /// The design is about to be configured.
+    PreConfigure,
+    /// The design is configured.
+    Configure,
+    /// The design was configured.
+    PostConfigure,
+    /// The main stimulus is about to be given.
+    PreMain,
+    /// The main stimulus is given.
+    Main,
+    /// The main stimulus was given.
+    PostMain,
+    /// What is left in the design is about to be drained.
+    PreShutdown,
+    /// What is left in the design is drained.
+    Shutdown,
+    /// What was left in the design was drained.
+    PostShutdown,
 }
 
 impl Phase {
-    /// Where the phase stands in the order of all, from 0.
+    /// The number of the phase, from 0: the common phases in their order, and then the run-time phases in theirs.
     pub fn number(self) -> u8
         ensures { result ≡ phase_number self }
     {
@@ -48,6 +73,18 @@ impl Phase {
             Phase::Check => "check",
             Phase::Report => "report",
             Phase::Final => "final",
+            Phase::PreReset => "pre_reset",
+            Phase::Reset => "reset",
+            Phase::PostReset => "post_reset",
+            Phase::PreConfigure => "pre_configure",
+            Phase::Configure => "configure",
+            Phase::PostConfigure => "post_configure",
+            Phase::PreMain => "pre_main",
+            Phase::Main => "main",
+            Phase::PostMain => "post_main",
+            Phase::PreShutdown => "pre_shutdown",
+            Phase::Shutdown => "shutdown",
+            Phase::PostShutdown => "post_shutdown",
         }
     }
 
@@ -59,15 +96,23 @@ impl Phase {
         matches!(self, Phase::Build | Phase::Final)
     }
 
-    /// Whether the phase is a task phase: it takes simulated time (Clause 9). Run is.
+    /// Whether the phase is one of the twelve run-time phases, pre_reset to post_shutdown (Clause 9).
+    pub fn is_runtime(self) -> bool
+        ensures { result ≡ is_runtime self }
+    {
+        self.number() > Phase::Final.number()
+    }
+
+    /// Whether the phase is a task phase: it takes simulated time (Clause 9). Run is, and so is each run-time phase.
     pub fn is_task(self) -> bool
         ensures { result ≡ is_task self }
     {
-        matches!(self, Phase::Run)
+        self == Phase::Run || self.is_runtime()
     }
 }
 
-/// The order of the phases, from build to final (IEEE 1800.2-2020, Clause 9).
+/// The order of the phases (IEEE 1800.2-2020, Clause 9): the common phases from build to final, and the run-time phases from
+/// pre_reset to post_shutdown. Behind the last of these, as behind run, comes extract.
 #[derive(Clone, Copy)]
 pub struct Schedule;
 
@@ -86,6 +131,18 @@ impl Schedule {
             Phase::Check => Some(Phase::Report),
             Phase::Report => Some(Phase::Final),
             Phase::Final => None,
+            Phase::PreReset => Some(Phase::Reset),
+            Phase::Reset => Some(Phase::PostReset),
+            Phase::PostReset => Some(Phase::PreConfigure),
+            Phase::PreConfigure => Some(Phase::Configure),
+            Phase::Configure => Some(Phase::PostConfigure),
+            Phase::PostConfigure => Some(Phase::PreMain),
+            Phase::PreMain => Some(Phase::Main),
+            Phase::Main => Some(Phase::PostMain),
+            Phase::PostMain => Some(Phase::PreShutdown),
+            Phase::PreShutdown => Some(Phase::Shutdown),
+            Phase::Shutdown => Some(Phase::PostShutdown),
+            Phase::PostShutdown => Some(Phase::Extract),
         }
     }
 }

@@ -110,6 +110,6 @@ holders_stay_nested = record {
   locks = λ started s seq nested is. nested-push started s.holders seq nested (lock-free started s seq is).under;
   unlocks = λ started s seq nested. nested-released started seq s.holders nested;
   leaves = λ started s seq nested. nested-left started (λ holder. not (holder == seq)) s.holders nested;
-  phase_ends = λ started s steps nested. nested-left started (is_live_at steps) s.holders nested;
+  phase_ends = λ started s steps ends nested. nested-left started (is_live_at steps) s.holders nested;
   starts = λ start started holders nested. nested-started start started holders nested;
 }

@@ -115,7 +115,7 @@ waits_stay_single = record {
   lock_grants = λ s seq single. single-left (λ request. not (is_lock_of seq request)) s.queue single;
   item_grants = λ s seq single. single-left (λ request. not (is_item_of seq request)) s.queue single;
   leaves = λ s seq single. single-left (λ request. not (is_of seq request)) s.queue single;
-  phase_ends = λ s steps single. single-left (λ request. is_live_at steps request.seq) s.queue single;
+  phase_ends = λ s steps ends single. single-left (λ request. is_live_at steps request.seq) s.queue single;
 }
 
 -- what passes a test and what does not are all

@@ -70,3 +70,20 @@ is_try (Some Try) = true
 is_try (Some Next) = false
 is_try (Some Get) = false
 is_try None = false
+
+-- how it asked, where the sequence that was granted and has not sent lives no longer
+abbrev pub lost_grant : (ℕ → Bool) → Driver → Option How
+lost_grant live Idle = None
+lost_grant live (Waiting how) = None
+lost_grant live (Granted seq how) = if live seq then None else Some how
+lost_grant live (InHand seq) = None
+
+-- after a phase ended: what it asked ends with its phase, and else the grant of a sequence that lives no longer lapses. An item in hand stays there
+abbrev pub kept_on : Bool → (ℕ → Bool) → Driver → Driver
+kept_on true live driver = Idle
+kept_on false live driver = left_by (lost_grant live driver) driver
+
+-- what lapses then is a `try`
+abbrev pub loses_try : Bool → (ℕ → Bool) → Driver → Bool
+loses_try true live driver = false
+loses_try false live driver = is_try (lost_grant live driver)

@@ -35,7 +35,7 @@ pub record HoldersStayNested : Type 0 where
   pub locks : (started : List Start) (s : SequencerValue) (seq : ℕ) → IsTrue (are_nested started s.holders) → lock_at started s ≡ Some seq → IsTrue (are_nested started (locked seq s).holders)
   pub unlocks : (started : List Start) (s : SequencerValue) (seq : ℕ) → IsTrue (are_nested started s.holders) → IsTrue (are_nested started (unlocked seq s).holders)
   pub leaves : (started : List Start) (s : SequencerValue) (seq : ℕ) → IsTrue (are_nested started s.holders) → IsTrue (are_nested started (after_leave seq s).holders)
-  pub phase_ends : (started : List Start) (s : SequencerValue) (steps : List (Option SeqStep)) → IsTrue (are_nested started s.holders) → IsTrue (are_nested started (after_phase steps s).holders)
+  pub phase_ends : (started : List Start) (s : SequencerValue) (steps : List (Option SeqStep)) (ends : Bool) → IsTrue (are_nested started s.holders) → IsTrue (are_nested started (after_phase steps ends s).holders)
   pub starts : (start : Start) (started : List Start) (holders : List ℕ) → IsTrue (are_nested started holders) → IsTrue (are_nested (start ∷ started) holders)
 
 -- a request of a list passes a test, and none before it does
@@ -99,7 +99,7 @@ pub record WaitsStaySingle : Type 0 where
   pub lock_grants : (s : SequencerValue) (seq : ℕ) → AreSingle s.queue → AreSingle (locked seq s).queue
   pub item_grants : (s : SequencerValue) (seq : ℕ) → AreSingle s.queue → AreSingle (granted seq s).queue
   pub leaves : (s : SequencerValue) (seq : ℕ) → AreSingle s.queue → AreSingle (after_leave seq s).queue
-  pub phase_ends : (s : SequencerValue) (steps : List (Option SeqStep)) → AreSingle s.queue → AreSingle (after_phase steps s).queue
+  pub phase_ends : (s : SequencerValue) (steps : List (Option SeqStep)) (ends : Bool) → AreSingle s.queue → AreSingle (after_phase steps ends s).queue
 
 -- each grant then ends one wait
 pub record EachGrantEndsAWait : Type 0 where

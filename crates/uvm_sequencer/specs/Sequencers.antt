@@ -14,7 +14,7 @@ use Rattle.uvm_sequencer.specs.declared.drivers.Driver.TheVariants.{Idle}
 use Rattle.uvm_sequencer.specs.declared.faults.SeqFault.{SeqFault}
 use Rattle.uvm_sequencer.specs.declared.faults.SeqFault.TheVariants.{NoDriver, Twice, NothingOut, NotHeld}
 use Rattle.uvm_sequencer.specs.Choices.{choice, readiness}
-use Rattle.uvm_sequencer.specs.Drivers.{is_idle, asked_by, grant_of, granted_by, hand_of, left_by, sent, wait_of}
+use Rattle.uvm_sequencer.specs.Drivers.{is_idle, asked_by, grant_of, granted_by, hand_of, kept_on, left_by, sent, wait_of}
 use Rattle.uvm_sequencer.specs.Faults.{or_fault}
 use Rattle.uvm_sequencer.specs.Queues.{item_request, lock_request, is_item_of, is_lock_of, without, without_item, without_lock, candidates, leading_lock, is_held, released, all_released}
 use Rattle.uvm_sequences.specs.declared.starts.SeqStep.{SeqStep}
@@ -74,9 +74,9 @@ after_leave seq s = record s { driver = left_by (grant_of seq s.driver) s.driver
 abbrev pub is_live_at : List (Option SeqStep) → ℕ → Bool
 is_live_at steps id = is_some (step_at steps id)
 
--- once a phase has ended: the driver is idle, and what sequences asked for and hold that live no longer is gone
-abbrev pub after_phase : List (Option SeqStep) → SequencerValue → SequencerValue
-after_phase steps s = record s { driver = Idle; queue = filter (λ request. is_live_at steps request.seq) s.queue; holders = filter (is_live_at steps) s.holders }
+-- once a phase has ended, and with it what the driver asked or not: what sequences asked for and hold that live no longer is gone
+abbrev pub after_phase : List (Option SeqStep) → Bool → SequencerValue → SequencerValue
+after_phase steps ends s = record s { driver = kept_on ends (is_live_at steps) s.driver; queue = filter (λ request. is_live_at steps request.seq) s.queue; holders = filter (is_live_at steps) s.holders }
 
 -- the port drives the sequencer
 abbrev pub is_driver : Option ℕ → ℕ → Bool

@@ -1,9 +1,10 @@
 //! What the driver of a sequencer waits for or has.
 
 ghost use Rattle.std.specs.Prelude.{◌≡◌};
-ghost use Rattle.uvm_sequencer.specs.Drivers.{is_idle, wait_of, grant_of, hand_of};
+ghost use Rattle.uvm_sequencer.specs.Drivers.{is_idle, is_try, wait_of, grant_of, hand_of, left_by, lost_grant};
+ghost use Rattle.uvm_sequencer.specs.Sequencers.{is_live_at};
 
-use uvm_sequences::SeqId;
+use uvm_sequences::{SeqId, Sequences};
 
 /// How a driver asks for an item.
 #[derive(Clone, Copy, PartialEq, Eq)]
@@ -66,6 +67,35 @@ impl Driver {
         match self {
             Driver::Granted(granted, how) if *granted == seq => Some(*how),
             _ => None,
+        }
+    }
+
+    // How it asked, where the sequence that was granted lives no longer.
+    pub(crate) fn lost(&self, sequences: &Sequences) -> Option<How>
+        ensures { result ≡ lost_grant (is_live_at sequences.now.steps) self.now }
+    {
+        match self {
+            Driver::Granted(granted, how) if !sequences.is_live(*granted) => Some(*how),
+            _ => None,
+        }
+    }
+
+    // The grant lapses for which it asked so, if there is one: a `Try` has its answer, and for another it waits again. Answers whether it
+    // was the grant of a `Try`.
+    pub(crate) fn lapse(&mut self, how: Option<How>) -> bool
+        ensures value { result ≡ is_try how }
+        ensures after { self.new ≡ left_by how self.old }
+    {
+        match how {
+            Some(How::Try) => {
+                *self = Driver::Idle;
+                true
+            }
+            Some(how) => {
+                *self = Driver::Waiting(how);
+                false
+            }
+            None => false,
         }
     }
 

@@ -6,7 +6,7 @@ ghost use Rattle.std.specs.Option.{option_and_then, IsSomeAnd};
 ghost use Rattle.uvm_glob.specs.Faults.{unless};
 ghost use Rattle.uvm_sequencer.specs.Choices.{choice, is_strict};
 ghost use Rattle.uvm_sequencer.specs.Contending.{without_place};
-ghost use Rattle.uvm_sequencer.specs.Drivers.{grant_of, is_try};
+ghost use Rattle.uvm_sequencer.specs.Drivers.{grant_of, is_try, loses_try};
 ghost use Rattle.uvm_sequencer.specs.Faults.{or_fault, refusal};
 ghost use Rattle.uvm_sequencer.specs.Passed.{IsPassed};
 ghost use Rattle.uvm_sequencer.specs.Queues.{AreSingle, all_released, candidates, is_blocked, is_held, is_item, lock_in, released};
@@ -229,27 +229,26 @@ impl Sequencer {
     {
         self.queue.leave(seq);
         give_back_all(&mut self.holders, seq);
-        match self.driver.grant(seq) {
-            Some(How::Try) => {
-                self.driver = Driver::Idle;
-                true
-            }
-            Some(how) => {
-                self.driver = Driver::Waiting(how);
-                false
-            }
-            None => false,
-        }
+        let grant = self.driver.grant(seq);
+        self.driver.lapse(grant)
     }
 
-    /// A phase ended, and with it what the driver asked and some sequences: the driver is idle, as after `end_ask`, and what sequences
-    /// asked for and hold that live no longer is gone. The time is that of one look at the queue and the holders.
-    pub fn end_phase(&mut self, sequences: &Sequences)
-        ensures { self.new ≡ after_phase sequences.now.steps self.old }
+    /// A phase ended, and with it some sequences, and what the driver asked where `ends` says so: the driver is then idle, as after
+    /// `end_ask`. What sequences asked for and hold that live no longer is gone; where the driver's ask goes on, an unsent grant of such
+    /// a sequence lapses, as with `leave`, and an item in hand stays there. Answers whether the grant of a `Try` lapsed. The time is
+    /// that of one look at the queue and the holders.
+    pub fn end_phase(&mut self, sequences: &Sequences, ends: bool) -> bool
+        ensures value { result ≡ loses_try ends (is_live_at sequences.now.steps) self.old.driver }
+        ensures after { self.new ≡ after_phase sequences.now.steps ends self.old }
     {
         self.queue.keep_live(sequences);
         keep_held(&mut self.holders, sequences);
-        self.driver = Driver::Idle;
+        if ends {
+            self.driver = Driver::Idle;
+            return false;
+        }
+        let lost = self.driver.lost(sequences);
+        self.driver.lapse(lost)
     }
 
     /// Grants the lock that leads, and answers whose it is; none where no lock leads. What leads is the first in the queue of a

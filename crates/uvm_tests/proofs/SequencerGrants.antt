@@ -10,10 +10,11 @@ use Rattle.uvm_sequencer.specs.declared.faults.SeqFault.TheVariants.{NoDriver, T
 use Rattle.uvm_sequencer.specs.declared.modes.Mode.{Mode}
 use Rattle.uvm_sequencer.specs.declared.modes.Mode.TheVariants.{Fifo, Weighted, Random, StrictFifo, StrictRandom}
 use Rattle.uvm_sequences.specs.declared.starts.SeqStep.TheVariants.{PreStart}
-use Rattle.uvm_sequencer.specs.Drivers.{grant_of, is_try}
+use Rattle.uvm_sequencer.specs.Drivers.{grant_of, is_try, loses_try}
 use Rattle.uvm_sequencer.specs.Faults.{fault_text, or_fault}
+use Rattle.uvm_sequences.specs.declared.starts.SeqStep.{SeqStep}
 use Rattle.uvm_sequences.specs.Sequences.{Start}
-use Rattle.uvm_sequencer.specs.Sequencers.{SequencerValue, new_sequencer, with_port, with_item, with_lock, with_grab, locked, unlocked, after_ask, granted, after_send, with_idle, after_leave, after_phase, request_fault, lock_fault, ask_fault, answer, done_by, unlocked_by, candidates_at, lock_at, ready_at, choice_at}
+use Rattle.uvm_sequencer.specs.Sequencers.{SequencerValue, new_sequencer, with_port, with_item, with_lock, with_grab, locked, unlocked, after_ask, granted, after_send, with_idle, after_leave, after_phase, is_live_at, request_fault, lock_fault, ask_fault, answer, done_by, unlocked_by, candidates_at, lock_at, ready_at, choice_at}
 
 -- a sequence that no sequence started, four of them, and a child of one
 abbrev root : Start
@@ -471,8 +472,12 @@ before_end = asked Next (with_item 2 100 (with_item 1 100 (locked 1 (with_lock 1
 the-dead-was-granted : chosen roots before_end ≡ (Some false, Some 1)
 the-dead-was-granted = refl
 
+-- of the two sequences the newest lives, 2, which stands first
+abbrev steps_left : List (Option SeqStep)
+steps_left = Some PreStart ∷ None ∷ []
+
 abbrev phase_over : SequencerValue
-phase_over = after_phase (Some PreStart ∷ None ∷ []) (granted 1 before_end)
+phase_over = after_phase steps_left true (granted 1 before_end)
 
 one-request-is-left-after-the-phase : length phase_over.queue ≡ 1
 one-request-is-left-after-the-phase = refl
@@ -482,6 +487,32 @@ the-driver-is-idle-after-the-phase = refl
 
 nobody-holds-the-sequencer-after-the-phase : chosen roots (asked Next phase_over) ≡ (Some false, Some 2)
 nobody-holds-the-sequencer-after-the-phase = refl
+
+-- where the driver's ask is of another phase it goes on: a grant of the dead lapses, and an item in hand stays there
+
+abbrev asks_on : SequencerValue
+asks_on = after_phase steps_left false (granted 1 before_end)
+
+the-dead-is-granted-no-longer : sending 1 asks_on ≡ Err NotGranted
+the-dead-is-granted-no-longer = refl
+
+the-driver-waits-on-after-the-phase-of-another : chosen roots asks_on ≡ (Some false, Some 2)
+the-driver-waits-on-after-the-phase-of-another = refl
+
+no-try-lapses-with-a-next : loses_try false (is_live_at steps_left) (granted 1 before_end).driver ≡ false
+no-try-lapses-with-a-next = refl
+
+a-try-lapses-with-the-dead : loses_try false (is_live_at steps_left) (granted 1 (asked Try (with_item 1 100 (fresh Fifo)))).driver ≡ true
+a-try-lapses-with-the-dead = refl
+
+a-try-of-the-ended-phase-is-told-nothing : loses_try true (is_live_at steps_left) (granted 1 (asked Try (with_item 1 100 (fresh Fifo)))).driver ≡ false
+a-try-of-the-ended-phase-is-told-nothing = refl
+
+the-grant-of-the-living-stays : sending 2 (after_phase steps_left false (granted 2 (asked Next (with_item 2 100 (fresh Fifo))))) ≡ Ok Next
+the-grant-of-the-living-stays = refl
+
+the-item-of-the-dead-stays-in-hand : done_by (after_phase steps_left false (item_sent 1 before_end)) 9 ≡ Ok 1
+the-item-of-the-dead-stays-in-hand = refl
 
 -- what is told of each fault
 

@@ -166,7 +166,9 @@ fn is_asking_ended(
     let lapsed = sequencer.leave(two.root);
     sequencer.end_ask();
     sequencer.ask(sequences, PORT, How::Next)?;
-    sequencer.end_phase(sequences);
+    let goes_on = !sequencer.end_phase(sequences, false)
+        && sequencer.ask(sequences, PORT, How::Next) == Err(SeqFault::Twice);
+    let ended = !sequencer.end_phase(sequences, true);
     sequencer.ask(sequences, PORT, How::Next)?;
-    Ok(!lapsed && sequencer.waiting() == 1)
+    Ok(!lapsed && goes_on && ended && sequencer.waiting() == 1)
 }

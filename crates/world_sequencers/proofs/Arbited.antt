@@ -225,8 +225,8 @@ module _ (live gone : ℕ → Bool) (l : Ledger) where
         both true false e = let clash = e refl in cc
         both false li e = sym (and-false li)
 
-    pub ended-is : arbiter_of gone (record l { driver = Idle }) ≡ option_map (at_sequencer (after_phase steps)) (arbiter_of live l)
-    ended-is = arbiter-changed live gone l (record l { driver = Idle }) (at_sequencer (after_phase steps)) refl (λ mode. rw (ended-queue, ended-held) refl)
+    pub ended-is : arbiter_of gone (record l { driver = Idle }) ≡ option_map (at_sequencer (after_phase steps true)) (arbiter_of live l)
+    ended-is = arbiter-changed live gone l (record l { driver = Idle }) (at_sequencer (after_phase steps true)) refl (λ mode. rw (ended-queue, ended-held) refl)
 
 -- one is added
 pub added-is : (live : ℕ → Bool) (l : Ledger) (mode : Option Mode) → (l.wanted ≡ []) × (l.held ≡ []) × (l.driver ≡ Idle) × (l.asker ≡ None) → arbiter_of live (record l { mode = mode }) ≡ option_map new_arbiter mode

@@ -298,13 +298,13 @@ module _ (script : ScriptValue) (history : List Entry) (phase : Phase) (run : Li
       (All-weaker (λ (w : Wanted). runs_on (begun_of history) n w.request.seq) (λ w. waits_by (live_by (begun_of history) (finished_of history) (phase ∷ ended_of history)) l.grants l.locks w ≡ false) (λ w runs_here. rw (none-live n w.request.seq runs_here) refl) l.wanted here))
 
   pub arbitrating-ended :
-      (steps : List (Option SeqStep)) → ((n : ℕ) → is_live_at steps n ≡ live_by (begun_of history) (finished_of history) (phase ∷ ended_of history) n) → {arbiters new : Kept} {contest after : Contest} → ChangesEach (at_sequencer (after_phase steps)) arbiters new → after.node ≡ None → ForgetsAll after
+      (steps : List (Option SeqStep)) → ((n : ℕ) → is_live_at steps n ≡ live_by (begun_of history) (finished_of history) (phase ∷ ended_of history) n) → {arbiters new : Kept} {contest after : Contest} → ChangesEach (at_sequencer (after_phase steps true)) arbiters new → after.node ≡ None → ForgetsAll after
       → IsArbitrating (length history) (nodes_of history) (begun_of history) (finished_of history) (ended_of history) (ledger_at history) arbiters contest
       → IsArbitrating (suc (length history)) (nodes_of history) (begun_of history) (finished_of history) (phase ∷ ended_of history) (ledger_at (End phase ∷ history)) new after
   arbitrating-ended steps known {after = after} changes nowhere forgets a = record {
     arbiters_are = record {
       each = λ n.
-          changes n ∙ ap (option_map (at_sequencer (after_phase steps))) (a.arbiters_are.each n)
+          changes n ∙ ap (option_map (at_sequencer (after_phase steps true))) (a.arbiters_are.each n)
           ∙ sym (ended-is (live_by (begun_of history) (finished_of history) (ended_of history)) (live_by (begun_of history) (finished_of history) (phase ∷ ended_of history)) (ledger_at history n) steps known (λ id. live-before (begun_of history) (finished_of history) (ended_of history) phase id));
     };
     arbitrated = record { each = λ n. arbitrated-idle (a.arbitrated.each n) };

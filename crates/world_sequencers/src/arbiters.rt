@@ -1,6 +1,6 @@
 //! Sequencers with who drives them (IEEE 1800.2-2020, Clause 15).
 
-ghost use Rattle.std.specs.Prelude.{◌≡◌, nat_eq, length, Some, None, OnOk, OnErr, IfOk, IfErr, option_and_then, ◌<◌, IsSome, is_some};
+ghost use Rattle.std.specs.Prelude.{◌≡◌, true, nat_eq, length, Some, None, OnOk, OnErr, IfOk, IfErr, option_and_then, ◌<◌, IsSome, is_some};
 ghost use Rattle.std.specs.HashMap.{get};
 ghost use Rattle.std.specs.Option.{option_map_or};
 ghost use Rattle.uvm_glob.specs.Faults.{unless};
@@ -165,9 +165,9 @@ impl Arbiter {
 
     // A phase ends, and with it all sequences that live no longer. Takes no memory.
     fn end_phase(&mut self, sequences: &Sequences)
-        ensures { self.new ≡ at_sequencer (after_phase sequences.now.steps) self.old }
+        ensures { self.new ≡ at_sequencer (after_phase sequences.now.steps true) self.old }
     {
-        self.sequencer.end_phase(sequences);
+        self.sequencer.end_phase(sequences, true);
     }
 
     // The lock that leads is granted. Takes no memory.
@@ -447,7 +447,7 @@ pub fn choose_at(
 /// Ends at each sequencer what sequences asked for and hold that live no longer, and what its driver asked. Takes no memory; the
 /// time is that of a look at each wait.
 pub fn end_phase(arbiters: &mut Arbiters, sequences: &Sequences)
-    ensures { ChangesEach (at_sequencer (after_phase sequences.now.steps)) arbiters.old arbiters.new }
+    ensures { ChangesEach (at_sequencer (after_phase sequences.now.steps true)) arbiters.old arbiters.new }
 {
     arbiters.retain(|_, arbiter| {
         arbiter.end_phase(sequences);

@@ -15,14 +15,14 @@ use Rattle.bench_core.specs.Cores.{Standing, Nothing, Needed, Asked, CoreValue, 
 pub told-there : AskedAreThere → (script : ScriptValue) (history : List Entry) (standing : Standing) (told : turn.Turn) → IsLegal script history → IsAskedNext standing (next_of script history) → turn_of standing ≡ Some told → AsksThere told history
 told-there components script history Nothing told legal comes e = cc
 told-there components script history (Needed need) told legal comes e = let same : turn.TheVariants.Need ≡ told = cc in subst (λ t. AsksThere t history) same tt
-told-there components script history (Asked hearer call cause) told legal comes e =
+told-there components script history (Asked hearer call origin) told legal comes e =
     let same : turn.TheVariants.Ask hearer call ≡ told = cc in
-    subst (λ t. AsksThere t history) same (components script history hearer call cause legal.each comes)
+    subst (λ t. AsksThere t history) same (components script history hearer call origin legal.each comes)
 
 -- and so is who is asked now
 turn-there : AskedAreThere → (old new : CoreValue) (result : turn.Turn) (comes : next.Next) → next_of old.script old.history ≡ comes → IsLegal old.script old.history → IsTurn comes result old new → AsksThere result old.history
 turn-there components old new result (next.Exactly entry) is legal t = subst (λ r. AsksThere r old.history) (sym t.0) tt
-turn-there components old new result (next.Answer hearer call cause) is legal t = subst (λ r. AsksThere r old.history) (sym t.0) (components old.script old.history hearer call cause legal.each is)
+turn-there components old new result (next.Answer hearer call origin) is legal t = subst (λ r. AsksThere r old.history) (sym t.0) (components old.script old.history hearer call origin legal.each is)
 turn-there components old new result (next.Need need made performer act) is legal t = subst (λ r. AsksThere r old.history) (sym t.0) tt
 turn-there components old new result (next.Grant sequencer drawn chosen) is legal t = subst (λ r. AsksThere r old.history) (sym t.0) tt
 turn-there components old new result next.Nothing is legal t = subst (λ r. AsksThere r old.history) (sym t.0) tt
@@ -40,7 +40,7 @@ over-at script history false some none e = absurd (subst IsSomething none (some 
 -- a turn that says so is the last
 turn-over : SomethingBeforeOver → (old new : CoreValue) (result : turn.Turn) (comes : next.Next) → next_of old.script old.history ≡ comes → IsLegal old.script old.history → IsTurn comes result old new → result ≡ turn.TheVariants.Over → is_over new.history ≡ true
 turn-over some old new result (next.Exactly entry) is legal t over = let moved = t.0 in cc
-turn-over some old new result (next.Answer hearer call cause) is legal t over = let asks = t.0 in cc
+turn-over some old new result (next.Answer hearer call origin) is legal t over = let asks = t.0 in cc
 turn-over some old new result (next.Need need made performer act) is legal t over = let needs = t.0 in cc
 turn-over some old new result (next.Grant sequencer drawn chosen) is legal t over = let moved = t.0 in cc
 turn-over some old new result next.Nothing is legal t over =
@@ -54,7 +54,7 @@ next-over some old new (Err fault) legal t = tt
 -- what is asked comes next, and has room
 turn-room : (old new : CoreValue) (result : turn.Turn) (comes : next.Next) → next_of old.script old.history ≡ comes → HasRoom old → IsTurn comes result old new → IsRequest result → length new.history < log_limit new.script
 turn-room old new result (next.Exactly entry) is room t asks = let moved = t.0 in absurd (subst IsRequest t.0 asks)
-turn-room old new result (next.Answer hearer call cause) is room t asks = rw t.1 (room (rw is tt))
+turn-room old new result (next.Answer hearer call origin) is room t asks = rw t.1 (room (rw is tt))
 turn-room old new result (next.Need need made performer act) is room t asks = rw t.1 (room (rw is tt))
 turn-room old new result (next.Grant sequencer drawn chosen) is room t asks = let moved = t.0 in absurd (subst IsRequest t.0 asks)
 turn-room old new result next.Nothing is room t asks = absurd (subst IsRequest t.0 asks)

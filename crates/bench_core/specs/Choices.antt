@@ -15,7 +15,7 @@ entry_of (Begin phase) = entry.Begin phase
 entry_of (End phase) = entry.End phase
 entry_of (Time time) = entry.Time time
 entry_of (Locked sequencer id) = entry.Locked sequencer id
-entry_of (Drained node cause) = entry.Drained node cause
+entry_of (Drained node origin) = entry.Drained node origin
 entry_of (Note fatal node) = entry.Note fatal node
 entry_of (Over reason) = entry.Over reason
 
@@ -25,4 +25,4 @@ IsChoice comes (Enter mark) = comes ≡ next.Exactly (entry_of mark)
 IsChoice comes (Grant sequencer drawn) = (chosen : Option ℕ → Option ℕ) × (comes ≡ next.Grant sequencer drawn chosen)
 IsChoice comes (Pass fifo passage) = comes ≡ next.Exactly (entry.Passed fifo passage)
 IsChoice comes Act = IsAct comes
-IsChoice comes (Ask performer call cause) = comes ≡ next.Answer performer call cause
+IsChoice comes (Ask performer call origin) = comes ≡ next.Answer performer call origin

@@ -1,7 +1,7 @@
 -- What contracts see of the machine.
 use Rattle.rand_core.specs.Stream.{Stream, next_u64}
 use Rattle.std.specs.Prelude.{◌≡◌, ◌<◌, ◌≤◌, ℕ, Bool, true, false, List, ◌∷◌, ◌++◌, length, [], Option, Some, None, Result, Ok, Err, IsSome}
-use Rattle.uvm_phase.specs.declared.agendas.Cause.{Cause}
+use Rattle.uvm_object.specs.declared.entries.Origin.{Origin}
 use Rattle.uvm_object.specs.declared.acts.Who.{Who}
 use Rattle.uvm_object.specs.declared.acts.Call.{Call}
 use Rattle.uvm_object.specs.declared.acts.Act.{Act}
@@ -29,12 +29,12 @@ use Rattle.bench_core.specs.declared.faults.CoreFault.TheVariants.{Memory, LogFu
 pub data Standing : Type 0 where
   Nothing : Standing
   Needed : (need : Need) → Standing
-  Asked : (hearer : Who) → (call : Call) → (cause : Option Cause) → Standing
+  Asked : (hearer : Who) → (call : Call) → (origin : Option Origin) → Standing
 
 -- an act waits for its object, or a question is open
 abbrev pub standing_of : Option Need → Option Question → Standing
 standing_of (Some need) question = Needed need
-standing_of None (Some question) = Asked question.who question.call question.cause
+standing_of None (Some question) = Asked question.who question.call question.origin
 standing_of None None = Nothing
 
 -- the script, the entries with the newest first, what was asked, how the machine is, and the sequences that have ended and were not told yet
@@ -66,7 +66,7 @@ failed_from health core = record core { standing = Nothing; health = health }
 abbrev pub IsAskedNext : Standing → next.Next → Type 0
 IsAskedNext Nothing comes = Unit {0}
 IsAskedNext (Needed need) comes = need_in comes ≡ Some need
-IsAskedNext (Asked hearer call cause) comes = comes ≡ next.Answer hearer call cause
+IsAskedNext (Asked hearer call origin) comes = comes ≡ next.Answer hearer call origin
 
 -- something was asked
 abbrev pub AsksSomething : Standing → Type 0
@@ -91,7 +91,7 @@ HasEntered old new = (entry : Entry) × IsNext old.script old.history entry × (
 -- what a turn is, by what comes next
 abbrev pub IsTurn : next.Next → turn.Turn → CoreValue → CoreValue → Type 0
 IsTurn (next.Exactly entry) result old new = (result ≡ turn.TheVariants.Moved) × (new ≡ core_after entry old)
-IsTurn (next.Answer hearer call cause) result old new = (result ≡ turn.TheVariants.Ask hearer call) × (new ≡ record old { standing = Asked hearer call cause })
+IsTurn (next.Answer hearer call origin) result old new = (result ≡ turn.TheVariants.Ask hearer call) × (new ≡ record old { standing = Asked hearer call origin })
 IsTurn (next.Grant sequencer drawn chosen) result old new = (result ≡ turn.TheVariants.Moved) × (entry : Entry) × Allows (next.Grant sequencer drawn chosen) entry × (new ≡ core_after entry old)
 IsTurn (next.Need need made performer act) result old new = (result ≡ turn.TheVariants.Need) × (new ≡ record old { standing = Needed need })
 IsTurn next.Nothing result old new = (result ≡ turn.TheVariants.Over) × (new ≡ old)
@@ -112,7 +112,7 @@ abbrev pub IsNextTurn : Standing → Result turn.Turn CoreFault → CoreValue �
 IsNextTurn Nothing (Ok result) old new = (old.health ≡ Good) × IsTurn (next_of old.script old.history) result old new × HasRoom old
 IsNextTurn Nothing (Err fault) old new = IsRefusedTurn fault old new
 IsNextTurn (Needed need) result old new = (result ≡ Ok turn.TheVariants.Need) × (new ≡ old)
-IsNextTurn (Asked hearer call cause) result old new = (result ≡ Ok (turn.TheVariants.Ask hearer call)) × (new ≡ old)
+IsNextTurn (Asked hearer call origin) result old new = (result ≡ Ok (turn.TheVariants.Ask hearer call)) × (new ≡ old)
 
 -- before that the next of them is told
 abbrev pub IsToldTurn : List Who → Result turn.Turn CoreFault → CoreValue → CoreValue → Type 0
@@ -130,7 +130,7 @@ IsUnmade script Failed = ⊥
 abbrev pub turn_of : Standing → Option turn.Turn
 turn_of Nothing = None
 turn_of (Needed need) = Some turn.TheVariants.Need
-turn_of (Asked hearer call cause) = Some (turn.TheVariants.Ask hearer call)
+turn_of (Asked hearer call origin) = Some (turn.TheVariants.Ask hearer call)
 
 -- the word that is drawn by a turn: that of the grant that it enters, where one decides whose it is
 abbrev pub word_in : List Entry → Option ℕ
@@ -176,13 +176,13 @@ IsAsk None = ⊥
 abbrev pub need_of : Standing → Option Need
 need_of Nothing = None
 need_of (Needed need) = Some need
-need_of (Asked hearer call cause) = None
+need_of (Asked hearer call origin) = None
 
 -- the entry of an answer to what was asked
 abbrev pub answer_in : Standing → List Act → Option Entry
 answer_in Nothing acts = None
 answer_in (Needed need) acts = None
-answer_in (Asked hearer call cause) acts = Some (Heard hearer call cause acts)
+answer_in (Asked hearer call origin) acts = Some (Heard hearer call origin acts)
 
 -- the line of the newest entry, where it is asked for
 abbrev pub last_line : Bool → List Entry → List ℕ

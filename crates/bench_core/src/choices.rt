@@ -4,7 +4,7 @@ ghost use Rattle.std.specs.Prelude.{◌≡◌, ◌&&◌, true, [], ◌∷◌, So
 ghost use Rattle.uvm_phase.specs.Phases.{is_task};
 ghost use Rattle.uvm_object.specs.declared.entries.Entry.TheVariants.{End};
 ghost use Rattle.bench_history.specs.Dues.{first_due};
-ghost use Rattle.bench_history.specs.Cases.{Exactly, by_call, port_check, phase_end, time_passes};
+ghost use Rattle.bench_history.specs.Cases.{Exactly, by_call, origin_of, port_check, phase_end, time_passes};
 ghost use Rattle.bench_history.specs.Objections.{objections_of, stands};
 ghost use Rattle.bench_history.specs.Laws.{is_at_check};
 ghost use Rattle.bench_history.specs.Next.{first_next, next_of};
@@ -13,8 +13,8 @@ ghost use Rattle.bench_core.specs.Choices.{IsChoice, entry_of};
 use bench_history::{Owner, Stage};
 use bench_world::World;
 use std::alloc::AllocError;
-use uvm_object::{Call, Fatal, Passage, Reason, Who};
-use uvm_phase::{Cause, Due, Phase, Schedule};
+use uvm_object::{Call, Fatal, Origin, Passage, Reason, Who};
+use uvm_phase::{Due, Phase, Schedule};
 use uvm_sequences::SeqId;
 use uvm_tree::NodeId;
 
@@ -29,8 +29,8 @@ pub(crate) enum Mark {
     Time(u64),
     /// The lock of a sequence is granted at a sequencer.
     Locked(NodeId, SeqId),
-    /// The drain of a node, which began for a cause, ends.
-    Drained(NodeId, Cause),
+    /// The drain of a node, which began with an origin, ends.
+    Drained(NodeId, Origin),
     /// The kernel reports at a node.
     Note(Fatal, NodeId),
     /// The run is over.
@@ -50,8 +50,8 @@ pub(crate) enum Choice {
     Pass(NodeId, Passage),
     /// An act of the last answer, which has its entry at once or needs an object.
     Act,
-    /// The answer of somebody to a call, which is due for a cause, or is a phase's.
-    Ask(Who, Call, Option<Cause>),
+    /// The answer of somebody to a call, which is due with an origin, or is a phase's.
+    Ask(Who, Call, Option<Origin>),
 }
 
 // What comes next after the log of a world.
@@ -119,12 +119,16 @@ fn done(world: &mut World, phase: Phase) -> Result<Mark, AllocError>
 
 // The owner of an event hears its call, or its drain ends.
 fn happening(due: &Due<Owner, Option<Call>>) -> Choice
-    ensures { IsChoice (by_call due.now.owner due.now.notice due.now.cause) result }
+    ensures { IsChoice (by_call due.now.owner due.now.notice (origin_of due.now)) result }
 {
     let who = due.owner.who();
+    let origin = Origin {
+        cause: due.cause,
+        phase: due.phase,
+    };
     match due.notice {
-        Some(call) => Choice::Ask(who, call, Some(due.cause)),
-        None => Choice::Enter(Mark::Drained(who.node(), due.cause)),
+        Some(call) => Choice::Ask(who, call, Some(origin)),
+        None => Choice::Enter(Mark::Drained(who.node(), origin)),
     }
 }
 

@@ -32,8 +32,8 @@ use std::alloc::{AllocError, Global};
 use std::marker::Model;
 use uvm_glob::{Name, Path};
 use uvm_lines::line_of;
-use uvm_object::{Acts, Call, Entry, Log, Who};
-use uvm_phase::{Cause, Phase};
+use uvm_object::{Acts, Call, Entry, Log, Origin, Who};
+use uvm_phase::Phase;
 use uvm_report::Reports;
 use uvm_tree::NodeId;
 
@@ -60,12 +60,12 @@ pub enum Turn {
     Over,
 }
 
-/// A call that somebody was asked to answer, and has not answered yet. It was due for a cause, or is a phase's.
+/// A call that somebody was asked to answer, and has not answered yet. It was due with an origin, or is a phase's.
 #[derive(Drop)]
 pub(crate) struct Question {
     who: Who,
     call: Call,
-    cause: Option<Cause>,
+    origin: Option<Origin>,
 }
 
 impl Question {
@@ -196,13 +196,13 @@ impl Core {
         ensures ok { OnOk result (IfSome (answer_in self.old.standing acts) (λ entry. self.new ≡ core_after entry self.old)) }
         ensures err { IfErr result (λ fault. (fault ≡ CoreFault.Memory) × (self.new ≡ failed_from Health.Broken self.old)) }
     {
-        let Some(Question { who, call, cause }) = self.question.take() else {
+        let Some(Question { who, call, origin }) = self.question.take() else {
             unreachable!()
         };
         self.health = Health::Broken;
-        let heard = match cause {
+        let heard = match origin {
             None => self.world.heard(who, call, acts),
-            Some(cause) => self.world.heard_due(who, call, cause, acts),
+            Some(origin) => self.world.heard_due(who, call, origin, acts),
         };
         match heard {
             Ok(()) => {
@@ -455,8 +455,8 @@ impl Core {
                     Turn::Moved
                 }
             }
-            Choice::Ask(who, call, cause) => {
-                let question = Question { who, call, cause };
+            Choice::Ask(who, call, origin) => {
+                let question = Question { who, call, origin };
                 let turn = question.turn();
                 self.question = Some(question);
                 turn
@@ -520,7 +520,7 @@ fn enter(world: &mut World, mark: Mark) -> Result<(), AllocError>
         Mark::End(phase) => world.end(phase),
         Mark::Time(time) => world.time(time),
         Mark::Locked(sequencer, id) => world.locked(sequencer, id),
-        Mark::Drained(node, cause) => world.drained(node, cause),
+        Mark::Drained(node, origin) => world.drained(node, origin),
         Mark::Note(fatal, node) => world.note(fatal, node),
         Mark::Over(reason) => world.over(reason),
     }

@@ -29,7 +29,7 @@ use Rattle.bench_history.specs.Owners.{who_of}
 use Rattle.bench_history.specs.History.{nodes_of, speaker_of}
 use Rattle.bench_history.specs.Sequences.{sequences_of}
 use Rattle.bench_history.specs.Arbitration.{request_queue, ForGrab, ForItem, ForLock, Wanted, all_wanted, driver_state, holders, mode_at, next_served, request_priority, sequence_on, sequencer_with, serving_at, still_waits, wanted, with_wish}
-use Rattle.bench_history.specs.Cases.{Next, Need, chosen_at}
+use Rattle.bench_history.specs.Cases.{Next, Need, chosen_at, origin_of}
 use Rattle.bench_history.specs.Next.{next_of, Allows, IsNext}
 use Rattle.bench_history.specs.LegalLogs.{FifoOrder, HasDrawnOfGreatest, HasFirst, HasFirstOfGreatest, HasGreatest, IsAskedFor, StrictPriority, free_requests, is_free, is_unblocked, most_urgent, place_by, waiting_at}
 use Rattle.bench_history.proofs.Asking.{given-holds}
@@ -52,7 +52,7 @@ served-case script history node grant next allows (ByNeed act need made left ups
 served-case script history node grant next allows (ByDeed act outcome left plain comes e) = let same : Granted node grant ≡ Did (speaker_of history) outcome act = subst (λ (n : Next). Allows n (Granted node grant)) e allows in cc
 served-case script history node grant next allows (ByDue event call now is e) =
     let answer = subst (λ (n : Next). Allows n (Granted node grant)) e allows in
-    let same : Granted node grant ≡ Heard (who_of event.owner) call (Some event.cause) answer.0 = answer.1 in cc
+    let same : Granted node grant ≡ Heard (who_of event.owner) call (Some (origin_of event)) answer.0 = answer.1 in cc
 served-case script history node grant next allows (ByTurn phase other during turn e) = let answer = subst (λ (n : Next). Allows n (Granted node grant)) e allows in let same = answer.1 in cc
 served-case script history node grant next allows (ByEnd phase runs e) = let same : Granted node grant ≡ End phase = subst (λ (n : Next). Allows n (Granted node grant)) e allows in cc
 served-case script history node grant next allows (ByBegin phase may e) = let same : Granted node grant ≡ Begin phase = subst (λ (n : Next). Allows n (Granted node grant)) e allows in cc

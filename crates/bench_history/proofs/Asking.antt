@@ -1,10 +1,11 @@
 -- Who waits at FIFOs, and who owns imps, are components.
-use Rattle.std.proofs.Common.{◌≡◌, ℕ, suc, zero, ◌<◌, ◌==◌, ◌⊎◌, inl, inr, nat_eq, Bool, true, false, List, [], ◌∷◌, ◌++◌, length, map, filter, slice_get, Option, Some, None, option_map, option_and_then, IfSome, refl, arith, length-append, if◌then◌else◌}
-use Rattle.std.specs.List.{All, Contains, filter_map, cons_option}
+use Rattle.std.proofs.Common.{◌≡◌, ℕ, suc, zero, ◌<◌, ◌==◌, ◌⊎◌, inl, inr, nat_eq, Bool, true, false, not, ◌&&◌, List, [], ◌∷◌, ◌++◌, length, map, filter, slice_get, Option, Some, None, option_map, option_and_then, IfSome, refl, arith, length-append, if◌then◌else◌}
+use Rattle.std.specs.List.{All, Contains, filter_map, cons_option, list_any}
 use Rattle.std.proofs.lemmas.Bool.Decides.{nat_tests}
-use Rattle.std.proofs.lemmas.List.Elements.{All-nil, All-cons, All-head, All-tail, All-push, All-filter, filter_passes}
+use Rattle.std.proofs.lemmas.List.Elements.{All-nil, All-cons, All-head, All-tail, All-push, All-filter, All-weaker, filter_passes}
 use Rattle.uvm_glob.specs.Lists.{first_given}
 use Rattle.uvm_phase.specs.declared.phases.Phase.{Phase}
+use Rattle.uvm_phase.specs.Phases.{same_phase}
 use Rattle.uvm_tree.specs.Nodes.{Node, under_at}
 use Rattle.uvm_tree.specs.Sorted.{path_order}
 use Rattle.uvm_tlm.specs.declared.ends.PortKind.{PortKind}
@@ -17,7 +18,6 @@ use Rattle.uvm_tlm.specs.Wirings.{WiringValue}
 use Rattle.uvm_object.specs.Acts.{node_of}
 use Rattle.uvm_object.specs.declared.acts.Who.{Who}
 use Rattle.uvm_object.specs.declared.acts.Who.TheVariants as who
-use Rattle.uvm_object.specs.declared.acts.Call.{Call}
 use Rattle.uvm_object.specs.declared.acts.Call.TheVariants as call
 use Rattle.uvm_object.specs.declared.acts.Act.{Act}
 use Rattle.uvm_object.specs.declared.acts.Act.TheVariants.{Add, Connect}
@@ -28,13 +28,14 @@ use Rattle.uvm_object.specs.declared.entries.Entry.{Entry}
 use Rattle.bench_script.specs.Scripts.{ScriptValue}
 use Rattle.bench_history.specs.declared.askers.Asker.{Asker}
 use Rattle.bench_history.specs.declared.askers.Gate.{Gate}
-use Rattle.bench_history.specs.History.{stage_of, running, nodes_of, nodes_after, opening}
+use Rattle.bench_history.specs.History.{nodes_of, nodes_after, opening, act_phase, ended_of}
 use Rattle.bench_history.specs.Wires.{wiring_of, wiring_after, with_both, end_of}
 use Rattle.bench_history.specs.Ports.{fifo_size, is_imp_at, gate_below}
 use Rattle.bench_history.specs.Laws.{IsComponent}
-use Rattle.bench_history.specs.Dues.{written_to}
+use Rattle.bench_history.specs.declared.owners.Told.{Told}
+use Rattle.bench_history.specs.Dues.{written_to, told_in}
 use Rattle.bench_history.specs.Refusals.{is_open_to}
-use Rattle.bench_history.specs.Passing.{Request, Station, with_last, request_by, request_at, puts_asked, takes_asked, is_waiting, station_of, asker_of, first_asker, passage_by, passage_for, passage_in, passing_at, next_passed}
+use Rattle.bench_history.specs.Passing.{Request, Station, with_last, request_by, request_at, answered_at, is_put, is_no_put, puts_asked, takes_asked, puts_waiting, takes_waiting, is_waiting, station_of, asker_of, first_asker, passage_by, passage_for, passage_in, passing_at, next_passed}
 
 -- what holds of each element holds of the first
 pub head-holds : {A : Type 0} (P : A → Type 0) (xs : List A) → All P xs → IfSome (slice_get xs 0) P
@@ -63,62 +64,82 @@ given-holds f P [] each = tt
 given-holds f P (x ∷ xs) each = first-holds P (f x) (map f xs) (each x) (given-holds f P xs each)
 
 -- a request is its performer's
-module _ {Wish : Type 0} (Q : Who → Type 0) where
+module _ {Wish : Type 0} (Q : Who → Phase → Type 0) where
   abbrev pub IsAskedBy : Request Wish → Type 0
-  IsAskedBy request = Q request.asker.who
+  IsAskedBy request = Q request.asker.who request.asker.phase
 
-  request-holds : (fifo : ℕ) (performer : Who) (place : ℕ) (wished : List ℕ × Wish) (phase : Option Phase) (gate : Option Gate) → Q performer → IfSome (request_by fifo performer place wished phase gate) IsAskedBy
+  request-holds : (fifo : ℕ) (performer : Who) (place : ℕ) (wished : List ℕ × Wish) (phase : Option Phase) (gate : Option Gate) → ((p : Phase) → phase ≡ Some p → Q performer p) → IfSome (request_by fifo performer place wished phase gate) IsAskedBy
   request-holds fifo performer place wished None gate holds = tt
   request-holds fifo performer place wished (Some phase) None holds = tt
   request-holds fifo performer place wished (Some phase) (Some gate) holds = tested (gate.fifo == fifo)
     where
       tested : (b : Bool) → IfSome (if b then Some (record { asker = record { place = place; who = performer; port = wished.0; phase = phase }; port = gate.port; wish = wished.1 }) else None) IsAskedBy
-      tested true = holds
+      tested true = holds phase refl
       tested false = tt
 
   -- so that one more keeps each one somebody's
   pub asked-more :
-      (before : List Entry) (fifo : ℕ) (performer : Who) (kind : PortKind) (wished : Option (List ℕ × Wish)) (asked : List (Request Wish)) → All IsAskedBy asked → (wished ≡ None) ⊎ Q performer
+      (before : List Entry) (fifo : ℕ) (performer : Who) (kind : PortKind) (wished : Option (List ℕ × Wish)) (asked : List (Request Wish)) → All IsAskedBy asked → (wished ≡ None) ⊎ ((p : Phase) → act_phase before ≡ Some p → Q performer p)
       → All IsAskedBy (with_last asked (option_and_then (request_at before fifo performer kind) wished))
   asked-more before fifo performer kind None asked all who = all
   asked-more before fifo performer kind (Some wished) asked all (inl none) = cc
   asked-more before fifo performer kind (Some wished) asked all (inr holds) =
-      last-holds IsAskedBy asked (request_at before fifo performer kind wished) all (request-holds fifo performer (length before) wished (running (stage_of before)) (gate_below before performer kind wished.0) holds)
+      last-holds IsAskedBy asked (request_at before fifo performer kind wished) all (request-holds fifo performer (length before) wished (act_phase before) (gate_below before performer kind wished.0) holds)
 
   -- and each of those that wait is
-  askers-hold : (answered : List ℕ) (ended : List Phase) (asked : List (Request Wish)) → All IsAskedBy asked → All (λ asker. Q asker.who) (map asker_of (filter (is_waiting answered ended) asked))
-  askers-hold answered ended asked all = mapped (filter (is_waiting answered ended) asked) (All-filter (is_waiting answered ended) IsAskedBy asked all)
-    where
-      mapped : (requests : List (Request Wish)) → All IsAskedBy requests → All (λ asker. Q asker.who) (map asker_of requests)
-      mapped [] all = All-nil _
-      mapped (request ∷ requests) all = All-cons (λ asker. Q asker.who) _ _ (All-head IsAskedBy request requests all) (mapped requests (All-tail IsAskedBy request requests all))
+  askers-hold : (requests : List (Request Wish)) → All IsAskedBy requests → All (λ asker. Q asker.who asker.phase) (map asker_of requests)
+  askers-hold [] all = All-nil _
+  askers-hold (request ∷ requests) all = All-cons (λ asker. Q asker.who asker.phase) _ _ (All-head IsAskedBy request requests all) (askers-hold requests (All-tail IsAskedBy request requests all))
 
 -- what passes is somebody's who had asked
-module _ (Q : Who → Type 0) where
-  asker-holds : (kind : MoveKind) (station : Station) → All (λ asker. Q asker.who) station.putters → All (λ asker. Q asker.who) station.takers → IfSome (first_asker kind station) (λ asker. Q asker.who)
-  asker-holds move.Put station putters takers = head-holds (λ (asker : Asker). Q asker.who) station.putters putters
-  asker-holds kind station putters takers = head-holds (λ (asker : Asker). Q asker.who) station.takers takers
+module _ (Q : Who → Phase → Type 0) where
+  asker-holds : (kind : MoveKind) (station : Station) → All (λ asker. Q asker.who asker.phase) station.putters → All (λ asker. Q asker.who asker.phase) station.takers → IfSome (first_asker kind station) (λ asker. Q asker.who asker.phase)
+  asker-holds move.Put station putters takers = head-holds (λ (asker : Asker). Q asker.who asker.phase) station.putters putters
+  asker-holds kind station putters takers = head-holds (λ (asker : Asker). Q asker.who asker.phase) station.takers takers
 
-  passage-holds : (station : Station) → All (λ asker. Q asker.who) station.putters → All (λ asker. Q asker.who) station.takers → IfSome (passage_in station) (λ passage. Q passage.who)
-  passage-holds station putters takers = then-holds (passage_for station) (λ (passage : Passage). Q passage.who) (next_move station.fifo) (λ move. mapped move (first_asker move.kind station) (asker-holds move.kind station putters takers))
+  passage-holds : (station : Station) → All (λ asker. Q asker.who asker.phase) station.putters → All (λ asker. Q asker.who asker.phase) station.takers → IfSome (passage_in station) (λ passage. Q passage.who passage.phase)
+  passage-holds station putters takers = then-holds (passage_for station) (λ (passage : Passage). Q passage.who passage.phase) (next_move station.fifo) (λ move. mapped move (first_asker move.kind station) (asker-holds move.kind station putters takers))
     where
-      mapped : (move : Move) (asker : Option Asker) → IfSome asker (λ asker. Q asker.who) → IfSome (option_map (passage_by move) asker) (λ passage. Q passage.who)
+      mapped : (move : Move) (asker : Option Asker) → IfSome asker (λ asker. Q asker.who asker.phase) → IfSome (option_map (passage_by move) asker) (λ passage. Q passage.who passage.phase)
       mapped move None holds = tt
       mapped move (Some asker) holds = holds
 
   pub passing-holds :
-      (history : List Entry) → ((fifo : ℕ) → All (IsAskedBy {Wish = Item} Q) (puts_asked history fifo)) → ((fifo : ℕ) → All (IsAskedBy {Wish = Bool} Q) (takes_asked history fifo))
-      → IfSome (next_passed history) (λ passed. Q passed.1.who)
+      (history : List Entry) → ((fifo : ℕ) → All (IsAskedBy {Wish = Item} Q) (puts_waiting history fifo)) → ((fifo : ℕ) → All (IsAskedBy {Wish = Bool} Q) (takes_waiting history fifo))
+      → IfSome (next_passed history) (λ passed. Q passed.1.who passed.1.phase)
   unfolding next_passed
-  passing-holds history puts takes = given-holds (passing_at history) (λ (passed : ℕ × Passage). Q passed.1.who) (path_order (nodes_of history)) (λ node. sized node (fifo_size (wiring_of history) node))
+  passing-holds history puts takes = given-holds (passing_at history) (λ (passed : ℕ × Passage). Q passed.1.who passed.1.phase) (path_order (nodes_of history)) (λ node. sized node (fifo_size (wiring_of history) node))
     where
-      found : (node : ℕ) (passage : Option Passage) → IfSome passage (λ passage. Q passage.who) → IfSome {T = ℕ × Passage} (option_map (λ (passage : Passage). (node, passage)) passage) (λ passed. Q passed.1.who)
+      found : (node : ℕ) (passage : Option Passage) → IfSome passage (λ passage. Q passage.who passage.phase) → IfSome {T = ℕ × Passage} (option_map (λ (passage : Passage). (node, passage)) passage) (λ passed. Q passed.1.who passed.1.phase)
       found node None holds = tt
       found node (Some passage) holds = holds
 
-      sized : (node : ℕ) (size : Option ℕ) → IfSome {T = ℕ × Passage} (option_map (λ (passage : Passage). (node, passage)) (option_and_then passage_in (option_map (station_of history node) size))) (λ passed. Q passed.1.who)
+      sized : (node : ℕ) (size : Option ℕ) → IfSome {T = ℕ × Passage} (option_map (λ (passage : Passage). (node, passage)) (option_and_then passage_in (option_map (station_of history node) size))) (λ passed. Q passed.1.who passed.1.phase)
       sized node None = tt
-      sized node (Some size) = found node (passage_in (station_of history node size)) (passage-holds (station_of history node size) (askers-hold Q _ _ (puts_asked history node) (puts node)) (askers-hold Q _ _ (takes_asked history node) (takes node)))
+      sized node (Some size) = found node (passage_in (station_of history node size)) (passage-holds (station_of history node size) (askers-hold Q (puts_waiting history node) (puts node)) (askers-hold Q (takes_waiting history node) (takes node)))
+
+-- what holds of all that was asked for holds of what waits
+module _ (Q : Who → Phase → Type 0) (history : List Entry) (fifo : ℕ) where
+  pub puts-wait : All (IsAskedBy {Wish = Item} Q) (puts_asked history fifo) → All (IsAskedBy {Wish = Item} Q) (puts_waiting history fifo)
+  puts-wait all = All-filter (is_waiting (answered_at is_put history fifo) (ended_of history)) (IsAskedBy Q) (puts_asked history fifo) all
+
+  pub takes-wait : All (IsAskedBy {Wish = Bool} Q) (takes_asked history fifo) → All (IsAskedBy {Wish = Bool} Q) (takes_waiting history fifo)
+  takes-wait all = All-filter (is_waiting (answered_at is_no_put history fifo) (ended_of history)) (IsAskedBy Q) (takes_asked history fifo) all
+
+-- its phase has not ended
+waiting-open : {Wish : Type 0} (answered : List ℕ) (ended : List Phase) (asked : List (Request Wish)) → All (IsAskedBy (λ who phase. list_any (same_phase phase) ended ≡ false)) (filter (is_waiting answered ended) asked)
+waiting-open answered ended asked =
+    All-weaker (λ request. is_waiting answered ended request ≡ true) (IsAskedBy (λ who phase. list_any (same_phase phase) ended ≡ false))
+    (λ request waits. second (not (list_any (nat_eq request.asker.place) answered)) (list_any (same_phase request.asker.phase) ended) waits) _ (filter_passes (is_waiting answered ended) asked)
+  where
+    second : (a b : Bool) → a && not b ≡ true → b ≡ false
+    second true true e = cc
+    second true false e = refl
+    second false b e = cc
+
+pub passing-open : (history : List Entry) → IfSome (next_passed history) (λ passed. list_any (same_phase passed.1.phase) (ended_of history) ≡ false)
+passing-open history =
+    passing-holds (λ who phase. list_any (same_phase phase) (ended_of history) ≡ false) history (λ fifo. waiting-open _ (ended_of history) (puts_asked history fifo)) (λ fifo. waiting-open _ (ended_of history) (takes_asked history fifo))
 
 -- an imp stands at a node whose parent is one of some components
 pub record IsOwned (nodes : List Node) (components : List ℕ) (node : ℕ) : Type 0 where
@@ -162,17 +183,17 @@ imp-after nodes wiring performer outcome act node is = inl is
 
 -- what is told to an imp's owner is told to a component
 pub written-hold :
-    (nodes : List Node) (components : List ℕ) (item : Item) (wiring : WiringValue) (outlets : List ℕ) → ((node : ℕ) → is_imp_at wiring node ≡ true → IsOwned nodes components node)
-    → All (λ told. IsComponent components told.0) (filter_map (written_to nodes item) (filter (is_imp_at wiring) outlets))
-written-hold nodes components item wiring outlets owned = each (filter (is_imp_at wiring) outlets) (filter_passes (is_imp_at wiring) outlets)
+    (phase : Option Phase) (nodes : List Node) (components : List ℕ) (item : Item) (wiring : WiringValue) (outlets : List ℕ) → ((node : ℕ) → is_imp_at wiring node ≡ true → IsOwned nodes components node)
+    → All (λ told. IsComponent components told.who) (filter_map (written_to phase nodes item) (filter (is_imp_at wiring) outlets))
+written-hold phase nodes components item wiring outlets owned = each (filter (is_imp_at wiring) outlets) (filter_passes (is_imp_at wiring) outlets)
   where
-    IsTold : Who × Call → Type 0
-    IsTold told = IsComponent components told.0
+    IsTold : Told → Type 0
+    IsTold told = IsComponent components told.who
 
-    told : (under : Option (ℕ × List ℕ)) → IfSome under (λ under. Contains components under.0) → IfSome (option_map (λ under. (who.Node under.0, call.Written under.1 item)) under) IsTold
+    told : (under : Option (ℕ × List ℕ)) → IfSome under (λ under. Contains components under.0) → IfSome (option_map (λ under. told_in phase (who.Node under.0) (call.Written under.1 item)) under) IsTold
     told None holds = tt
     told (Some under) holds = holds
 
-    each : (imps : List ℕ) → All (λ node. is_imp_at wiring node ≡ true) imps → All IsTold (filter_map (written_to nodes item) imps)
+    each : (imps : List ℕ) → All (λ node. is_imp_at wiring node ≡ true) imps → All IsTold (filter_map (written_to phase nodes item) imps)
     each [] all = All-nil _
-    each (imp ∷ imps) all = cons-holds IsTold (written_to nodes item imp) (filter_map (written_to nodes item) imps) (told (under_at nodes imp) (owned imp (All-head (λ node. is_imp_at wiring node ≡ true) imp imps all)).owner) (each imps (All-tail (λ node. is_imp_at wiring node ≡ true) imp imps all))
+    each (imp ∷ imps) all = cons-holds IsTold (written_to phase nodes item imp) (filter_map (written_to phase nodes item) imps) (told (under_at nodes imp) (owned imp (All-head (λ node. is_imp_at wiring node ≡ true) imp imps all)).owner) (each imps (All-tail (λ node. is_imp_at wiring node ≡ true) imp imps all))

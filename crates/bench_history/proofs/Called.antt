@@ -1,5 +1,5 @@
 -- Who is called: a component, which is a node of the tree, or a sequence that lives.
-use Rattle.std.proofs.Common.{◌≡◌, ℕ, ◌<◌, ◌≤◌, ◌==◌, ◌⊎◌, inl, inr, true, false, not, List, [], ◌∷◌, length, Option, Some, None, option_and_then, IfSome, refl, ap, ◌∙◌, sym, subst, arith, option_map}
+use Rattle.std.proofs.Common.{◌≡◌, ℕ, ◌<◌, ◌≤◌, ◌==◌, ◌⊎◌, inl, inr, true, false, List, [], ◌∷◌, length, Option, Some, None, option_and_then, IfSome, refl, ap, ◌∙◌, sym, subst, arith, option_map}
 use Rattle.uvm_tree.specs.Sorted.{path_order}
 use Rattle.uvm_sequences.specs.Sequences.{numbered}
 use Rattle.uvm_sequencer.specs.Sequencers.{SequencerValue, candidates_at, choice_at, lock_at}
@@ -9,16 +9,16 @@ use Rattle.uvm_sequencer.specs.Choices.{choice}
 use Rattle.uvm_sequencer.specs.declared.requests.Request.{Request}
 use Rattle.uvm_sequencer.specs.declared.modes.Mode.{Mode}
 use Rattle.uvm_sequencer.specs.Laws.{LockExcludes}
+use Rattle.uvm_phase.specs.declared.phases.Phase.{Phase}
+use Rattle.bench_history.specs.declared.askers.DriverPort.{DriverPort}
 use Rattle.bench_history.specs.Arbitration.{all_wanted, driver_asker, driver_move, driver_state, sequence_on, wish_in, locking_at, mode_at, next_locked, request_queue, sequencer_with, still_waits}
 use Rattle.bench_history.proofs.Served.{IsBy, move-kept, wish-all, asked-by, awaits, hand-sequence, queue-all}
-use Rattle.std.specs.List.{All, list_any}
+use Rattle.std.specs.List.{All}
 use Rattle.std.proofs.lemmas.Bool.Decides.{nat_tests}
 use Rattle.std.proofs.lemmas.List.Elements.{All-nil, All-cons, All-head, All-append, All-weaker, All-contains}
-use Rattle.uvm_phase.specs.declared.agendas.Cause.{Cause}
-use Rattle.uvm_phase.specs.Phases.{same_phase}
 use Rattle.uvm_phase.specs.Laws.{OrderKeepsAll}
 use Rattle.uvm_object.specs.Acts.{node_of}
-use Rattle.uvm_object.specs.Objects.{exchanged_in, same_who}
+use Rattle.uvm_object.specs.Objects.{exchanged_in}
 use Rattle.uvm_object.specs.declared.acts.Who.{Who}
 use Rattle.uvm_object.specs.declared.acts.Who.TheVariants.{Node, Sequence}
 use Rattle.uvm_object.specs.declared.acts.Call.{Call}
@@ -33,28 +33,30 @@ use Rattle.uvm_object.specs.declared.entries.Grant as entries
 use Rattle.uvm_object.specs.declared.entries.Entry.{Entry}
 use Rattle.uvm_object.specs.declared.entries.Entry.TheVariants.{Begin, End, Heard, Did, Passed, Drained, Note, Over, Granted, Locked}
 use Rattle.bench_history.specs.declared.stages.Stage.TheVariants.{Ended}
-use Rattle.bench_history.specs.Sequences.{is_over_phase, Beginning, begun_of, finished_of, sequences_of, is_live, lives}
+use Rattle.bench_history.specs.Sequences.{Beginning, begun_of, sequences_of, is_live, lives, phase_begun}
+use Rattle.uvm_object.specs.declared.entries.Origin.{Origin}
 use Rattle.bench_script.specs.Scripts.{ScriptValue}
 use Rattle.bench_history.specs.declared.owners.Owner.{Owner}
 use Rattle.bench_history.specs.Objections.{objections_of}
-use Rattle.bench_history.specs.History.{stage_of, now_of, running, nodes_of, components_of, left_of, rest_of, speaker_of, opening, ended_of}
+use Rattle.bench_history.specs.History.{stage_of, now_of, nodes_of, components_of, left_of, rest_of, speaker_of, opening, act_phase, ended_of, phase_heard}
 use Rattle.bench_history.specs.Passing.{puts_asked, takes_asked, put_in, take_in}
 use Rattle.uvm_tlm.specs.declared.ends.PortKind.TheVariants as through
 use Rattle.bench_history.specs.Dues.{told_by, told_of, calls_told, calls_numbered, due_after, due_from, calls_from, moves_drains, caused_at, caused_of}
 use Rattle.bench_history.specs.Cases.{Exactly, Answer, Nothing, chosen_at}
 use Rattle.bench_history.specs.Next.{next_of, IsAct, IsNext, EachIsNext}
-use Rattle.bench_history.specs.Laws.{place_of, IsComponent, IsLiving, IsLivingSequence, IsThere, AskedAreThere, WaitersAreComponents, PerformersAreThere, NewNodesAreUnasked, NewSequencesAreUnasked}
+use Rattle.bench_history.specs.Laws.{IsComponent, IsLiving, IsLivingSequence, IsThere, AskedAreThere, WaitersAreComponents, PerformersAreThere, NewNodesAreUnasked, NewSequencesAreUnasked, ActsAreInPhase, HasNotEnded, IsInPhase}
 use Rattle.bench_history.proofs.Ended.{nothing-comes, none-after}
 use Rattle.bench_history.proofs.Deeds.{IsDeed, deed-next, closed-refused, finished-next}
-use Rattle.bench_history.proofs.Asking.{IsAskedBy, asked-more, passing-holds, given-holds}
+use Rattle.bench_history.proofs.Asking.{asked-more, passing-holds, puts-wait, takes-wait, given-holds}
 use Rattle.bench_history.proofs.Performed.{passages_go_in_order}
-use Rattle.bench_history.proofs.Living.{numbered-within, begun-count, begin-left, end-left, sequence-more, runs-still}
+use Rattle.bench_history.proofs.Living.{Stands, Runs, numbered-within, begun-count, begin-left, end-left, sequence-more, stands-more}
+use Rattle.bench_history.proofs.Phased.{running-open}
 use Rattle.bench_history.proofs.Grown.{nodes-more}
-use Rattle.bench_history.proofs.Expected.{GoesOn, IsCallTo, IsOne, IsRequester, IsServed, IsSpeaker, Known, NoneLeft, Opens, Speaking, Speaks, asker-more, asks-one, begun-starters, closed-asks, closed-puts, closed-takes, component-expected, component-more, component-or, components_are_nodes, deed-owner, due-owner, expected-unless, first-part, grant-next, granted-served, heard-one, imps-more, lives_of, lock-next, more-component, moved-call, not-true, numbered-owners, opening-asks, opening-puts, opening-takes, opening-tells, opening-wishes, owners-more, passed-alone, second-part, served-begun, served-expected, served-more, speaker-stays, speaker-there, speaking-did, speaking-on, starters-more, told-owners, unless-opening, wanting-more, wishes-by, with-drains-call}
+use Rattle.bench_history.proofs.Expected.{GoesOn, IsGoing, going-did, IsStartedBy, expected-stands, IsCallTo, IsDriver, IsExpected, IsOneIn, IsRequester, acting-more, one-more, more-one, more-driver, requester-more, requester-expected, component-expected, IsSpeaker, Known, NoneLeft, Opens, Speaking, Speaks, asker-more, asks-one, begun-starters, closed-asks, closed-puts, closed-takes, component-expected, component-more, component-or, components_are_nodes, deed-owner, due-owner, expected-unless, first-part, grant-next, granted-served, heard-one, imps-more, lock-next, moved-call, numbered-owners, opening-asks, opening-puts, opening-takes, opening-tells, opening-wishes, owners-more, passed-alone, speaker-stays, speaker-there, speaking-did, speaking-on, starters-more, told-owners, unless-opening, wanting-more, wishes-by, with-drains-call}
 
 module _ (keeps : OrderKeepsAll Owner (Option Call)) (excludes : LockExcludes) where
   speaking-more : (script : ScriptValue) (before : List Entry) (entry : Entry) → Known script before → IsNext script before entry → GoesOn (entry ∷ before) → Speaking script (entry ∷ before)
-  speaking-more script before (Heard performer call cause acts) known next on = Speaks (speaker-stays script before (Heard performer call cause acts) performer next on refl refl refl (heard-one keeps script before performer call cause acts known next))
+  speaking-more script before (Heard performer call cause acts) known next on = Speaks (speaker-stays script before (Heard performer call cause acts) (phase_heard call cause) performer next on refl refl (heard-one keeps script before performer call cause acts known next).0)
   speaking-more script before (Did performer outcome act) known next on = speaking-did script before performer outcome act next on known.speaker
   speaking-more script before (Begin phase) known next on = NoneLeft (begin-left script before phase next)
   speaking-more script before (End phase) known next on = NoneLeft (end-left script before phase next)
@@ -68,30 +70,32 @@ module _ (keeps : OrderKeepsAll Owner (Option Call)) (excludes : LockExcludes) w
       let entry = Did performer outcome act in
       let deed = deed-next script before performer outcome act (next_of script before) refl next in
       let components = components_of (entry ∷ before) in
-      let phase = running (stage_of before) in
+      let phase = act_phase before in
       let who = deed-owner script before performer act deed known.speaker in
       let closed = closed-refused script before performer outcome act deed next in
       record {
         owners =
-            All-append (IsCallTo (entry ∷ before)) (calls_numbered phase (now_of before) (length before) 0 (calls_told before performer outcome act)) _
-            (numbered-owners (entry ∷ before) phase (now_of before) (length before) 0 (calls_told before performer outcome act) (told-owners script before performer outcome act known next on who))
+            All-append (IsCallTo (entry ∷ before)) (calls_numbered (now_of before) (length before) 0 (calls_told before performer outcome act)) _
+            (numbered-owners (entry ∷ before) (now_of before) (length before) 0 (calls_told before performer outcome act) (told-owners script before performer outcome act known next on who))
             (All-append (IsCallTo (entry ∷ before)) (calls_from outcome act performer phase (now_of before) (length before)) _
-            (due-owner (entry ∷ before) (told_by outcome act) performer phase (due_after (now_of before) act) (caused_at (length before)) (expected-unless script before performer outcome act next on (unless-opening (λ act. told_by outcome act ≡ None) script act (opening-tells script outcome) who)))
+            (due-owner (entry ∷ before) (told_by outcome act) performer phase (due_after (now_of before) act) (caused_at (length before)) (expected-unless script before performer outcome act next on known.acting (unless-opening (λ act. told_by outcome act ≡ None) script act (opening-tells script outcome) who)))
             (moved-call (entry ∷ before) (moves_drains outcome act) phase (caused_at (length before)) (objections_of before) (objections_of (entry ∷ before)) (caused_of before) (owners-more script before entry next on known)));
+        acting = acting-more script before entry (act_phase before) next on known.acting;
+        going = going-did script before performer outcome act known.going;
         starters = begun-starters script before performer outcome act known next on who;
         speaker = speaking-did script before performer outcome act next on known.speaker;
-        putters = λ fifo. asked-more (IsOne components) before fifo performer through.Put (put_in outcome act) (puts_asked before fifo)
-            (All-weaker (IsAskedBy (IsOne (components_of before))) (IsAskedBy (IsOne components)) (λ request. component-more entry before request.asker.who) (puts_asked before fifo) (known.putters fifo))
-            (more-component before entry performer (component-or (put_in outcome act ≡ None) before performer (λ id home same. closed-puts outcome act id home (rw same at closed)) (unless-opening (λ act. put_in outcome act ≡ None) script act (opening-puts script outcome) who)));
-        takers = λ fifo. asked-more (IsOne components) before fifo performer through.Get (take_in outcome act) (takes_asked before fifo)
-            (All-weaker (IsAskedBy (IsOne (components_of before))) (IsAskedBy (IsOne components)) (λ request. component-more entry before request.asker.who) (takes_asked before fifo) (known.takers fifo))
-            (more-component before entry performer (component-or (take_in outcome act ≡ None) before performer (λ id home same. closed-takes outcome act id home (rw same at closed)) (unless-opening (λ act. take_in outcome act ≡ None) script act (opening-takes script outcome) who)));
+        putters = λ fifo. asked-more (IsOneIn (entry ∷ before)) before fifo performer through.Put (put_in outcome act) (puts_asked before fifo)
+            (one-more script before entry (puts_asked before fifo) next on (known.putters fifo))
+            (more-one script before entry performer next on known.acting (component-or (put_in outcome act ≡ None) before performer (λ id home same. closed-puts outcome act id home (rw same at closed)) (unless-opening (λ act. put_in outcome act ≡ None) script act (opening-puts script outcome) who)));
+        takers = λ fifo. asked-more (IsOneIn (entry ∷ before)) before fifo performer through.Get (take_in outcome act) (takes_asked before fifo)
+            (one-more script before entry (takes_asked before fifo) next on (known.takers fifo))
+            (more-one script before entry performer next on known.acting (component-or (take_in outcome act ≡ None) before performer (λ id home same. closed-takes outcome act id home (rw same at closed)) (unless-opening (λ act. take_in outcome act ≡ None) script act (opening-takes script outcome) who)));
         imps = imps-more script before performer outcome act known.imps who (λ id home same. closed);
         wanting = λ node. wish-all (IsRequester (entry ∷ before) node) (sequences_of before) (length before) (wish_in outcome act) (sequence_on node performer) (all_wanted before node)
             (wanting-more script before entry node (all_wanted before node) next on (known.wanting node)) (wishes-by script before performer outcome act node next on (unless-opening (λ act. wish_in outcome act ≡ None) script act (opening-wishes script outcome) who));
-        served = λ node id e. served-more script before entry node id next on refl (known.served node id (move-kept before node performer (driver_move outcome act) (driver_state before node) id e));
-        askers = λ node. asked-by (IsComponent components) before node performer (driver_move outcome act) (driver_asker before node) (asker-more before entry (driver_asker before node) (known.askers node))
-            (more-component before entry performer (component-or (awaits (driver_move outcome act) ≡ false) before performer (λ id home same. closed-asks outcome act id home (rw same at closed)) (unless-opening (λ act. awaits (driver_move outcome act) ≡ false) script act (opening-asks script outcome) who)));
+        served = λ node id e. requester-more script before entry node id next on (known.served node id (move-kept before node performer (driver_move outcome act) (driver_state before node) id e));
+        askers = λ node. asked-by (IsDriver (entry ∷ before)) before node performer (driver_move outcome act) (driver_asker before node) (asker-more script before entry (driver_asker before node) next on (known.askers node))
+            (more-driver script before entry performer next on known.acting (component-or (awaits (driver_move outcome act) ≡ false) before performer (λ id home same. closed-asks outcome act id home (rw same at closed)) (unless-opening (λ act. awaits (driver_move outcome act) ≡ false) script act (opening-asks script outcome) who)));
       }
 
   -- what passes is a component's
@@ -99,34 +103,28 @@ module _ (keeps : OrderKeepsAll Owner (Option Call)) (excludes : LockExcludes) w
   known-passed script before fifo passage known next on =
       let entry = Passed fifo passage in
       let passes = passages_go_in_order script before fifo passage (passed-alone fifo passage (next_of script before) next) in
-      let has : IsOne (components_of before) passage.who = subst (λ (passed : Option (ℕ × Passage)). IfSome passed (λ passed. IsOne (components_of before) passed.1.who)) passes (passing-holds (IsOne (components_of before)) before known.putters known.takers) in
+      let has : IsOneIn before passage.who passage.phase = subst (λ (passed : Option (ℕ × Passage)). IfSome passed (λ passed. IsOneIn before passed.1.who passed.1.phase)) passes (passing-holds (IsOneIn before) before (λ at. puts-wait (IsOneIn before) before at (known.putters at)) (λ at. takes-wait (IsOneIn before) before at (known.takers at))) in
       record {
-        owners = All-append (IsCallTo (entry ∷ before)) (due_from (Some (told_of passage.kind passage)) passage.who (running (stage_of before)) (now_of before) (caused_at (length before))) (caused_of before)
-            (due-owner (entry ∷ before) (Some (told_of passage.kind passage)) passage.who (running (stage_of before)) (now_of before) (caused_at (length before)) (inr (λ p runs. component-expected (entry ∷ before) p passage.who (component-more entry before passage.who has))))
+        owners = All-append (IsCallTo (entry ∷ before)) (due_from (Some (told_of passage.kind passage)) passage.who (Some passage.phase) (now_of before) (caused_at (length before))) (caused_of before)
+            (due-owner (entry ∷ before) (Some (told_of passage.kind passage)) passage.who (Some passage.phase) (now_of before) (caused_at (length before)) (inr (λ p is. let at : passage.phase ≡ p = cc in subst (λ (one : Phase). IsExpected (entry ∷ before) one passage.who) at (component-expected (entry ∷ before) passage.phase passage.who (component-more entry before passage.who has.0) (stands-more script before entry passage.phase next on has.1)))))
             (owners-more script before entry next on known);
+        acting = acting-more script before entry (act_phase before) next on known.acting;
+        going = known.going;
         starters = starters-more script before entry next on known;
         speaker = speaking-on script before entry next on refl refl refl refl refl known.speaker;
-        putters = known.putters;
-        takers = known.takers;
+        putters = λ fifo. one-more script before entry (puts_asked before fifo) next on (known.putters fifo);
+        takers = λ fifo. one-more script before entry (takes_asked before fifo) next on (known.takers fifo);
         imps = known.imps;
         wanting = λ node. wanting-more script before entry node (all_wanted before node) next on (known.wanting node);
-        served = λ node id e. served-more script before entry node id next on refl (known.served node id e);
-        askers = λ node. asker-more before entry (driver_asker before node) (known.askers node);
+        served = λ node id e. requester-more script before entry node id next on (known.served node id e);
+        askers = λ node. asker-more script before entry (driver_asker before node) next on (known.askers node);
       }
 
   -- a lock that is granted, and an item, are told to a sequence of the phase that runs
-  -- who waits for a sequencer, and lives, is of the phase that runs
-  requester-served : (history : List Entry) (node id : ℕ) → IsRequester history node id → is_live history id ≡ true → IsServed history node id
-  unfolding is_live
-  requester-served history node id r lives =
-      let found : lives_of history id (Some r.sequence.beginning) ≡ true = rw r.sequence.begun at lives in
-      let unended = not-true (list_any (same_phase r.phase) (ended_of history)) (rw r.sequence.phase_is at (second-part (not (list_any (same_who (Sequence id r.sequence.beginning.start.home)) (finished_of history))) (not (is_over_phase (ended_of history) r.sequence.beginning.phase)) found)) in
-      record { phase = r.phase; runs = runs-still history r.phase r.sequence.stands unended; sequence = r.sequence }
-
-  queue-served : (script : ScriptValue) (history : List Entry) (node : ℕ) → Known script history → All (λ request. IsServed history node request.seq) (request_queue history node)
+  queue-served : (script : ScriptValue) (history : List Entry) (node : ℕ) → Known script history → All (λ request. IsRequester history node request.seq) (request_queue history node)
   queue-served script history node known =
-      queue-all history node (IsServed history node) (all_wanted history node)
-      (All-weaker (IsBy (IsRequester history node)) (λ w. still_waits history node w ≡ true → IsServed history node w.request.seq) (λ w r waits. requester-served history node w.request.seq r (first-part _ _ waits)) (all_wanted history node) (known.wanting node))
+      queue-all history node (IsRequester history node) (all_wanted history node)
+      (All-weaker (IsBy (IsRequester history node)) (λ w. still_waits history node w ≡ true → IsRequester history node w.request.seq) (λ w r waits. r) (all_wanted history node) (known.wanting node))
 
   -- what holds of all that waits holds of who is granted a lock
   pub locking-holds : (P : ℕ → ℕ → Type 0) (history : List Entry) → ((node : ℕ) → All (λ request. P node request.seq) (request_queue history node)) → IfSome (next_locked history) (λ led. P led.0 led.1)
@@ -158,38 +156,42 @@ module _ (keeps : OrderKeepsAll Owner (Option Call)) (excludes : LockExcludes) w
   known-locked : (script : ScriptValue) (before : List Entry) (node id : ℕ) → Known script before → IsNext script before (Locked node id) → GoesOn (Locked node id ∷ before) → Known script (Locked node id ∷ before)
   known-locked script before node id known next on =
       let entry = Locked node id in
-      let s : IsServed before node id = subst (λ (led : Option (ℕ × ℕ)). IfSome led (λ led. IsServed before led.0 led.1)) (lock-next script before node id next) (locking-holds (IsServed before) before (λ at. queue-served script before at known)) in
+      let s : IsRequester before node id = subst (λ (led : Option (ℕ × ℕ)). IfSome led (λ led. IsRequester before led.0 led.1)) (lock-next script before node id next) (locking-holds (IsRequester before) before (λ at. queue-served script before at known)) in
       record {
-        owners = All-append (IsCallTo (entry ∷ before)) (due_from (Some call.Held) (Sequence id node) (running (stage_of before)) (now_of before) (caused_at (length before))) (caused_of before)
-            (due-owner (entry ∷ before) (Some call.Held) (Sequence id node) (running (stage_of before)) (now_of before) (caused_at (length before)) (inr (λ p runs. sequence-more script before entry p id node next on (served-expected before node id p runs s))))
+        owners = All-append (IsCallTo (entry ∷ before)) (due_from (Some call.Held) (Sequence id node) (phase_begun before id) (now_of before) (caused_at (length before))) (caused_of before)
+            (due-owner (entry ∷ before) (Some call.Held) (Sequence id node) (phase_begun before id) (now_of before) (caused_at (length before)) (inr (λ p runs. sequence-more script before entry p id node next on (requester-expected before node id p runs s))))
             (owners-more script before entry next on known);
+        acting = acting-more script before entry (act_phase before) next on known.acting;
+        going = known.going;
         starters = starters-more script before entry next on known;
         speaker = speaking-on script before entry next on refl refl refl refl refl known.speaker;
-        putters = known.putters;
-        takers = known.takers;
+        putters = λ fifo. one-more script before entry (puts_asked before fifo) next on (known.putters fifo);
+        takers = λ fifo. one-more script before entry (takes_asked before fifo) next on (known.takers fifo);
         imps = known.imps;
         wanting = λ at. wanting-more script before entry at (all_wanted before at) next on (known.wanting at);
-        served = λ at other e. served-more script before entry at other next on refl (known.served at other e);
-        askers = λ at. asker-more before entry (driver_asker before at) (known.askers at);
+        served = λ at other e. requester-more script before entry at other next on (known.served at other e);
+        askers = λ at. asker-more script before entry (driver_asker before at) next on (known.askers at);
       }
 
   known-granted : (script : ScriptValue) (before : List Entry) (node : ℕ) (grant : entries.Grant) → Known script before → IsNext script before (Granted node grant) → GoesOn (Granted node grant ∷ before) → Known script (Granted node grant ∷ before)
   known-granted script before node grant known next on =
       let entry = Granted node grant in
       let id = grant.id in
-      let s = chosen-holds (IsServed before node) before node id grant.word (queue-served script before node known) (grant-next script before node grant next) in
+      let s = chosen-holds (IsRequester before node) before node id grant.word (queue-served script before node known) (grant-next script before node grant next) in
       record {
-        owners = All-append (IsCallTo (entry ∷ before)) (due_from (Some call.Grant) (Sequence id node) (running (stage_of before)) (now_of before) (caused_at (length before))) (caused_of before)
-            (due-owner (entry ∷ before) (Some call.Grant) (Sequence id node) (running (stage_of before)) (now_of before) (caused_at (length before)) (inr (λ p runs. sequence-more script before entry p id node next on (served-expected before node id p runs s))))
+        owners = All-append (IsCallTo (entry ∷ before)) (due_from (Some call.Grant) (Sequence id node) (phase_begun before id) (now_of before) (caused_at (length before))) (caused_of before)
+            (due-owner (entry ∷ before) (Some call.Grant) (Sequence id node) (phase_begun before id) (now_of before) (caused_at (length before)) (inr (λ p runs. sequence-more script before entry p id node next on (requester-expected before node id p runs s))))
             (owners-more script before entry next on known);
+        acting = acting-more script before entry (act_phase before) next on known.acting;
+        going = known.going;
         starters = starters-more script before entry next on known;
         speaker = speaking-on script before entry next on refl refl refl refl refl known.speaker;
-        putters = known.putters;
-        takers = known.takers;
+        putters = λ fifo. one-more script before entry (puts_asked before fifo) next on (known.putters fifo);
+        takers = λ fifo. one-more script before entry (takes_asked before fifo) next on (known.takers fifo);
         imps = known.imps;
         wanting = λ at. wanting-more script before entry at (all_wanted before at) next on (known.wanting at);
-        served = λ at other e. served-more script before entry at other next on refl (granted-served before node at id other s (known.served at other) e);
-        askers = λ at. asker-more before entry (driver_asker before at) (known.askers at);
+        served = λ at other e. requester-more script before entry at other next on (granted-served before node at id other s (known.served at other) e);
+        askers = λ at. asker-more script before entry (driver_asker before at) next on (known.askers at);
       }
 
   -- so does each entry that is next
@@ -197,51 +199,87 @@ module _ (keeps : OrderKeepsAll Owner (Option Call)) (excludes : LockExcludes) w
   known-more script before (Did performer outcome act) known next on = known-did script before performer outcome act known next on
   known-more script before (Passed fifo passage) known next on = known-passed script before fifo passage known next on
   known-more script before (Drained node cause) known next on = record {
-    owners = with-drains-call (Drained node cause ∷ before) (running (stage_of before)) (caused_at (length before)) (objections_of before) (objections_of (Drained node cause ∷ before)) (caused_of before) (owners-more script before (Drained node cause) next on known);
+    owners = with-drains-call (Drained node cause ∷ before) (Some cause.phase) (caused_at (length before)) (objections_of before) (objections_of (Drained node cause ∷ before)) (caused_of before) (owners-more script before (Drained node cause) next on known);
+    acting = acting-more script before (Drained node cause) (act_phase before) next on known.acting;
+    going = known.going;
     starters = starters-more script before (Drained node cause) next on known;
     speaker = speaking-on script before (Drained node cause) next on refl refl refl refl refl known.speaker;
-    putters = known.putters;
-    takers = known.takers;
+    putters = λ fifo. one-more script before (Drained node cause) (puts_asked before fifo) next on (known.putters fifo);
+    takers = λ fifo. one-more script before (Drained node cause) (takes_asked before fifo) next on (known.takers fifo);
     imps = known.imps;
     wanting = λ at. wanting-more script before (Drained node cause) at (all_wanted before at) next on (known.wanting at);
-    served = λ at id e. served-more script before (Drained node cause) at id next on refl (known.served at id e);
-    askers = λ at. asker-more before (Drained node cause) (driver_asker before at) (known.askers at);
+    served = λ at id e. requester-more script before (Drained node cause) at id next on (known.served at id e);
+    askers = λ at. asker-more script before (Drained node cause) (driver_asker before at) next on (known.askers at);
   }
   known-more script before (Over reason) known next on = absurd (on refl)
   known-more script before (Locked node id) known next on = known-locked script before node id known next on
   known-more script before (Granted node grant) known next on = known-granted script before node grant known next on
   known-more script before (Begin phase) known next on = record {
     owners = owners-more script before (Begin phase) next on known;
+    acting = acting-more script before (Begin phase) (act_phase before) next on known.acting;
+    going = inl (begin-left script before phase next);
     starters = starters-more script before (Begin phase) next on known;
     speaker = speaking-more script before (Begin phase) known next on;
-    putters = known.putters;
-    takers = known.takers;
+    putters = λ fifo. one-more script before (Begin phase) (puts_asked before fifo) next on (known.putters fifo);
+    takers = λ fifo. one-more script before (Begin phase) (takes_asked before fifo) next on (known.takers fifo);
     imps = known.imps;
     wanting = λ node. wanting-more script before (Begin phase) node (all_wanted before node) next on (known.wanting node);
-    served = λ node id e. absurd (served-begun script before phase node id next (known.served node id e));
-    askers = λ node. asker-more before (Begin phase) (driver_asker before node) (known.askers node);
+    served = λ node id e. requester-more script before (Begin phase) node id next on (known.served node id e);
+    askers = λ node. asker-more script before (Begin phase) (driver_asker before node) next on (known.askers node);
   }
   known-more script before (End phase) known next on = record {
     owners = owners-more script before (End phase) next on known;
+    acting = acting-more script before (End phase) (act_phase before) next on known.acting;
+    going = inl (end-left script before phase next);
     starters = starters-more script before (End phase) next on known;
     speaker = speaking-more script before (End phase) known next on;
-    putters = known.putters;
-    takers = known.takers;
+    putters = λ fifo. one-more script before (End phase) (puts_asked before fifo) next on (known.putters fifo);
+    takers = λ fifo. one-more script before (End phase) (takes_asked before fifo) next on (known.takers fifo);
     imps = known.imps;
     wanting = λ node. wanting-more script before (End phase) node (all_wanted before node) next on (known.wanting node);
     served = λ node id e. absurd cc;
-    askers = λ node. asker-more before (End phase) (driver_asker before node) (known.askers node);
+    askers = λ node. asker-more script before (End phase) (driver_asker before node) next on (known.askers node);
+  }
+  known-more script before (Heard performer call cause acts) known next on =
+      let entry = Heard performer call cause acts in
+      record {
+        acting = acting-more script before entry (phase_heard call cause) next on (λ p is. Runs ((heard-one keeps script before performer call cause acts known next).1 p is));
+        going = inr (heard-one keeps script before performer call cause acts known next).1;
+        owners = owners-more script before entry next on known;
+        starters = starters-more script before entry next on known;
+        speaker = speaking-more script before entry known next on;
+        putters = λ fifo. one-more script before entry (puts_asked before fifo) next on (known.putters fifo);
+        takers = λ fifo. one-more script before entry (takes_asked before fifo) next on (known.takers fifo);
+        imps = known.imps;
+        wanting = λ node. wanting-more script before entry node (all_wanted before node) next on (known.wanting node);
+        served = λ node id e. requester-more script before entry node id next on (known.served node id e);
+        askers = λ node. asker-more script before entry (driver_asker before node) next on (known.askers node);
+      }
+  known-more script before (Note fatal at) known next on = record {
+    owners = owners-more script before (Note fatal at) next on known;
+    acting = acting-more script before (Note fatal at) (act_phase before) next on known.acting;
+    going = inl refl;
+    starters = starters-more script before (Note fatal at) next on known;
+    speaker = speaking-more script before (Note fatal at) known next on;
+    putters = λ fifo. one-more script before (Note fatal at) (puts_asked before fifo) next on (known.putters fifo);
+    takers = λ fifo. one-more script before (Note fatal at) (takes_asked before fifo) next on (known.takers fifo);
+    imps = known.imps;
+    wanting = λ node. wanting-more script before (Note fatal at) node (all_wanted before node) next on (known.wanting node);
+    served = λ node id e. requester-more script before (Note fatal at) node id next on (known.served node id e);
+    askers = λ node. asker-more script before (Note fatal at) (driver_asker before node) next on (known.askers node);
   }
   known-more script before entry known next on = record {
     owners = owners-more script before entry next on known;
+    acting = acting-more script before entry (act_phase before) next on known.acting;
+    going = known.going;
     starters = starters-more script before entry next on known;
     speaker = speaking-more script before entry known next on;
-    putters = known.putters;
-    takers = known.takers;
+    putters = λ fifo. one-more script before entry (puts_asked before fifo) next on (known.putters fifo);
+    takers = λ fifo. one-more script before entry (takes_asked before fifo) next on (known.takers fifo);
     imps = known.imps;
     wanting = λ node. wanting-more script before entry node (all_wanted before node) next on (known.wanting node);
-    served = λ node id e. served-more script before entry node id next on refl (known.served node id e);
-    askers = λ node. asker-more before entry (driver_asker before node) (known.askers node);
+    served = λ node id e. requester-more script before entry node id next on (known.served node id e);
+    askers = λ node. asker-more script before entry (driver_asker before node) next on (known.askers node);
   }
 
   -- so that it is known of every log that goes on, of which each entry was next
@@ -250,6 +288,8 @@ module _ (keeps : OrderKeepsAll Owner (Option Call)) (excludes : LockExcludes) w
 
   known-of : (script : ScriptValue) (history : List Entry) → EachIsNext script history → GoesOn history → Known script history
   known-of script [] each on = record {
+    acting = λ phase is. cc;
+    going = inr (λ phase is. cc);
     owners = All-nil _;
     starters = All-nil _;
     speaker = Opens (All-cons (λ one. one ≡ opening script) (opening script) [] refl (All-nil (λ one. one ≡ opening script)));
@@ -262,13 +302,49 @@ module _ (keeps : OrderKeepsAll Owner (Option Call)) (excludes : LockExcludes) w
   }
   known-of script (entry ∷ before) each on = known-more script before entry (known-of script before each.1 (went-on script before entry each.0)) each.0 on
 
+  -- the phases in which sequences were started are in progress, or have ended, and so is that of the acts
+  pub beginnings-stand : (script : ScriptValue) (history : List Entry) → EachIsNext script history → GoesOn history → All (λ beginning. (phase : Phase) → beginning.phase ≡ Some phase → Stands history phase) (begun_of history)
+  beginnings-stand script history each on =
+      All-weaker (IsStartedBy history) (λ beginning. (phase : Phase) → beginning.phase ≡ Some phase → Stands history phase)
+      (λ beginning by phase is. expected-stands history phase beginning.starter (by phase is)) (begun_of history) (known-of script history each on).starters
+
+  -- where an act is next its phase runs, and a sequence acts in the phase in which it was started
+  pub acts_are_in_phase : ActsAreInPhase
+  acts_are_in_phase script history act each is left =
+      let known = known-of script history each (λ ended. subst IsAct (nothing-comes script history ended) is) in
+      let runs = goes known.going in
+      record { runs = runs; unended = not-ended (act_phase history) runs; own = owned known.speaker }
+    where
+      some : {Goal : Type 0} → left_of script history ≡ [] → Goal
+      some none = let both : act ∷ rest_of (left_of script history) ≡ [] = sym left ∙ none in cc
+
+      goes : (left_of script history ≡ []) ⊎ IsGoing history (act_phase history) → IsGoing history (act_phase history)
+      goes (inl none) = some none
+      goes (inr on) = on
+
+      not-ended : (acting : Option Phase) → IsGoing history acting → HasNotEnded (ended_of history) acting
+      not-ended None on = tt
+      not-ended (Some phase) on = running-open script history phase each (on phase refl)
+
+      in-phase : (who : Who) → IsSpeaker history (act_phase history) who → IsInPhase history who
+      in-phase (Node node) has = tt
+      in-phase (Sequence id home) s = ap (option_and_then (λ (beginning : Beginning). beginning.phase)) s.sequence.begun ∙ s.sequence.phase_is ∙ sym s.own
+
+      owned : Speaking script history → (act ≡ opening script) ⊎ IsInPhase history (speaker_of history)
+      owned (NoneLeft none) = some none
+      owned (Opens opens) = inl (All-head (λ one. one ≡ opening script) act (rest_of (left_of script history)) (subst (All (λ one. one ≡ opening script)) left opens))
+      owned (Speaks speaks) = inr (in-phase (speaker_of history) speaks)
+
+  pub acting-stands : (script : ScriptValue) (history : List Entry) → EachIsNext script history → GoesOn history → (phase : Phase) → act_phase history ≡ Some phase → Stands history phase
+  acting-stands script history each on = (known-of script history each on).acting
+
   -- who is asked is there
-  asked-speaks : (script : ScriptValue) (history : List Entry) (performer : Who) (call : Call) (cause : Option Cause) → EachIsNext script history → next_of script history ≡ Answer performer call cause → IsSpeaker history performer
+  asked-speaks : (script : ScriptValue) (history : List Entry) (performer : Who) (call : Call) (cause : Option Origin) → EachIsNext script history → next_of script history ≡ Answer performer call cause → IsSpeaker history (phase_heard call cause) performer
   asked-speaks script history performer call cause each e =
-      asks-one keeps script history performer call cause (known-of script history each (λ ended. let none : Nothing ≡ Answer performer call cause = sym (nothing-comes script history ended) ∙ e in cc)) e
+      (asks-one keeps script history performer call cause (known-of script history each (λ ended. let none : Nothing ≡ Answer performer call cause = sym (nothing-comes script history ended) ∙ e in cc)) e).0
 
   pub asked_are_there : AskedAreThere
-  asked_are_there script history performer call cause each e = speaker-there history performer (asked-speaks script history performer call cause each e)
+  asked_are_there script history performer call cause each e = speaker-there history (phase_heard call cause) performer (asked-speaks script history performer call cause each e)
 
   -- so is who performs an act, but the script
   acts-before-end : (script : ScriptValue) (history : List Entry) → IsAct (next_of script history) → GoesOn history
@@ -276,16 +352,19 @@ module _ (keeps : OrderKeepsAll Owner (Option Call)) (excludes : LockExcludes) w
 
   -- who drives a sequencer is a component
   pub drivers-known : (script : ScriptValue) (history : List Entry) → EachIsNext script history → IsAct (next_of script history) → (node : ℕ) → IfSome (driver_asker history node) (λ driver. IsComponent (components_of history) driver.who)
-  drivers-known script history each is node = (known-of script history each (acts-before-end script history is)).askers node
+  drivers-known script history each is node = component-of (driver_asker history node) ((known-of script history each (acts-before-end script history is)).askers node)
+    where
+      component-of : (asker : Option DriverPort) → IfSome asker (λ driver. IsDriver history driver.who driver.phase) → IfSome asker (λ driver. IsComponent (components_of history) driver.who)
+      component-of None has = tt
+      component-of (Some asker) has = has.0
 
-  -- who is granted, or whose item is in hand, was started there, in the phase that runs
-  served-is : (history : List Entry) (node id : ℕ) → IsServed history node id → place_of (numbered (begun_of history) id) ≡ Some (node, running (stage_of history))
-  served-is history node id s = rw (s.sequence.begun, s.sequence.home_is, s.sequence.phase_is, s.runs) refl
-
+  -- whose item is in hand was started there
   pub hands-known :
       (script : ScriptValue) (history : List Entry) → EachIsNext script history → IsAct (next_of script history) → (node id : ℕ) → hand_of (driver_state history node) ≡ Some id
-      → place_of (numbered (begun_of history) id) ≡ Some (node, running (stage_of history))
-  hands-known script history each is node id hand = served-is history node id ((known-of script history each (acts-before-end script history is)).served node id (hand-sequence (driver_state history node) id hand))
+      → option_map (λ beginning. beginning.start.home) (numbered (begun_of history) id) ≡ Some node
+  hands-known script history each is node id hand =
+      let r = (known-of script history each (acts-before-end script history is)).served node id (hand-sequence (driver_state history node) id hand) in
+      rw (r.sequence.begun, r.sequence.home_is) refl
 
   -- who waits for a sequencer lives, and runs there
   pub queue-living : (script : ScriptValue) (history : List Entry) (node : ℕ) → EachIsNext script history → (stage_of history ≡ Ended → ⊥) → All (λ request. IsLiving history request.seq node) (request_queue history node)
@@ -301,23 +380,23 @@ module _ (keeps : OrderKeepsAll Owner (Option Call)) (excludes : LockExcludes) w
   performer-there script history act left (Opens opens) =
       let first = subst (All (λ one. one ≡ opening script)) left opens in
       inl (All-head (λ one. one ≡ opening script) act (rest_of (left_of script history)) first)
-  performer-there script history act left (Speaks speaks) = inr (speaker-there history (speaker_of history) speaks)
+  performer-there script history act left (Speaks speaks) = inr (speaker-there history (act_phase history) (speaker_of history) speaks)
 
   pub performers_are_there : PerformersAreThere
   performers_are_there script history act each is left = performer-there script history act left (known-of script history each (acts-before-end script history is)).speaker
 
   -- an answer of another is not the node's
-  apart : (performer : Who) (node : ℕ) (call : Call) (cause : Option Cause) (acts : List Act) → node_of performer < node → exchanged_in (Node node) (Heard performer call cause acts) ≡ []
+  apart : (performer : Who) (node : ℕ) (call : Call) (cause : Option Origin) (acts : List Act) → node_of performer < node → exchanged_in (Node node) (Heard performer call cause acts) ≡ []
   apart (Node other) node call cause acts lt =
       let differs : (other == node) ≡ false = grind (arith, nat_tests) in
       rw differs refl
   apart (Sequence id home) node call cause acts lt = refl
 
   -- who has an answer had spoken
-  answered : (script : ScriptValue) (before : List Entry) (performer : Who) (call : Call) (cause : Option Cause) (acts : List Act) → EachIsNext script before → IsNext script before (Heard performer call cause acts) → IsSpeaker before performer
-  answered script before performer call cause acts each next = heard-one keeps script before performer call cause acts (known-of script before each (went-on script before (Heard performer call cause acts) next)) next
+  answered : (script : ScriptValue) (before : List Entry) (performer : Who) (call : Call) (cause : Option Origin) (acts : List Act) → EachIsNext script before → IsNext script before (Heard performer call cause acts) → IsSpeaker before (phase_heard call cause) performer
+  answered script before performer call cause acts each next = (heard-one keeps script before performer call cause acts (known-of script before each (went-on script before (Heard performer call cause acts) next)) next).0
 
-  unasked-node : (script : ScriptValue) (before : List Entry) (node : ℕ) (performer : Who) (call : Call) (cause : Option Cause) (acts : List Act) → EachIsNext script before → IsSpeaker before performer → length (nodes_of before) ≤ node → exchanged_in (Node node) (Heard performer call cause acts) ≡ []
+  unasked-node : (script : ScriptValue) (before : List Entry) (node : ℕ) (performer : Who) (call : Call) (cause : Option Origin) (acts : List Act) → EachIsNext script before → IsSpeaker before (phase_heard call cause) performer → length (nodes_of before) ≤ node → exchanged_in (Node node) (Heard performer call cause acts) ≡ []
   unasked-node script before node (Node other) call cause acts each has le =
       let lt : other < length (nodes_of before) = All-contains (λ other. other < length (nodes_of before)) (components_of before) other (components_are_nodes script before each) has in
       apart (Node other) node call cause acts (omega (arith, lt, le))
@@ -337,7 +416,7 @@ module _ (keeps : OrderKeepsAll Owner (Option Call)) (excludes : LockExcludes) w
       rw (unasked-in script before node entry each.1 each.0 fewer) (new_nodes_are_unasked script before node each.1 fewer)
 
   -- nor behind the sequences that were started
-  unasked-sequence : (before : List Entry) (id home : ℕ) (performer : Who) (call : Call) (cause : Option Cause) (acts : List Act) → IsSpeaker before performer → length (begun_of before) < id → exchanged_in (Sequence id home) (Heard performer call cause acts) ≡ []
+  unasked-sequence : (before : List Entry) (id home : ℕ) (performer : Who) (call : Call) (cause : Option Origin) (acts : List Act) → IsSpeaker before (phase_heard call cause) performer → length (begun_of before) < id → exchanged_in (Sequence id home) (Heard performer call cause acts) ≡ []
   unasked-sequence before id home (Node node) call cause acts has lt = refl
   unasked-sequence before id home (Sequence other at) call cause acts speaks lt =
       let low = numbered-within (begun_of before) other speaks.sequence.beginning speaks.sequence.begun in
@@ -356,14 +435,14 @@ module _ (keeps : OrderKeepsAll Owner (Option Call)) (excludes : LockExcludes) w
       rw (unstarted-in script before id home entry each.1 each.0 fewer) (new_sequences_are_unasked script before id home each.1 fewer)
 
   -- who finishes is a sequence that lived
-  finisher-there : (script : ScriptValue) (before : List Entry) (performer : Who) (act : Act) → IsNext script before (Did performer Finished act) → IsDeed script before performer act → (act ≡ opening script) ⊎ IsSpeaker before performer → IsLivingSequence before performer
+  finisher-there : (script : ScriptValue) (before : List Entry) (performer : Who) (act : Act) → IsNext script before (Did performer Finished act) → IsDeed script before performer act → (act ≡ opening script) ⊎ IsSpeaker before (act_phase before) performer → IsLivingSequence before performer
   finisher-there script before performer act next deed (inl opens) =
       let ends = finished-next script before performer act next in
       let e : EndStep ≡ opening script = sym ends ∙ opens in cc
   finisher-there script before (Node node) act next deed (inr speaks) =
       let ends = finished-next script before (Node node) act next in
       let e : Finished ≡ Refused NotOpen = closed-refused script before (Node node) Finished act deed next (rw ends refl) in cc
-  finisher-there script before (Sequence id home) act next deed (inr speaks) = speaker-there before (Sequence id home) speaks
+  finisher-there script before (Sequence id home) act next deed (inr speaks) = speaker-there before (act_phase before) (Sequence id home) speaks
 
   pub finisher_lives : (script : ScriptValue) (before : List Entry) (performer : Who) (act : Act) → EachIsNext script before → IsNext script before (Did performer Finished act) → IsLivingSequence before performer
   finisher_lives script before performer act each next =
@@ -375,4 +454,4 @@ module _ (keeps : OrderKeepsAll Owner (Option Call)) (excludes : LockExcludes) w
   pub waiters_are_components : WaitersAreComponents
   waiters_are_components script history fifo passage each is =
       let known = known-of script history each (λ ended. let none : Nothing ≡ Exactly (Passed fifo passage) = sym (nothing-comes script history ended) ∙ is in cc) in
-      subst (λ (passed : Option (ℕ × Passage)). IfSome passed (λ passed. IsOne (components_of history) passed.1.who)) (passages_go_in_order script history fifo passage is) (passing-holds (IsOne (components_of history)) history known.putters known.takers)
+      (subst (λ (passed : Option (ℕ × Passage)). IfSome passed (λ passed. IsOneIn history passed.1.who passed.1.phase)) (passages_go_in_order script history fifo passage is) (passing-holds (IsOneIn history) history (λ at. puts-wait (IsOneIn history) history at (known.putters at)) (λ at. takes-wait (IsOneIn history) history at (known.takers at)))).0

@@ -13,13 +13,16 @@ use Rattle.uvm_object.specs.declared.acts.Who.TheVariants as who
 use Rattle.uvm_object.specs.declared.acts.Call.{Call}
 use Rattle.uvm_object.specs.declared.acts.Call.TheVariants as call
 use Rattle.uvm_object.specs.declared.acts.Act.{Act}
+use Rattle.uvm_object.specs.declared.entries.Origin.{Origin}
 use Rattle.uvm_object.specs.declared.entries.Entry.{Entry}
 use Rattle.uvm_object.specs.declared.entries.Entry.TheVariants.{Heard, Did, Locked, Granted, Passed, Drained}
 use Rattle.bench_script.specs.Scripts.{ScriptValue}
+use Rattle.bench_history.specs.declared.owners.Told.{Told}
 use Rattle.bench_history.specs.declared.owners.Owner.{Owner}
 use Rattle.bench_history.specs.declared.owners.Owner.TheVariants.{Object, Drain}
 use Rattle.bench_history.specs.Owners.{Event, is_drain_of}
-use Rattle.bench_history.specs.History.{acting_in, now_of, running, stage_of}
+use Rattle.bench_history.specs.History.{act_phase, now_of}
+use Rattle.bench_history.specs.Sequences.{phase_begun}
 use Rattle.bench_history.specs.Objections.{objections_of}
 use Rattle.bench_history.specs.Dues.{calls_from, calls_numbered, calls_told, caused_at, caused_of, drain_from, due_after, due_from, event_in, events_from, moves_drains, told_by, told_of, with_drains, with_drains_of, with_events_from}
 use Rattle.bench_history.specs.Next.{next_of, IsLegal}
@@ -44,26 +47,26 @@ module _ (P : Event → Type 0) where
       let begun = flat_map (drain_from phase cause) (drains_begun earlier nodes) in
       All-append P begun _ (all-left begun [] new) (All-filter (λ (event : Event). not (is_drain_of (drains_ended earlier nodes) event.owner)) P caused old)
 
-  both-moved : (moves : Bool) (entry : Entry) (before : List Entry) (caused : List Event) → All P (if moves then with_drains_of entry before [] else []) → All P caused → All P (if moves then with_drains_of entry before caused else caused)
-  both-moved true entry before caused new old = both-drains (running (stage_of before)) (caused_at (length before)) (objections_of before) (objections_of (entry ∷ before)) caused new old
-  both-moved false entry before caused new old = old
+  both-moved : (moves : Bool) (phase : Option Phase) (entry : Entry) (before : List Entry) (caused : List Event) → All P (if moves then with_drains_of phase entry before [] else []) → All P caused → All P (if moves then with_drains_of phase entry before caused else caused)
+  both-moved true phase entry before caused new old = both-drains phase (caused_at (length before)) (objections_of before) (objections_of (entry ∷ before)) caused new old
+  both-moved false phase entry before caused new old = old
 
   both-all : (entry : Entry) (before : List Entry) (caused : List Event) → All P (events_from entry before) → All P caused → All P (with_events_from entry before caused)
   both-all (Did performer outcome act) before caused new old =
-      let told = calls_numbered (acting_in before) (now_of before) (length before) 0 (calls_told before performer outcome act) in
-      let from = calls_from outcome act performer (acting_in before) (now_of before) (length before) in
+      let told = calls_numbered (now_of before) (length before) 0 (calls_told before performer outcome act) in
+      let from = calls_from outcome act performer (act_phase before) (now_of before) (length before) in
       let rest = all-right told _ new in
-      All-append P told _ (all-left told _ new) (All-append P from _ (all-left from _ rest) (both-moved (moves_drains outcome act) (Did performer outcome act) before caused (all-right from _ rest) old))
+      All-append P told _ (all-left told _ new) (All-append P from _ (all-left from _ rest) (both-moved (moves_drains outcome act) (act_phase before) (Did performer outcome act) before caused (all-right from _ rest) old))
   both-all (Passed fifo passage) before caused new old =
-      let told = due_from (Some (told_of passage.kind passage)) passage.who (running (stage_of before)) (now_of before) (caused_at (length before)) in
+      let told = due_from (Some (told_of passage.kind passage)) passage.who (Some passage.phase) (now_of before) (caused_at (length before)) in
       All-append P told caused (all-left told [] new) old
   both-all (Locked node id) before caused new old =
-      let told = due_from (Some call.Held) (who.Sequence id node) (running (stage_of before)) (now_of before) (caused_at (length before)) in
+      let told = due_from (Some call.Held) (who.Sequence id node) (phase_begun before id) (now_of before) (caused_at (length before)) in
       All-append P told caused (all-left told [] new) old
   both-all (Granted node grant) before caused new old =
-      let told = due_from (Some call.Grant) (who.Sequence grant.id node) (running (stage_of before)) (now_of before) (caused_at (length before)) in
+      let told = due_from (Some call.Grant) (who.Sequence grant.id node) (phase_begun before grant.id) (now_of before) (caused_at (length before)) in
       All-append P told caused (all-left told [] new) old
-  both-all (Drained node cause) before caused new old = both-drains (running (stage_of before)) (caused_at (length before)) (objections_of before) (objections_of (Drained node cause ∷ before)) caused new old
+  both-all (Drained node origin) before caused new old = both-drains (Some origin.phase) (caused_at (length before)) (objections_of before) (objections_of (Drained node origin ∷ before)) caused new old
   both-all entry before caused new old = old
 
 -- what an entry causes has its place
@@ -78,33 +81,33 @@ due-placed : (notice : Option Call) (performer : Who) (phase : Option Phase) (ti
 due-placed None performer phase time place = All-nil (IsPlaced place)
 due-placed (Some call) performer phase time place = event-placed phase time place 0 (Object performer) (Some call)
 
-numbered-placed : (phase : Option Phase) (time place number : ℕ) (calls : List (Who × Call)) → All (IsPlaced place) (calls_numbered phase time place number calls)
-numbered-placed phase time place number [] = All-nil (IsPlaced place)
-numbered-placed phase time place number (told ∷ calls) = All-append (IsPlaced place) (calls_numbered phase time place (suc number) calls) _ (numbered-placed phase time place (suc number) calls) (event-placed phase time place number (Object told.0) (Some told.1))
+numbered-placed : (time place number : ℕ) (calls : List Told) → All (IsPlaced place) (calls_numbered time place number calls)
+numbered-placed time place number [] = All-nil (IsPlaced place)
+numbered-placed time place number (told ∷ calls) = All-append (IsPlaced place) (calls_numbered time place (suc number) calls) _ (numbered-placed time place (suc number) calls) (event-placed told.phase time place number (Object told.who) (Some told.call))
 
 begun-placed : (phase : Option Phase) (place : ℕ) (begun : List drain.Due) → All (IsPlaced place) (flat_map (drain_from phase (caused_at place)) begun)
 begun-placed phase place [] = All-nil (IsPlaced place)
 begun-placed phase place (one ∷ begun) = All-append (IsPlaced place) (drain_from phase (caused_at place) one) _ (event-placed phase one.at place 0 (Drain one.node) None) (begun-placed phase place begun)
 
-drains-placed : (entry : Entry) (before : List Entry) → All (IsPlaced (length before)) (with_drains_of entry before [])
-drains-placed entry before =
-    let begun = flat_map (drain_from (running (stage_of before)) (caused_at (length before))) (drains_begun (objections_of before) (objections_of (entry ∷ before))) in
-    All-append (IsPlaced (length before)) begun [] (begun-placed (running (stage_of before)) (length before) (drains_begun (objections_of before) (objections_of (entry ∷ before)))) (All-nil (IsPlaced (length before)))
+drains-placed : (phase : Option Phase) (entry : Entry) (before : List Entry) → All (IsPlaced (length before)) (with_drains_of phase entry before [])
+drains-placed phase entry before =
+    let begun = flat_map (drain_from phase (caused_at (length before))) (drains_begun (objections_of before) (objections_of (entry ∷ before))) in
+    All-append (IsPlaced (length before)) begun [] (begun-placed phase (length before) (drains_begun (objections_of before) (objections_of (entry ∷ before)))) (All-nil (IsPlaced (length before)))
 
-moved-placed : (moves : Bool) (entry : Entry) (before : List Entry) → All (IsPlaced (length before)) (if moves then with_drains_of entry before [] else [])
-moved-placed true entry before = drains-placed entry before
-moved-placed false entry before = All-nil (IsPlaced (length before))
+moved-placed : (moves : Bool) (phase : Option Phase) (entry : Entry) (before : List Entry) → All (IsPlaced (length before)) (if moves then with_drains_of phase entry before [] else [])
+moved-placed true phase entry before = drains-placed phase entry before
+moved-placed false phase entry before = All-nil (IsPlaced (length before))
 
 placed-all : (entry : Entry) (before : List Entry) → All (IsPlaced (length before)) (events_from entry before)
 placed-all (Did performer outcome act) before =
     let P = IsPlaced (length before) in
-    All-append P (calls_numbered (acting_in before) (now_of before) (length before) 0 (calls_told before performer outcome act)) _ (numbered-placed (acting_in before) (now_of before) (length before) 0 (calls_told before performer outcome act))
-    (All-append P (calls_from outcome act performer (acting_in before) (now_of before) (length before)) _ (due-placed (told_by outcome act) performer (acting_in before) (due_after (now_of before) act) (length before))
-    (moved-placed (moves_drains outcome act) (Did performer outcome act) before))
-placed-all (Passed fifo passage) before = All-append (IsPlaced (length before)) _ [] (due-placed (Some (told_of passage.kind passage)) passage.who (running (stage_of before)) (now_of before) (length before)) (All-nil (IsPlaced (length before)))
-placed-all (Locked node id) before = All-append (IsPlaced (length before)) _ [] (due-placed (Some call.Held) (who.Sequence id node) (running (stage_of before)) (now_of before) (length before)) (All-nil (IsPlaced (length before)))
-placed-all (Granted node grant) before = All-append (IsPlaced (length before)) _ [] (due-placed (Some call.Grant) (who.Sequence grant.id node) (running (stage_of before)) (now_of before) (length before)) (All-nil (IsPlaced (length before)))
-placed-all (Drained node cause) before = drains-placed (Drained node cause) before
+    All-append P (calls_numbered (now_of before) (length before) 0 (calls_told before performer outcome act)) _ (numbered-placed (now_of before) (length before) 0 (calls_told before performer outcome act))
+    (All-append P (calls_from outcome act performer (act_phase before) (now_of before) (length before)) _ (due-placed (told_by outcome act) performer (act_phase before) (due_after (now_of before) act) (length before))
+    (moved-placed (moves_drains outcome act) (act_phase before) (Did performer outcome act) before))
+placed-all (Passed fifo passage) before = All-append (IsPlaced (length before)) (due_from (Some (told_of passage.kind passage)) passage.who (Some passage.phase) (now_of before) (caused_at (length before))) [] (due-placed (Some (told_of passage.kind passage)) passage.who (Some passage.phase) (now_of before) (length before)) (All-nil (IsPlaced (length before)))
+placed-all (Locked node id) before = All-append (IsPlaced (length before)) _ [] (due-placed (Some call.Held) (who.Sequence id node) (phase_begun before id) (now_of before) (length before)) (All-nil (IsPlaced (length before)))
+placed-all (Granted node grant) before = All-append (IsPlaced (length before)) _ [] (due-placed (Some call.Grant) (who.Sequence grant.id node) (phase_begun before grant.id) (now_of before) (length before)) (All-nil (IsPlaced (length before)))
+placed-all (Drained node origin) before = drains-placed (Some origin.phase) (Drained node origin) before
 placed-all entry before = All-nil (IsPlaced (length before))
 
 -- the entry at the place of its cause causes an event
@@ -153,21 +156,22 @@ at-same history cause time entry before at timed =
 
 -- each call with a cause is heard at its time, as that entry causes it
 pub calls_on_time :
-    SettledGoByTotals → BegunDrainsAreHeld → PlacesStay → NodesGrow → (script : ScriptValue) (later before : List Entry) (hearer : Who) (call : Call) (cause : Cause) (acts : List Act) → IsLegal script (later ++ Heard hearer call (Some cause) acts ∷ before)
-    → IsCaused before hearer call cause (now_of before)
-calls_on_time goes held_are stay grow script later before hearer call cause acts legal =
-    let each = older-each script later (Heard hearer call (Some cause) acts ∷ before) legal.each in
-    let due = due_calls_go_in_order script before hearer call cause (heard-alone hearer call (Some cause) acts (next_of script before) (plain-next script before) each.0) in
+    SettledGoByTotals → BegunDrainsAreHeld → PlacesStay → NodesGrow → (script : ScriptValue) (later before : List Entry) (hearer : Who) (call : Call) (origin : Origin) (acts : List Act) → IsLegal script (later ++ Heard hearer call (Some origin) acts ∷ before)
+    → IsCaused before hearer call origin (now_of before)
+calls_on_time goes held_are stay grow script later before hearer call origin acts legal =
+    let each = older-each script later (Heard hearer call (Some origin) acts ∷ before) legal.each in
+    let due = due_calls_go_in_order script before hearer call origin (heard-alone hearer call (Some origin) acts (next_of script before) (plain-next script before) each.0) in
     let has = first-caused (HasCause before) before due.event (causes-of before) due.first in
-    let at : IsAtCause before cause has.entry has.before = subst (λ (one : Cause). IsAtCause before one has.entry has.before) due.cause_is has.at in
+    let cause_is : due.event.cause ≡ origin.cause = ap (λ (one : Origin). one.cause) due.origin_is in
+    let at : IsAtCause before origin.cause has.entry has.before = subst (λ (one : Cause). IsAtCause before one has.entry has.before) cause_is has.at in
     record {
       entry = has.entry;
       before = has.before;
       at = at;
       event = due.event;
       among = has.among;
-      cause_is = due.cause_is;
+      origin_is = due.origin_is;
       hearer_is = due.hearer_is;
       call_is = due.notice_is;
-      time_is = at-same before cause (now_of before) has.entry has.before at (call-times goes held_are stay grow script later before hearer call cause acts legal);
+      time_is = at-same before origin.cause (now_of before) has.entry has.before at (call-times goes held_are stay grow script later before hearer call origin acts legal);
     }

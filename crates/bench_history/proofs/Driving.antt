@@ -25,13 +25,15 @@ use Rattle.uvm_object.specs.declared.entries.Entry.TheVariants.{Did, Locked}
 use Rattle.bench_script.specs.Scripts.{ScriptValue}
 use Rattle.bench_history.specs.declared.owners.Owner.{Owner}
 use Rattle.bench_history.specs.declared.stages.Stage.TheVariants.{Ended}
-use Rattle.bench_history.specs.History.{created_name, kind_of, nodes_of, opening, speaker_of, stage_of}
+use Rattle.bench_history.specs.History.{created_name, ended_of, kind_of, nodes_of, opening, speaker_of, stage_of}
 use Rattle.bench_history.specs.Wires.{node_below}
-use Rattle.bench_history.specs.Arbitration.{mode_at, mode_in, modes_of}
+use Rattle.bench_history.specs.Arbitration.{asked_in, mode_at, mode_in, modes_of}
 use Rattle.bench_history.specs.Sequences.{Beginning, begun_of, home_asked, if_sequencer, is_sequencer, sequences_of, start_by}
 use Rattle.bench_history.specs.Cases.{Next, Exactly, Grant, Nothing}
-use Rattle.bench_history.specs.Next.{next_of, EachIsNext, IsNext}
-use Rattle.bench_history.specs.Laws.{ChosenAreThere, DriversAreThere, IsLiving, IsThere, LockersAreThere}
+use Rattle.bench_history.specs.Next.{next_of, EachIsNext, IsAct, IsNext}
+use Rattle.bench_history.specs.Laws.{ChosenAreThere, DriversAreThere, HasNotEnded, IsLiving, IsThere, LockersAreThere}
+use Rattle.bench_history.proofs.Awaiting.{IsAsking, asking-of}
+use Rattle.bench_history.proofs.Phased.{running-open}
 use Rattle.bench_history.proofs.Ended.{nothing-comes}
 use Rattle.bench_history.proofs.Homes.{IsStarting, home-of, starting-next}
 use Rattle.bench_history.proofs.Living.{numbered-holds}
@@ -169,12 +171,20 @@ module _ (keeps : OrderKeepsAll Owner (Option Call)) (excludes : LockExcludes) w
   homes-are script [] each = All-nil _
   homes-are script (entry ∷ before) each = homes-more script before entry each.1 each.0 (homes-are script before each.1)
 
+  -- the phase in which a driver asked has not ended, unless it is idle
+  acts-go : (script : ScriptValue) (history : List Entry) → IsAct (next_of script history) → stage_of history ≡ Ended → ⊥
+  acts-go script history is ended = subst IsAct (nothing-comes script history ended) is
+
+  asked-open : (script : ScriptValue) (history : List Entry) (node : ℕ) → EachIsNext script history → IsAsking history node → HasNotEnded (ended_of history) (asked_in history node)
+  asked-open script history node each asks = subst (HasNotEnded (ended_of history)) (sym asks.1) (running-open script history asks.0 each asks.2)
+
   -- and so it is where an act is next
   pub drivers_are_there : DriversAreThere
   drivers_are_there script history each is = record {
     homes = homes-are script history each;
     drivers = drivers-known keeps excludes script history each is;
     hands = hands-known keeps excludes script history each is;
+    asks = λ node busy. asked-open script history node each (asking-of keeps excludes script history node each (acts-go script history is) busy);
   }
 
   -- who is granted a lock, or an item, lives

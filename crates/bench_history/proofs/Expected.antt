@@ -1,11 +1,11 @@
 -- Who is to hear something, and who may act: what is known of a log in which each entry was next.
-use Rattle.std.proofs.Common.{◌≡◌, ℕ, ◌<◌, ◌==◌, ◌⊎◌, inl, inr, suc, Bool, true, false, not, ◌&&◌, filter, if◌then◌else◌, List, [], ◌∷◌, length, slice_get, Option, Some, None, option_and_then, IfSome, OnSome, refl, ap, ◌∙◌, sym, subst, arith}
+use Rattle.std.proofs.Common.{◌≡◌, ℕ, ◌<◌, ◌==◌, ◌⊎◌, inl, inr, suc, Bool, true, false, not, ◌&&◌, filter, if◌then◌else◌, List, [], ◌∷◌, length, slice_get, Option, Some, None, option_and_then, IfSome, OnSome, refl, ap, ◌∙◌, sym, subst, arith, filter_map, option_map}
 use Rattle.std.specs.Option.{option_map_or}
 use Rattle.uvm_sequencer.specs.Drivers.{granted_by, hand_of}
 use Rattle.bench_history.specs.declared.askers.DriverPort.{DriverPort}
 use Rattle.bench_history.specs.Arbitration.{Wanted, all_wanted, driver_asker, driver_move, driver_state, sequence_on, wish_in, next_locked, sequencer_below}
 use Rattle.bench_history.proofs.Served.{HoldsOf, IsBy, driver_sequence, awaits, done-told, granted-kept, hand-sequence, lapse-told, sent-told}
-use Rattle.std.specs.List.{All, Contains, flat_map, list_any}
+use Rattle.std.specs.List.{cons_option, All, Contains, flat_map, list_any}
 use Rattle.std.proofs.lemmas.Bool.Decides.{nat_tests}
 use Rattle.std.proofs.lemmas.List.Elements.{All-nil, All-cons, All-head, All-tail, All-push, All-append, All-weaker, All-filter, All-contains_itself, Contains-append_left, filter_passes}
 use Rattle.std.proofs.lemmas.List.Sorted.{All-permutation}
@@ -32,10 +32,11 @@ use Rattle.uvm_object.specs.declared.entries.Outcome.TheVariants.{Done, Made, St
 use Rattle.uvm_object.specs.declared.entries.Passage.{Passage}
 use Rattle.uvm_object.specs.declared.entries.Grant as entries
 use Rattle.uvm_object.specs.declared.entries.Entry.{Entry}
-use Rattle.uvm_object.specs.declared.entries.Entry.TheVariants.{Begin, Heard, Did, Passed, Granted, Locked}
+use Rattle.uvm_object.specs.declared.entries.Entry.TheVariants.{Heard, Did, Passed, Granted, Locked}
 use Rattle.bench_history.specs.declared.stages.Stage.TheVariants.{Ended}
-use Rattle.bench_history.specs.Sequences.{Beginning, begun_of, finished_of, next_step, sequence_in, sequences_of, start_by, lives}
+use Rattle.bench_history.specs.Sequences.{Beginning, begun_of, finished_of, next_step, sequence_in, sequences_of, start_by, lives, phase_begun}
 use Rattle.bench_history.specs.Refusals.{is_open_to}
+use Rattle.uvm_object.specs.declared.entries.Origin.{Origin}
 use Rattle.bench_script.specs.Scripts.{ScriptValue}
 use Rattle.bench_history.specs.declared.needs.Need as declared
 use Rattle.uvm_objection.specs.declared.objections.Due as drain
@@ -44,12 +45,13 @@ use Rattle.uvm_objection.specs.Totals.{drains_begun, drains_ended}
 use Rattle.bench_history.specs.declared.owners.Owner.{Owner}
 use Rattle.bench_history.specs.declared.owners.Owner.TheVariants.{Object, Drain}
 use Rattle.bench_history.specs.Owners.{Event, who_of, is_drain_of}
-use Rattle.bench_history.specs.History.{stage_of, now_of, running, nodes_of, components_of, left_of, left_after, rest_of, speaker_of, phase_order, called_of, had_call, next_call, opening, ended_of}
+use Rattle.bench_history.specs.History.{stage_of, now_of, nodes_of, components_of, left_of, left_after, rest_of, speaker_of, phase_order, called_of, had_call, next_call, opening, ended_of, act_phase, phase_heard, running}
 use Rattle.bench_history.specs.Wires.{wiring_of, closed_wiring}
 use Rattle.bench_history.specs.Ports.{is_imp_at, imps_below, outlets_below}
-use Rattle.bench_history.specs.Passing.{puts_asked, takes_asked, put_in, take_in}
+use Rattle.bench_history.specs.Passing.{puts_asked, takes_asked, put_in, take_in, Request}
 use Rattle.uvm_tlm.specs.declared.items.Item.{Item}
-use Rattle.bench_history.specs.Dues.{event_in, told_by, told_step, step_call, finished_by, calls_told, calls_numbered, due_from, drain_from, with_drains, caused_of, heard_of, is_open, due_events, first_due, due_at, due_now, lapsed_by, done_by}
+use Rattle.bench_history.specs.declared.owners.Told.{Told}
+use Rattle.bench_history.specs.Dues.{event_in, told_by, told_step, step_call, finished_by, calls_told, calls_numbered, due_from, drain_from, with_drains, caused_of, heard_of, is_open, due_events, first_due, due_at, due_now, lapsed_by, done_by, told_in, written_to}
 use Rattle.bench_history.specs.Cases.{Next, Exactly, Answer, Need, Nothing, Grant, chosen_at}
 use Rattle.bench_history.specs.Next.{next_of, Allows, IsNext}
 use Rattle.bench_history.specs.Laws.{HasGrown, HasMade, IsComponent, IsThere, ComponentsAreNodes}
@@ -58,7 +60,7 @@ use Rattle.bench_history.proofs.Leasts.{least-holds}
 use Rattle.bench_history.proofs.Deeds.{IsDeed, started-next, starts-act, finished-next}
 use Rattle.bench_history.proofs.Asking.{IsAskedBy, IsOwned, IsAdded, get-before, imp-after, written-hold}
 use Rattle.bench_history.proofs.Performed.{lock-case}
-use Rattle.bench_history.proofs.Living.{numbered-newest, numbered-holds, Runs, IsSequence, sequence-more, living-of, runs-still, begin-runs}
+use Rattle.bench_history.proofs.Living.{numbered-newest, numbered-holds, IsSequence, Stands, sequence-more, stands-more, living-of, runs-still}
 use Rattle.bench_history.proofs.Grown.{IsPlain, IsPlainNext, plain-next, exact-keeps-components, nodes_stay, nodes-more, components-grow, made_objects_are_new}
 
 -- the components are below the nodes of one more entry, too
@@ -112,52 +114,56 @@ component-node : (components : List ℕ) (performer : Who) → IsComponent compo
 component-node components (Node node) has = has
 component-node components (Sequence id home) has = absurd has
 
--- who is to hear something in a phase: a component, or a sequence that was started in that phase
-abbrev IsExpected : List Entry → Phase → Who → Type 0
-IsExpected history phase (Node node) = Contains (components_of history) node
+-- who is to hear something in a phase, which is in progress or has ended: a component, or a sequence that was started in that phase
+abbrev pub IsExpected : List Entry → Phase → Who → Type 0
+IsExpected history phase (Node node) = Contains (components_of history) node × Stands history phase
 IsExpected history phase (Sequence id home) = IsSequence history phase id home
 
--- who has spoken and may act: a component, or a sequence whose phase runs and that has not finished
-pub record IsSpeaking (history : List Entry) (id home : ℕ) : Type 0 where
+-- who has spoken and may act in a phase: a component, or a sequence of that phase, which has not ended, that has not finished
+pub record IsSpeaking (history : List Entry) (acting : Option Phase) (id home : ℕ) : Type 0 where
   pub phase : Phase
   pub sequence : IsSequence history phase id home
-  pub runs : running (stage_of history) ≡ Some phase
+  pub own : acting ≡ Some phase
   pub unfinished : list_any (same_who (Sequence id home)) (finished_of history) ≡ false
   pub unended : list_any (same_phase phase) (ended_of history) ≡ false
 
-abbrev pub IsSpeaker : List Entry → Who → Type 0
-IsSpeaker history (Node node) = Contains (components_of history) node
-IsSpeaker history (Sequence id home) = IsSpeaking history id home
+abbrev pub IsSpeaker : List Entry → Option Phase → Who → Type 0
+IsSpeaker history acting (Node node) = Contains (components_of history) node
+IsSpeaker history acting (Sequence id home) = IsSpeaking history acting id home
+
+-- the phase of the acts is in progress or has ended
+abbrev pub IsActing : List Entry → Option Phase → Type 0
+IsActing history acting = (phase : Phase) → acting ≡ Some phase → Stands history phase
 
 abbrev pub GoesOn : List Entry → Type 0
 GoesOn history = stage_of history ≡ Ended → ⊥
 
 expected-more : (script : ScriptValue) (before : List Entry) (entry : Entry) (phase : Phase) (who : Who) → IsNext script before entry → GoesOn (entry ∷ before) → IsExpected before phase who → IsExpected (entry ∷ before) phase who
-expected-more script before entry phase (Node node) next on has = contains-more entry before node has
+expected-more script before entry phase (Node node) next on has = (contains-more entry before node has.0, stands-more script before entry phase next on has.1)
 expected-more script before entry phase (Sequence id home) next on has = sequence-more script before entry phase id home next on has
 
-pub component-expected : (history : List Entry) (phase : Phase) (who : Who) → IsComponent (components_of history) who → IsExpected history phase who
-component-expected history phase (Node node) has = has
-component-expected history phase (Sequence id home) has = absurd has
+pub component-expected : (history : List Entry) (phase : Phase) (who : Who) → IsComponent (components_of history) who → Stands history phase → IsExpected history phase who
+component-expected history phase (Node node) has stands = (has, stands)
+component-expected history phase (Sequence id home) has stands = absurd has
 
 -- who speaks is to hear what is caused now
-speaker-expected : (history : List Entry) (phase : Phase) (who : Who) → running (stage_of history) ≡ Some phase → IsSpeaker history who → IsExpected history phase who
-speaker-expected history phase (Node node) runs has = has
-speaker-expected history phase (Sequence id home) runs s =
-    let same : Some s.phase ≡ Some phase = sym s.runs ∙ runs in
+speaker-expected : (history : List Entry) (phase : Phase) (who : Who) → act_phase history ≡ Some phase → IsActing history (act_phase history) → IsSpeaker history (act_phase history) who → IsExpected history phase who
+speaker-expected history phase (Node node) acts stands has = (has, stands phase acts)
+speaker-expected history phase (Sequence id home) acts stands s =
+    let same : Some s.phase ≡ Some phase = sym s.own ∙ acts in
     let is : s.phase ≡ phase = cc in
     subst (λ (p : Phase). IsSequence history p id home) is s.sequence
 
-pub speaker-there : (history : List Entry) (who : Who) → IsSpeaker history who → IsThere history who
-speaker-there history (Node node) has = has
-speaker-there history (Sequence id home) s = living-of history s.phase id home s.sequence s.unfinished s.unended
+pub speaker-there : (history : List Entry) (acting : Option Phase) (who : Who) → IsSpeaker history acting who → IsThere history who
+speaker-there history acting (Node node) has = has
+speaker-there history acting (Sequence id home) s = living-of history s.phase id home s.sequence s.unfinished s.unended
 
 -- whoever is to hear the call of an event is expected in its phase
 abbrev pub IsCallTo : List Entry → Event → Type 0
 IsCallTo history event = OnSome event.notice (IsExpected history event.phase (who_of event.owner))
 
 -- so is whoever started a sequence, in the phase in which he did
-abbrev IsStartedBy : List Entry → Beginning → Type 0
+abbrev pub IsStartedBy : List Entry → Beginning → Type 0
 IsStartedBy history beginning = (phase : Phase) → beginning.phase ≡ Some phase → IsExpected history phase beginning.starter
 
 -- somebody is one of the components
@@ -168,64 +174,76 @@ IsOne components who = IsComponent components who
 pub data Speaking (script : ScriptValue) (history : List Entry) : Type 0 where
   NoneLeft : left_of script history ≡ [] → Speaking script history
   Opens : All (λ act. act ≡ opening script) (left_of script history) → Speaking script history
-  Speaks : IsSpeaker history (speaker_of history) → Speaking script history
+  Speaks : IsSpeaker history (act_phase history) (speaker_of history) → Speaking script history
 
 -- a sequence was started on a sequencer, in some phase
 pub record IsRequester (history : List Entry) (node id : ℕ) : Type 0 where
   pub phase : Phase
   pub sequence : IsSequence history phase id node
 
--- and in the phase that runs
-pub record IsServed (history : List Entry) (node id : ℕ) : Type 0 where
-  pub phase : Phase
-  pub runs : running (stage_of history) ≡ Some phase
-  pub sequence : IsSequence history phase id node
+-- who is asked at a FIFO, or for an item, in a phase that is in progress or has ended
+abbrev pub IsOneIn : List Entry → Who → Phase → Type 0
+IsOneIn history who phase = IsComponent (components_of history) who × Stands history phase
+
+abbrev pub IsDriver : List Entry → Who → Option Phase → Type 0
+IsDriver history who phase = IsComponent (components_of history) who × IsActing history phase
+
+-- the phase of the acts runs
+abbrev pub IsGoing : List Entry → Option Phase → Type 0
+IsGoing history acting = (phase : Phase) → acting ≡ Some phase → running (stage_of history) ≡ Some phase
 
 -- whoever waits for a call is expected, and whoever spoke last may act; who waits at a FIFO is a component, and who owns an imp; who waits for a sequencer
--- is a sequence of it, the one that is granted or sent an item one of the phase that runs, and who drives it is a component
+-- is a sequence of it, as is the one that is granted or sent an item, and who drives it is a component
 pub record Known (script : ScriptValue) (history : List Entry) : Type 0 where
+  pub acting : IsActing history (act_phase history)
+  pub going : (left_of script history ≡ []) ⊎ IsGoing history (act_phase history)
   pub owners : All (IsCallTo history) (caused_of history)
   pub starters : All (IsStartedBy history) (begun_of history)
   pub speaker : Speaking script history
-  pub putters : (fifo : ℕ) → All (IsAskedBy {Wish = Item} (IsOne (components_of history))) (puts_asked history fifo)
-  pub takers : (fifo : ℕ) → All (IsAskedBy {Wish = Bool} (IsOne (components_of history))) (takes_asked history fifo)
+  pub putters : (fifo : ℕ) → All (IsAskedBy {Wish = Item} (IsOneIn history)) (puts_asked history fifo)
+  pub takers : (fifo : ℕ) → All (IsAskedBy {Wish = Bool} (IsOneIn history)) (takes_asked history fifo)
   pub imps : (node : ℕ) → is_imp_at (wiring_of history) node ≡ true → IsOwned (nodes_of history) (components_of history) node
   pub wanting : (node : ℕ) → All (IsBy (IsRequester history node)) (all_wanted history node)
-  pub served : (node id : ℕ) → driver_sequence (driver_state history node) ≡ Some id → IsServed history node id
-  pub askers : (node : ℕ) → IfSome (driver_asker history node) (λ asker. IsComponent (components_of history) asker.who)
+  pub served : (node id : ℕ) → driver_sequence (driver_state history node) ≡ Some id → IsRequester history node id
+  pub askers : (node : ℕ) → IfSome (driver_asker history node) (λ asker. IsDriver history asker.who asker.phase)
 
 -- with one more entry they stay
-requester-more : (script : ScriptValue) (before : List Entry) (entry : Entry) (node id : ℕ) → IsNext script before entry → GoesOn (entry ∷ before) → IsRequester before node id → IsRequester (entry ∷ before) node id
+pub requester-more : (script : ScriptValue) (before : List Entry) (entry : Entry) (node id : ℕ) → IsNext script before entry → GoesOn (entry ∷ before) → IsRequester before node id → IsRequester (entry ∷ before) node id
 requester-more script before entry node id next on r = record { phase = r.phase; sequence = sequence-more script before entry r.phase id node next on r.sequence }
 
 pub wanting-more : (script : ScriptValue) (before : List Entry) (entry : Entry) (node : ℕ) (asked : List Wanted) → IsNext script before entry → GoesOn (entry ∷ before) → All (IsBy (IsRequester before node)) asked → All (IsBy (IsRequester (entry ∷ before) node)) asked
 wanting-more script before entry node asked next on all = All-weaker (IsBy (IsRequester before node)) (IsBy (IsRequester (entry ∷ before) node)) (λ w. requester-more script before entry node w.request.seq next on) asked all
 
-pub served-more : (script : ScriptValue) (before : List Entry) (entry : Entry) (node id : ℕ) → IsNext script before entry → GoesOn (entry ∷ before) → running (stage_of (entry ∷ before)) ≡ running (stage_of before) → IsServed before node id → IsServed (entry ∷ before) node id
-served-more script before entry node id next on stage s = record { phase = s.phase; runs = stage ∙ s.runs; sequence = sequence-more script before entry s.phase id node next on s.sequence }
+pub acting-more : (script : ScriptValue) (before : List Entry) (entry : Entry) (acting : Option Phase) → IsNext script before entry → GoesOn (entry ∷ before) → IsActing before acting → IsActing (entry ∷ before) acting
+acting-more script before entry acting next on stands = λ phase is. stands-more script before entry phase next on (stands phase is)
 
-pub asker-more : (before : List Entry) (entry : Entry) (asker : Option DriverPort) → IfSome asker (λ asker. IsComponent (components_of before) asker.who) → IfSome asker (λ asker. IsComponent (components_of (entry ∷ before)) asker.who)
-asker-more before entry None has = tt
-asker-more before entry (Some asker) has = component-more entry before asker.who has
+pub asker-more : (script : ScriptValue) (before : List Entry) (entry : Entry) (asker : Option DriverPort) → IsNext script before entry → GoesOn (entry ∷ before) → IfSome asker (λ asker. IsDriver before asker.who asker.phase) → IfSome asker (λ asker. IsDriver (entry ∷ before) asker.who asker.phase)
+asker-more script before entry None next on has = tt
+asker-more script before entry (Some asker) next on has = (component-more entry before asker.who has.0, acting-more script before entry asker.phase next on has.1)
 
--- who is served is expected
-pub served-expected : (history : List Entry) (node id : ℕ) (phase : Phase) → running (stage_of history) ≡ Some phase → IsServed history node id → IsSequence history phase id node
-served-expected history node id phase runs s =
-    let same : Some s.phase ≡ Some phase = sym s.runs ∙ runs in
-    let is : s.phase ≡ phase = cc in
-    subst (λ (p : Phase). IsSequence history p id node) is s.sequence
+pub one-more : {Wish : Type 0} (script : ScriptValue) (before : List Entry) (entry : Entry) (asked : List (Request Wish)) → IsNext script before entry → GoesOn (entry ∷ before) → All (IsAskedBy {Wish = Wish} (IsOneIn before)) asked → All (IsAskedBy {Wish = Wish} (IsOneIn (entry ∷ before))) asked
+one-more {Wish = Wish} script before entry asked next on all =
+    All-weaker (IsAskedBy {Wish = Wish} (IsOneIn before)) (IsAskedBy {Wish = Wish} (IsOneIn (entry ∷ before))) (λ request has. (component-more entry before request.asker.who has.0, stands-more script before entry request.asker.phase next on has.1)) asked all
+
+-- who was started is expected in its phase
+pub requester-expected : (history : List Entry) (node id : ℕ) (phase : Phase) → phase_begun history id ≡ Some phase → IsRequester history node id → IsSequence history phase id node
+requester-expected history node id phase begun r =
+    let begins : phase_begun history id ≡ r.sequence.beginning.phase = ap (option_and_then (λ (beginning : Beginning). beginning.phase)) r.sequence.begun in
+    let same : Some r.phase ≡ Some phase = sym r.sequence.phase_is ∙ sym begins ∙ begun in
+    let is : r.phase ≡ phase = cc in
+    subst (λ (p : Phase). IsSequence history p id node) is r.sequence
 
 -- who is served once one is granted
 pub granted-served :
-    (before : List Entry) (node at id other : ℕ) → IsServed before node id → (driver_sequence (driver_state before at) ≡ Some other → IsServed before at other)
-    → driver_sequence (if node == at then granted_by id (driver_state before at) else driver_state before at) ≡ Some other → IsServed before at other
+    (before : List Entry) (node at id other : ℕ) → IsRequester before node id → (driver_sequence (driver_state before at) ≡ Some other → IsRequester before at other)
+    → driver_sequence (if node == at then granted_by id (driver_state before at) else driver_state before at) ≡ Some other → IsRequester before at other
 granted-served before node at id other s known e = tested (node == at) refl e
   where
-    by : node ≡ at → (other ≡ id) ⊎ (driver_sequence (driver_state before at) ≡ Some other) → IsServed before at other
+    by : node ≡ at → (other ≡ id) ⊎ (driver_sequence (driver_state before at) ≡ Some other) → IsRequester before at other
     by same (inl is) = rw (← same, is) s
     by same (inr was) = known was
 
-    tested : (b : Bool) → (node == at) ≡ b → driver_sequence (if b then granted_by id (driver_state before at) else driver_state before at) ≡ Some other → IsServed before at other
+    tested : (b : Bool) → (node == at) ≡ b → driver_sequence (if b then granted_by id (driver_state before at) else driver_state before at) ≡ Some other → IsRequester before at other
     tested true is e = let same : node ≡ at = grind (arith, nat_tests) in by same (granted-kept id (driver_state before at) other e)
     tested false is e = known e
 
@@ -288,13 +306,9 @@ second-part false b e = cc
 abbrev pub lives_of : List Entry → ℕ → Option Beginning → Bool
 lives_of history id found = option_map_or (lives history id) found false
 
--- none is while no phase runs
-pub served-begun : (script : ScriptValue) (before : List Entry) (phase : Phase) (node id : ℕ) → IsNext script before (Begin phase) → IsServed before node id → ⊥
-served-begun script before phase node id next s = begin-runs script before phase s.phase next s.runs
-
 -- who is asked may act
 abbrev AsksOne : List Entry → Next → Type 0
-AsksOne history (Answer performer call cause) = IsSpeaker history performer
+AsksOne history (Answer performer call cause) = IsSpeaker history (phase_heard call cause) performer × IsGoing history (phase_heard call cause)
 AsksOne history next = Unit {0}
 
 -- the node whose turn has come is a component
@@ -348,13 +362,20 @@ pub not-true : (b : Bool) → not b ≡ true → b ≡ false
 not-true true e = cc
 not-true false e = refl
 
-open-speaker : (history : List Entry) (time : ℕ) (cause : Cause) (phase : Phase) (owner : Owner) (notice : Option Call) → IsExpected history phase (who_of owner) → open_now history (record { time = time; cause = cause; phase = phase; owner = owner; notice = notice }) ≡ true → IsSpeaker history (who_of owner)
-open-speaker history time cause phase (Object (Node node)) notice has is = has
-open-speaker history time cause phase (Drain node) notice has is = has
+going-on : (history : List Entry) (phase : Phase) → Stands history phase → list_any (same_phase phase) (ended_of history) ≡ false → IsGoing history (Some phase)
+going-on history phase stands unended p same = runs-still history phase stands unended ∙ same
+
+open-speaker : (history : List Entry) (time : ℕ) (cause : Cause) (phase : Phase) (owner : Owner) (notice : Option Call) → IsExpected history phase (who_of owner) → open_now history (record { time = time; cause = cause; phase = phase; owner = owner; notice = notice }) ≡ true → IsSpeaker history (Some phase) (who_of owner) × IsGoing history (Some phase)
+open-speaker history time cause phase (Object (Node node)) notice has is =
+    let parts = and-parts _ (not (list_any (same_phase phase) (ended_of history))) true is in
+    (has.0, going-on history phase has.1 (not-true (list_any (same_phase phase) (ended_of history)) parts.0))
+open-speaker history time cause phase (Drain node) notice has is =
+    let parts = and-parts _ (not (list_any (same_phase phase) (ended_of history))) true is in
+    (has.0, going-on history phase has.1 (not-true (list_any (same_phase phase) (ended_of history)) parts.0))
 open-speaker history time cause phase (Object (Sequence id home)) notice s is =
     let parts = and-parts _ (not (list_any (same_phase phase) (ended_of history))) (not (list_any (same_who (Sequence id home)) (finished_of history))) is in
     let unended = not-true (list_any (same_phase phase) (ended_of history)) parts.0 in
-    record { phase = phase; sequence = s; runs = runs-still history phase s.stands unended; unfinished = not-true (list_any (same_who (Sequence id home)) (finished_of history)) parts.1; unended = unended }
+    (record { phase = phase; sequence = s; own = refl; unfinished = not-true (list_any (same_who (Sequence id home)) (finished_of history)) parts.1; unended = unended }, going-on history phase s.stands unended)
 
 module _ (keeps : OrderKeepsAll Owner (Option Call)) where
   -- of the event that is due now
@@ -365,7 +386,7 @@ module _ (keeps : OrderKeepsAll Owner (Option Call)) where
       (first-of P (in_order (due_events history)) (All-permutation P (due_events history) (in_order (due_events history)) (keeps (due_events history)) all))
 
   -- its owner may act
-  asks-due : (history : List Entry) (event : Event) (call : Call) → All (IsCallTo history) (caused_of history) → due_now history ≡ Some event → event.notice ≡ Some call → IsSpeaker history (who_of event.owner)
+  asks-due : (history : List Entry) (event : Event) (call : Call) → All (IsCallTo history) (caused_of history) → due_now history ≡ Some event → event.notice ≡ Some call → IsSpeaker history (Some event.phase) (who_of event.owner) × IsGoing history (Some event.phase)
   asks-due history event call owners now is_call =
       let here = subst (λ (found : Option Event). IfSome found (IsOpenCall history)) now (due-one history (IsOpenCall history) (open-calls history owners)) in
       let expected = subst (λ (notice : Option Call). OnSome notice (IsExpected history event.phase (who_of event.owner))) is_call here.call in
@@ -378,17 +399,17 @@ module _ (keeps : OrderKeepsAll Owner (Option Call)) where
   asks-case script history next known (ByNeed act need made left upshot e) = subst (AsksOne history) (sym e) tt
   asks-case script history next known (ByDeed act outcome left plain comes e) = subst (AsksOne history) (sym e) tt
   asks-case script history next known (ByDue event call now is_call e) = subst (AsksOne history) (sym e) (asks-due history event call known.owners now is_call)
-  asks-case script history next known (ByTurn phase node during turn e) = subst (AsksOne history) (sym e) (subst (λ (found : Option ℕ). IfSome found (Contains (components_of history))) turn (turn-one history phase))
+  asks-case script history next known (ByTurn phase node during turn e) = subst (AsksOne history) (sym e) (subst (λ (found : Option ℕ). IfSome found (Contains (components_of history))) turn (turn-one history phase), λ p same. ap running during ∙ same)
   asks-case script history next known (ByEnd phase runs e) = subst (AsksOne history) (sym e) tt
   asks-case script history next known (ByBegin phase may e) = subst (AsksOne history) (sym e) tt
   asks-case script history next known (ByGrant sequencer drawn served e) = subst (AsksOne history) (sym e) tt
 
   -- so that an answer is of one who may act
-  pub asks-one : (script : ScriptValue) (history : List Entry) (performer : Who) (call : Call) (cause : Option Cause) → Known script history → next_of script history ≡ Answer performer call cause → IsSpeaker history performer
+  pub asks-one : (script : ScriptValue) (history : List Entry) (performer : Who) (call : Call) (cause : Option Origin) → Known script history → next_of script history ≡ Answer performer call cause → IsSpeaker history (phase_heard call cause) performer × IsGoing history (phase_heard call cause)
   asks-one script history performer call cause known e = subst (AsksOne history) e (asks-case script history _ known (case-of script history))
 
   -- an answer was asked for
-  heard-asked : (performer : Who) (call : Call) (cause : Option Cause) (acts : List Act) (next : Next) → IsPlainNext next → Allows next (Heard performer call cause acts) → next ≡ Answer performer call cause
+  heard-asked : (performer : Who) (call : Call) (cause : Option Origin) (acts : List Act) (next : Next) → IsPlainNext next → Allows next (Heard performer call cause acts) → next ≡ Answer performer call cause
   heard-asked performer call cause acts (Exactly entry) plain allows = absurd (subst IsPlain (sym allows) plain)
   heard-asked performer call cause acts (Answer other asked why) plain allows = let same : Heard performer call cause acts ≡ Heard other asked why allows.0 = allows.1 in cc
   heard-asked performer call cause acts (Need need made other act) plain (inl is) = cc
@@ -397,7 +418,7 @@ module _ (keeps : OrderKeepsAll Owner (Option Call)) where
   heard-asked performer call cause acts Nothing plain allows = absurd allows
 
   -- and who was heard may act
-  pub heard-one : (script : ScriptValue) (before : List Entry) (performer : Who) (call : Call) (cause : Option Cause) (acts : List Act) → Known script before → IsNext script before (Heard performer call cause acts) → IsSpeaker before performer
+  pub heard-one : (script : ScriptValue) (before : List Entry) (performer : Who) (call : Call) (cause : Option Origin) (acts : List Act) → Known script before → IsNext script before (Heard performer call cause acts) → IsSpeaker before (phase_heard call cause) performer × IsGoing before (phase_heard call cause)
   heard-one script before performer call cause acts known next =
       asks-one script before performer call cause known (heard-asked performer call cause acts (next_of script before) (plain-next script before) next)
 
@@ -464,7 +485,7 @@ starters-more script before entry next on known =
     All-weaker (IsStartedBy before) (IsStartedBy (entry ∷ before)) (λ beginning by phase is. expected-more script before entry phase beginning.starter next on (by phase is)) (begun_of before) known.starters
 
 -- an act is the opening, or its performer may act
-pub deed-owner : (script : ScriptValue) (before : List Entry) (performer : Who) (act : Act) → IsDeed script before performer act → Speaking script before → (act ≡ opening script) ⊎ IsSpeaker before performer
+pub deed-owner : (script : ScriptValue) (before : List Entry) (performer : Who) (act : Act) → IsDeed script before performer act → Speaking script before → (act ≡ opening script) ⊎ IsSpeaker before (act_phase before) performer
 deed-owner script before performer act deed (NoneLeft none) = let both : act ∷ rest_of (left_of script before) ≡ [] = sym deed.left ∙ none in cc
 deed-owner script before performer act deed (Opens opens) =
     let first = subst (All (λ one. one ≡ opening script)) deed.left opens in
@@ -499,7 +520,7 @@ opening-asks script (Waits true) = refl
 opening-asks script (Waits false) = refl
 opening-asks script outcome = refl
 
-pub component-or : (Idle : Type 0) (before : List Entry) (performer : Who) → ((id home : ℕ) → performer ≡ Sequence id home → Idle) → Idle ⊎ IsSpeaker before performer → Idle ⊎ IsComponent (components_of before) performer
+pub component-or : (Idle : Type 0) (before : List Entry) (performer : Who) → ((id home : ℕ) → performer ≡ Sequence id home → Idle) → Idle ⊎ IsSpeaker before (act_phase before) performer → Idle ⊎ IsComponent (components_of before) performer
 component-or Idle before performer closed (inl idle) = inl idle
 component-or Idle before (Node node) closed (inr has) = inr has
 component-or Idle before (Sequence id home) closed (inr has) = inl (closed id home refl)
@@ -509,7 +530,7 @@ pub opening-wishes : (script : ScriptValue) (outcome : Outcome) → wish_in outc
 opening-wishes script Done = refl
 opening-wishes script outcome = refl
 
-wisher : (script : ScriptValue) (before : List Entry) (entry : Entry) (performer : Who) (node : ℕ) → IsNext script before entry → GoesOn (entry ∷ before) → IsSpeaker before performer → HoldsOf (IsRequester (entry ∷ before) node) (sequence_on node performer)
+wisher : (script : ScriptValue) (before : List Entry) (entry : Entry) (performer : Who) (node : ℕ) → IsNext script before entry → GoesOn (entry ∷ before) → IsSpeaker before (act_phase before) performer → HoldsOf (IsRequester (entry ∷ before) node) (sequence_on node performer)
 wisher script before entry (Node other) node next on speaks = tt
 wisher script before entry (Sequence id home) node next on speaks = tested (home == node) refl
   where
@@ -520,114 +541,122 @@ wisher script before entry (Sequence id home) node next on speaks = tested (home
     tested false e = tt
 
 pub wishes-by :
-    (script : ScriptValue) (before : List Entry) (performer : Who) (outcome : Outcome) (act : Act) (node : ℕ) → IsNext script before (Did performer outcome act) → GoesOn (Did performer outcome act ∷ before) → (wish_in outcome act ≡ None) ⊎ IsSpeaker before performer
+    (script : ScriptValue) (before : List Entry) (performer : Who) (outcome : Outcome) (act : Act) (node : ℕ) → IsNext script before (Did performer outcome act) → GoesOn (Did performer outcome act ∷ before) → (wish_in outcome act ≡ None) ⊎ IsSpeaker before (act_phase before) performer
     → (wish_in outcome act ≡ None) ⊎ HoldsOf (IsRequester (Did performer outcome act ∷ before) node) (sequence_on node performer)
 wishes-by script before performer outcome act node next on (inl none) = inl none
 wishes-by script before performer outcome act node next on (inr speaks) = inr (wisher script before (Did performer outcome act) performer node next on speaks)
 
 -- what is told to who is expected is such a call
-abbrev IsTold : List Entry → Option Phase → Who × Call → Type 0
-IsTold history phase told = (p : Phase) → phase ≡ Some p → IsExpected history p told.0
+abbrev IsTold : List Entry → Told → Type 0
+IsTold history told = (p : Phase) → told.phase ≡ Some p → IsExpected history p told.who
 
-pub numbered-owners : (history : List Entry) (phase : Option Phase) (time place number : ℕ) (calls : List (Who × Call)) → All (IsTold history phase) calls → All (IsCallTo history) (calls_numbered phase time place number calls)
-numbered-owners history phase time place number [] all = All-nil _
-numbered-owners history phase time place number (told ∷ calls) all =
-    All-append (IsCallTo history) (calls_numbered phase time place (suc number) calls) (event_in phase time (record { place = place; number = number }) (Object told.0) (Some told.1))
-    (numbered-owners history phase time place (suc number) calls (All-tail (IsTold history phase) told calls all))
-    (one-owner history phase time (record { place = place; number = number }) (Object told.0) (Some told.1) (All-head (IsTold history phase) told calls all))
+pub numbered-owners : (history : List Entry) (time place number : ℕ) (calls : List Told) → All (IsTold history) calls → All (IsCallTo history) (calls_numbered time place number calls)
+numbered-owners history time place number [] all = All-nil _
+numbered-owners history time place number (told ∷ calls) all =
+    All-append (IsCallTo history) (calls_numbered time place (suc number) calls) (event_in told.phase time (record { place = place; number = number }) (Object told.who) (Some told.call))
+    (numbered-owners history time place (suc number) calls (All-tail (IsTold history) told calls all))
+    (one-owner history told.phase time (record { place = place; number = number }) (Object told.who) (Some told.call) (All-head (IsTold history) told calls all))
+
+-- what is told by a write is told in the phase of the act
+written-phase : (phase : Option Phase) (nodes : List tree.Node) (item : Item) (imps : List ℕ) → All (λ told. told.phase ≡ phase) (filter_map (written_to phase nodes item) imps)
+written-phase phase nodes item [] = All-nil _
+written-phase phase nodes item (imp ∷ imps) = one (under_at nodes imp) (written-phase phase nodes item imps)
+  where
+    one : (under : Option (ℕ × List ℕ)) → All (λ told. told.phase ≡ phase) (filter_map (written_to phase nodes item) imps) → All (λ told. told.phase ≡ phase) (cons_option (option_map (λ under. told_in phase (Node under.0) (call.Written under.1 item)) under) (filter_map (written_to phase nodes item) imps))
+    one None rest = rest
+    one (Some under) rest = All-cons (λ (told : Told). told.phase ≡ phase) _ _ refl rest
 
 -- what is told by a write is told to components
 written-owners :
-    (script : ScriptValue) (before : List Entry) (entry : Entry) (performer : Who) (item : Item) (port : List ℕ) → ((node : ℕ) → is_imp_at (wiring_of before) node ≡ true → IsOwned (nodes_of before) (components_of before) node)
-    → All (IsTold (entry ∷ before) (running (stage_of before))) (calls_told before performer Done (Write port item))
+    (script : ScriptValue) (before : List Entry) (entry : Entry) (performer : Who) (item : Item) (port : List ℕ) → IsActing (entry ∷ before) (act_phase before) → ((node : ℕ) → is_imp_at (wiring_of before) node ≡ true → IsOwned (nodes_of before) (components_of before) node)
+    → All (IsTold (entry ∷ before)) (calls_told before performer Done (Write port item))
 unfolding imps_below
-written-owners script before entry performer item port owned =
-    All-weaker (λ told. IsComponent (components_of before) told.0) (IsTold (entry ∷ before) (running (stage_of before)))
-    (λ told has p runs. component-expected (entry ∷ before) p told.0 (component-more entry before told.0 has)) _
-    (written-hold (nodes_of before) (components_of before) item (closed_wiring before) (outlets_below before performer port) owned)
+written-owners script before entry performer item port stands owned =
+    both-hold (λ told. IsComponent (components_of before) told.who) (λ told. told.phase ≡ act_phase before) (IsTold (entry ∷ before)) _
+    (λ told has at p is. component-expected (entry ∷ before) p told.who (component-more entry before told.who has) (stands p (sym at ∙ is)))
+    (written-hold (act_phase before) (nodes_of before) (components_of before) item (closed_wiring before) (outlets_below before performer port) owned)
+    (written-phase (act_phase before) (nodes_of before) item (filter (is_imp_at (closed_wiring before)) (outlets_below before performer port)))
 
 -- what a sequence is told of its steps is told to who speaks
-step-owners : (script : ScriptValue) (before : List Entry) (entry : Entry) (performer : Who) (step : Option SeqStep) → IsNext script before entry → GoesOn (entry ∷ before) → IsSpeaker before performer → All (IsTold (entry ∷ before) (running (stage_of before))) (told_step performer step)
-step-owners script before entry performer None next on speaks = All-nil _
-step-owners script before entry performer (Some step) next on speaks =
-    All-cons (IsTold (entry ∷ before) (running (stage_of before))) (performer, step_call step) []
-    (λ p runs. expected-more script before entry p performer next on (speaker-expected before p performer runs speaks)) (All-nil _)
+step-owners : (script : ScriptValue) (before : List Entry) (entry : Entry) (performer : Who) (step : Option SeqStep) → IsNext script before entry → GoesOn (entry ∷ before) → IsActing before (act_phase before) → IsSpeaker before (act_phase before) performer → All (IsTold (entry ∷ before)) (told_step (act_phase before) performer step)
+step-owners script before entry performer None next on stands speaks = All-nil _
+step-owners script before entry performer (Some step) next on stands speaks =
+    All-cons (IsTold (entry ∷ before)) (told_in (act_phase before) performer (step_call step)) []
+    (λ p runs. expected-more script before entry p performer next on (speaker-expected before p performer runs stands speaks)) (All-nil _)
 
 -- and that one has finished is told to who started it
 finished-owners :
-    (script : ScriptValue) (before : List Entry) (entry : Entry) (performer : Who) → IsNext script before entry → GoesOn (entry ∷ before) → All (IsStartedBy before) (begun_of before) → IsSpeaker before performer
-    → All (IsTold (entry ∷ before) (running (stage_of before))) (finished_by before (sequence_in performer))
+    (script : ScriptValue) (before : List Entry) (entry : Entry) (performer : Who) → IsNext script before entry → GoesOn (entry ∷ before) → All (IsStartedBy before) (begun_of before) → IsSpeaker before (act_phase before) performer
+    → All (IsTold (entry ∷ before)) (finished_by before (sequence_in performer))
 finished-owners script before entry (Node node) next on starters speaks = All-nil _
 finished-owners script before entry (Sequence id home) next on starters speaks =
     rw speaks.sequence.begun
-    (All-cons (IsTold (entry ∷ before) (running (stage_of before))) (speaks.sequence.beginning.starter, call.Finished speaks.sequence.beginning.start.name id) [] told (All-nil _))
+    (All-cons (IsTold (entry ∷ before)) (told_in speaks.sequence.beginning.phase speaks.sequence.beginning.starter (call.Finished speaks.sequence.beginning.start.name id)) [] told (All-nil _))
   where
-    told : (p : Phase) → running (stage_of before) ≡ Some p → IsExpected (entry ∷ before) p speaks.sequence.beginning.starter
-    told p runs =
-        let at : speaks.sequence.beginning.phase ≡ Some p = speaks.sequence.phase_is ∙ sym speaks.runs ∙ runs in
+    told : (p : Phase) → speaks.sequence.beginning.phase ≡ Some p → IsExpected (entry ∷ before) p speaks.sequence.beginning.starter
+    told p at =
         expected-more script before entry p speaks.sequence.beginning.starter next on
         (numbered-holds (IsStartedBy before) (begun_of before) id speaks.sequence.beginning starters speaks.sequence.begun p at)
 
 -- it is told that it was started
 started-owners :
-    (script : ScriptValue) (before : List Entry) (performer : Who) (id : ℕ) (act : Act) → IsNext script before (Did performer (Started id) act)
-    → All (IsTold (Did performer (Started id) act ∷ before) (running (stage_of before))) (calls_told before performer (Started id) act)
-started-owners script before performer id act next =
-    All-cons (IsTold (Did performer (Started id) act ∷ before) (running (stage_of before))) _ [] told (All-nil _)
+    (script : ScriptValue) (before : List Entry) (performer : Who) (id : ℕ) (act : Act) → IsNext script before (Did performer (Started id) act) → IsActing (Did performer (Started id) act ∷ before) (act_phase before)
+    → All (IsTold (Did performer (Started id) act ∷ before)) (calls_told before performer (Started id) act)
+started-owners script before performer id act next acting =
+    All-cons (IsTold (Did performer (Started id) act ∷ before)) _ [] told (All-nil _)
   where
-    told : (p : Phase) → running (stage_of before) ≡ Some p → IsSequence (Did performer (Started id) act ∷ before) p id (start_by (nodes_of before) (sequences_of before) performer act).home
+    told : (p : Phase) → act_phase before ≡ Some p → IsSequence (Did performer (Started id) act ∷ before) p id (start_by (nodes_of before) (sequences_of before) performer act).home
     told p runs = record {
-      beginning = record { start = start_by (nodes_of before) (sequences_of before) performer act; starter = performer; phase = running (stage_of before) };
+      beginning = record { start = start_by (nodes_of before) (sequences_of before) performer act; starter = performer; phase = act_phase before };
       begun = numbered-newest _ (begun_of before) id (started-next script before performer id act (next_of script before) refl next);
       home_is = refl;
       phase_is = runs;
-      stands = Runs runs;
+      stands = acting p runs;
     }
 
 -- who hears what is caused in the phase that runs
 abbrev IsHearer : List Entry → Option Phase → Who → Type 0
 IsHearer history phase who = (p : Phase) → phase ≡ Some p → IsExpected history p who
 
-asker-hears : (before : List Entry) (entry : Entry) (phase : Option Phase) (asker : Option DriverPort) → IfSome asker (λ asker. IsComponent (components_of before) asker.who) → IfSome asker (λ asker. IsHearer (entry ∷ before) phase asker.who)
-asker-hears before entry phase None has = tt
-asker-hears before entry phase (Some asker) has = λ p runs. component-expected (entry ∷ before) p asker.who (component-more entry before asker.who has)
+asker-hears : (history : List Entry) (asker : Option DriverPort) → IfSome asker (λ asker. IsDriver history asker.who asker.phase) → IfSome asker (λ asker. IsHearer history asker.phase asker.who)
+asker-hears history None has = tt
+asker-hears history (Some asker) has = λ p at. component-expected history p asker.who has.0 (has.1 p at)
 
 -- whose item is done is the sequence that was served
 done-owners :
     (script : ScriptValue) (before : List Entry) (performer : Who) (port : List ℕ) (response : Option Item) → Known script before → IsNext script before (Did performer Done (ItemDone port response)) → GoesOn (Did performer Done (ItemDone port response) ∷ before)
-    → (reached : Option ℕ) → All (IsTold (Did performer Done (ItemDone port response) ∷ before) (running (stage_of before))) (done_by before reached response)
+    → (reached : Option ℕ) → All (IsTold (Did performer Done (ItemDone port response) ∷ before)) (done_by before reached response)
 done-owners script before performer port response known next on None = All-nil _
 done-owners script before performer port response known next on (Some node) =
     let entry = Did performer Done (ItemDone port response) in
-    let phase = running (stage_of before) in
-    done-told (IsTold (entry ∷ before) phase) (IsHearer (entry ∷ before) phase) (λ who call hears. hears) response node (hand_of (driver_state before node))
-    (λ id hand p runs. sequence-more script before entry p id node next on (served-expected before node id p runs (known.served node id (hand-sequence (driver_state before node) id hand))))
+    done-told (IsTold (entry ∷ before)) (IsHearer (entry ∷ before)) (λ phase who call hears. hears) (phase_begun before) response node (hand_of (driver_state before node))
+    (λ id hand p at. sequence-more script before entry p id node next on (requester-expected before node id p at (known.served node id (hand-sequence (driver_state before node) id hand))))
 
 -- whatever an act causes
 pub told-owners :
-    (script : ScriptValue) (before : List Entry) (performer : Who) (outcome : Outcome) (act : Act) → Known script before → IsNext script before (Did performer outcome act) → GoesOn (Did performer outcome act ∷ before) → (act ≡ opening script) ⊎ IsSpeaker before performer
-    → All (IsTold (Did performer outcome act ∷ before) (running (stage_of before))) (calls_told before performer outcome act)
-told-owners script before performer Done (Write port item) known next on who = written-owners script before (Did performer Done (Write port item)) performer item port known.imps
+    (script : ScriptValue) (before : List Entry) (performer : Who) (outcome : Outcome) (act : Act) → Known script before → IsNext script before (Did performer outcome act) → GoesOn (Did performer outcome act ∷ before) → (act ≡ opening script) ⊎ IsSpeaker before (act_phase before) performer
+    → All (IsTold (Did performer outcome act ∷ before)) (calls_told before performer outcome act)
+told-owners script before performer Done (Write port item) known next on who = written-owners script before (Did performer Done (Write port item)) performer item port (acting-more script before (Did performer Done (Write port item)) (act_phase before) next on known.acting) known.imps
 told-owners script before performer Done EndStep known next on (inl opens) = cc
-told-owners script before performer Done EndStep known next on (inr speaks) = step-owners script before (Did performer Done EndStep) performer (next_step before performer) next on speaks
+told-owners script before performer Done EndStep known next on (inr speaks) = step-owners script before (Did performer Done EndStep) performer (next_step before performer) next on known.acting speaks
 told-owners script before performer Done (Send item) known next on (inl opens) = cc
 told-owners script before performer Done (Send item) known next on (inr speaks) =
     let entry = Did performer Done (Send item) in
-    let phase = running (stage_of before) in
-    sent-told (IsTold (entry ∷ before) phase) (IsHearer (entry ∷ before) phase) (λ who call hears. hears) performer (driver_asker before (node_of performer)) item _ (asker-hears before entry phase _ (known.askers (node_of performer)))
-    (λ p runs. expected-more script before entry p performer next on (speaker-expected before p performer runs speaks))
+    sent-told (IsTold (entry ∷ before)) (IsHearer (entry ∷ before)) (λ phase who call hears. hears) (act_phase before) performer (driver_asker before (node_of performer)) item _
+    (asker-hears (entry ∷ before) (driver_asker before (node_of performer)) (asker-more script before entry (driver_asker before (node_of performer)) next on (known.askers (node_of performer))))
+    (λ p runs. expected-more script before entry p performer next on (speaker-expected before p performer runs known.acting speaks))
 told-owners script before performer Done (ItemDone port response) known next on who = done-owners script before performer port response known next on (sequencer_below before performer port)
-told-owners script before performer (Started id) act known next on who = started-owners script before performer id act next
+told-owners script before performer (Started id) act known next on who = started-owners script before performer id act next (acting-more script before (Did performer (Started id) act) (act_phase before) next on known.acting)
 told-owners script before performer Finished act known next on (inl opens) = let ends = finished-next script before performer act next in let e : EndStep ≡ opening script = sym ends ∙ opens in cc
 told-owners script before performer Finished act known next on (inr speaks) =
-    All-append (IsTold (Did performer Finished act ∷ before) (running (stage_of before))) (finished_by before (sequence_in performer)) (lapsed_by before (node_of performer) (sequence_in performer)) (finished-owners script before (Did performer Finished act) performer next on known.starters speaks)
-    (lapse-told (IsTold (Did performer Finished act ∷ before) (running (stage_of before))) (IsHearer (Did performer Finished act ∷ before) (running (stage_of before))) (λ who call hears. hears) _ (driver_asker before (node_of performer)) (asker-hears before (Did performer Finished act) (running (stage_of before)) _ (known.askers (node_of performer))))
-told-owners script before performer outcome act known next on who = All-nil (IsTold (Did performer outcome act ∷ before) (running (stage_of before)))
+    All-append (IsTold (Did performer Finished act ∷ before)) (finished_by before (sequence_in performer)) (lapsed_by before (node_of performer) (sequence_in performer)) (finished-owners script before (Did performer Finished act) performer next on known.starters speaks)
+    (lapse-told (IsTold (Did performer Finished act ∷ before)) (IsHearer (Did performer Finished act ∷ before)) (λ phase who call hears. hears) _ (driver_asker before (node_of performer)) (asker-hears (Did performer Finished act ∷ before) (driver_asker before (node_of performer)) (asker-more script before (Did performer Finished act) (driver_asker before (node_of performer)) next on (known.askers (node_of performer)))))
+told-owners script before performer outcome act known next on who = All-nil (IsTold (Did performer outcome act ∷ before))
 
 -- an imp of one more entry's wiring is a component's
 pub imps-more :
     (script : ScriptValue) (before : List Entry) (performer : Who) (outcome : Outcome) (act : Act) → ((node : ℕ) → is_imp_at (wiring_of before) node ≡ true → IsOwned (nodes_of before) (components_of before) node)
-    → (act ≡ opening script) ⊎ IsSpeaker before performer → ((id home : ℕ) → performer ≡ Sequence id home → is_open_to act performer ≡ false → outcome ≡ Refused NotOpen)
+    → (act ≡ opening script) ⊎ IsSpeaker before (act_phase before) performer → ((id home : ℕ) → performer ≡ Sequence id home → is_open_to act performer ≡ false → outcome ≡ Refused NotOpen)
     → (node : ℕ) → is_imp_at (wiring_of (Did performer outcome act ∷ before)) node ≡ true → IsOwned (nodes_of (Did performer outcome act ∷ before)) (components_of (Did performer outcome act ∷ before)) node
 imps-more script before performer outcome act owned who closed node is = by (imp-after (nodes_of before) (wiring_of before) performer outcome act node is)
   where
@@ -640,13 +669,13 @@ imps-more script before performer outcome act owned who closed node is = by (imp
     added None is has = tt
     added (Some under) is has = rw is has
 
-    there : (who : Who) → performer ≡ who → IsAdded (nodes_of before) performer outcome act node → IsSpeaker before who → Contains (components_of before) (node_of who)
+    there : (who : Who) → performer ≡ who → IsAdded (nodes_of before) performer outcome act node → IsSpeaker before (act_phase before) who → Contains (components_of before) (node_of who)
     there (Node other) same a has = has
     there (Sequence id home) same a has =
         let refused : outcome ≡ Refused NotOpen = closed id home same (rw same (a.closed id home)) in
         let e : Done ≡ Refused NotOpen = sym a.done ∙ refused in cc
 
-    new : IsAdded (nodes_of before) performer outcome act node → (act ≡ opening script) ⊎ IsSpeaker before performer
+    new : IsAdded (nodes_of before) performer outcome act node → (act ≡ opening script) ⊎ IsSpeaker before (act_phase before) performer
         → IsOwned (nodes_of (Did performer outcome act ∷ before)) (components_of (Did performer outcome act ∷ before)) node
     new a (inl opens) = absurd (a.other script opens)
     new a (inr speaks) = record { below = a.below; owner = added _ a.under (contains-more (Did performer outcome act) before (node_of performer) (there performer refl a speaks)) }
@@ -686,13 +715,13 @@ left-none outcome acts e = ap rest_of e
 
 -- who may act may act still, unless a phase begins or ends, or he has finished
 pub speaker-stays :
-    (script : ScriptValue) (before : List Entry) (entry : Entry) (who : Who) → IsNext script before entry → GoesOn (entry ∷ before) → running (stage_of (entry ∷ before)) ≡ running (stage_of before) → ended_of (entry ∷ before) ≡ ended_of before → finished_of (entry ∷ before) ≡ finished_of before
-    → IsSpeaker before who → IsSpeaker (entry ∷ before) who
-speaker-stays script before entry (Node node) next on stage ended finished has = contains-more entry before node has
-speaker-stays script before entry (Sequence id home) next on stage ended finished s = record {
+    (script : ScriptValue) (before : List Entry) (entry : Entry) (acting : Option Phase) (who : Who) → IsNext script before entry → GoesOn (entry ∷ before) → ended_of (entry ∷ before) ≡ ended_of before → finished_of (entry ∷ before) ≡ finished_of before
+    → IsSpeaker before acting who → IsSpeaker (entry ∷ before) acting who
+speaker-stays script before entry acting (Node node) next on ended finished has = contains-more entry before node has
+speaker-stays script before entry acting (Sequence id home) next on ended finished s = record {
   phase = s.phase;
   sequence = sequence-more script before entry s.phase id home next on s.sequence;
-  runs = stage ∙ s.runs;
+  own = s.own;
   unfinished = ap (list_any (same_who (Sequence id home))) finished ∙ s.unfinished;
   unended = ap (list_any (same_phase s.phase)) ended ∙ s.unended;
 }
@@ -702,35 +731,58 @@ pub speaking-did : (script : ScriptValue) (before : List Entry) (performer : Who
 speaking-did script before performer outcome act next on (NoneLeft none) = NoneLeft (left-none outcome (left_of script before) none)
 speaking-did script before performer outcome act next on (Opens opens) = Opens (left-all (λ one. one ≡ opening script) outcome (left_of script before) opens)
 speaking-did script before performer Finished act next on (Speaks speaks) = NoneLeft refl
-speaking-did script before performer outcome act next on (Speaks speaks) = Speaks (speaker-stays script before (Did performer outcome act) (speaker_of before) next on refl refl refl speaks)
+speaking-did script before performer outcome act next on (Speaks speaks) = Speaks (speaker-stays script before (Did performer outcome act) (act_phase before) (speaker_of before) next on refl refl speaks)
 
 -- so does what the machine writes by itself, but for a note
 pub speaking-on :
-    (script : ScriptValue) (before : List Entry) (entry : Entry) → IsNext script before entry → GoesOn (entry ∷ before) → running (stage_of (entry ∷ before)) ≡ running (stage_of before) → ended_of (entry ∷ before) ≡ ended_of before → finished_of (entry ∷ before) ≡ finished_of before
+    (script : ScriptValue) (before : List Entry) (entry : Entry) → IsNext script before entry → GoesOn (entry ∷ before) → act_phase (entry ∷ before) ≡ act_phase before → ended_of (entry ∷ before) ≡ ended_of before → finished_of (entry ∷ before) ≡ finished_of before
     → left_of script (entry ∷ before) ≡ left_of script before → speaker_of (entry ∷ before) ≡ speaker_of before → Speaking script before → Speaking script (entry ∷ before)
 speaking-on script before entry next on stage ended finished left speaker (NoneLeft none) = NoneLeft (left ∙ none)
 speaking-on script before entry next on stage ended finished left speaker (Opens opens) = Opens (subst (All (λ one. one ≡ opening script)) (sym left) opens)
-speaking-on script before entry next on stage ended finished left speaker (Speaks speaks) = Speaks (subst (IsSpeaker (entry ∷ before)) (sym speaker) (speaker-stays script before entry (speaker_of before) next on stage ended finished speaks))
+speaking-on script before entry next on stage ended finished left speaker (Speaks speaks) = Speaks (rw (stage, speaker) (speaker-stays script before entry (act_phase before) (speaker_of before) next on ended finished speaks))
 
 -- one more sequence was started by who speaks
 pub begun-starters :
-    (script : ScriptValue) (before : List Entry) (performer : Who) (outcome : Outcome) (act : Act) → Known script before → IsNext script before (Did performer outcome act) → GoesOn (Did performer outcome act ∷ before) → (act ≡ opening script) ⊎ IsSpeaker before performer
+    (script : ScriptValue) (before : List Entry) (performer : Who) (outcome : Outcome) (act : Act) → Known script before → IsNext script before (Did performer outcome act) → GoesOn (Did performer outcome act ∷ before) → (act ≡ opening script) ⊎ IsSpeaker before (act_phase before) performer
     → All (IsStartedBy (Did performer outcome act ∷ before)) (begun_of (Did performer outcome act ∷ before))
 begun-starters script before performer (Started id) act known next on who =
     All-cons (IsStartedBy (Did performer (Started id) act ∷ before)) _ (begun_of before) (by who) (starters-more script before (Did performer (Started id) act) next on known)
   where
-    by : (act ≡ opening script) ⊎ IsSpeaker before performer → (phase : Phase) → running (stage_of before) ≡ Some phase → IsExpected (Did performer (Started id) act ∷ before) phase performer
+    by : (act ≡ opening script) ⊎ IsSpeaker before (act_phase before) performer → (phase : Phase) → act_phase before ≡ Some phase → IsExpected (Did performer (Started id) act ∷ before) phase performer
     by (inl opens) phase runs = absurd (starts-act script before performer id act (next_of script before) refl next opens)
-    by (inr speaks) phase runs = expected-more script before (Did performer (Started id) act) phase performer next on (speaker-expected before phase performer runs speaks)
+    by (inr speaks) phase runs = expected-more script before (Did performer (Started id) act) phase performer next on (speaker-expected before phase performer runs known.acting speaks)
 begun-starters script before performer outcome act known next on who = starters-more script before (Did performer outcome act) next on known
 
 -- what the opening tells nobody is told to who speaks
 pub expected-unless :
-    (script : ScriptValue) (before : List Entry) (performer : Who) (outcome : Outcome) (act : Act) → IsNext script before (Did performer outcome act) → GoesOn (Did performer outcome act ∷ before) → (told_by outcome act ≡ None) ⊎ IsSpeaker before performer
-    → (told_by outcome act ≡ None) ⊎ ((p : Phase) → running (stage_of before) ≡ Some p → IsExpected (Did performer outcome act ∷ before) p performer)
-expected-unless script before performer outcome act next on (inl none) = inl none
-expected-unless script before performer outcome act next on (inr speaks) = inr (λ p runs. expected-more script before (Did performer outcome act) p performer next on (speaker-expected before p performer runs speaks))
+    (script : ScriptValue) (before : List Entry) (performer : Who) (outcome : Outcome) (act : Act) → IsNext script before (Did performer outcome act) → GoesOn (Did performer outcome act ∷ before) → IsActing before (act_phase before) → (told_by outcome act ≡ None) ⊎ IsSpeaker before (act_phase before) performer
+    → (told_by outcome act ≡ None) ⊎ ((p : Phase) → act_phase before ≡ Some p → IsExpected (Did performer outcome act ∷ before) p performer)
+expected-unless script before performer outcome act next on stands (inl none) = inl none
+expected-unless script before performer outcome act next on stands (inr speaks) = inr (λ p runs. expected-more script before (Did performer outcome act) p performer next on (speaker-expected before p performer runs stands speaks))
 
 pub more-component : {Idle : Type 0} (before : List Entry) (entry : Entry) (performer : Who) → Idle ⊎ IsComponent (components_of before) performer → Idle ⊎ IsComponent (components_of (entry ∷ before)) performer
 more-component before entry performer (inl idle) = inl idle
 more-component before entry performer (inr has) = inr (component-more entry before performer has)
+
+-- so that who asks is one in the phase of the act
+pub more-one :
+    {Idle : Type 0} (script : ScriptValue) (before : List Entry) (entry : Entry) (performer : Who) → IsNext script before entry → GoesOn (entry ∷ before) → IsActing before (act_phase before) → Idle ⊎ IsComponent (components_of before) performer
+    → Idle ⊎ ((p : Phase) → act_phase before ≡ Some p → IsOneIn (entry ∷ before) performer p)
+more-one script before entry performer next on stands (inl idle) = inl idle
+more-one script before entry performer next on stands (inr has) = inr (λ p is. (component-more entry before performer has, stands-more script before entry p next on (stands p is)))
+
+pub more-driver :
+    {Idle : Type 0} (script : ScriptValue) (before : List Entry) (entry : Entry) (performer : Who) → IsNext script before entry → GoesOn (entry ∷ before) → IsActing before (act_phase before) → Idle ⊎ IsComponent (components_of before) performer
+    → Idle ⊎ IsDriver (entry ∷ before) performer (act_phase before)
+more-driver script before entry performer next on stands (inl idle) = inl idle
+more-driver script before entry performer next on stands (inr has) = inr (component-more entry before performer has, acting-more script before entry (act_phase before) next on stands)
+
+-- the phase in which somebody is expected is in progress, or has ended
+pub expected-stands : (history : List Entry) (phase : Phase) (who : Who) → IsExpected history phase who → Stands history phase
+expected-stands history phase (Node node) has = has.1
+expected-stands history phase (Sequence id home) s = s.stands
+
+-- what goes on goes on still with an act
+pub going-did : (script : ScriptValue) (before : List Entry) (performer : Who) (outcome : Outcome) (act : Act) → (left_of script before ≡ []) ⊎ IsGoing before (act_phase before) → (left_of script (Did performer outcome act ∷ before) ≡ []) ⊎ IsGoing (Did performer outcome act ∷ before) (act_phase before)
+going-did script before performer outcome act (inl none) = inl (left-none outcome (left_of script before) none)
+going-did script before performer outcome act (inr goes) = inr goes

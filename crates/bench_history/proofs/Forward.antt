@@ -25,11 +25,12 @@ use Rattle.uvm_object.specs.declared.entries.Outcome.TheVariants.{Done}
 use Rattle.uvm_object.specs.declared.entries.Entry.{Entry}
 use Rattle.uvm_object.specs.declared.entries.Entry.TheVariants.{Time, Did, Drained, Granted, Locked, Passed}
 use Rattle.bench_script.specs.Scripts.{ScriptValue}
+use Rattle.bench_history.specs.declared.owners.Told.{Told}
 use Rattle.bench_history.specs.declared.owners.Owner.{Owner}
 use Rattle.bench_history.specs.declared.owners.Owner.TheVariants.{Object, Drain}
 use Rattle.bench_history.specs.Owners.{Event, is_drain_of}
-use Rattle.bench_history.specs.History.{ended_in, ended_of, now_of, running, stage_of}
-use Rattle.bench_history.specs.Sequences.{finished_in, finished_of}
+use Rattle.bench_history.specs.History.{act_phase, ended_in, ended_of, now_of}
+use Rattle.bench_history.specs.Sequences.{finished_in, finished_of, phase_begun}
 use Rattle.bench_history.specs.Objections.{objections_of}
 use Rattle.bench_history.specs.Dues.{calls_from, calls_numbered, calls_told, caused_at, caused_of, drain_from, due_after, due_events, due_from, event_in, heard_in, heard_of, is_of_one, is_open, moves_drains, told_by, told_of, with_drains}
 use Rattle.bench_history.specs.Next.{IsNext, EachIsNext}
@@ -88,10 +89,10 @@ due-ahead : (now : ℕ) (notice : Option Call) (performer : Who) (phase : Option
 due-ahead now None performer phase time cause low = All-nil (IsAhead now)
 due-ahead now (Some call) performer phase time cause low = event-ahead now phase time cause (Object performer) (Some call) low
 
-numbered-ahead : (now : ℕ) (phase : Option Phase) (place number : ℕ) (calls : List (Who × Call)) → All (IsAhead now) (calls_numbered phase now place number calls)
-numbered-ahead now phase place number [] = All-nil (IsAhead now)
-numbered-ahead now phase place number (told ∷ calls) =
-    All-append (IsAhead now) (calls_numbered phase now place (suc number) calls) _ (numbered-ahead now phase place (suc number) calls) (event-ahead now phase now (record { place = place; number = number }) (Object told.0) (Some told.1) (omega arith))
+numbered-ahead : (now : ℕ) (place number : ℕ) (calls : List Told) → All (IsAhead now) (calls_numbered now place number calls)
+numbered-ahead now place number [] = All-nil (IsAhead now)
+numbered-ahead now place number (told ∷ calls) =
+    All-append (IsAhead now) (calls_numbered now place (suc number) calls) _ (numbered-ahead now place (suc number) calls) (event-ahead now told.phase now (record { place = place; number = number }) (Object told.who) (Some told.call) (omega arith))
 
 later-than : (now : ℕ) (act : Act) → now ≤ due_after now act
 later-than now (Wait ticks tag) = omega arith
@@ -103,11 +104,11 @@ drains-ahead history now phase cause (first ∷ begun) all =
     All-append (IsAhead now) (drain_from phase cause first) (flat_map (drain_from phase cause) begun) (event-ahead now phase first.at cause (Drain first.node) None (All-head (λ (one : drain.Due). now ≤ one.at) first begun all))
     (drains-ahead history now phase cause begun (All-tail (λ (one : drain.Due). now ≤ one.at) first begun all))
 
-one-ahead : (entry : Entry) (before : List Entry) (told : Call) (hearer : Who) → now_of (entry ∷ before) ≡ now_of before → All (IsOpenAhead before) (caused_of before)
-    → All (IsOpenAhead (entry ∷ before)) (due_from (Some told) hearer (running (stage_of before)) (now_of before) (caused_at (length before)) ++ caused_of before)
-one-ahead entry before told hearer same all =
-    All-append (IsOpenAhead (entry ∷ before)) (due_from (Some told) hearer (running (stage_of before)) (now_of before) (caused_at (length before))) (caused_of before)
-    (new-ahead (entry ∷ before) _ (rw same (due-ahead (now_of before) (Some told) hearer (running (stage_of before)) (now_of before) (caused_at (length before)) (omega arith)))) (old-ahead entry before (caused_of before) same all)
+one-ahead : (entry : Entry) (before : List Entry) (phase : Option Phase) (told : Call) (hearer : Who) → now_of (entry ∷ before) ≡ now_of before → All (IsOpenAhead before) (caused_of before)
+    → All (IsOpenAhead (entry ∷ before)) (due_from (Some told) hearer phase (now_of before) (caused_at (length before)) ++ caused_of before)
+one-ahead entry before phase told hearer same all =
+    All-append (IsOpenAhead (entry ∷ before)) (due_from (Some told) hearer phase (now_of before) (caused_at (length before))) (caused_of before)
+    (new-ahead (entry ∷ before) _ (rw same (due-ahead (now_of before) (Some told) hearer phase (now_of before) (caused_at (length before)) (omega arith)))) (old-ahead entry before (caused_of before) same all)
 
 unfiltered : (P : Event → Type 0) (p : Event → Bool) (events : List Event) → All P (filter p events) → All (λ event. p event ≡ true → P event) events
 unfiltered P p [] all = All-nil _
@@ -119,35 +120,35 @@ unfiltered P p (event ∷ events) all = tested (p event) refl all (unfiltered P 
 
 module _ (goes : SettledGoByTotals) (held_are : BegunDrainsAreHeld) where
   with-ahead :
-      (entry : Entry) (before : List Entry) (changed : List objection.Node) → now_of (entry ∷ before) ≡ now_of before → IsChanged (objections_of before) changed → objections_of (entry ∷ before) ≡ settled (now_of before) (total (objections_of before)) changed
+      (phase : Option Phase) (entry : Entry) (before : List Entry) (changed : List objection.Node) → now_of (entry ∷ before) ≡ now_of before → IsChanged (objections_of before) changed → objections_of (entry ∷ before) ≡ settled (now_of before) (total (objections_of before)) changed
       → AreNodes (objections_of (entry ∷ before)) → All (IsOpenAhead before) (caused_of before)
-      → All (IsOpenAhead (entry ∷ before)) (with_drains (running (stage_of before)) (caused_at (length before)) (objections_of before) (objections_of (entry ∷ before)) (caused_of before))
-  with-ahead entry before changed same by is are all =
+      → All (IsOpenAhead (entry ∷ before)) (with_drains phase (caused_at (length before)) (objections_of before) (objections_of (entry ∷ before)) (caused_of before))
+  with-ahead phase entry before changed same by is are all =
       let earlier = objections_of before in
       let after = objections_of (entry ∷ before) in
-      All-append (IsOpenAhead (entry ∷ before)) (flat_map (drain_from (running (stage_of before)) (caused_at (length before))) (drains_begun earlier after)) _
-      (new-ahead (entry ∷ before) _ (rw same (drains-ahead before (now_of before) (running (stage_of before)) (caused_at (length before)) (drains_begun earlier after) (begun-ahead goes held_are entry before changed by is are))))
+      All-append (IsOpenAhead (entry ∷ before)) (flat_map (drain_from phase (caused_at (length before))) (drains_begun earlier after)) _
+      (new-ahead (entry ∷ before) _ (rw same (drains-ahead before (now_of before) phase (caused_at (length before)) (drains_begun earlier after) (begun-ahead goes held_are entry before changed by is are))))
       (All-filter (λ (event : Event). not (is_drain_of (drains_ended earlier after) event.owner)) (IsOpenAhead (entry ∷ before)) (caused_of before) (old-ahead entry before (caused_of before) same all))
 
   moved-ahead :
       (before : List Entry) (performer : Who) (outcome : Outcome) (act : Act) → AreNodes (objections_of (Did performer outcome act ∷ before)) → All (IsOpenAhead before) (caused_of before)
-      → All (IsOpenAhead (Did performer outcome act ∷ before)) (if moves_drains outcome act then with_drains (running (stage_of before)) (caused_at (length before)) (objections_of before) (objections_of (Did performer outcome act ∷ before)) (caused_of before) else caused_of before)
-  moved-ahead before performer Done (RaiseObjection count) are all = with-ahead (Did performer Done (RaiseObjection count)) before (raised (node_of performer) count (objections_of before)) refl (raised-is (node_of performer) count (objections_of before)) refl are all
-  moved-ahead before performer Done (DropObjection count) are all = with-ahead (Did performer Done (DropObjection count)) before (dropped (node_of performer) count (objections_of before)) refl (dropped-is (node_of performer) count (objections_of before)) refl are all
+      → All (IsOpenAhead (Did performer outcome act ∷ before)) (if moves_drains outcome act then with_drains (act_phase before) (caused_at (length before)) (objections_of before) (objections_of (Did performer outcome act ∷ before)) (caused_of before) else caused_of before)
+  moved-ahead before performer Done (RaiseObjection count) are all = with-ahead (act_phase before) (Did performer Done (RaiseObjection count)) before (raised (node_of performer) count (objections_of before)) refl (raised-is (node_of performer) count (objections_of before)) refl are all
+  moved-ahead before performer Done (DropObjection count) are all = with-ahead (act_phase before) (Did performer Done (DropObjection count)) before (dropped (node_of performer) count (objections_of before)) refl (dropped-is (node_of performer) count (objections_of before)) refl are all
   moved-ahead before performer outcome act are all = old-ahead (Did performer outcome act) before (caused_of before) refl all
 
   ahead-more : (script : ScriptValue) (before : List Entry) (entry : Entry) → IsNext script before entry → AreNodes (objections_of (entry ∷ before)) → All (IsOpenAhead before) (caused_of before) → All (IsOpenAhead (entry ∷ before)) (caused_of (entry ∷ before))
   ahead-more script before (Did performer outcome act) next are all =
       let entry = Did performer outcome act in
-      All-append (IsOpenAhead (entry ∷ before)) (calls_numbered (running (stage_of before)) (now_of before) (length before) 0 (calls_told before performer outcome act)) _
-      (new-ahead (entry ∷ before) _ (numbered-ahead (now_of before) (running (stage_of before)) (length before) 0 (calls_told before performer outcome act)))
-      (All-append (IsOpenAhead (entry ∷ before)) (calls_from outcome act performer (running (stage_of before)) (now_of before) (length before)) _
-      (new-ahead (entry ∷ before) _ (due-ahead (now_of before) (told_by outcome act) performer (running (stage_of before)) (due_after (now_of before) act) (caused_at (length before)) (later-than (now_of before) act)))
+      All-append (IsOpenAhead (entry ∷ before)) (calls_numbered (now_of before) (length before) 0 (calls_told before performer outcome act)) _
+      (new-ahead (entry ∷ before) _ (numbered-ahead (now_of before) (length before) 0 (calls_told before performer outcome act)))
+      (All-append (IsOpenAhead (entry ∷ before)) (calls_from outcome act performer (act_phase before) (now_of before) (length before)) _
+      (new-ahead (entry ∷ before) _ (due-ahead (now_of before) (told_by outcome act) performer (act_phase before) (due_after (now_of before) act) (caused_at (length before)) (later-than (now_of before) act)))
       (moved-ahead before performer outcome act are all))
-  ahead-more script before (Passed fifo passage) next are all = one-ahead (Passed fifo passage) before (told_of passage.kind passage) passage.who refl all
-  ahead-more script before (Locked node id) next are all = one-ahead (Locked node id) before call.Held (who.Sequence id node) refl all
-  ahead-more script before (Granted node grant) next are all = one-ahead (Granted node grant) before call.Grant (who.Sequence grant.id node) refl all
-  ahead-more script before (Drained node cause) next are all = with-ahead (Drained node cause) before (released node (objections_of before)) refl (released-is node (objections_of before)) refl are all
+  ahead-more script before (Passed fifo passage) next are all = one-ahead (Passed fifo passage) before (Some passage.phase) (told_of passage.kind passage) passage.who refl all
+  ahead-more script before (Locked node id) next are all = one-ahead (Locked node id) before (phase_begun before id) call.Held (who.Sequence id node) refl all
+  ahead-more script before (Granted node grant) next are all = one-ahead (Granted node grant) before (phase_begun before grant.id) call.Grant (who.Sequence grant.id node) refl all
+  ahead-more script before (Drained node origin) next are all = with-ahead (Some origin.phase) (Drained node origin) before (released node (objections_of before)) refl (released-is node (objections_of before)) refl are all
   ahead-more script before (Time time) next are all = unfiltered (λ event. time ≤ event.time) (open_at before) (caused_of before) (passes-over script before time (time-next script before time next))
   ahead-more script before entry next are all = old-ahead entry before (caused_of before) refl all
 

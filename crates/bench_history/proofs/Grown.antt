@@ -16,7 +16,7 @@ use Rattle.uvm_object.specs.declared.entries.Entry.TheVariants.{Heard, Did}
 use Rattle.bench_script.specs.Scripts.{ScriptValue}
 use Rattle.bench_history.specs.declared.needs.Need as declared
 use Rattle.uvm_phase.specs.declared.phases.Phase.{Phase}
-use Rattle.bench_history.specs.History.{stage_of, running, created_name, nodes_of, nodes_after, components_of, components_after, speaker_of}
+use Rattle.bench_history.specs.History.{created_name, nodes_of, nodes_after, components_of, components_after, speaker_of, act_phase}
 use Rattle.bench_history.specs.Sequences.{Beginning, starts_in, begun_after, begun_of}
 use Rattle.bench_history.specs.Cases.{Next, Exactly}
 use Rattle.bench_history.specs.Next.{next_of}
@@ -85,7 +85,7 @@ keeps-components history (Did performer outcome act) plain = keeps-outcome (leng
 keeps-components history entry plain = refl
 
 pub keeps-sequences : (history : List Entry) (entry : Entry) → IsPlain entry → begun_of (entry ∷ history) ≡ begun_of history
-keeps-sequences history (Did performer outcome act) plain = keeps-begun (nodes_of history) (running (stage_of history)) (begun_of history) performer outcome act plain
+keeps-sequences history (Did performer outcome act) plain = keeps-begun (nodes_of history) (act_phase history) (begun_of history) performer outcome act plain
 keeps-sequences history entry plain = refl
 
 -- and makes no component

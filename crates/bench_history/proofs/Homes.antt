@@ -84,7 +84,7 @@ home-in : (starting : Starting) → starting_refusal starting ≡ None → (node
 unfolding starting_refusal
 home-in starting e =
     has-home starting.home
-    (fourth-not (fault_if (not (in_task starting.running)) OutsideTask) (fault_if (is_none_at_all starting.priority) OutOfRange) (fault_if (is_none (sequence_named starting.types starting.type_name)) InvalidType)
+    (fourth-not (fault_if (not (in_task starting.phase)) OutsideTask) (fault_if (is_none_at_all starting.priority) OutOfRange) (fault_if (is_none (sequence_named starting.types starting.type_name)) InvalidType)
     (fault_if (is_none starting.home) NoSequencer) (fault_if (is_some (path_fault starting.path)) TreeLimit) (fault_if (is_none (sequence_made starting)) OverrideLoop) e)
 
 pub home-of : (script : ScriptValue) (history : List Entry) (performer : Who) (asked name : List ℕ) (on : List (List ℕ)) (priority : Option ℕ) → starting_refusal (starting_now script history performer asked name on priority) ≡ None → (node : ℕ) × (home_asked (nodes_of history) performer on ≡ Some node)

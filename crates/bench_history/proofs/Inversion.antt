@@ -31,7 +31,7 @@ use Rattle.bench_history.specs.Wires.{next_unsound}
 use Rattle.bench_history.specs.Passing.{next_passed}
 use Rattle.bench_history.specs.Upshots.{Upshot, Needs, Does, Finds, Stores, Takes, Asks, Finishes, Refuses, upshot_of}
 use Rattle.bench_history.specs.Arbitration.{next_locked, next_served}
-use Rattle.bench_history.specs.Cases.{Next, Exactly, Answer, Need, Grant, Nothing, end_reached, giving_up, chosen_at, locking, serving, passing, first_act, by_upshot, by_act, by_call, event_due, phase_call, in_connect, port_check, phase_end, time_passes, phase_begin, phase_to_begin, finish}
+use Rattle.bench_history.specs.Cases.{Next, Exactly, Answer, Need, Grant, Nothing, end_reached, giving_up, chosen_at, locking, serving, passing, first_act, by_upshot, by_act, by_call, event_due, phase_call, in_connect, port_check, phase_end, time_passes, phase_begin, phase_to_begin, finish, origin_of}
 use Rattle.bench_history.specs.Next.{first_next, next_of}
 use Rattle.bench_history.specs.Laws.{IsDue, IsDrainDue}
 
@@ -79,7 +79,7 @@ pub data Case (script : ScriptValue) (history : List Entry) (next : Next) : Type
   -- or a sequencer grants an item
   ByGrant : (sequencer : ℕ) (drawn : Bool) → next_served history ≡ Some (sequencer, drawn) → next ≡ Grant sequencer drawn (chosen_at history sequencer) → Case script history next
   -- or a call is due
-  ByDue : (event : Event) (call : Call) → due_now history ≡ Some event → event.notice ≡ Some call → next ≡ Answer (who_of event.owner) call (Some event.cause) → Case script history next
+  ByDue : (event : Event) (call : Call) → due_now history ≡ Some event → event.notice ≡ Some call → next ≡ Answer (who_of event.owner) call (Some (origin_of event)) → Case script history next
   -- or it is somebody's turn in the phase that runs
   ByTurn : (phase : Phase) (node : ℕ) → stage_of history ≡ During phase → next_call phase history ≡ Some node → next ≡ Answer (who.Node node) (call.Phase phase) None → Case script history next
   -- or that phase ends
@@ -147,20 +147,20 @@ first-at now (Some other) event e = first-tested (other.time == now) refl e
     first-tested true at e = let same : other ≡ event = cc in record { first_is = e; time = rw (← same) (grind (arith, nat_tests)) }
     first-tested false at e = cc
 
-pub due-first : (history : List Entry) (event : Event) → due_now history ≡ Some event → IsDue history (who_of event.owner) event.notice event.cause
+pub due-first : (history : List Entry) (event : Event) → due_now history ≡ Some event → IsDue history (who_of event.owner) event.notice (origin_of event)
 unfolding due_now
 due-first history event e =
     let f = first-at (now_of history) (first_due history) event e in
-    record { event = event; first = f.first_is; time = f.time; hearer_is = refl; notice_is = refl; cause_is = refl }
+    record { event = event; first = f.first_is; time = f.time; hearer_is = refl; notice_is = refl; origin_is = refl }
 
 -- somebody hears its call, or a drain ends
 case-event :
     (script : ScriptValue) (history : List Entry) (next : Next) (event : Event) (notice : Option Call) → due_now history ≡ Some event → event.notice ≡ notice
-    → next ≡ by_call event.owner notice event.cause → Case script history next
+    → next ≡ by_call event.owner notice (origin_of event) → Case script history next
 case-event script history next event (Some call) now is e = ByDue event call now is e
 case-event script history next event None now is e =
-    let I : Option Call → Type 0 = λ notice. IsDue history (who_of event.owner) notice event.cause in
-    ByOwn (Drained (node_of (who_of event.owner)) event.cause) (record { hearer = who_of event.owner; stands = refl; due = subst I is (due-first history event now) }) e
+    let I : Option Call → Type 0 = λ notice. IsDue history (who_of event.owner) notice (origin_of event) in
+    ByOwn (Drained (node_of (who_of event.owner)) (origin_of event)) (record { hearer = who_of event.owner; stands = refl; due = subst I is (due-first history event now) }) e
 
 case-due : (script : ScriptValue) (history : List Entry) (next : Next) (due : Option Event) → due_now history ≡ due → next ≡ first_next (event_due due ∷ phase_cases script history (running (stage_of history))) → Case script history next
 case-due script history next (Some event) is e = case-event script history next event event.notice is refl e

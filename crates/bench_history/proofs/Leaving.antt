@@ -20,7 +20,7 @@ use Rattle.uvm_object.specs.declared.entries.Outcome.TheVariants.{Started, Finis
 use Rattle.uvm_object.specs.declared.entries.Entry.{Entry}
 use Rattle.uvm_object.specs.declared.entries.Entry.TheVariants.{End, Did}
 use Rattle.bench_history.specs.declared.owners.Owner.{Owner}
-use Rattle.bench_history.specs.History.{stage_of, running, nodes_of, ended_of, ended_in}
+use Rattle.bench_history.specs.History.{nodes_of, ended_of, ended_in, act_phase}
 use Rattle.bench_history.specs.Sequences.{Beginning, all_begun, begun_after, begun_of, finished_of, finished_in, is_live, is_living, is_over_phase, leaving_of, leaving_after, lives}
 use Rattle.bench_history.specs.Next.{IsNext}
 use Rattle.bench_history.specs.Laws.{IsLiving, IsLivingSequence, LivingLived, AreRising, LeaversLived, number_of}
@@ -39,7 +39,7 @@ begun-after-before nodes phase begun performer (Started new) act id low = number
 begun-after-before nodes phase begun performer outcome act id low = refl
 
 begun-before : (entry : Entry) (before : List Entry) (id : ℕ) → id ≤ length (begun_of before) → numbered (begun_of (entry ∷ before)) id ≡ numbered (begun_of before) id
-begun-before (Did performer outcome act) before id low = begun-after-before (nodes_of before) (running (stage_of before)) (begun_of before) performer outcome act id low
+begun-before (Did performer outcome act) before id low = begun-after-before (nodes_of before) (act_phase before) (begun_of before) performer outcome act id low
 begun-before entry before id low = refl
 
 -- what is not among more is not among fewer

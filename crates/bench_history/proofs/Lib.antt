@@ -7,11 +7,12 @@ mod Leasts
 mod Asking
 mod Ended
 mod Living
-mod Running
 pub mod Served
 mod Deeds
 mod Expected
 mod Called
+mod Awaiting
+mod Running
 mod Leaving
 mod Homes
 mod Standings

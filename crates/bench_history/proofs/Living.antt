@@ -23,7 +23,7 @@ use Rattle.bench_script.specs.Scripts.{ScriptValue}
 use Rattle.bench_history.specs.declared.stages.Stage.{Stage}
 use Rattle.bench_history.specs.declared.stages.Stage.TheVariants.{Before, During, After, Ended}
 use Rattle.bench_history.specs.Limits.{most_acts}
-use Rattle.bench_history.specs.History.{stage_of, running, nodes_of, left_of, speaker_of, ended_of}
+use Rattle.bench_history.specs.History.{stage_of, running, nodes_of, left_of, speaker_of, ended_of, act_phase}
 use Rattle.bench_history.specs.Reports.{reason_of}
 use Rattle.bench_history.specs.Sequences.{Beginning, begun_after, begun_of, finished_of, is_live}
 use Rattle.bench_history.specs.Passing.{next_passed}
@@ -71,7 +71,7 @@ begun-after-more nodes phase begun performer outcome act id beginning e = e
 
 -- a sequence that was started stays so
 pub begun-more : (entry : Entry) (before : List Entry) (id : ℕ) (beginning : Beginning) → numbered (begun_of before) id ≡ Some beginning → numbered (begun_of (entry ∷ before)) id ≡ Some beginning
-begun-more (Did performer outcome act) before id beginning e = begun-after-more (nodes_of before) (running (stage_of before)) (begun_of before) performer outcome act id beginning e
+begun-more (Did performer outcome act) before id beginning e = begun-after-more (nodes_of before) (act_phase before) (begun_of before) performer outcome act id beginning e
 begun-more entry before id beginning e = e
 
 begun-after-count : (nodes : List Node) (phase : Option Phase) (begun : List Beginning) (performer : Who) (outcome : Outcome) (act : Act) → length begun ≤ length (begun_after nodes phase begun performer outcome act)
@@ -79,7 +79,7 @@ begun-after-count nodes phase begun performer (Started new) act = omega arith
 begun-after-count nodes phase begun performer outcome act = omega arith
 
 pub begun-count : (entry : Entry) (before : List Entry) → length (begun_of before) ≤ length (begun_of (entry ∷ before))
-begun-count (Did performer outcome act) before = begun-after-count (nodes_of before) (running (stage_of before)) (begun_of before) performer outcome act
+begun-count (Did performer outcome act) before = begun-after-count (nodes_of before) (act_phase before) (begun_of before) performer outcome act
 begun-count entry before = omega arith
 
 -- the acts are performed before a phase begins or ends

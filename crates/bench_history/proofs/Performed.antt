@@ -1,7 +1,8 @@
 -- Where an act, or a call that is due, is what comes next.
-use Rattle.std.proofs.Common.{◌≡◌, ℕ, List, ◌∷◌, Option, Some, None, refl, ap, sym, ◌∙◌, subst, Bool}
+use Rattle.std.proofs.Common.{◌≡◌, ℕ, List, ◌∷◌, Option, Some, None, refl, ap, sym, ◌∙◌, subst, Bool, false, IfSome}
+use Rattle.std.specs.List.{list_any}
 use Rattle.uvm_phase.specs.declared.phases.Phase.{Phase}
-use Rattle.uvm_phase.specs.declared.agendas.Cause.{Cause}
+use Rattle.uvm_phase.specs.Phases.{same_phase}
 use Rattle.uvm_object.specs.Acts.{node_of}
 use Rattle.uvm_object.specs.declared.acts.Who.{Who}
 use Rattle.uvm_object.specs.declared.acts.Who.TheVariants as who
@@ -12,17 +13,19 @@ use Rattle.uvm_object.specs.declared.entries.Passage.{Passage}
 use Rattle.uvm_object.specs.declared.entries.Reason.{Reason}
 use Rattle.uvm_object.specs.declared.entries.Entry.{Entry}
 use Rattle.uvm_object.specs.declared.entries.Entry.TheVariants.{End, Did, Locked, Passed, Drained}
+use Rattle.uvm_object.specs.declared.entries.Origin.{Origin}
 use Rattle.bench_script.specs.Scripts.{ScriptValue}
 use Rattle.bench_history.specs.Owners.{who_of}
 use Rattle.bench_history.specs.declared.stages.Stage.{Stage}
 use Rattle.bench_history.specs.declared.stages.Stage.TheVariants.{Before, During, After, Ended}
-use Rattle.bench_history.specs.History.{stage_of, speaker_of}
+use Rattle.bench_history.specs.History.{ended_of, stage_of, speaker_of}
 use Rattle.bench_history.specs.Reports.{reason_of}
 use Rattle.bench_history.specs.Passing.{next_passed}
 use Rattle.bench_history.specs.Arbitration.{next_locked, next_served}
-use Rattle.bench_history.specs.Cases.{Next, Exactly, Answer, Grant, chosen_at, end_reached, giving_up, locking, serving, passing, by_upshot}
+use Rattle.bench_history.specs.Cases.{Next, Exactly, Answer, Grant, chosen_at, end_reached, giving_up, locking, serving, passing, by_upshot, origin_of}
 use Rattle.bench_history.specs.Next.{first_next, next_of, IsAct}
-use Rattle.bench_history.specs.Laws.{IsDrainDue, IsDue, IsFirstAct, IsServing, IsSettled, HasTurn, ActsGoInOrder, CallsGoInTurn, GrantsGoInOrder, LocksGoInOrder, PassagesGoInOrder, RunningPhasesEnd, DueCallsGoInOrder, DrainsGoInOrder}
+use Rattle.bench_history.specs.Laws.{IsDrainDue, IsDue, IsFirstAct, IsServing, IsSettled, HasTurn, ActsGoInOrder, CallsGoInTurn, GrantsGoInOrder, LocksGoInOrder, PassagesGoInOrder, PassagesAreInPhase, RunningPhasesEnd, DueCallsGoInOrder, DrainsGoInOrder}
+use Rattle.bench_history.proofs.Asking.{passing-open}
 use Rattle.bench_history.proofs.Inversion.{IsOwn, Case, AtEnd, ByOwn, ByNeed, ByDeed, ByDue, ByTurn, ByEnd, ByBegin, ByGrant, case-of, due-first}
 
 -- what the machine writes by itself is no act's
@@ -74,25 +77,25 @@ act-case script history next is did (ByGrant sequencer drawn served e) = absurd 
 pub acts_go_in_order : ActsGoInOrder
 acts_go_in_order script history did = act-case script history (next_of script history) refl did (case-of script history)
 
-due-case : (script : ScriptValue) (history : List Entry) (hearer : Who) (call : Call) (cause : Cause) (next : Next) → next ≡ Answer hearer call (Some cause) → Case script history next → IsDue history hearer (Some call) cause
-due-case script history hearer call cause next asks (AtEnd ended e) = cc
-due-case script history hearer call cause next asks (ByOwn entry own e) = cc
-due-case script history hearer call cause next asks (ByNeed act need made left is e) = cc
-due-case script history hearer call cause next asks (ByDeed act outcome left plain comes e) = cc
-due-case script history hearer call cause next asks (ByDue event heard now is e) =
+due-case : (script : ScriptValue) (history : List Entry) (hearer : Who) (call : Call) (origin : Origin) (next : Next) → next ≡ Answer hearer call (Some origin) → Case script history next → IsDue history hearer (Some call) origin
+due-case script history hearer call origin next asks (AtEnd ended e) = cc
+due-case script history hearer call origin next asks (ByOwn entry own e) = cc
+due-case script history hearer call origin next asks (ByNeed act need made left is e) = cc
+due-case script history hearer call origin next asks (ByDeed act outcome left plain comes e) = cc
+due-case script history hearer call origin next asks (ByDue event heard now is e) =
     let d = due-first history event now in
-    let same : Answer (who_of event.owner) heard (Some event.cause) ≡ Answer hearer call (Some cause) = sym e ∙ asks in
+    let same : Answer (who_of event.owner) heard (Some (origin_of event)) ≡ Answer hearer call (Some origin) = sym e ∙ asks in
     let hearer_is : who_of event.owner ≡ hearer = cc in
     let call_is : Some heard ≡ Some call = cc in
-    let cause_is : event.cause ≡ cause = cc in
-    record { event = d.event; first = d.first; time = d.time; hearer_is = d.hearer_is ∙ hearer_is; notice_is = d.notice_is ∙ is ∙ call_is; cause_is = d.cause_is ∙ cause_is }
-due-case script history hearer call cause next asks (ByTurn phase node during turn e) = cc
-due-case script history hearer call cause next asks (ByEnd phase runs e) = cc
-due-case script history hearer call cause next asks (ByBegin phase may e) = cc
-due-case script history hearer call cause next asks (ByGrant sequencer drawn served e) = cc
+    let origin_is : origin_of event ≡ origin = cc in
+    record { event = d.event; first = d.first; time = d.time; hearer_is = d.hearer_is ∙ hearer_is; notice_is = d.notice_is ∙ is ∙ call_is; origin_is = d.origin_is ∙ origin_is }
+due-case script history hearer call origin next asks (ByTurn phase node during turn e) = cc
+due-case script history hearer call origin next asks (ByEnd phase runs e) = cc
+due-case script history hearer call origin next asks (ByBegin phase may e) = cc
+due-case script history hearer call origin next asks (ByGrant sequencer drawn served e) = cc
 
 pub due_calls_go_in_order : DueCallsGoInOrder
-due_calls_go_in_order script history hearer call cause asks = due-case script history hearer call cause _ asks (case-of script history)
+due_calls_go_in_order script history hearer call origin asks = due-case script history hearer call origin _ asks (case-of script history)
 
 turn-case : (script : ScriptValue) (history : List Entry) (hearer : Who) (call : Call) (next : Next) → next ≡ Answer hearer call None → Case script history next → HasTurn history hearer
 turn-case script history hearer call next asks (AtEnd ended e) = cc
@@ -111,19 +114,19 @@ turn-case script history hearer call next asks (ByGrant sequencer drawn served e
 pub calls_go_in_turn : CallsGoInTurn
 calls_go_in_turn script history hearer call asks = turn-case script history hearer call _ asks (case-of script history)
 
-drain-case : (script : ScriptValue) (history : List Entry) (node : ℕ) (cause : Cause) (next : Next) → next ≡ Exactly (Drained node cause) → Case script history next → IsDrainDue history node cause
-drain-case script history node cause next ends (AtEnd ended e) = cc
-drain-case script history node cause next ends (ByOwn entry own e) = let same : entry ≡ Drained node cause = cc in subst (IsOwn script history) same own
-drain-case script history node cause next ends (ByNeed act need made left is e) = cc
-drain-case script history node cause next ends (ByDeed act outcome left plain comes e) = cc
-drain-case script history node cause next ends (ByDue event call now is e) = cc
-drain-case script history node cause next ends (ByTurn phase other during turn e) = cc
-drain-case script history node cause next ends (ByEnd phase runs e) = cc
-drain-case script history node cause next ends (ByBegin phase may e) = cc
-drain-case script history node cause next ends (ByGrant sequencer drawn served e) = cc
+drain-case : (script : ScriptValue) (history : List Entry) (node : ℕ) (origin : Origin) (next : Next) → next ≡ Exactly (Drained node origin) → Case script history next → IsDrainDue history node origin
+drain-case script history node origin next ends (AtEnd ended e) = cc
+drain-case script history node origin next ends (ByOwn entry own e) = let same : entry ≡ Drained node origin = cc in subst (IsOwn script history) same own
+drain-case script history node origin next ends (ByNeed act need made left is e) = cc
+drain-case script history node origin next ends (ByDeed act outcome left plain comes e) = cc
+drain-case script history node origin next ends (ByDue event call now is e) = cc
+drain-case script history node origin next ends (ByTurn phase other during turn e) = cc
+drain-case script history node origin next ends (ByEnd phase runs e) = cc
+drain-case script history node origin next ends (ByBegin phase may e) = cc
+drain-case script history node origin next ends (ByGrant sequencer drawn served e) = cc
 
 pub drains_go_in_order : DrainsGoInOrder
-drains_go_in_order script history node cause ends = drain-case script history node cause _ ends (case-of script history)
+drains_go_in_order script history node origin ends = drain-case script history node origin _ ends (case-of script history)
 
 passage-case : (script : ScriptValue) (history : List Entry) (fifo : ℕ) (passage : Passage) (next : Next) → next ≡ Exactly (Passed fifo passage) → Case script history next → next_passed history ≡ Some (fifo, passage)
 passage-case script history fifo passage next passes (AtEnd ended e) = cc
@@ -138,6 +141,10 @@ passage-case script history fifo passage next passes (ByGrant sequencer drawn se
 
 pub passages_go_in_order : PassagesGoInOrder
 passages_go_in_order script history fifo passage passes = passage-case script history fifo passage _ passes (case-of script history)
+
+-- of a phase that has not ended
+pub passages_are_in_phase : PassagesAreInPhase
+passages_are_in_phase script history fifo passage is = subst (λ (passed : Option (ℕ × Passage)). IfSome passed (λ passed. list_any (same_phase passed.1.phase) (ended_of history) ≡ false)) (passages_go_in_order script history fifo passage is) (passing-open history)
 
 -- so are locks and items that are granted
 pub lock-case : (script : ScriptValue) (history : List Entry) (node id : ℕ) (next : Next) → next ≡ Exactly (Locked node id) → Case script history next → next_locked history ≡ Some (node, id)

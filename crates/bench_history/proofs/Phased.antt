@@ -1,18 +1,20 @@
 -- The phases go in their order.
-use Rattle.std.proofs.Common.{◌≡◌, ℕ, ◌+◌, ◌<◌, ◌≤◌, true, not, List, [], ◌∷◌, reverse, take, Some, inl, inr, refl, ap, ◌∙◌, sym, subst, arith}
-use Rattle.std.specs.List.{All}
+use Rattle.std.proofs.Common.{◌≡◌, ℕ, ◌+◌, ◌<◌, ◌≤◌, true, false, not, List, [], ◌∷◌, reverse, take, Some, inl, inr, refl, ap, ◌∙◌, sym, subst, arith}
+use Rattle.std.specs.List.{All, list_any}
+use Rattle.std.proofs.lemmas.Bool.Decides.{nat_tests}
+use Rattle.std.proofs.lemmas.List.Folds.{list_any_none}
 use Rattle.std.proofs.lemmas.List.Elements.{All-nil, All-cons, All-weaker}
 use Rattle.uvm_phase.specs.declared.phases.Phase.{Phase}
 use Rattle.uvm_phase.specs.declared.phases.Phase.TheVariants.{Build, Connect, EndOfElaboration, StartOfSimulation, Run, Extract, Check, Report, Final}
-use Rattle.uvm_phase.specs.Phases.{common_phases, is_runtime, phase_number, phase_after}
+use Rattle.uvm_phase.specs.Phases.{common_phases, is_runtime, phase_number, phase_after, same_phase}
 use Rattle.uvm_object.specs.declared.entries.Entry.{Entry}
 use Rattle.uvm_object.specs.declared.entries.Entry.TheVariants.{Begin, End, Over, Granted}
 use Rattle.bench_script.specs.Scripts.{ScriptValue}
 use Rattle.bench_history.specs.declared.stages.Stage.{Stage}
 use Rattle.bench_history.specs.declared.stages.Stage.TheVariants.{Before, During, After, Ended}
-use Rattle.bench_history.specs.History.{stage_of, ended_of}
+use Rattle.bench_history.specs.History.{stage_of, running, ended_of}
 use Rattle.bench_history.specs.Cases.{Next, Exactly, Answer, Need, Nothing, phase_to_begin, Grant}
-use Rattle.bench_history.specs.Next.{next_of, Allows, IsNext}
+use Rattle.bench_history.specs.Next.{next_of, Allows, IsNext, EachIsNext}
 use Rattle.bench_history.specs.Laws.{is_common, next_number, ArePhasesInOrder, PhasesGoInOrder}
 use Rattle.bench_history.proofs.Inversion.{IsOwn, Case, AtEnd, ByOwn, ByNeed, ByDeed, ByDue, ByTurn, ByEnd, ByBegin, ByGrant, case-of}
 
@@ -145,3 +147,16 @@ in-order-more script before entry next order = record { common = order.common; a
 pub phases_go_in_order : PhasesGoInOrder
 phases_go_in_order script [] each = record { common = refl; are = λ on. refl; before = All-nil (λ phase. phase_number phase < 0) }
 phases_go_in_order script (entry ∷ before) each = in-order-more script before entry each.0 (phases_go_in_order script before each.1)
+
+-- the phase that runs has not ended
+pub running-open : (script : ScriptValue) (history : List Entry) (phase : Phase) → EachIsNext script history → running (stage_of history) ≡ Some phase → list_any (same_phase phase) (ended_of history) ≡ false
+running-open script history phase each runs = by (stage_of history) runs (phases_go_in_order script history each).before
+  where
+    by : (stage : Stage) → running stage ≡ Some phase → All (λ other. phase_number other < next_number stage) (ended_of history) → list_any (same_phase phase) (ended_of history) ≡ false
+    by (During other) is all =
+        let same : other ≡ phase = cc in
+        let before = subst (λ (p : Phase). All (λ other. phase_number other < phase_number p) (ended_of history)) same all in
+        list_any_none (same_phase phase) (ended_of history) (All-weaker (λ other. phase_number other < phase_number phase) (λ other. same_phase phase other ≡ false) (λ other lt. grind (arith, nat_tests, lt)) (ended_of history) before)
+    by Before is all = cc
+    by (After other) is all = cc
+    by Ended is all = cc

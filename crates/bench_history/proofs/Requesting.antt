@@ -30,7 +30,8 @@ use Rattle.bench_history.specs.Upshots.{Does}
 use Rattle.bench_history.specs.Next.{IsNext, EachIsNext}
 use Rattle.bench_history.specs.LegalLogs.{ItemWaitsAreSingle}
 use Rattle.bench_history.proofs.Expected.{second-part}
-use Rattle.bench_history.proofs.Sending.{home-mode, not-refused, on-home, performer-living, upshot-next}
+use Rattle.bench_history.proofs.Awaiting.{not-refused, upshot-next}
+use Rattle.bench_history.proofs.Sending.{home-mode, on-home, performer-living}
 
 -- what is wanted is an item for a sequence, and was not granted since
 abbrev is_open_for : List (ℕ × ℕ) → ℕ → Wanted → Bool

@@ -25,53 +25,30 @@ use Rattle.uvm_object.specs.declared.acts.Act.TheVariants.{Ask, ItemDone, Send}
 use Rattle.uvm_object.specs.declared.fatals.Fatal.{Fatal}
 use Rattle.uvm_object.specs.declared.fatals.Fatal.TheVariants.{AskedTwice, NoPort, NotGranted, NotOpen, NothingOut, OutsideTask}
 use Rattle.uvm_object.specs.declared.entries.Outcome.{Outcome}
-use Rattle.uvm_object.specs.declared.entries.Outcome.TheVariants.{Done, Waits, Finished, Refused}
+use Rattle.uvm_object.specs.declared.entries.Outcome.TheVariants.{Done, Waits, Finished}
 use Rattle.uvm_object.specs.declared.entries.Entry.{Entry}
-use Rattle.uvm_object.specs.declared.entries.Entry.TheVariants.{Begin, Did, End, Granted, Over}
+use Rattle.uvm_object.specs.declared.entries.Entry.TheVariants.{Did, End, Granted}
 use Rattle.bench_script.specs.Scripts.{ScriptValue}
 use Rattle.bench_history.specs.declared.owners.Owner.{Owner}
-use Rattle.bench_history.specs.declared.stages.Stage.TheVariants.{Ended}
-use Rattle.bench_history.specs.History.{opening, running, speaker_of, stage_of}
+use Rattle.bench_history.specs.History.{act_phase, opening, running, speaker_of}
 use Rattle.bench_history.specs.Sequences.{begun_of, sequences_of}
 use Rattle.bench_history.specs.Wires.{closed_wiring}
 use Rattle.bench_history.specs.Ports.{port_below}
-use Rattle.bench_history.specs.Arbitration.{asked_in, driver_state, if_arbitrated, leads_there, mode_at, sent_by, sequence_on, sequencer_at, sequencer_below, sequencer_with}
+use Rattle.bench_history.specs.Arbitration.{driver_state, if_arbitrated, leads_there, mode_at, sent_by, sequence_on, sequencer_at, sequencer_below, sequencer_with}
 use Rattle.bench_history.specs.Refusals.{ask_refusal, done_refusal, driving_refusal, in_task, is_open_to, send_refusal}
-use Rattle.bench_history.specs.Upshots.{Upshot, Does, asked_upshot, driven_at, has_candidate, unless_refused, upshot_of}
-use Rattle.bench_history.specs.Cases.{Next, by_act, by_upshot}
-use Rattle.bench_history.specs.Next.{next_of, Allows, IsNext, EachIsNext}
+use Rattle.bench_history.specs.Upshots.{Does, asked_upshot, driven_at, has_candidate}
+use Rattle.bench_history.specs.Next.{next_of, IsNext, EachIsNext}
 use Rattle.bench_history.specs.Laws.{IsLiving, IsThere}
 use Rattle.bench_history.specs.LegalLogs.{IsTakenOut, OneItemOut, count_if, dones_at, ended_at, gets_at, hand_count, in_hand, is_get, keeps_item, sends_at, takes_out}
+use Rattle.bench_history.proofs.Awaiting.{asking-of, is_accepted, not-refused, upshot-next}
 use Rattle.bench_history.proofs.Called.{performers_are_there}
 use Rattle.bench_history.proofs.Deeds.{deed-next, is-act}
 use Rattle.bench_history.proofs.Driving.{begun-mode, drivers_are_there}
 use Rattle.bench_history.proofs.Ended.{none-after}
 use Rattle.bench_history.proofs.Inversion.{case-of}
-use Rattle.bench_history.proofs.Living.{begin-runs, same-itself}
+use Rattle.bench_history.proofs.Living.{same-itself}
 use Rattle.bench_history.proofs.Olders.{older-each}
-use Rattle.bench_history.proofs.Performed.{acts_go_in_order}
 use Rattle.bench_history.proofs.Phased.{end-alone, end-case}
-
--- an act that was performed came to its upshot
-pub upshot-next : (script : ScriptValue) (before : List Entry) (performer : Who) (outcome : Outcome) (act : Act) → IsNext script before (Did performer outcome act) → Allows (by_upshot performer act (upshot_of script before performer act)) (Did performer outcome act)
-upshot-next script before performer outcome act next =
-    let deed = deed-next script before performer outcome act (next_of script before) refl next in
-    let first = acts_go_in_order script before (is-act performer outcome act (next_of script before) next) in
-    let lists : act ∷ _ ≡ first.0 ∷ _ = sym deed.left ∙ first.1.left in
-    let same : act ≡ first.0 = cc in
-    let comes : Allows (by_act script before (speaker_of before) first.0) (Did performer outcome act) = subst (λ (n : Next). Allows n (Did performer outcome act)) first.1.next next in
-    let his : Allows (by_act script before (speaker_of before) act) (Did performer outcome act) = subst (λ (one : Act). Allows (by_act script before (speaker_of before) one) (Did performer outcome act)) (sym same) comes in
-    subst (λ (one : Who). Allows (by_act script before one act) (Did performer outcome act)) (sym deed.performer_is) his
-
--- and was not refused, if it was accepted
-abbrev pub is_accepted : Outcome → Bool
-is_accepted (Refused fatal) = false
-is_accepted outcome = true
-
-pub not-refused : (performer : Who) (outcome : Outcome) (act : Act) (first second : Option Fatal) (upshot : Upshot) → is_accepted outcome ≡ true → Allows (by_upshot performer act (unless_refused first (unless_refused second upshot))) (Did performer outcome act) → second ≡ None
-not-refused performer outcome act (Some fatal) second upshot accepted allows = let same : outcome ≡ Refused fatal = cc in let none : is_accepted (Refused fatal) ≡ true = ap is_accepted (sym same) ∙ accepted in cc
-not-refused performer outcome act None (Some fatal) upshot accepted allows = let same : outcome ≡ Refused fatal = cc in let none : is_accepted (Refused fatal) ≡ true = ap is_accepted (sym same) ∙ accepted in cc
-not-refused performer outcome act None None upshot accepted allows = refl
 
 no-fault : (is : Bool) (fatal : Fatal) → fault_if is fatal ≡ None → is ≡ false
 no-fault true fatal e = cc
@@ -123,7 +100,7 @@ asks-idle :
 asks-idle script before node performer outcome port way next accepted leads =
     let reached = leads-is node (sequencer_below before performer port) leads in
     let none =
-    driving-none (running (stage_of before)) (is_some (sequencer_below before performer port)) (option_and_then ask_refusal (driven_at before performer port))
+    driving-none (act_phase before) (is_some (sequencer_below before performer port)) (option_and_then ask_refusal (driven_at before performer port))
     (not-refused performer outcome (Ask port way) (fault_if (not (is_open_to (Ask port way) performer)) NotOpen) _ (asked_upshot way (has_candidate (sequences_of before) (driven_at before performer port))) accepted (upshot-next script before performer outcome (Ask port way) next)) in
     let here = rw reached at none in
     idle-at before node (mode_at before node) (reached-mode before performer port node reached) here
@@ -139,7 +116,7 @@ done-hand :
 done-hand script before node performer port response next leads =
     let reached = leads-is node (sequencer_below before performer port) leads in
     let none =
-    driving-none (running (stage_of before)) (is_some (sequencer_below before performer port)) (option_and_then done_refusal (driven_at before performer port))
+    driving-none (act_phase before) (is_some (sequencer_below before performer port)) (option_and_then done_refusal (driven_at before performer port))
     (not-refused performer Done (ItemDone port response) (fault_if (not (is_open_to (ItemDone port response) performer)) NotOpen) _ Does refl (upshot-next script before performer Done (ItemDone port response) next)) in
     let here = rw reached at none in
     hand-at before node (mode_at before node) (reached-mode before performer port node reached) here
@@ -192,83 +169,6 @@ module _ (keeps : OrderKeepsAll Owner (Option Call)) (excludes : LockExcludes) w
   sending script before node id performer item each next on =
       sends-granted script before node id item each (subst (λ (one : Who). IsNext script before (Did one Done (Send item))) (on-home node performer id on) next)
 
--- an ask that is accepted is asked in a phase that takes time
-first-none : (first second third : Option Fatal) → first_given (first ∷ second ∷ third ∷ []) ≡ None → first ≡ None
-first-none (Some fatal) second third e = cc
-first-none None second third e = refl
-
-task-of : (phase : Option Phase) (there : Bool) (refusal : Option Fatal) → driving_refusal phase there refusal ≡ None → (one : Phase) × (phase ≡ Some one)
-unfolding driving_refusal
-task-of None there refusal e = let none = first-none (fault_if (not (in_task None)) OutsideTask) (fault_if (not there) NoPort) refusal e in cc
-task-of (Some phase) there refusal e = (phase, refl)
-
-asks-task : (script : ScriptValue) (before : List Entry) (performer : Who) (outcome : Outcome) (port : List ℕ) (way : How) → IsNext script before (Did performer outcome (Ask port way)) → is_accepted outcome ≡ true → (phase : Phase) × (running (stage_of before) ≡ Some phase)
-asks-task script before performer outcome port way next accepted =
-    task-of (running (stage_of before)) (is_some (sequencer_below before performer port)) (option_and_then ask_refusal (driven_at before performer port))
-    (not-refused performer outcome (Ask port way) (fault_if (not (is_open_to (Ask port way) performer)) NotOpen) _ (asked_upshot way (has_candidate (sequences_of before) (driven_at before performer port))) accepted (upshot-next script before performer outcome (Ask port way) next))
-
--- a driver that is not idle asked in the phase that runs
-abbrev IsAsking : List Entry → ℕ → Type 0
-IsAsking history node = (phase : Phase) × (asked_in history node ≡ Some phase) × (running (stage_of history) ≡ Some phase)
-
-abbrev AsksWhile : List Entry → ℕ → Type 0
-AsksWhile history node = (stage_of history ≡ Ended → ⊥) → is_idle (driver_state history node) ≡ false → IsAsking history node
-
-busy-sent : (found : Option ℕ) (state : Driver) → is_idle (option_map_or (sent_by state) found state) ≡ false → is_idle state ≡ false
-busy-sent None state e = e
-busy-sent (Some id) driver.Idle e = e
-busy-sent (Some id) (driver.Waiting way) e = refl
-busy-sent (Some id) (driver.Granted other way) e = refl
-busy-sent (Some id) (driver.InHand other) e = refl
-
-busy-left : (found : Option ℕ) (state : Driver) → is_idle (option_map_or (λ id. left_by (grant_of id state) state) found state) ≡ false → is_idle state ≡ false
-busy-left None state e = e
-busy-left (Some id) driver.Idle e = e
-busy-left (Some id) (driver.Waiting way) e = refl
-busy-left (Some id) (driver.Granted other way) e = refl
-busy-left (Some id) (driver.InHand other) e = refl
-
-busy-granted : (here : Bool) (id : ℕ) (state : Driver) → is_idle (if here then granted_by id state else state) ≡ false → is_idle state ≡ false
-busy-granted false id state e = e
-busy-granted true id driver.Idle e = e
-busy-granted true id (driver.Waiting way) e = refl
-busy-granted true id (driver.Granted other way) e = refl
-busy-granted true id (driver.InHand other) e = refl
-
-asking-ask : (script : ScriptValue) (before : List Entry) (node : ℕ) (performer : Who) (outcome : Outcome) (port : List ℕ) (way : How) (leads : Bool) → IsNext script before (Did performer outcome (Ask port way)) → is_accepted outcome ≡ true
-    → (is_idle (driver_state before node) ≡ false → IsAsking before node) → is_idle (if leads then driver.Waiting way else driver_state before node) ≡ false
-    → (phase : Phase) × ((if leads then running (stage_of before) else asked_in before node) ≡ Some phase) × (running (stage_of before) ≡ Some phase)
-asking-ask script before node performer outcome port way true next accepted was busy = let task = asks-task script before performer outcome port way next accepted in (task.0, task.1, task.1)
-asking-ask script before node performer outcome port way false next accepted was busy = was busy
-
-asking-done : (before : List Entry) (node : ℕ) (leads : Bool) → (is_idle (driver_state before node) ≡ false → IsAsking before node) → is_idle (if leads then driver.Idle else driver_state before node) ≡ false → IsAsking before node
-asking-done before node true was busy = cc
-asking-done before node false was busy = was busy
-
-asking-did : (script : ScriptValue) (before : List Entry) (node : ℕ) (performer : Who) (outcome : Outcome) (act : Act) → IsNext script before (Did performer outcome act) → (is_idle (driver_state before node) ≡ false → IsAsking before node)
-    → is_idle (driver_state (Did performer outcome act ∷ before) node) ≡ false → IsAsking (Did performer outcome act ∷ before) node
-asking-did script before node performer Done (Ask port way) next was busy = asking-ask script before node performer Done port way (leads_there node (sequencer_below before performer port)) next refl was busy
-asking-did script before node performer (Waits true) (Ask port way) next was busy = asking-ask script before node performer (Waits true) port way (leads_there node (sequencer_below before performer port)) next refl was busy
-asking-did script before node performer (Waits false) (Ask port way) next was busy = was busy
-asking-did script before node performer Done (ItemDone port response) next was busy = asking-done before node (leads_there node (sequencer_below before performer port)) was busy
-asking-did script before node performer Done (Send item) next was busy = was (busy-sent (sequence_on node performer) (driver_state before node) busy)
-asking-did script before node performer Finished act next was busy = was (busy-left (sequence_on node performer) (driver_state before node) busy)
-asking-did script before node performer (Waits true) act next was busy = was busy
-asking-did script before node performer (Waits false) act next was busy = was busy
-asking-did script before node performer outcome act next was busy = was busy
-
-asking-more : (script : ScriptValue) (before : List Entry) (entry : Entry) (node : ℕ) → IsNext script before entry → (is_idle (driver_state before node) ≡ false → IsAsking before node) → AsksWhile (entry ∷ before) node
-asking-more script before (Did performer outcome act) node next was on busy = asking-did script before node performer outcome act next was busy
-asking-more script before (Granted other grant) node next was on busy = was (busy-granted (other == node) grant.id (driver_state before node) busy)
-asking-more script before (Begin phase) node next was on busy = let asks = was busy in absurd (begin-runs script before phase asks.0 next asks.2)
-asking-more script before (End phase) node next was on busy = cc
-asking-more script before (Over reason) node next was on busy = absurd (on refl)
-asking-more script before entry node next was on busy = was busy
-
-asking-of : (script : ScriptValue) (history : List Entry) (node : ℕ) → EachIsNext script history → AsksWhile history node
-asking-of script [] node each on busy = cc
-asking-of script (entry ∷ before) node each on busy = asking-more script before entry node each.0 (asking-of script before node each.1 (none-after script before entry each.0)) on busy
-
 -- an item in hand stays there, unless it is taken out
 abbrev Stays : List Entry → ℕ → ℕ → Entry → Type 0
 Stays before node id entry = (takes_out before node entry ≡ true) ⊎ (driver_state (entry ∷ before) node ≡ driver.InHand id)
@@ -307,35 +207,36 @@ granted-stays : (here : Bool) (state : Driver) (other id : ℕ) → state ≡ dr
 granted-stays true state other id is = subst (λ (one : Driver). granted_by other one ≡ driver.InHand id) (sym is) refl
 granted-stays false state other id is = is
 
-phase-taken : (script : ScriptValue) (before : List Entry) (node id : ℕ) (phase : Phase) → EachIsNext script before → IsNext script before (End phase) → driver_state before node ≡ driver.InHand id → takes_out before node (End phase) ≡ true
-phase-taken script before node id phase each next is =
-    let busy : is_idle (driver_state before node) ≡ false = ap is_idle is in
-    let asks = asking-of script before node each (none-after script before (End phase) next) busy in
-    let during = end-case script before phase (next_of script before) (end-alone phase (next_of script before) next) (case-of script before) in
-    let both : Some phase ≡ Some asks.0 = sym (ap running during) ∙ asks.2 in
-    let same : phase ≡ asks.0 = cc in
-    rw (asks.1, ← same) (same-itself phase)
+module _ (keeps : OrderKeepsAll Owner (Option Call)) (excludes : LockExcludes) where
+  phase-taken : (script : ScriptValue) (before : List Entry) (node id : ℕ) (phase : Phase) → EachIsNext script before → IsNext script before (End phase) → driver_state before node ≡ driver.InHand id → takes_out before node (End phase) ≡ true
+  phase-taken script before node id phase each next is =
+      let busy : is_idle (driver_state before node) ≡ false = ap is_idle is in
+      let asks = asking-of keeps excludes script before node each (none-after script before (End phase) next) busy in
+      let during = end-case script before phase (next_of script before) (end-alone phase (next_of script before) next) (case-of script before) in
+      let both : Some phase ≡ Some asks.0 = sym (ap running during) ∙ asks.2 in
+      let same : phase ≡ asks.0 = cc in
+      rw (asks.1, ← same) (same-itself phase)
 
-stays-more : (script : ScriptValue) (before : List Entry) (node id : ℕ) (entry : Entry) → EachIsNext script before → IsNext script before entry → driver_state before node ≡ driver.InHand id → Stays before node id entry
-stays-more script before node id (Did performer outcome act) each next is = stays-did script before node id performer outcome act next is
-stays-more script before node id (Granted other grant) each next is = inr (granted-stays (other == node) (driver_state before node) grant.id id is)
-stays-more script before node id (End phase) each next is = inl (phase-taken script before node id phase each next is)
-stays-more script before node id entry each next is = inr is
+  stays-more : (script : ScriptValue) (before : List Entry) (node id : ℕ) (entry : Entry) → EachIsNext script before → IsNext script before entry → driver_state before node ≡ driver.InHand id → Stays before node id entry
+  stays-more script before node id (Did performer outcome act) each next is = stays-did script before node id performer outcome act next is
+  stays-more script before node id (Granted other grant) each next is = inr (granted-stays (other == node) (driver_state before node) grant.id id is)
+  stays-more script before node id (End phase) each next is = inl (phase-taken script before node id phase each next is)
+  stays-more script before node id entry each next is = inr is
 
-out-more : (entry : Entry) (between before : List Entry) (node id : ℕ) → IsTakenOut between before node id → IsTakenOut (entry ∷ between) before node id
-out-more entry between before node id out = record { later = entry ∷ out.later; entry = out.entry; earlier = out.earlier; splits = ap (λ log. entry ∷ log) out.splits; has = out.has; takes = out.takes }
+  out-more : (entry : Entry) (between before : List Entry) (node id : ℕ) → IsTakenOut between before node id → IsTakenOut (entry ∷ between) before node id
+  out-more entry between before node id out = record { later = entry ∷ out.later; entry = out.entry; earlier = out.earlier; splits = ap (λ log. entry ∷ log) out.splits; has = out.has; takes = out.takes }
 
-out-or-in : (script : ScriptValue) (between before : List Entry) (node id : ℕ) → EachIsNext script (between ++ before) → driver_state before node ≡ driver.InHand id → IsTakenOut between before node id ⊎ (driver_state (between ++ before) node ≡ driver.InHand id)
-out-or-in script [] before node id each is = inr is
-out-or-in script (entry ∷ between) before node id each is = by (out-or-in script between before node id each.1 is)
-  where
-    now : driver_state (between ++ before) node ≡ driver.InHand id → Stays (between ++ before) node id entry → IsTakenOut (entry ∷ between) before node id ⊎ (driver_state (entry ∷ between ++ before) node ≡ driver.InHand id)
-    now has (inl takes) = inl (record { later = []; entry = entry; earlier = between; splits = refl; has = ap hand_of has; takes = takes })
-    now has (inr stays) = inr stays
+  out-or-in : (script : ScriptValue) (between before : List Entry) (node id : ℕ) → EachIsNext script (between ++ before) → driver_state before node ≡ driver.InHand id → IsTakenOut between before node id ⊎ (driver_state (between ++ before) node ≡ driver.InHand id)
+  out-or-in script [] before node id each is = inr is
+  out-or-in script (entry ∷ between) before node id each is = by (out-or-in script between before node id each.1 is)
+    where
+      now : driver_state (between ++ before) node ≡ driver.InHand id → Stays (between ++ before) node id entry → IsTakenOut (entry ∷ between) before node id ⊎ (driver_state (entry ∷ between ++ before) node ≡ driver.InHand id)
+      now has (inl takes) = inl (record { later = []; entry = entry; earlier = between; splits = refl; has = ap hand_of has; takes = takes })
+      now has (inr stays) = inr stays
 
-    by : IsTakenOut between before node id ⊎ (driver_state (between ++ before) node ≡ driver.InHand id) → IsTakenOut (entry ∷ between) before node id ⊎ (driver_state (entry ∷ between ++ before) node ≡ driver.InHand id)
-    by (inl out) = inl (out-more entry between before node id out)
-    by (inr has) = now has (stays-more script (between ++ before) node id entry each.1 each.0 has)
+      by : IsTakenOut between before node id ⊎ (driver_state (between ++ before) node ≡ driver.InHand id) → IsTakenOut (entry ∷ between) before node id ⊎ (driver_state (entry ∷ between ++ before) node ≡ driver.InHand id)
+      by (inl out) = inl (out-more entry between before node id out)
+      by (inr has) = now has (stays-more script (between ++ before) node id entry each.1 each.0 has)
 
 -- an item that the driver keeps is in its hand
 kept-hand : (state : Driver) (id : ℕ) (found : Option How) → grant_of id state ≡ found → keeps_item found ≡ true → option_map_or (sent id) found state ≡ driver.InHand id
@@ -456,7 +357,7 @@ module _ (keeps : OrderKeepsAll Owner (Option Call)) (excludes : LockExcludes) w
       by : (state : Driver) → driver_state before node ≡ state → (takes : Bool) → takes_out before node (End phase) ≡ takes
           → sends_at before node ≡ gets_at before node + dones_at before node + ((if takes then hand_count (driver_state before node) else 0) + ended_at before node) + 0
       by state is true takes = omega (arith, e)
-      by (driver.InHand id) is false takes = let taken = phase-taken script before node id phase each next is in cc
+      by (driver.InHand id) is false takes = let taken = phase-taken keeps excludes script before node id phase each next is in cc
       by driver.Idle is false takes = let none : hand_count (driver_state before node) ≡ 0 = ap hand_count is in omega (arith, e, none)
       by (driver.Waiting way) is false takes = let none : hand_count (driver_state before node) ≡ 0 = ap hand_count is in omega (arith, e, none)
       by (driver.Granted id way) is false takes = let none : hand_count (driver_state before node) ≡ 0 = ap hand_count is in omega (arith, e, none)
@@ -471,7 +372,7 @@ module _ (keeps : OrderKeepsAll Owner (Option Call)) (excludes : LockExcludes) w
       → sequence_on node first ≡ Some id → sequence_on node second ≡ Some other → keeps_item (grant_of id (driver_state before node)) ≡ true → IsTakenOut between (Did first Done (Send item) ∷ before) node id
   between-sends script between before node id other first second item another each on also kept =
       let hand : driver_state (Did first Done (Send item) ∷ before) node ≡ driver.InHand id = rw on (kept-hand (driver_state before node) id (grant_of id (driver_state before node)) refl kept) in
-      by (out-or-in script between (Did first Done (Send item) ∷ before) node id each.1 hand)
+      by (out-or-in keeps excludes script between (Did first Done (Send item) ∷ before) node id each.1 hand)
     where
       by : IsTakenOut between (Did first Done (Send item) ∷ before) node id ⊎ (driver_state (between ++ Did first Done (Send item) ∷ before) node ≡ driver.InHand id) → IsTakenOut between (Did first Done (Send item) ∷ before) node id
       by (inl out) = out

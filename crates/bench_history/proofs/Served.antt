@@ -18,8 +18,11 @@ use Rattle.uvm_tlm.specs.declared.items.Item.{Item}
 use Rattle.uvm_object.specs.declared.acts.Who.TheVariants as who
 use Rattle.uvm_object.specs.declared.acts.Call.{Call}
 use Rattle.uvm_object.specs.declared.acts.Call.TheVariants as call
+use Rattle.uvm_phase.specs.declared.phases.Phase.{Phase}
+use Rattle.bench_history.specs.History.{act_phase}
 use Rattle.bench_history.specs.declared.askers.DriverPort.{DriverPort}
-use Rattle.bench_history.specs.Dues.{told_done, told_item, told_sent}
+use Rattle.bench_history.specs.declared.owners.Told.{Told}
+use Rattle.bench_history.specs.Dues.{told_done, told_item, told_sent, told_in}
 use Rattle.bench_history.specs.Arbitration.{asker_by, still_waits, DriverMove, Awaits, IsDone, Sends, Leaves, Wanted, Wish, ForItem, ForLock, ForGrab, driver_by, leads_there, sent_by, sequence_on, sequencer_below, with_wish}
 
 -- the sequence that is granted, or whose item is in hand
@@ -115,12 +118,12 @@ abbrev pub awaits : Option DriverMove → Bool
 awaits (Some (Awaits port way)) = true
 awaits move = false
 
-pub asked-by : (C : Who → Type 0) (before : List Entry) (node : ℕ) (performer : Who) (move : Option DriverMove) (asker : Option DriverPort) → IfSome asker (λ asker. C asker.who) → (awaits move ≡ false) ⊎ C performer → IfSome (asker_by before node performer move asker) (λ asker. C asker.who)
+pub asked-by : (C : Who → Option Phase → Type 0) (before : List Entry) (node : ℕ) (performer : Who) (move : Option DriverMove) (asker : Option DriverPort) → IfSome asker (λ asker. C asker.who asker.phase) → (awaits move ≡ false) ⊎ C performer (act_phase before) → IfSome (asker_by before node performer move asker) (λ asker. C asker.who asker.phase)
 asked-by C before node performer None asker has by = has
 asked-by C before node performer (Some (Awaits port way)) asker has (inl none) = cc
 asked-by C before node performer (Some (Awaits port way)) asker has (inr holds) = tested (leads_there node (sequencer_below before performer port))
   where
-    tested : (b : Bool) → IfSome (if b then Some (record { who = performer; name = port }) else asker) (λ asker. C asker.who)
+    tested : (b : Bool) → IfSome (if b then Some (record { who = performer; name = port; phase = act_phase before }) else asker) (λ asker. C asker.who asker.phase)
     tested true = holds
     tested false = has
 asked-by C before node performer (Some (IsDone port)) asker has by = has
@@ -128,24 +131,24 @@ asked-by C before node performer (Some Sends) asker has by = has
 asked-by C before node performer (Some Leaves) asker has by = has
 
 -- what is told to a driver, and to who sends, is told to whom this holds
-module _ (T : Who × Call → Type 0) (E : Who → Type 0) (told : (who : Who) (call : Call) → E who → T (who, call)) where
-  pub item-told : (asker : Option DriverPort) (item : Option Item) → IfSome asker (λ asker. E asker.who) → All T (told_item asker item)
+module _ (T : Told → Type 0) (E : Option Phase → Who → Type 0) (told : (phase : Option Phase) (who : Who) (call : Call) → E phase who → T (told_in phase who call)) where
+  pub item-told : (asker : Option DriverPort) (item : Option Item) → IfSome asker (λ asker. E asker.phase asker.who) → All T (told_item asker item)
   item-told None item has = All-nil T
-  item-told (Some asker) item has = All-cons T (asker.who, call.NextItem asker.name item) [] (told asker.who (call.NextItem asker.name item) has) (All-nil T)
+  item-told (Some asker) item has = All-cons T (told_in asker.phase asker.who (call.NextItem asker.name item)) [] (told asker.phase asker.who (call.NextItem asker.name item) has) (All-nil T)
 
-  pub sent-told : (performer : Who) (asker : Option DriverPort) (item : Item) (way : Option How) → IfSome asker (λ asker. E asker.who) → E performer → All T (told_sent performer asker item way)
-  sent-told performer asker item None has sends = All-nil T
-  sent-told performer asker item (Some how.Get) has sends = All-push T (told_item asker (Some item)) (performer, call.ItemDone None) (item-told asker (Some item) has) (told performer (call.ItemDone None) sends)
-  sent-told performer asker item (Some how.Next) has sends = item-told asker (Some item) has
-  sent-told performer asker item (Some how.Try) has sends = item-told asker (Some item) has
+  pub sent-told : (phase : Option Phase) (performer : Who) (asker : Option DriverPort) (item : Item) (way : Option How) → IfSome asker (λ asker. E asker.phase asker.who) → E phase performer → All T (told_sent phase performer asker item way)
+  sent-told phase performer asker item None has sends = All-nil T
+  sent-told phase performer asker item (Some how.Get) has sends = All-push T (told_item asker (Some item)) (told_in phase performer (call.ItemDone None)) (item-told asker (Some item) has) (told phase performer (call.ItemDone None) sends)
+  sent-told phase performer asker item (Some how.Next) has sends = item-told asker (Some item) has
+  sent-told phase performer asker item (Some how.Try) has sends = item-told asker (Some item) has
 
-  pub lapse-told : (lapses : Bool) (asker : Option DriverPort) → IfSome asker (λ asker. E asker.who) → All T (if lapses then told_item asker None else [])
+  pub lapse-told : (lapses : Bool) (asker : Option DriverPort) → IfSome asker (λ asker. E asker.phase asker.who) → All T (if lapses then told_item asker None else [])
   lapse-told true asker has = item-told asker None has
   lapse-told false asker has = All-nil T
 
-  pub done-told : (response : Option Item) (node : ℕ) (hand : Option ℕ) → ((id : ℕ) → hand ≡ Some id → E (who.Sequence id node)) → All T (told_done response node hand)
-  done-told response node None has = All-nil T
-  done-told response node (Some id) has = All-cons T (who.Sequence id node, call.ItemDone response) [] (told (who.Sequence id node) (call.ItemDone response) (has id refl)) (All-nil T)
+  pub done-told : (phase : ℕ → Option Phase) (response : Option Item) (node : ℕ) (hand : Option ℕ) → ((id : ℕ) → hand ≡ Some id → E (phase id) (who.Sequence id node)) → All T (told_done phase response node hand)
+  done-told phase response node None has = All-nil T
+  done-told phase response node (Some id) has = All-cons T (told_in (phase id) (who.Sequence id node) (call.ItemDone response)) [] (told (phase id) (who.Sequence id node) (call.ItemDone response) (has id refl)) (All-nil T)
 
 -- what holds of all that waits holds of the queue
 pub queue-all : (history : List Entry) (node : ℕ) (P : ℕ → Type 0) (asked : List Wanted) → All (λ w. still_waits history node w ≡ true → P w.request.seq) asked → All (λ request. P request.seq) (map (λ w. w.request) (filter (still_waits history node) asked))

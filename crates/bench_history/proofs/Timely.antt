@@ -22,14 +22,16 @@ use Rattle.uvm_object.specs.declared.acts.Act.{Act}
 use Rattle.uvm_object.specs.declared.acts.Act.TheVariants.{Wait, RaiseObjection, DropObjection}
 use Rattle.uvm_object.specs.declared.entries.Outcome.{Outcome}
 use Rattle.uvm_object.specs.declared.entries.Outcome.TheVariants.{Done, Waits}
+use Rattle.uvm_object.specs.declared.entries.Origin.{Origin}
 use Rattle.uvm_object.specs.declared.entries.Entry.{Entry}
 use Rattle.uvm_object.specs.declared.entries.Entry.TheVariants.{Heard, Did, Locked, Granted, Passed, Drained}
 use Rattle.bench_script.specs.Scripts.{ScriptValue}
+use Rattle.bench_history.specs.declared.owners.Told.{Told}
 use Rattle.bench_history.specs.declared.owners.Owner.{Owner}
 use Rattle.bench_history.specs.declared.owners.Owner.TheVariants.{Object, Drain}
 use Rattle.bench_history.specs.Owners.{Event, is_drain_of, who_of}
-use Rattle.bench_history.specs.History.{ended_of, now_of, running, stage_of}
-use Rattle.bench_history.specs.Sequences.{finished_of}
+use Rattle.bench_history.specs.History.{act_phase, ended_of, now_of}
+use Rattle.bench_history.specs.Sequences.{finished_of, phase_begun}
 use Rattle.bench_history.specs.Objections.{objections_of}
 use Rattle.bench_history.specs.Dues.{told_by, told_of, calls_told, calls_numbered, due_after, due_from, due_events, calls_from, moves_drains, caused_at, caused_of, drain_from, event_in, with_drains, first_due, heard_of, is_open}
 use Rattle.bench_history.specs.Cases.{Next, Exactly, Answer, Need, Grant, Nothing}
@@ -87,16 +89,16 @@ due-timed history None performer phase time cause t = All-nil (IsTimed history)
 due-timed history (Some call) performer phase time cause t = event-timed history phase time cause (Object performer) (Some call) (λ one. t call refl)
 
 numbered-timed :
-    (entry : Entry) (before : List Entry) (phase : Option Phase) (number : ℕ) (calls : List (Who × Call)) → now_of before ≡ call_time entry (now_of before)
-    → All (IsTimed (entry ∷ before)) (calls_numbered phase (now_of before) (length before) number calls)
-numbered-timed entry before phase number [] is = All-nil _
-numbered-timed entry before phase number (told ∷ calls) is =
-    All-append (IsTimed (entry ∷ before)) (calls_numbered phase (now_of before) (length before) (suc number) calls) _ (numbered-timed entry before phase (suc number) calls is)
-    (event-timed (entry ∷ before) phase (now_of before) (record { place = length before; number = number }) (Object told.0) (Some told.1) (λ one. call-newest entry before number (now_of before) is))
+    (entry : Entry) (before : List Entry) (number : ℕ) (calls : List Told) → now_of before ≡ call_time entry (now_of before)
+    → All (IsTimed (entry ∷ before)) (calls_numbered (now_of before) (length before) number calls)
+numbered-timed entry before number [] is = All-nil _
+numbered-timed entry before number (told ∷ calls) is =
+    All-append (IsTimed (entry ∷ before)) (calls_numbered (now_of before) (length before) (suc number) calls) _ (numbered-timed entry before (suc number) calls is)
+    (event-timed (entry ∷ before) told.phase (now_of before) (record { place = length before; number = number }) (Object told.who) (Some told.call) (λ one. call-newest entry before number (now_of before) is))
 
-told-timed : (before : List Entry) (performer : Who) (outcome : Outcome) (act : Act) → All (IsTimed (Did performer outcome act ∷ before)) (calls_numbered (running (stage_of before)) (now_of before) (length before) 0 (calls_told before performer outcome act))
+told-timed : (before : List Entry) (performer : Who) (outcome : Outcome) (act : Act) → All (IsTimed (Did performer outcome act ∷ before)) (calls_numbered (now_of before) (length before) 0 (calls_told before performer outcome act))
 told-timed before performer Done (Wait ticks tag) = All-nil _
-told-timed before performer outcome act = numbered-timed (Did performer outcome act) before (running (stage_of before)) 0 (calls_told before performer outcome act) refl
+told-timed before performer outcome act = numbered-timed (Did performer outcome act) before 0 (calls_told before performer outcome act) refl
 
 due-time : (performer : Who) (outcome : Outcome) (act : Act) (now : ℕ) (call : Call) → told_by outcome act ≡ Some call → due_after now act ≡ call_time (Did performer outcome act) now
 due-time performer Done (Wait ticks tag) now call e = refl
@@ -105,9 +107,9 @@ due-time performer (Waits false) (Wait ticks tag) now call e = cc
 due-time performer outcome (Wait ticks tag) now call e = cc
 due-time performer outcome act now call e = refl
 
-from-timed : (before : List Entry) (performer : Who) (outcome : Outcome) (act : Act) → All (IsTimed (Did performer outcome act ∷ before)) (calls_from outcome act performer (running (stage_of before)) (now_of before) (length before))
+from-timed : (before : List Entry) (performer : Who) (outcome : Outcome) (act : Act) → All (IsTimed (Did performer outcome act ∷ before)) (calls_from outcome act performer (act_phase before) (now_of before) (length before))
 from-timed before performer outcome act =
-    due-timed (Did performer outcome act ∷ before) (told_by outcome act) performer (running (stage_of before)) (due_after (now_of before) act) (caused_at (length before))
+    due-timed (Did performer outcome act ∷ before) (told_by outcome act) performer (act_phase before) (due_after (now_of before) act) (caused_at (length before))
     (λ call e. call-newest (Did performer outcome act) before 0 (due_after (now_of before) act) (due-time performer outcome act (now_of before) call e))
 
 -- a drain that begins is due once its drain time is over
@@ -226,37 +228,37 @@ module _ (goes : SettledGoByTotals) (held_are : BegunDrainsAreHeld) where
       (drains-timed history phase cause begun (All-tail (IsDrainedBy history cause) first begun all))
 
   with-timed :
-      (entry : Entry) (before : List Entry) (changed : List objection.Node) → IsChanged (objections_of before) changed → objections_of (entry ∷ before) ≡ settled (now_of before) (total (objections_of before)) changed → AreNodes (objections_of (entry ∷ before))
-      → All (IsTimed before) (caused_of before) → All (IsTimed (entry ∷ before)) (with_drains (running (stage_of before)) (caused_at (length before)) (objections_of before) (objections_of (entry ∷ before)) (caused_of before))
-  with-timed entry before changed by is are all =
+      (phase : Option Phase) (entry : Entry) (before : List Entry) (changed : List objection.Node) → IsChanged (objections_of before) changed → objections_of (entry ∷ before) ≡ settled (now_of before) (total (objections_of before)) changed → AreNodes (objections_of (entry ∷ before))
+      → All (IsTimed before) (caused_of before) → All (IsTimed (entry ∷ before)) (with_drains phase (caused_at (length before)) (objections_of before) (objections_of (entry ∷ before)) (caused_of before))
+  with-timed phase entry before changed by is are all =
       let earlier = objections_of before in
       let after = objections_of (entry ∷ before) in
-      All-append (IsTimed (entry ∷ before)) (flat_map (drain_from (running (stage_of before)) (caused_at (length before))) (drains_begun earlier after)) _
-      (drains-timed (entry ∷ before) (running (stage_of before)) (caused_at (length before)) (drains_begun earlier after) (begun-timed entry before changed by is are))
+      All-append (IsTimed (entry ∷ before)) (flat_map (drain_from phase (caused_at (length before))) (drains_begun earlier after)) _
+      (drains-timed (entry ∷ before) phase (caused_at (length before)) (drains_begun earlier after) (begun-timed entry before changed by is are))
       (All-filter (λ (event : Event). not (is_drain_of (drains_ended earlier after) event.owner)) (IsTimed (entry ∷ before)) (caused_of before) (all-later entry before (caused_of before) all))
 
   moved-timed :
       (before : List Entry) (performer : Who) (outcome : Outcome) (act : Act) → AreNodes (objections_of (Did performer outcome act ∷ before)) → All (IsTimed before) (caused_of before)
-      → All (IsTimed (Did performer outcome act ∷ before)) (if moves_drains outcome act then with_drains (running (stage_of before)) (caused_at (length before)) (objections_of before) (objections_of (Did performer outcome act ∷ before)) (caused_of before) else caused_of before)
-  moved-timed before performer Done (RaiseObjection count) are all = with-timed (Did performer Done (RaiseObjection count)) before (raised (node_of performer) count (objections_of before)) (raised-is (node_of performer) count (objections_of before)) refl are all
-  moved-timed before performer Done (DropObjection count) are all = with-timed (Did performer Done (DropObjection count)) before (dropped (node_of performer) count (objections_of before)) (dropped-is (node_of performer) count (objections_of before)) refl are all
+      → All (IsTimed (Did performer outcome act ∷ before)) (if moves_drains outcome act then with_drains (act_phase before) (caused_at (length before)) (objections_of before) (objections_of (Did performer outcome act ∷ before)) (caused_of before) else caused_of before)
+  moved-timed before performer Done (RaiseObjection count) are all = with-timed (act_phase before) (Did performer Done (RaiseObjection count)) before (raised (node_of performer) count (objections_of before)) (raised-is (node_of performer) count (objections_of before)) refl are all
+  moved-timed before performer Done (DropObjection count) are all = with-timed (act_phase before) (Did performer Done (DropObjection count)) before (dropped (node_of performer) count (objections_of before)) (dropped-is (node_of performer) count (objections_of before)) refl are all
   moved-timed before performer outcome act are all = all-later (Did performer outcome act) before (caused_of before) all
 
   -- each entry keeps it so
   timed-more : (entry : Entry) (before : List Entry) → AreNodes (objections_of (entry ∷ before)) → All (IsTimed before) (caused_of before) → All (IsTimed (entry ∷ before)) (caused_of (entry ∷ before))
   timed-more (Did performer outcome act) before are all =
-      All-append (IsTimed (Did performer outcome act ∷ before)) (calls_numbered (running (stage_of before)) (now_of before) (length before) 0 (calls_told before performer outcome act)) _ (told-timed before performer outcome act)
-      (All-append (IsTimed (Did performer outcome act ∷ before)) (calls_from outcome act performer (running (stage_of before)) (now_of before) (length before)) _ (from-timed before performer outcome act) (moved-timed before performer outcome act are all))
+      All-append (IsTimed (Did performer outcome act ∷ before)) (calls_numbered (now_of before) (length before) 0 (calls_told before performer outcome act)) _ (told-timed before performer outcome act)
+      (All-append (IsTimed (Did performer outcome act ∷ before)) (calls_from outcome act performer (act_phase before) (now_of before) (length before)) _ (from-timed before performer outcome act) (moved-timed before performer outcome act are all))
   timed-more (Passed fifo passage) before are all =
-      All-append (IsTimed (Passed fifo passage ∷ before)) (due_from (Some (told_of passage.kind passage)) passage.who (running (stage_of before)) (now_of before) (caused_at (length before))) (caused_of before)
-      (due-timed (Passed fifo passage ∷ before) (Some (told_of passage.kind passage)) passage.who (running (stage_of before)) (now_of before) (caused_at (length before)) (λ call e. call-newest (Passed fifo passage) before 0 (now_of before) refl)) (all-later (Passed fifo passage) before (caused_of before) all)
+      All-append (IsTimed (Passed fifo passage ∷ before)) (due_from (Some (told_of passage.kind passage)) passage.who (Some passage.phase) (now_of before) (caused_at (length before))) (caused_of before)
+      (due-timed (Passed fifo passage ∷ before) (Some (told_of passage.kind passage)) passage.who (Some passage.phase) (now_of before) (caused_at (length before)) (λ call e. call-newest (Passed fifo passage) before 0 (now_of before) refl)) (all-later (Passed fifo passage) before (caused_of before) all)
   timed-more (Locked node id) before are all =
-      All-append (IsTimed (Locked node id ∷ before)) (due_from (Some call.Held) (who.Sequence id node) (running (stage_of before)) (now_of before) (caused_at (length before))) (caused_of before)
-      (due-timed (Locked node id ∷ before) (Some call.Held) (who.Sequence id node) (running (stage_of before)) (now_of before) (caused_at (length before)) (λ call e. call-newest (Locked node id) before 0 (now_of before) refl)) (all-later (Locked node id) before (caused_of before) all)
+      All-append (IsTimed (Locked node id ∷ before)) (due_from (Some call.Held) (who.Sequence id node) (phase_begun before id) (now_of before) (caused_at (length before))) (caused_of before)
+      (due-timed (Locked node id ∷ before) (Some call.Held) (who.Sequence id node) (phase_begun before id) (now_of before) (caused_at (length before)) (λ call e. call-newest (Locked node id) before 0 (now_of before) refl)) (all-later (Locked node id) before (caused_of before) all)
   timed-more (Granted node grant) before are all =
-      All-append (IsTimed (Granted node grant ∷ before)) (due_from (Some call.Grant) (who.Sequence grant.id node) (running (stage_of before)) (now_of before) (caused_at (length before))) (caused_of before)
-      (due-timed (Granted node grant ∷ before) (Some call.Grant) (who.Sequence grant.id node) (running (stage_of before)) (now_of before) (caused_at (length before)) (λ call e. call-newest (Granted node grant) before 0 (now_of before) refl)) (all-later (Granted node grant) before (caused_of before) all)
-  timed-more (Drained node cause) before are all = with-timed (Drained node cause) before (released node (objections_of before)) (released-is node (objections_of before)) refl are all
+      All-append (IsTimed (Granted node grant ∷ before)) (due_from (Some call.Grant) (who.Sequence grant.id node) (phase_begun before grant.id) (now_of before) (caused_at (length before))) (caused_of before)
+      (due-timed (Granted node grant ∷ before) (Some call.Grant) (who.Sequence grant.id node) (phase_begun before grant.id) (now_of before) (caused_at (length before)) (λ call e. call-newest (Granted node grant) before 0 (now_of before) refl)) (all-later (Granted node grant) before (caused_of before) all)
+  timed-more (Drained node origin) before are all = with-timed (Some origin.phase) (Drained node origin) before (released node (objections_of before)) (released-is node (objections_of before)) refl are all
   timed-more entry before are all = all-later entry before (caused_of before) all
 
   timed-of : PlacesStay → NodesGrow → (script : ScriptValue) (history : List Entry) → EachIsNext script history → All (IsTimed history) (caused_of history)
@@ -330,21 +332,21 @@ module _ (P : Event → Type 0) where
   pub first-caused : (history : List Entry) (first : Event) → All P (caused_of history) → first_due history ≡ Some first → P first
   first-caused history first all is = first-of-all (in_order (due_events history)) first (order-all (due_events history) (All-filter (is_open (heard_of history) (ended_of history) (finished_of history)) P (caused_of history) all)) is
 
-pub heard-alone : (hearer : Who) (call : Call) (cause : Option Cause) (acts : List Act) (next : Next) → IsPlainNext next → Allows next (Heard hearer call cause acts) → next ≡ Answer hearer call cause
-heard-alone hearer call cause acts (Exactly entry) plain allows = absurd (subst IsPlain (sym allows) plain)
-heard-alone hearer call cause acts (Answer other asked why) plain allows = let same : Heard hearer call cause acts ≡ Heard other asked why allows.0 = allows.1 in cc
-heard-alone hearer call cause acts (Need need made other act) plain (inl is) = cc
-heard-alone hearer call cause acts (Need need made other act) plain (inr declined) = cc
-heard-alone hearer call cause acts (Grant sequencer drawn chosen) plain allows = let e : Heard hearer call cause acts ≡ Granted sequencer allows.0 = allows.3 in cc
-heard-alone hearer call cause acts Nothing plain allows = absurd allows
+pub heard-alone : (hearer : Who) (call : Call) (origin : Option Origin) (acts : List Act) (next : Next) → IsPlainNext next → Allows next (Heard hearer call origin acts) → next ≡ Answer hearer call origin
+heard-alone hearer call origin acts (Exactly entry) plain allows = absurd (subst IsPlain (sym allows) plain)
+heard-alone hearer call origin acts (Answer other asked why) plain allows = let same : Heard hearer call origin acts ≡ Heard other asked why allows.0 = allows.1 in cc
+heard-alone hearer call origin acts (Need need made other act) plain (inl is) = cc
+heard-alone hearer call origin acts (Need need made other act) plain (inr declined) = cc
+heard-alone hearer call origin acts (Grant sequencer drawn chosen) plain allows = let e : Heard hearer call origin acts ≡ Granted sequencer allows.0 = allows.3 in cc
+heard-alone hearer call origin acts Nothing plain allows = absurd allows
 
-drained-alone : (node : ℕ) (cause : Cause) (next : Next) → Allows next (Drained node cause) → next ≡ Exactly (Drained node cause)
-drained-alone node cause (Exactly entry) allows = rw allows refl
-drained-alone node cause (Answer hearer call why) allows = let e : Drained node cause ≡ Heard hearer call why allows.0 = allows.1 in cc
-drained-alone node cause (Need need made performer act) (inl e) = cc
-drained-alone node cause (Need need made performer act) (inr declined) = cc
-drained-alone node cause (Grant sequencer drawn chosen) allows = let e : Drained node cause ≡ Granted sequencer allows.0 = allows.3 in cc
-drained-alone node cause Nothing allows = absurd allows
+drained-alone : (node : ℕ) (origin : Origin) (next : Next) → Allows next (Drained node origin) → next ≡ Exactly (Drained node origin)
+drained-alone node origin (Exactly entry) allows = rw allows refl
+drained-alone node origin (Answer hearer call why) allows = let e : Drained node origin ≡ Heard hearer call why allows.0 = allows.1 in cc
+drained-alone node origin (Need need made performer act) (inl e) = cc
+drained-alone node origin (Need need made performer act) (inr declined) = cc
+drained-alone node origin (Grant sequencer drawn chosen) allows = let e : Drained node origin ≡ Granted sequencer allows.0 = allows.3 in cc
+drained-alone node origin Nothing allows = absurd allows
 
 call-timed : (history : List Entry) (cause : Cause) (call : Call) (time : ℕ) (event : Event) → IsTimed history event → event.notice ≡ Some call → event.cause ≡ cause → event.time ≡ time → IsCallTime history cause time
 call-timed history cause call time event t notice at now = rw (← at, ← now) (subst (IsTimedBy history event.phase event.cause event.time event.owner) notice t)
@@ -358,28 +360,28 @@ drain-timed history node cause time event owner t owner_is notice at now stands 
 
 -- each call with a cause is heard at its time
 pub call-times :
-    SettledGoByTotals → BegunDrainsAreHeld → PlacesStay → NodesGrow → (script : ScriptValue) (later before : List Entry) (hearer : Who) (call : Call) (cause : Cause) (acts : List Act) → IsLegal script (later ++ Heard hearer call (Some cause) acts ∷ before)
-    → IsCallTime before cause (now_of before)
-call-times goes held_are stay grow script later before hearer call cause acts legal =
-    let each = older-each script later (Heard hearer call (Some cause) acts ∷ before) legal.each in
-    let due = due_calls_go_in_order script before hearer call cause (heard-alone hearer call (Some cause) acts (next_of script before) (plain-next script before) each.0) in
-    call-timed before cause call (now_of before) due.event (first-caused (IsTimed before) before due.event (timed-of goes held_are stay grow script before each.1) due.first) due.notice_is due.cause_is due.time
+    SettledGoByTotals → BegunDrainsAreHeld → PlacesStay → NodesGrow → (script : ScriptValue) (later before : List Entry) (hearer : Who) (call : Call) (origin : Origin) (acts : List Act) → IsLegal script (later ++ Heard hearer call (Some origin) acts ∷ before)
+    → IsCallTime before origin.cause (now_of before)
+call-times goes held_are stay grow script later before hearer call origin acts legal =
+    let each = older-each script later (Heard hearer call (Some origin) acts ∷ before) legal.each in
+    let due = due_calls_go_in_order script before hearer call origin (heard-alone hearer call (Some origin) acts (next_of script before) (plain-next script before) each.0) in
+    call-timed before origin.cause call (now_of before) due.event (first-caused (IsTimed before) before due.event (timed-of goes held_are stay grow script before each.1) due.first) due.notice_is (ap (λ (one : Origin). one.cause) due.origin_is) due.time
 
-pub wakes_on_time : (script : ScriptValue) (later before : List Entry) (hearer : Who) (tag : ℕ) (cause : Cause) (acts : List Act) → IsLegal script (later ++ Heard hearer (call.Wake tag) (Some cause) acts ∷ before) → IsWakeTime before hearer tag cause (now_of before)
-wakes_on_time script later before hearer tag cause acts legal =
-    let each = older-each script later (Heard hearer (call.Wake tag) (Some cause) acts ∷ before) legal.each in
-    let due = due_calls_go_in_order script before hearer (call.Wake tag) cause (heard-alone hearer (call.Wake tag) (Some cause) acts (next_of script before) (plain-next script before) each.0) in
-    rw (← due.cause_is, ← due.time) (first-caused (IsWoken before) before due.event (woken-of before) due.first hearer tag due.hearer_is due.notice_is)
+pub wakes_on_time : (script : ScriptValue) (later before : List Entry) (hearer : Who) (tag : ℕ) (origin : Origin) (acts : List Act) → IsLegal script (later ++ Heard hearer (call.Wake tag) (Some origin) acts ∷ before) → IsWakeTime before hearer tag origin.cause (now_of before)
+wakes_on_time script later before hearer tag origin acts legal =
+    let each = older-each script later (Heard hearer (call.Wake tag) (Some origin) acts ∷ before) legal.each in
+    let due = due_calls_go_in_order script before hearer (call.Wake tag) origin (heard-alone hearer (call.Wake tag) (Some origin) acts (next_of script before) (plain-next script before) each.0) in
+    let cause_is : due.event.cause ≡ origin.cause = ap (λ (one : Origin). one.cause) due.origin_is in
+    rw (← cause_is, ← due.time) (first-caused (IsWoken before) before due.event (woken-of before) due.first hearer tag due.hearer_is due.notice_is)
 
 -- and each drain ends at its time
 pub drains_on_time :
-    SettledGoByTotals → BegunDrainsAreHeld → PlacesStay → NodesGrow → (script : ScriptValue) (later before : List Entry) (node : ℕ) (cause : Cause) → IsLegal script (later ++ Drained node cause ∷ before)
-    → (phase : Phase) × IsDrainTime before phase node cause (now_of before)
-drains_on_time goes held_are stay grow script later before node cause legal =
-    let each = older-each script later (Drained node cause ∷ before) legal.each in
-    let d = drains_go_in_order script before node cause (drained-alone node cause (next_of script before) each.0) in
-    let due = d.due in (
-      due.event.phase,
-      drain-timed before node cause (now_of before) due.event due.event.owner (first-caused (IsTimed before) before due.event (timed-of goes held_are stay grow script before each.1) due.first) refl due.notice_is due.cause_is due.time
-          (ap node_of due.hearer_is ∙ d.stands),
-    )
+    SettledGoByTotals → BegunDrainsAreHeld → PlacesStay → NodesGrow → (script : ScriptValue) (later before : List Entry) (node : ℕ) (origin : Origin) → IsLegal script (later ++ Drained node origin ∷ before)
+    → IsDrainTime before origin.phase node origin.cause (now_of before)
+drains_on_time goes held_are stay grow script later before node origin legal =
+    let each = older-each script later (Drained node origin ∷ before) legal.each in
+    let d = drains_go_in_order script before node origin (drained-alone node origin (next_of script before) each.0) in
+    let due = d.due in
+    let cause_is : due.event.cause ≡ origin.cause = ap (λ (one : Origin). one.cause) due.origin_is in
+    let phase_is : due.event.phase ≡ origin.phase = ap (λ (one : Origin). one.phase) due.origin_is in
+    rw (← phase_is) (drain-timed before node origin.cause (now_of before) due.event due.event.owner (first-caused (IsTimed before) before due.event (timed-of goes held_are stay grow script before each.1) due.first) refl due.notice_is cause_is due.time (ap node_of due.hearer_is ∙ d.stands))

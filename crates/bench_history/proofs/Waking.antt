@@ -31,15 +31,16 @@ use Rattle.uvm_object.specs.declared.entries.Outcome.TheVariants.{Done, Started,
 use Rattle.uvm_object.specs.declared.entries.Entry.{Entry}
 use Rattle.uvm_object.specs.declared.entries.Entry.TheVariants.{Did, Drained, Granted, Locked, Passed}
 use Rattle.bench_history.specs.declared.askers.DriverPort.{DriverPort}
+use Rattle.bench_history.specs.declared.owners.Told.{Told}
 use Rattle.bench_history.specs.declared.owners.Owner.{Owner}
 use Rattle.bench_history.specs.declared.owners.Owner.TheVariants.{Object, Drain}
 use Rattle.bench_history.specs.Owners.{Event, is_drain_of, who_of}
-use Rattle.bench_history.specs.History.{nodes_of, now_of, running, stage_of}
+use Rattle.bench_history.specs.History.{act_phase, nodes_of, now_of}
 use Rattle.bench_history.specs.Objections.{objections_of}
 use Rattle.bench_history.specs.Ports.{imps_below}
-use Rattle.bench_history.specs.Sequences.{Beginning, begun_of, next_step, sequence_in}
+use Rattle.bench_history.specs.Sequences.{Beginning, begun_of, next_step, phase_begun, sequence_in}
 use Rattle.bench_history.specs.Arbitration.{driver_asker, driver_state, sequencer_below}
-use Rattle.bench_history.specs.Dues.{calls_from, calls_numbered, calls_told, caused_at, caused_of, done_by, drain_from, due_from, event_in, finished_by, moves_drains, told_done, told_finished, told_item, told_of, told_sent, told_step, with_drains, written_to}
+use Rattle.bench_history.specs.Dues.{calls_from, calls_numbered, calls_told, caused_at, caused_of, done_by, drain_from, due_from, event_in, finished_by, moves_drains, told_done, told_finished, told_in, told_item, told_of, told_sent, told_step, with_drains, written_to}
 use Rattle.bench_history.specs.LegalLogs.{IsWakeTime}
 
 -- a call is one after a wait
@@ -81,49 +82,49 @@ due-plain None performer phase time cause plain = All-nil IsPlainEvent
 due-plain (Some call) performer phase time cause plain = event-plain phase time cause (Object performer) (Some call) plain
 
 -- nothing that an act tells others is such a call
-abbrev IsPlainCall : Who × Call → Type 0
-IsPlainCall told = is_wake told.1 ≡ false
+abbrev IsPlainCall : Told → Type 0
+IsPlainCall told = is_wake told.call ≡ false
 
-numbered-plain : (phase : Option Phase) (time place number : ℕ) (calls : List (Who × Call)) → All IsPlainCall calls → All IsPlainEvent (calls_numbered phase time place number calls)
-numbered-plain phase time place number [] all = All-nil IsPlainEvent
-numbered-plain phase time place number (told ∷ calls) all =
-    All-append IsPlainEvent (calls_numbered phase time place (suc number) calls) _ (numbered-plain phase time place (suc number) calls (All-tail IsPlainCall told calls all))
-    (event-plain phase time (record { place = place; number = number }) (Object told.0) (Some told.1) (All-head IsPlainCall told calls all))
+numbered-plain : (time place number : ℕ) (calls : List Told) → All IsPlainCall calls → All IsPlainEvent (calls_numbered time place number calls)
+numbered-plain time place number [] all = All-nil IsPlainEvent
+numbered-plain time place number (told ∷ calls) all =
+    All-append IsPlainEvent (calls_numbered time place (suc number) calls) _ (numbered-plain time place (suc number) calls (All-tail IsPlainCall told calls all))
+    (event-plain told.phase time (record { place = place; number = number }) (Object told.who) (Some told.call) (All-head IsPlainCall told calls all))
 
-one-call : (who : Who) (call : Call) → is_wake call ≡ false → All IsPlainCall ((who, call) ∷ [])
-one-call who call plain = All-cons IsPlainCall (who, call) [] plain (All-nil IsPlainCall)
+one-call : (phase : Option Phase) (who : Who) (call : Call) → is_wake call ≡ false → All IsPlainCall (told_in phase who call ∷ [])
+one-call phase who call plain = All-cons IsPlainCall (told_in phase who call) [] plain (All-nil IsPlainCall)
 
-written-plain : (nodes : List tree.Node) (item : Item) (imps : List ℕ) → All IsPlainCall (filter_map (written_to nodes item) imps)
-written-plain nodes item [] = All-nil IsPlainCall
-written-plain nodes item (imp ∷ imps) = by (under_at nodes imp) (written-plain nodes item imps)
+written-plain : (phase : Option Phase) (nodes : List tree.Node) (item : Item) (imps : List ℕ) → All IsPlainCall (filter_map (written_to phase nodes item) imps)
+written-plain phase nodes item [] = All-nil IsPlainCall
+written-plain phase nodes item (imp ∷ imps) = by (under_at nodes imp) (written-plain phase nodes item imps)
   where
-    by : (under : Option (ℕ × List ℕ)) → All IsPlainCall (filter_map (written_to nodes item) imps) → All IsPlainCall (cons_option (option_map {U = Who × Call} (λ (under : ℕ × List ℕ). (who.Node under.0, call.Written under.1 item)) under) (filter_map (written_to nodes item) imps))
+    by : (under : Option (ℕ × List ℕ)) → All IsPlainCall (filter_map (written_to phase nodes item) imps) → All IsPlainCall (cons_option (option_map {U = Told} (λ (under : ℕ × List ℕ). told_in phase (who.Node under.0) (call.Written under.1 item)) under) (filter_map (written_to phase nodes item) imps))
     by None rest = rest
     by (Some under) rest = All-cons IsPlainCall _ _ refl rest
 
-step-plain : (performer : Who) (step : Option SeqStep) → All IsPlainCall (told_step performer step)
-step-plain performer None = All-nil IsPlainCall
-step-plain performer (Some PreStart) = one-call performer _ refl
-step-plain performer (Some Body) = one-call performer _ refl
-step-plain performer (Some PostStart) = one-call performer _ refl
+step-plain : (phase : Option Phase) (performer : Who) (step : Option SeqStep) → All IsPlainCall (told_step phase performer step)
+step-plain phase performer None = All-nil IsPlainCall
+step-plain phase performer (Some PreStart) = one-call phase performer _ refl
+step-plain phase performer (Some Body) = one-call phase performer _ refl
+step-plain phase performer (Some PostStart) = one-call phase performer _ refl
 
 item-plain : (asker : Option DriverPort) (item : Option Item) → All IsPlainCall (told_item asker item)
 item-plain None item = All-nil IsPlainCall
-item-plain (Some asker) item = one-call asker.who _ refl
+item-plain (Some asker) item = one-call asker.phase asker.who _ refl
 
-sent-plain : (performer : Who) (asker : Option DriverPort) (item : Item) (way : Option How) → All IsPlainCall (told_sent performer asker item way)
-sent-plain performer asker item None = All-nil IsPlainCall
-sent-plain performer asker item (Some how.Get) = All-push IsPlainCall (told_item asker (Some item)) (performer, call.ItemDone None) (item-plain asker (Some item)) refl
-sent-plain performer asker item (Some how.Next) = item-plain asker (Some item)
-sent-plain performer asker item (Some how.Try) = item-plain asker (Some item)
+sent-plain : (phase : Option Phase) (performer : Who) (asker : Option DriverPort) (item : Item) (way : Option How) → All IsPlainCall (told_sent phase performer asker item way)
+sent-plain phase performer asker item None = All-nil IsPlainCall
+sent-plain phase performer asker item (Some how.Get) = All-push IsPlainCall (told_item asker (Some item)) (told_in phase performer (call.ItemDone None)) (item-plain asker (Some item)) refl
+sent-plain phase performer asker item (Some how.Next) = item-plain asker (Some item)
+sent-plain phase performer asker item (Some how.Try) = item-plain asker (Some item)
 
 done-plain : (before : List Entry) (reached : Option ℕ) (response : Option Item) → All IsPlainCall (done_by before reached response)
 done-plain before None response = All-nil IsPlainCall
 done-plain before (Some node) response = by (hand_of (driver_state before node))
   where
-    by : (hand : Option ℕ) → All IsPlainCall (told_done response node hand)
+    by : (hand : Option ℕ) → All IsPlainCall (told_done (phase_begun before) response node hand)
     by None = All-nil IsPlainCall
-    by (Some id) = one-call (who.Sequence id node) _ refl
+    by (Some id) = one-call (phase_begun before id) (who.Sequence id node) _ refl
 
 finished-plain : (before : List Entry) (id : Option ℕ) → All IsPlainCall (finished_by before id)
 finished-plain before None = All-nil IsPlainCall
@@ -131,26 +132,26 @@ finished-plain before (Some id) = by (numbered (begun_of before) id)
   where
     by : (beginning : Option Beginning) → All IsPlainCall (told_finished id beginning)
     by None = All-nil IsPlainCall
-    by (Some beginning) = one-call beginning.starter _ refl
+    by (Some beginning) = one-call beginning.phase beginning.starter _ refl
 
 lapsed-plain : (lapses : Bool) (asker : Option DriverPort) → All IsPlainCall (if lapses then told_item asker None else [])
 lapsed-plain true asker = item-plain asker None
 lapsed-plain false asker = All-nil IsPlainCall
 
 told-plain : (before : List Entry) (performer : Who) (outcome : Outcome) (act : Act) → All IsPlainCall (calls_told before performer outcome act)
-told-plain before performer Done (Write port item) = written-plain (nodes_of before) item (imps_below before performer port)
-told-plain before performer Done EndStep = step-plain performer (next_step before performer)
-told-plain before performer Done (Send item) = sent-plain performer (driver_asker before (node_of performer)) item (option_and_then (λ id. grant_of id (driver_state before (node_of performer))) (sequence_in performer))
+told-plain before performer Done (Write port item) = written-plain (act_phase before) (nodes_of before) item (imps_below before performer port)
+told-plain before performer Done EndStep = step-plain (act_phase before) performer (next_step before performer)
+told-plain before performer Done (Send item) = sent-plain (act_phase before) performer (driver_asker before (node_of performer)) item (option_and_then (λ id. grant_of id (driver_state before (node_of performer))) (sequence_in performer))
 told-plain before performer Done (ItemDone port response) = done-plain before (sequencer_below before performer port) response
-told-plain before performer (Started id) act = one-call _ _ refl
+told-plain before performer (Started id) act = one-call (act_phase before) _ _ refl
 told-plain before performer Finished act =
     All-append IsPlainCall (finished_by before (sequence_in performer)) _ (finished-plain before (sequence_in performer))
     (lapsed-plain (is_try (option_and_then (λ id. grant_of id (driver_state before (node_of performer))) (sequence_in performer))) (driver_asker before (node_of performer)))
 told-plain before performer outcome act = All-nil IsPlainCall
 
 -- and what it tells its performer is one if it is a wait
-from-woken : (before : List Entry) (performer : Who) (outcome : Outcome) (act : Act) → All (IsWoken (Did performer outcome act ∷ before)) (calls_from outcome act performer (running (stage_of before)) (now_of before) (length before))
-from-woken before performer Done (Wait ticks tag) = by (running (stage_of before))
+from-woken : (before : List Entry) (performer : Who) (outcome : Outcome) (act : Act) → All (IsWoken (Did performer outcome act ∷ before)) (calls_from outcome act performer (act_phase before) (now_of before) (length before))
+from-woken before performer Done (Wait ticks tag) = by (act_phase before)
   where
     by : (phase : Option Phase) → All (IsWoken (Did performer Done (Wait ticks tag) ∷ before)) (calls_from Done (Wait ticks tag) performer phase (now_of before) (length before))
     by None = All-nil _
@@ -160,10 +161,10 @@ from-woken before performer Done (Wait ticks tag) = by (running (stage_of before
         one hearer other owner notice =
             let tagged : tag ≡ other = cc in
             record { ticks = ticks; before = before; at = record { later = []; splits = rw (owner, tagged) refl; place = refl }; time_is = refl }
-from-woken before performer (Value value) (Get field) = all-plain _ _ (due-plain (Some (call.Config field value)) performer (running (stage_of before)) (now_of before) (caused_at (length before)) refl)
-from-woken before performer (Stored stored) (TryPut port item) = all-plain _ _ (due-plain (Some (call.TryStored port stored)) performer (running (stage_of before)) (now_of before) (caused_at (length before)) refl)
-from-woken before performer (Taken item) (TryTake port) = all-plain _ _ (due-plain (Some (call.TryTaken port item)) performer (running (stage_of before)) (now_of before) (caused_at (length before)) refl)
-from-woken before performer (Waits false) (Ask port way) = all-plain _ _ (due-plain (Some (call.NextItem port None)) performer (running (stage_of before)) (now_of before) (caused_at (length before)) refl)
+from-woken before performer (Value value) (Get field) = all-plain _ _ (due-plain (Some (call.Config field value)) performer (act_phase before) (now_of before) (caused_at (length before)) refl)
+from-woken before performer (Stored stored) (TryPut port item) = all-plain _ _ (due-plain (Some (call.TryStored port stored)) performer (act_phase before) (now_of before) (caused_at (length before)) refl)
+from-woken before performer (Taken item) (TryTake port) = all-plain _ _ (due-plain (Some (call.TryTaken port item)) performer (act_phase before) (now_of before) (caused_at (length before)) refl)
+from-woken before performer (Waits false) (Ask port way) = all-plain _ _ (due-plain (Some (call.NextItem port None)) performer (act_phase before) (now_of before) (caused_at (length before)) refl)
 from-woken before performer (Waits true) act = All-nil _
 from-woken before performer (Waits false) act = All-nil _
 from-woken before performer outcome act = All-nil _
@@ -172,36 +173,36 @@ drains-plain : (phase : Option Phase) (cause : Cause) (begun : List drain.Due) �
 drains-plain phase cause [] = All-nil IsPlainEvent
 drains-plain phase cause (first ∷ begun) = All-append IsPlainEvent (drain_from phase cause first) (flat_map (drain_from phase cause) begun) (event-plain phase first.at cause (Drain first.node) None refl) (drains-plain phase cause begun)
 
-with-woken : (entry : Entry) (before : List Entry) (nodes : List objection.Node) → All (IsWoken before) (caused_of before) → All (IsWoken (entry ∷ before)) (with_drains (running (stage_of before)) (caused_at (length before)) (objections_of before) nodes (caused_of before))
-with-woken entry before nodes all =
-    All-append (IsWoken (entry ∷ before)) (flat_map (drain_from (running (stage_of before)) (caused_at (length before))) (drains_begun (objections_of before) nodes)) _
-    (all-plain (entry ∷ before) _ (drains-plain (running (stage_of before)) (caused_at (length before)) (drains_begun (objections_of before) nodes)))
+with-woken : (phase : Option Phase) (entry : Entry) (before : List Entry) (nodes : List objection.Node) → All (IsWoken before) (caused_of before) → All (IsWoken (entry ∷ before)) (with_drains phase (caused_at (length before)) (objections_of before) nodes (caused_of before))
+with-woken phase entry before nodes all =
+    All-append (IsWoken (entry ∷ before)) (flat_map (drain_from phase (caused_at (length before))) (drains_begun (objections_of before) nodes)) _
+    (all-plain (entry ∷ before) _ (drains-plain phase (caused_at (length before)) (drains_begun (objections_of before) nodes)))
     (All-filter (λ (event : Event). not (is_drain_of (drains_ended (objections_of before) nodes) event.owner)) (IsWoken (entry ∷ before)) (caused_of before) (all-later entry before (caused_of before) all))
 
-moved-woken : (entry : Entry) (before : List Entry) (nodes : List objection.Node) (moves : Bool) → All (IsWoken before) (caused_of before) → All (IsWoken (entry ∷ before)) (if moves then with_drains (running (stage_of before)) (caused_at (length before)) (objections_of before) nodes (caused_of before) else caused_of before)
-moved-woken entry before nodes true all = with-woken entry before nodes all
-moved-woken entry before nodes false all = all-later entry before (caused_of before) all
+moved-woken : (phase : Option Phase) (entry : Entry) (before : List Entry) (nodes : List objection.Node) (moves : Bool) → All (IsWoken before) (caused_of before) → All (IsWoken (entry ∷ before)) (if moves then with_drains phase (caused_at (length before)) (objections_of before) nodes (caused_of before) else caused_of before)
+moved-woken phase entry before nodes true all = with-woken phase entry before nodes all
+moved-woken phase entry before nodes false all = all-later entry before (caused_of before) all
 
 passed-plain : (kind : MoveKind) (passage : Passage) → is_wake (told_of kind passage) ≡ false
 passed-plain move.Put passage = refl
 passed-plain move.Take passage = refl
 passed-plain move.Peek passage = refl
 
-one-woken : (entry : Entry) (before : List Entry) (told : Call) (hearer : Who) → is_wake told ≡ false → All (IsWoken before) (caused_of before) → All (IsWoken (entry ∷ before)) (due_from (Some told) hearer (running (stage_of before)) (now_of before) (caused_at (length before)) ++ caused_of before)
-one-woken entry before told hearer plain all =
-    All-append (IsWoken (entry ∷ before)) (due_from (Some told) hearer (running (stage_of before)) (now_of before) (caused_at (length before))) (caused_of before)
-    (all-plain (entry ∷ before) _ (due-plain (Some told) hearer (running (stage_of before)) (now_of before) (caused_at (length before)) plain)) (all-later entry before (caused_of before) all)
+one-woken : (entry : Entry) (before : List Entry) (phase : Option Phase) (told : Call) (hearer : Who) → is_wake told ≡ false → All (IsWoken before) (caused_of before) → All (IsWoken (entry ∷ before)) (due_from (Some told) hearer phase (now_of before) (caused_at (length before)) ++ caused_of before)
+one-woken entry before phase told hearer plain all =
+    All-append (IsWoken (entry ∷ before)) (due_from (Some told) hearer phase (now_of before) (caused_at (length before))) (caused_of before)
+    (all-plain (entry ∷ before) _ (due-plain (Some told) hearer phase (now_of before) (caused_at (length before)) plain)) (all-later entry before (caused_of before) all)
 
 woken-more : (entry : Entry) (before : List Entry) → All (IsWoken before) (caused_of before) → All (IsWoken (entry ∷ before)) (caused_of (entry ∷ before))
 woken-more (Did performer outcome act) before all =
     let entry = Did performer outcome act in
-    All-append (IsWoken (entry ∷ before)) (calls_numbered (running (stage_of before)) (now_of before) (length before) 0 (calls_told before performer outcome act)) _
-    (all-plain (entry ∷ before) _ (numbered-plain (running (stage_of before)) (now_of before) (length before) 0 (calls_told before performer outcome act) (told-plain before performer outcome act)))
-    (All-append (IsWoken (entry ∷ before)) (calls_from outcome act performer (running (stage_of before)) (now_of before) (length before)) _ (from-woken before performer outcome act) (moved-woken entry before (objections_of (entry ∷ before)) (moves_drains outcome act) all))
-woken-more (Passed fifo passage) before all = one-woken (Passed fifo passage) before (told_of passage.kind passage) passage.who (passed-plain passage.kind passage) all
-woken-more (Locked node id) before all = one-woken (Locked node id) before call.Held (who.Sequence id node) refl all
-woken-more (Granted node grant) before all = one-woken (Granted node grant) before call.Grant (who.Sequence grant.id node) refl all
-woken-more (Drained node cause) before all = with-woken (Drained node cause) before (objections_of (Drained node cause ∷ before)) all
+    All-append (IsWoken (entry ∷ before)) (calls_numbered (now_of before) (length before) 0 (calls_told before performer outcome act)) _
+    (all-plain (entry ∷ before) _ (numbered-plain (now_of before) (length before) 0 (calls_told before performer outcome act) (told-plain before performer outcome act)))
+    (All-append (IsWoken (entry ∷ before)) (calls_from outcome act performer (act_phase before) (now_of before) (length before)) _ (from-woken before performer outcome act) (moved-woken (act_phase before) entry before (objections_of (entry ∷ before)) (moves_drains outcome act) all))
+woken-more (Passed fifo passage) before all = one-woken (Passed fifo passage) before (Some passage.phase) (told_of passage.kind passage) passage.who (passed-plain passage.kind passage) all
+woken-more (Locked node id) before all = one-woken (Locked node id) before (phase_begun before id) call.Held (who.Sequence id node) refl all
+woken-more (Granted node grant) before all = one-woken (Granted node grant) before (phase_begun before grant.id) call.Grant (who.Sequence grant.id node) refl all
+woken-more (Drained node origin) before all = with-woken (Some origin.phase) (Drained node origin) before (objections_of (Drained node origin ∷ before)) all
 woken-more entry before all = all-later entry before (caused_of before) all
 
 pub woken-of : (history : List Entry) → All (IsWoken history) (caused_of history)

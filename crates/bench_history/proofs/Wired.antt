@@ -1,11 +1,15 @@
 -- Once connect has nothing left, nothing is connected any more.
 use Rattle.std.proofs.Common.{◌≡◌, ℕ, Bool, true, false, ◌&&◌, ◌||◌, List, [], ◌∷◌, reverse, take, Option, Some, None, is_none, refl, ap, ◌∙◌, subst}
+use Rattle.uvm_phase.specs.Laws.{OrderKeepsAll}
+use Rattle.uvm_sequencer.specs.Laws.{LockExcludes}
+use Rattle.uvm_object.specs.declared.acts.Call.{Call}
+use Rattle.bench_history.specs.declared.owners.Owner.{Owner}
 use Rattle.bench_history.specs.Sequences.{is_live}
 use Rattle.bench_history.specs.Arbitration.{next_locked, next_served}
 use Rattle.std.specs.List.{list_any}
 use Rattle.uvm_phase.specs.declared.phases.Phase.{Phase}
 use Rattle.uvm_phase.specs.declared.phases.Phase.TheVariants.{Build, Connect, EndOfElaboration, StartOfSimulation, Run, Extract, Check, Report, Final}
-use Rattle.uvm_phase.specs.Phases.{common_phases}
+use Rattle.uvm_phase.specs.Phases.{common_phases, is_task, same_phase}
 use Rattle.uvm_object.specs.declared.acts.Act.{Act}
 use Rattle.uvm_object.specs.declared.fatals.Fatal.{Fatal}
 use Rattle.uvm_object.specs.declared.entries.Reason.{Reason}
@@ -16,16 +20,18 @@ use Rattle.bench_script.specs.Scripts.{ScriptValue}
 use Rattle.bench_history.specs.declared.stages.Stage.{Stage}
 use Rattle.bench_history.specs.declared.stages.Stage.TheVariants.{Before, During, After, Ended}
 use Rattle.bench_history.specs.Owners.{Event}
-use Rattle.bench_history.specs.History.{stage_of, running, left_of, head_of, next_call, is_built, ends_build, ended_of}
+use Rattle.bench_history.specs.History.{act_phase, stage_of, running, left_of, head_of, next_call, is_built, ends_build, ended_of}
 use Rattle.bench_history.specs.Reports.{reason_of}
 use Rattle.bench_history.specs.Dues.{due_now}
 use Rattle.bench_history.specs.Wires.{is_past_connect, ends_connect, next_unsound}
 use Rattle.bench_history.specs.Passing.{next_passed}
 use Rattle.bench_history.specs.Cases.{Next, Exactly}
-use Rattle.bench_history.specs.Next.{next_of, Allows, IsNext}
+use Rattle.bench_history.specs.Next.{next_of, Allows, IsNext, EachIsNext}
 use Rattle.bench_history.specs.Laws.{WiringStays, ConnectFollowsBuild, TasksFollowConnect, is_common, is_connect_last, is_in_connect, has_nothing_left, next_number}
 use Rattle.bench_history.specs.Refusals.{in_task}
 use Rattle.bench_history.proofs.Ended.{nothing-comes}
+use Rattle.bench_history.proofs.Living.{Stands, Runs, HasEnded}
+use Rattle.bench_history.proofs.Called.{acting-stands}
 use Rattle.bench_history.proofs.Phased.{phases_go_in_order}
 
 -- what it is to have nothing left
@@ -161,7 +167,54 @@ task-after Before ended common task are = cc
 task-after (After phase) ended common task are = cc
 task-after Ended ended common task are = cc
 
-pub tasks_follow_connect : TasksFollowConnect
-tasks_follow_connect script history each task =
+-- or where one that takes time has ended
+no-build : (phase : Phase) → is_task phase ≡ true → same_phase phase Build ≡ true → ⊥
+no-build Build task e = cc
+no-build phase task e = cc
+
+one-of : (b : Bool) → b || false ≡ true → b ≡ true
+one-of true e = refl
+one-of false e = cc
+
+task-ended :
+    (stage : Stage) (ended : List Phase) (phase : Phase) → (stage ≡ Ended → ⊥) → is_common stage ≡ true → is_task phase ≡ true → ended ≡ reverse (take (next_number stage) common_phases)
+    → list_any (same_phase phase) ended ≡ true → list_any (λ one. ends_connect (End one)) ended ≡ true
+task-ended Before ended phase on common task are has = let none : false ≡ true = rw are at has in cc
+task-ended (During Build) ended phase on common task are has = let none : false ≡ true = rw are at has in cc
+task-ended (After Build) ended phase on common task are has = let one : same_phase phase Build || false ≡ true = rw are at has in absurd (no-build phase task (one-of (same_phase phase Build) one))
+task-ended (During Connect) ended phase on common task are has = let one : same_phase phase Build || false ≡ true = rw are at has in absurd (no-build phase task (one-of (same_phase phase Build) one))
+task-ended (During EndOfElaboration) ended phase on common task are has = rw are refl
+task-ended (During StartOfSimulation) ended phase on common task are has = rw are refl
+task-ended (During Run) ended phase on common task are has = rw are refl
+task-ended (During Extract) ended phase on common task are has = rw are refl
+task-ended (During Check) ended phase on common task are has = rw are refl
+task-ended (During Report) ended phase on common task are has = rw are refl
+task-ended (During Final) ended phase on common task are has = rw are refl
+task-ended (After Connect) ended phase on common task are has = rw are refl
+task-ended (After EndOfElaboration) ended phase on common task are has = rw are refl
+task-ended (After StartOfSimulation) ended phase on common task are has = rw are refl
+task-ended (After Run) ended phase on common task are has = rw are refl
+task-ended (After Extract) ended phase on common task are has = rw are refl
+task-ended (After Check) ended phase on common task are has = rw are refl
+task-ended (After Report) ended phase on common task are has = rw are refl
+task-ended (After Final) ended phase on common task are has = rw are refl
+task-ended (During other) ended phase on common task are has = cc
+task-ended (After other) ended phase on common task are has = cc
+task-ended Ended ended phase on common task are has = absurd (on refl)
+
+task-stands : (script : ScriptValue) (history : List Entry) (phase : Phase) → EachIsNext script history → (stage_of history ≡ Ended → ⊥) → is_task phase ≡ true → Stands history phase → is_past_connect history ≡ true
+task-stands script history phase each on task (Runs runs) =
     let order = phases_go_in_order script history each in
-    past-ended history ∙ task-after (stage_of history) (ended_of history) order.common task order.are
+    past-ended history ∙ task-after (stage_of history) (ended_of history) order.common (rw runs task) order.are
+task-stands script history phase each on task (HasEnded has) =
+    let order = phases_go_in_order script history each in
+    past-ended history ∙ task-ended (stage_of history) (ended_of history) phase on order.common task (order.are on) has
+
+-- so it has where an act belongs to one
+acting-task : (script : ScriptValue) (history : List Entry) (acting : Option Phase) → EachIsNext script history → (stage_of history ≡ Ended → ⊥) → in_task acting ≡ true → ((phase : Phase) → acting ≡ Some phase → Stands history phase) → is_past_connect history ≡ true
+acting-task script history None each on task stands = cc
+acting-task script history (Some phase) each on task stands = task-stands script history phase each on task (stands phase refl)
+
+module _ (keeps : OrderKeepsAll Owner (Option Call)) (excludes : LockExcludes) where
+  pub tasks_follow_connect : TasksFollowConnect
+  tasks_follow_connect script history each on task = acting-task script history (act_phase history) each on task (acting-stands keeps excludes script history each on)

@@ -28,7 +28,7 @@ use Rattle.uvm_object.specs.declared.entries.Outcome.TheVariants.{Done, Waits, F
 use Rattle.uvm_object.specs.declared.entries.Entry.{Entry}
 use Rattle.uvm_object.specs.declared.entries.Entry.TheVariants.{Did, Locked, Granted, End}
 use Rattle.bench_history.specs.declared.askers.DriverPort.{DriverPort}
-use Rattle.bench_history.specs.History.{acting_in, nodes_of}
+use Rattle.bench_history.specs.History.{act_phase, nodes_of}
 use Rattle.uvm_tlm.specs.Fifos.{waiting_count}
 use Rattle.bench_history.specs.Passing.{station_at}
 use Rattle.bench_history.specs.Ports.{port_below}
@@ -177,10 +177,10 @@ driver_state (Granted other grant ∷ before) node = if other == node then grant
 driver_state (End phase ∷ before) node = Idle
 driver_state (entry ∷ before) node = driver_state before node
 
--- who drives it, and through which port of its own: who has asked last
+-- who drives it, and through which port of its own: who has asked last, and in which phase
 abbrev pub asker_by : List Entry → ℕ → Who → Option DriverMove → Option DriverPort → Option DriverPort
 asker_by before node performer None asker = asker
-asker_by before node performer (Some (Awaits port how)) asker = if leads_there node (sequencer_below before performer port) then Some (record { who = performer; name = port }) else asker
+asker_by before node performer (Some (Awaits port how)) asker = if leads_there node (sequencer_below before performer port) then Some (record { who = performer; name = port; phase = act_phase before }) else asker
 asker_by before node performer (Some move) asker = asker
 
 abbrev pub driver_asker : List Entry → ℕ → Option DriverPort
@@ -188,15 +188,9 @@ driver_asker [] node = None
 driver_asker (Did performer outcome act ∷ before) node = asker_by before node performer (driver_move outcome act) (driver_asker before node)
 driver_asker (entry ∷ before) node = driver_asker before node
 
--- and in which phase
-abbrev pub phase_by : List Entry → ℕ → Who → Option DriverMove → Option Phase → Option Phase
-phase_by before node performer (Some (Awaits port how)) phase = if leads_there node (sequencer_below before performer port) then acting_in before else phase
-phase_by before node performer move phase = phase
-
+-- the phase in which it asked last
 abbrev pub asked_in : List Entry → ℕ → Option Phase
-asked_in [] node = None
-asked_in (Did performer outcome act ∷ before) node = phase_by before node performer (driver_move outcome act) (asked_in before node)
-asked_in (entry ∷ before) node = asked_in before node
+asked_in history node = option_and_then (λ asker. asker.phase) (driver_asker history node)
 
 -- a sequencer, as the service has it. No port is named: a driver asks through a sound one, and of the ports that lead to a sequencer one alone is sound
 abbrev pub sequencer_with : List Entry → ℕ → Mode → SequencerValue

@@ -3,7 +3,6 @@
 use Rattle.std.specs.Prelude.{ℕ, Bool, true, false, ◌&&◌, List, [], ◌∷◌, length, nat_lt, Option, Some, None, option_map, option_and_then, if◌then◌else◌}
 use Rattle.uvm_phase.specs.declared.phases.Phase.{Phase}
 use Rattle.uvm_phase.specs.declared.phases.Phase.TheVariants.{Build, Connect}
-use Rattle.uvm_phase.specs.declared.agendas.Cause.{Cause}
 use Rattle.uvm_phase.specs.Phases.{phase_after, is_task}
 use Rattle.uvm_object.specs.Acts.{node_of}
 use Rattle.uvm_object.specs.declared.acts.Who.{Who}
@@ -16,6 +15,7 @@ use Rattle.uvm_object.specs.declared.entries.Outcome.{Outcome}
 use Rattle.uvm_object.specs.declared.entries.Outcome.TheVariants.{Done, Value, Stored, Taken, Waits, Finished, Refused}
 use Rattle.uvm_object.specs.declared.entries.Reason.{Reason}
 use Rattle.uvm_object.specs.declared.entries.Reason.TheVariants as reason
+use Rattle.uvm_object.specs.declared.entries.Origin.{Origin}
 use Rattle.uvm_object.specs.declared.entries.Passage.{Passage}
 use Rattle.uvm_object.specs.declared.entries.Entry.{Entry}
 use Rattle.uvm_object.specs.declared.entries.Entry.TheVariants.{Begin, End, Time, Did, Locked, Passed, Drained, Note, Over}
@@ -39,7 +39,7 @@ use Rattle.uvm_sequencer.specs.Sequencers.{choice_at}
 -- sequencer, for which a word is drawn or not, and which sequence each word comes to; or nothing
 pub data Next : Type 0 where
   Exactly : (entry : Entry) → Next
-  Answer : (hearer : Who) → (call : Call) → (cause : Option Cause) → Next
+  Answer : (hearer : Who) → (call : Call) → (origin : Option Origin) → Next
   Need : (need : declared.Need) → (made : Outcome) → (performer : Who) → (act : Act) → Next
   Grant : (sequencer : ℕ) → (drawn : Bool) → (chosen : Option ℕ → Option ℕ) → Next
   Nothing : Next
@@ -95,14 +95,18 @@ abbrev pub first_act : ScriptValue → List Entry → List Act → Option Next
 first_act script history [] = None
 first_act script history (act ∷ acts) = Some (by_act script history (speaker_of history) act)
 
+-- why an event is due, and in which phase
+abbrev pub origin_of : Event → Origin
+origin_of event = record { cause = event.cause; phase = event.phase }
+
 -- the owner of an event hears its call, or its drain ends
-abbrev pub by_call : Owner → Option Call → Cause → Next
-by_call owner (Some call) cause = Answer (who_of owner) call (Some cause)
-by_call owner None cause = Exactly (Drained (node_of (who_of owner)) cause)
+abbrev pub by_call : Owner → Option Call → Origin → Next
+by_call owner (Some call) origin = Answer (who_of owner) call (Some origin)
+by_call owner None origin = Exactly (Drained (node_of (who_of owner)) origin)
 
 -- the event that is due happens
 abbrev pub event_due : Option Event → Option Next
-event_due due = option_map (λ event. by_call event.owner event.notice event.cause) due
+event_due due = option_map (λ event. by_call event.owner event.notice (origin_of event)) due
 
 -- the phase that runs is heard by the node whose turn it is
 abbrev pub phase_call : List Entry → Option Phase → Option Next

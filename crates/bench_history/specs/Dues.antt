@@ -34,16 +34,17 @@ use Rattle.uvm_object.specs.declared.entries.Passage.{Passage}
 use Rattle.uvm_object.specs.declared.entries.Entry.{Entry}
 use Rattle.uvm_object.specs.declared.entries.Entry.TheVariants.{Heard, Did, Locked, Granted, Passed, Drained}
 use Rattle.bench_history.specs.declared.askers.DriverPort.{DriverPort}
+use Rattle.bench_history.specs.declared.owners.Told.{Told}
 use Rattle.bench_history.specs.declared.owners.Owner.{Owner}
 use Rattle.bench_history.specs.declared.owners.Owner.TheVariants.{Object, Drain}
 use Rattle.bench_history.specs.Owners.{Event, is_drain_of}
-use Rattle.bench_history.specs.History.{acting_in, stage_of, now_of, running, nodes_of, ended_of}
+use Rattle.bench_history.specs.History.{act_phase, now_of, nodes_of, ended_of}
 use Rattle.bench_history.specs.Objections.{objections_of}
-use Rattle.bench_history.specs.Sequences.{Beginning, begun_of, finished_of, next_step, sequence_in, sequences_of, start_by}
+use Rattle.bench_history.specs.Sequences.{Beginning, begun_of, finished_of, next_step, phase_begun, sequence_in, sequences_of, start_by}
 use Rattle.bench_history.specs.Ports.{imps_below}
 use Rattle.bench_history.specs.Arbitration.{driver_asker, driver_state, sequencer_below}
 
--- an event is due while a phase runs
+-- an event is due in a phase
 abbrev pub event_in : {O N : Type 0} → Option Phase → ℕ → Cause → O → N → List (Due O N)
 event_in None time cause owner notice = []
 event_in (Some phase) time cause owner notice = record { time = time; cause = cause; phase = phase; owner = owner; notice = notice } ∷ []
@@ -76,9 +77,13 @@ due_from (Some call) performer phase time cause = event_in phase time cause (Obj
 abbrev pub calls_from : Outcome → Act → Who → Option Phase → ℕ → ℕ → List Event
 calls_from outcome act performer phase time place = due_from (told_by outcome act) performer phase (due_after time act) (caused_at place)
 
+-- a call that somebody is told in a phase
+abbrev pub told_in : Option Phase → Who → Call → Told
+told_in phase who call = record { who = who; call = call; phase = phase }
+
 -- who owns an imp is told what was written to it
-abbrev pub written_to : List tree.Node → Item → ℕ → Option (Who × Call)
-written_to nodes item imp = option_map (λ under. (who.Node under.0, call.Written under.1 item)) (under_at nodes imp)
+abbrev pub written_to : Option Phase → List tree.Node → Item → ℕ → Option Told
+written_to phase nodes item imp = option_map (λ under. told_in phase (who.Node under.0) (call.Written under.1 item)) (under_at nodes imp)
 
 -- a sequence is told which step it has come to
 abbrev pub step_call : SeqStep → Call
@@ -86,59 +91,59 @@ step_call PreStart = call.PreStart
 step_call Body = call.Body
 step_call PostStart = call.PostStart
 
-abbrev pub told_step : Who → Option SeqStep → List (Who × Call)
-told_step performer step = option_to_list (option_map (λ step. (performer, step_call step)) step)
+abbrev pub told_step : Option Phase → Who → Option SeqStep → List Told
+told_step phase performer step = option_to_list (option_map (λ step. told_in phase performer (step_call step)) step)
 
 -- who started a sequence is told that it has finished
-abbrev pub told_finished : ℕ → Option Beginning → List (Who × Call)
-told_finished id beginning = option_to_list (option_map (λ beginning. (beginning.starter, call.Finished beginning.start.name id)) beginning)
+abbrev pub told_finished : ℕ → Option Beginning → List Told
+told_finished id beginning = option_to_list (option_map (λ beginning. told_in beginning.phase beginning.starter (call.Finished beginning.start.name id)) beginning)
 
-abbrev pub finished_by : List Entry → Option ℕ → List (Who × Call)
+abbrev pub finished_by : List Entry → Option ℕ → List Told
 finished_by before None = []
 finished_by before (Some id) = told_finished id (numbered (begun_of before) id)
 
--- a driver is told of an item, or of none
-abbrev pub told_item : Option DriverPort → Option Item → List (Who × Call)
-told_item asker item = option_to_list (option_map (λ asker. (asker.who, call.NextItem asker.name item)) asker)
+-- a driver is told of an item, or of none, in the phase in which it asked
+abbrev pub told_item : Option DriverPort → Option Item → List Told
+told_item asker item = option_to_list (option_map (λ asker. told_in asker.phase asker.who (call.NextItem asker.name item)) asker)
 
 -- what a granted sequence sends goes to the driver; one that asked by a `get` is done with it
-abbrev pub told_sent : Who → Option DriverPort → Item → Option How → List (Who × Call)
-told_sent performer asker item None = []
-told_sent performer asker item (Some ByGet) = told_item asker (Some item) ++ (performer, call.ItemDone None) ∷ []
-told_sent performer asker item (Some how) = told_item asker (Some item)
+abbrev pub told_sent : Option Phase → Who → Option DriverPort → Item → Option How → List Told
+told_sent phase performer asker item None = []
+told_sent phase performer asker item (Some ByGet) = told_item asker (Some item) ++ told_in phase performer (call.ItemDone None) ∷ []
+told_sent phase performer asker item (Some how) = told_item asker (Some item)
 
-abbrev pub sent_by : List Entry → Who → ℕ → Option ℕ → Item → List (Who × Call)
-sent_by before performer node id item = told_sent performer (driver_asker before node) item (option_and_then (λ id. grant_of id (driver_state before node)) id)
+abbrev pub sent_by : List Entry → Who → ℕ → Option ℕ → Item → List Told
+sent_by before performer node id item = told_sent (act_phase before) performer (driver_asker before node) item (option_and_then (λ id. grant_of id (driver_state before node)) id)
 
--- whose item it was is told that the driver is done
-abbrev pub told_done : Option Item → ℕ → Option ℕ → List (Who × Call)
-told_done response node id = option_to_list (option_map (λ id. (who.Sequence id node, call.ItemDone response)) id)
+-- whose item it was is told that the driver is done, in the phase of the sequence
+abbrev pub told_done : (ℕ → Option Phase) → Option Item → ℕ → Option ℕ → List Told
+told_done phase response node id = option_to_list (option_map (λ id. told_in (phase id) (who.Sequence id node) (call.ItemDone response)) id)
 
-abbrev pub done_by : List Entry → Option ℕ → Option Item → List (Who × Call)
+abbrev pub done_by : List Entry → Option ℕ → Option Item → List Told
 done_by before None response = []
-done_by before (Some node) response = told_done response node (hand_of (driver_state before node))
+done_by before (Some node) response = told_done (phase_begun before) response node (hand_of (driver_state before node))
 
 -- where the grant of a `try` lapses, its driver is told that there is no item
-abbrev pub lapsed_by : List Entry → ℕ → Option ℕ → List (Who × Call)
+abbrev pub lapsed_by : List Entry → ℕ → Option ℕ → List Told
 lapsed_by before node id = if is_try (option_and_then (λ id. grant_of id (driver_state before node)) id) then told_item (driver_asker before node) None else []
 
 -- the calls that an act causes and that tell more than its outcome, or others than its performer: a Write one for each imp that it reaches, in path
 -- order; a Start tells the new sequence; the end of a step tells what comes next, or that the sequence has finished; a Send tells the driver, an ItemDone
 -- whose item it was
-abbrev pub calls_told : List Entry → Who → Outcome → Act → List (Who × Call)
-calls_told before performer Done (Write port item) = filter_map (written_to (nodes_of before) item) (imps_below before performer port)
-calls_told before performer Done EndStep = told_step performer (next_step before performer)
+abbrev pub calls_told : List Entry → Who → Outcome → Act → List Told
+calls_told before performer Done (Write port item) = filter_map (written_to (act_phase before) (nodes_of before) item) (imps_below before performer port)
+calls_told before performer Done EndStep = told_step (act_phase before) performer (next_step before performer)
 calls_told before performer Done (Send item) = sent_by before performer (node_of performer) (sequence_in performer) item
 calls_told before performer Done (ItemDone port response) = done_by before (sequencer_below before performer port) response
-calls_told before performer (Started id) act = (who.Sequence id (start_by (nodes_of before) (sequences_of before) performer act).home, call.PreStart) ∷ []
+calls_told before performer (Started id) act = told_in (act_phase before) (who.Sequence id (start_by (nodes_of before) (sequences_of before) performer act).home) call.PreStart ∷ []
 calls_told before performer Finished act = finished_by before (sequence_in performer) ++ lapsed_by before (node_of performer) (sequence_in performer)
 calls_told before performer outcome act = []
 
 -- they are numbered in this order, and due at once; the newest first
-abbrev pub calls_numbered : Option Phase → ℕ → ℕ → ℕ → List (Who × Call) → List Event
-calls_numbered phase time place number [] = []
-calls_numbered phase time place number (told ∷ calls) =
-    calls_numbered phase time place (suc number) calls ++ event_in phase time (record { place = place; number = number }) (Object told.0) (Some told.1)
+abbrev pub calls_numbered : ℕ → ℕ → ℕ → List Told → List Event
+calls_numbered time place number [] = []
+calls_numbered time place number (told ∷ calls) =
+    calls_numbered time place (suc number) calls ++ event_in told.phase time (record { place = place; number = number }) (Object told.who) (Some told.call)
 
 -- what came to pass at a FIFO is told to who had asked
 abbrev pub told_of : MoveKind → Passage → Call
@@ -155,9 +160,9 @@ abbrev pub with_drains : Option Phase → Cause → List Node → List Node → 
 with_drains phase cause earlier nodes caused =
     flat_map (drain_from phase cause) (drains_begun earlier nodes) ++ filter (λ event. not (is_drain_of (drains_ended earlier nodes) event.owner)) caused
 
--- an entry has changed it
-abbrev pub with_drains_of : Entry → List Entry → List Event → List Event
-with_drains_of entry before caused = with_drains (running (stage_of before)) (caused_at (length before)) (objections_of before) (objections_of (entry ∷ before)) caused
+-- an entry has changed it, in a phase
+abbrev pub with_drains_of : Option Phase → Entry → List Entry → List Event → List Event
+with_drains_of phase entry before caused = with_drains phase (caused_at (length before)) (objections_of before) (objections_of (entry ∷ before)) caused
 
 -- whether an act may have: a raise or a drop, and no other
 abbrev pub moves_drains : Outcome → Act → Bool
@@ -168,13 +173,13 @@ moves_drains outcome act = false
 -- some events with those that an entry causes before them, and without the drains that it ends. The place of an entry is the number of those before it
 abbrev pub with_events_from : Entry → List Entry → List Event → List Event
 with_events_from (Did performer outcome act) before caused =
-    calls_numbered (acting_in before) (now_of before) (length before) 0 (calls_told before performer outcome act)
-    ++ (calls_from outcome act performer (acting_in before) (now_of before) (length before)
-    ++ (if moves_drains outcome act then with_drains_of (Did performer outcome act) before caused else caused))
-with_events_from (Passed fifo passage) before caused = due_from (Some (told_of passage.kind passage)) passage.who (running (stage_of before)) (now_of before) (caused_at (length before)) ++ caused
-with_events_from (Locked node id) before caused = due_from (Some call.Held) (who.Sequence id node) (running (stage_of before)) (now_of before) (caused_at (length before)) ++ caused
-with_events_from (Granted node grant) before caused = due_from (Some call.Grant) (who.Sequence grant.id node) (running (stage_of before)) (now_of before) (caused_at (length before)) ++ caused
-with_events_from (Drained node cause) before caused = with_drains_of (Drained node cause) before caused
+    calls_numbered (now_of before) (length before) 0 (calls_told before performer outcome act)
+    ++ (calls_from outcome act performer (act_phase before) (now_of before) (length before)
+    ++ (if moves_drains outcome act then with_drains_of (act_phase before) (Did performer outcome act) before caused else caused))
+with_events_from (Passed fifo passage) before caused = due_from (Some (told_of passage.kind passage)) passage.who (Some passage.phase) (now_of before) (caused_at (length before)) ++ caused
+with_events_from (Locked node id) before caused = due_from (Some call.Held) (who.Sequence id node) (phase_begun before id) (now_of before) (caused_at (length before)) ++ caused
+with_events_from (Granted node grant) before caused = due_from (Some call.Grant) (who.Sequence grant.id node) (phase_begun before grant.id) (now_of before) (caused_at (length before)) ++ caused
+with_events_from (Drained node origin) before caused = with_drains_of (Some origin.phase) (Drained node origin) before caused
 with_events_from entry before caused = caused
 
 -- the events that an entry causes
@@ -187,7 +192,7 @@ caused_of [] = []
 caused_of (entry ∷ before) = with_events_from entry before (caused_of before)
 
 abbrev pub heard_in : Entry → List Cause
-heard_in (Heard hearer call (Some cause) acts) = cause ∷ []
+heard_in (Heard hearer call (Some origin) acts) = origin.cause ∷ []
 heard_in entry = []
 
 -- the causes of the calls that somebody has heard

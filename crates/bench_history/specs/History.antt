@@ -19,12 +19,15 @@ use Rattle.uvm_tree.specs.Cursors.{is_before, least}
 use Rattle.uvm_object.specs.declared.acts.Who.{Who}
 use Rattle.uvm_object.specs.declared.acts.Who.TheVariants as who
 use Rattle.uvm_object.specs.Acts.{node_of}
+use Rattle.uvm_object.specs.declared.acts.Call.{Call}
+use Rattle.uvm_object.specs.declared.acts.Call.TheVariants as call
 use Rattle.uvm_object.specs.declared.acts.What.{What}
 use Rattle.uvm_object.specs.declared.acts.What.TheVariants as what
 use Rattle.uvm_object.specs.declared.acts.Act.{Act}
 use Rattle.uvm_object.specs.declared.acts.Act.TheVariants.{Create, Add, OverrideType, OverrideInst}
 use Rattle.uvm_object.specs.declared.entries.Outcome.{Outcome}
 use Rattle.uvm_object.specs.declared.entries.Outcome.TheVariants.{Done, Made, Finished}
+use Rattle.uvm_object.specs.declared.entries.Origin.{Origin}
 use Rattle.uvm_object.specs.declared.entries.Entry.{Entry}
 use Rattle.uvm_object.specs.declared.entries.Entry.TheVariants.{Time, Begin, End, Heard, Did, Note, Over}
 use Rattle.bench_script.specs.Scripts.{ScriptValue}
@@ -50,9 +53,18 @@ abbrev pub running : Stage → Option Phase
 running (During phase) = Some phase
 running stage = None
 
--- the phase of an act that is performed next, and so of what it asks for, starts or causes: the one that runs
-abbrev pub acting_in : List Entry → Option Phase
-acting_in history = running (stage_of history)
+-- the phase to which a call belongs: one that was due to that of its origin, and a phase's call to this phase
+abbrev pub phase_heard : Call → Option Origin → Option Phase
+phase_heard call (Some origin) = Some origin.phase
+phase_heard (call.Phase phase) None = Some phase
+phase_heard call None = None
+
+-- the phase to which an act belongs that is performed next, and so what it asks for, starts or causes: that of the call which it answers. The
+-- script's act belongs to none
+abbrev pub act_phase : List Entry → Option Phase
+act_phase [] = None
+act_phase (Heard hearer call origin acts ∷ before) = phase_heard call origin
+act_phase (entry ∷ before) = act_phase before
 
 -- the name of the object that an act creates; no other act creates one
 abbrev pub created_name : Act → List ℕ

@@ -1,10 +1,10 @@
 -- What holds of all logs, or of all in which each entry was next, as in each legal one, and of what comes next in them.
 use Rattle.std.specs.Prelude.{◌≡◌, ◌<◌, ◌≤◌, ◌+◌, ◌⊎◌, ℕ, suc, Bool, true, false, not, ◌&&◌, is_none, List, [], ◌∷◌, ◌++◌, length, reverse, take, Option, Some, None, option_and_then, option_map, IsSome, IfSome, All, Contains}
-use Rattle.uvm_phase.specs.declared.agendas.Cause.{Cause}
 use Rattle.uvm_phase.specs.declared.phases.Phase.TheVariants.{Connect}
 use Rattle.uvm_phase.specs.declared.phases.Phase.{Phase}
-use Rattle.uvm_phase.specs.Phases.{common_phases, is_runtime, phase_number}
-use Rattle.uvm_sequencer.specs.Drivers.{hand_of}
+use Rattle.uvm_phase.specs.Phases.{common_phases, is_runtime, phase_number, same_phase}
+use Rattle.std.specs.List.{list_any}
+use Rattle.uvm_sequencer.specs.Drivers.{hand_of, is_idle}
 use Rattle.uvm_sequences.specs.Sequences.{numbered}
 use Rattle.uvm_tree.specs.Nodes.{Node, AreNodes, node_at, path_at}
 use Rattle.uvm_tree.specs.declared.nodes.NodeKind.TheVariants.{Component}
@@ -19,6 +19,7 @@ use Rattle.uvm_object.specs.declared.acts.Act.{Act}
 use Rattle.uvm_object.specs.declared.acts.Act.TheVariants.{Create, Start}
 use Rattle.uvm_object.specs.declared.entries.Outcome.{Outcome}
 use Rattle.uvm_object.specs.declared.entries.Outcome.TheVariants.{Made, Started}
+use Rattle.uvm_object.specs.declared.entries.Origin.{Origin}
 use Rattle.uvm_object.specs.declared.entries.Passage.{Passage}
 use Rattle.uvm_object.specs.declared.entries.Entry.{Entry}
 use Rattle.uvm_object.specs.declared.entries.Entry.TheVariants.{End, Did, Locked, Passed, Drained}
@@ -27,16 +28,16 @@ use Rattle.bench_history.specs.declared.needs.Need as declared
 use Rattle.bench_history.specs.declared.stages.Stage.{Stage}
 use Rattle.bench_history.specs.declared.stages.Stage.TheVariants.{Before, During, After, Ended}
 use Rattle.bench_history.specs.Owners.{Event, who_of}
-use Rattle.bench_history.specs.History.{now_of, stage_of, running, nodes_of, components_of, created_name, left_of, head_of, rest_of, speaker_of, opening, is_built, is_over, next_call, ended_of}
+use Rattle.bench_history.specs.History.{act_phase, now_of, stage_of, running, nodes_of, components_of, created_name, left_of, head_of, rest_of, speaker_of, opening, is_built, is_over, next_call, ended_of}
 use Rattle.bench_history.specs.Dues.{first_due, due_now}
 use Rattle.bench_history.specs.Wires.{is_past_connect}
-use Rattle.bench_history.specs.Arbitration.{driver_asker, driver_state, mode_at, next_locked, next_served}
+use Rattle.bench_history.specs.Arbitration.{asked_in, driver_asker, driver_state, mode_at, next_locked, next_served}
 use Rattle.bench_history.specs.Passing.{next_passed}
 use Rattle.bench_history.specs.Reports.{report_commands}
 use Rattle.bench_history.specs.Refusals.{child_refusal, in_task, starting_refusal}
-use Rattle.bench_history.specs.Sequences.{Beginning, all_begun, begun_of, is_live, leaving_of, sequences_of, start_by}
+use Rattle.bench_history.specs.Sequences.{Beginning, all_begun, begun_of, is_live, leaving_of, phase_begun, sequences_of, start_by}
 use Rattle.bench_history.specs.Upshots.{starting_now}
-use Rattle.bench_history.specs.Cases.{Next, Exactly, Answer, Need, Grant, Nothing, by_act, chosen_at}
+use Rattle.bench_history.specs.Cases.{Next, Exactly, Answer, Need, Grant, Nothing, by_act, chosen_at, origin_of}
 use Rattle.bench_history.specs.Next.{next_of, need_in, IsAct, IsNext, EachIsNext}
 
 -- the number of the next phase that may begin, or of the one that runs; at the end that of all common phases
@@ -62,6 +63,23 @@ pub record ArePhasesInOrder (history : List Entry) : Type 0 where
 abbrev pub PhasesGoInOrder : Type 0
 PhasesGoInOrder = (script : ScriptValue) (history : List Entry) → EachIsNext script history → ArePhasesInOrder history
 
+-- a phase, if there is one, has not ended
+abbrev pub HasNotEnded : List Phase → Option Phase → Type 0
+HasNotEnded ended phase = IfSome phase (λ one. list_any (same_phase one) ended ≡ false)
+
+-- where an act is next, its phase runs, and so has not ended, and that of a sequence is the phase in which it was started
+abbrev pub IsInPhase : List Entry → Who → Type 0
+IsInPhase history (who.Node node) = Unit {0}
+IsInPhase history (who.Sequence id home) = phase_begun history id ≡ act_phase history
+
+pub record AreActsInPhase (script : ScriptValue) (history : List Entry) (act : Act) : Type 0 where
+  pub runs : (phase : Phase) → act_phase history ≡ Some phase → running (stage_of history) ≡ Some phase
+  pub unended : HasNotEnded (ended_of history) (act_phase history)
+  pub own : (act ≡ opening script) ⊎ IsInPhase history (speaker_of history)
+
+abbrev pub ActsAreInPhase : Type 0
+ActsAreInPhase = (script : ScriptValue) (history : List Entry) (act : Act) → EachIsNext script history → IsAct (next_of script history) → left_of script history ≡ act ∷ rest_of (left_of script history) → AreActsInPhase script history act
+
 -- the phase that ends is the one that runs
 abbrev pub RunningPhasesEnd : Type 0
 RunningPhasesEnd = (script : ScriptValue) (history : List Entry) (phase : Phase) → next_of script history ≡ Exactly (End phase) → stage_of history ≡ During phase
@@ -83,7 +101,7 @@ IsThere history (who.Sequence id home) = IsLiving history id home
 
 -- whoever is asked is there
 abbrev pub AskedAreThere : Type 0
-AskedAreThere = (script : ScriptValue) (history : List Entry) (hearer : Who) (call : Call) (cause : Option Cause) → EachIsNext script history → next_of script history ≡ Answer hearer call cause → IsThere history hearer
+AskedAreThere = (script : ScriptValue) (history : List Entry) (hearer : Who) (call : Call) (cause : Option Origin) → EachIsNext script history → next_of script history ≡ Answer hearer call cause → IsThere history hearer
 
 -- so is whoever performs an act, but the script, which has the first act of all
 abbrev pub PerformersAreThere : Type 0
@@ -110,19 +128,19 @@ abbrev pub HomesAreNodes : Type 0
 HomesAreNodes = (script : ScriptValue) (history : List Entry) → EachIsNext script history → All (λ beginning. beginning.start.home < length (nodes_of history)) (begun_of history)
 
 -- what happens is the event that is due first, at its time
-pub record IsDue (history : List Entry) (hearer : Who) (notice : Option Call) (cause : Cause) : Type 0 where
+pub record IsDue (history : List Entry) (hearer : Who) (notice : Option Call) (origin : Origin) : Type 0 where
   pub event : Event
   pub first : first_due history ≡ Some event
   pub time : event.time ≡ now_of history
   pub hearer_is : who_of event.owner ≡ hearer
   pub notice_is : event.notice ≡ notice
-  pub cause_is : event.cause ≡ cause
+  pub origin_is : origin_of event ≡ origin
 
 -- so is what is due at a node without a call
-pub record IsDrainDue (history : List Entry) (node : ℕ) (cause : Cause) : Type 0 where
+pub record IsDrainDue (history : List Entry) (node : ℕ) (origin : Origin) : Type 0 where
   pub hearer : Who
   pub stands : node_of hearer ≡ node
-  pub due : IsDue history hearer None cause
+  pub due : IsDue history hearer None origin
 
 -- it is the turn of whoever is called without a cause, in the phase that runs
 pub record HasTurn (history : List Entry) (hearer : Who) : Type 0 where
@@ -135,14 +153,18 @@ CallsGoInTurn = (script : ScriptValue) (history : List Entry) (hearer : Who) (ca
 
 -- a call with a cause happens so, and the end of a drain
 abbrev pub DueCallsGoInOrder : Type 0
-DueCallsGoInOrder = (script : ScriptValue) (history : List Entry) (hearer : Who) (call : Call) (cause : Cause) → next_of script history ≡ Answer hearer call (Some cause) → IsDue history hearer (Some call) cause
+DueCallsGoInOrder = (script : ScriptValue) (history : List Entry) (hearer : Who) (call : Call) (origin : Origin) → next_of script history ≡ Answer hearer call (Some origin) → IsDue history hearer (Some call) origin
 
 abbrev pub DrainsGoInOrder : Type 0
-DrainsGoInOrder = (script : ScriptValue) (history : List Entry) (node : ℕ) (cause : Cause) → next_of script history ≡ Exactly (Drained node cause) → IsDrainDue history node cause
+DrainsGoInOrder = (script : ScriptValue) (history : List Entry) (node : ℕ) (origin : Origin) → next_of script history ≡ Exactly (Drained node origin) → IsDrainDue history node origin
 
 -- what passes at a FIFO is what is next to pass
 abbrev pub PassagesGoInOrder : Type 0
 PassagesGoInOrder = (script : ScriptValue) (history : List Entry) (fifo : ℕ) (passage : Passage) → next_of script history ≡ Exactly (Passed fifo passage) → next_passed history ≡ Some (fifo, passage)
+
+-- it was asked for in a phase that has not ended
+abbrev pub PassagesAreInPhase : Type 0
+PassagesAreInPhase = (script : ScriptValue) (history : List Entry) (fifo : ℕ) (passage : Passage) → next_of script history ≡ Exactly (Passed fifo passage) → list_any (same_phase passage.phase) (ended_of history) ≡ false
 
 -- and who waited there is a component
 abbrev pub WaitersAreComponents : Type 0
@@ -171,12 +193,13 @@ abbrev pub place_of : Option Beginning → Option (ℕ × Option Phase)
 place_of None = None
 place_of (Some beginning) = Some (beginning.start.home, beginning.phase)
 
--- each sequencer on which a sequence was started is there, who drives one is a component, and the item in its hand is that of a sequence which was started
--- there, in the phase that runs
+-- each sequencer on which a sequence was started is there, who drives one is a component, the item in its hand is that of a sequence which was started there, and
+-- the phase in which it asked has not ended, unless it is idle
 pub record IsDriving (history : List Entry) : Type 0 where
   pub homes : All (λ beginning. IsSome (mode_at history beginning.start.home)) (begun_of history)
   pub drivers : (node : ℕ) → IfSome (driver_asker history node) (λ driver. IsComponent (components_of history) driver.who)
-  pub hands : (node id : ℕ) → hand_of (driver_state history node) ≡ Some id → place_of (numbered (begun_of history) id) ≡ Some (node, running (stage_of history))
+  pub hands : (node id : ℕ) → hand_of (driver_state history node) ≡ Some id → option_map (λ beginning. beginning.start.home) (numbered (begun_of history) id) ≡ Some node
+  pub asks : (node : ℕ) → is_idle (driver_state history node) ≡ false → HasNotEnded (ended_of history) (asked_in history node)
 
 -- so it is where an act is next
 abbrev pub DriversAreThere : Type 0
@@ -278,7 +301,7 @@ ConnectFollowsBuild = (script : ScriptValue) (history : List Entry) → EachIsNe
 
 -- a phase that takes time comes after connect
 abbrev pub TasksFollowConnect : Type 0
-TasksFollowConnect = (script : ScriptValue) (history : List Entry) → EachIsNext script history → in_task (running (stage_of history)) ≡ true → is_past_connect history ≡ true
+TasksFollowConnect = (script : ScriptValue) (history : List Entry) → EachIsNext script history → (stage_of history ≡ Ended → ⊥) → in_task (act_phase history) ≡ true → is_past_connect history ≡ true
 
 -- something comes next
 abbrev pub IsSomething : Next → Type 0

@@ -26,6 +26,7 @@ use Rattle.uvm_object.specs.declared.acts.Act.{Act}
 use Rattle.uvm_object.specs.declared.acts.Act.TheVariants.{ItemDone, Request as Requests, Send, Unlock, Wait}
 use Rattle.uvm_object.specs.declared.entries.Outcome.TheVariants.{Done}
 use Rattle.uvm_object.specs.declared.entries.Grant as entries
+use Rattle.uvm_object.specs.declared.entries.Origin.{Origin}
 use Rattle.uvm_object.specs.declared.entries.Entry.{Entry}
 use Rattle.uvm_object.specs.declared.entries.Entry.TheVariants.{Time, End, Heard, Did, Locked, Granted, Drained}
 use Rattle.uvm_tlm.specs.declared.items.Item.{Item}
@@ -36,6 +37,7 @@ use Rattle.bench_history.specs.Objections.{objections_of}
 use Rattle.bench_history.specs.Dues.{due_events, events_from}
 use Rattle.bench_history.specs.Sequences.{is_live, sequences_of}
 use Rattle.bench_history.specs.Arbitration.{Wanted, all_wanted, asked_in, driver_state, holders, leads_there, mode_at, request_priority, request_queue, sequence_on, sequencer_below, still_waits}
+use Rattle.bench_history.specs.Cases.{origin_of}
 use Rattle.bench_history.specs.Next.{IsLegal}
 
 -- what stood before an entry of a legal log is a legal log: so what a law says of the newest entry it says of each
@@ -153,14 +155,14 @@ abbrev pub call_time : Entry → ℕ → ℕ
 call_time (Did performer Done (Wait ticks tag)) now = now + ticks
 call_time entry now = now
 
--- a call of somebody was caused: the entry at the place of its cause causes just this call to this hearer, and it is due at this time
-pub record IsCaused (history : List Entry) (hearer : Who) (call : Call) (cause : Cause) (time : ℕ) : Type 0 where
+-- a call of somebody was caused: the entry at the place of its cause causes just this call to this hearer, in the phase of its origin, and it is due at this time
+pub record IsCaused (history : List Entry) (hearer : Who) (call : Call) (origin : Origin) (time : ℕ) : Type 0 where
   pub entry : Entry
   pub before : List Entry
-  pub at : IsAtCause history cause entry before
+  pub at : IsAtCause history origin.cause entry before
   pub event : Event
   pub among : Contains (events_from entry before) event
-  pub cause_is : event.cause ≡ cause
+  pub origin_is : origin_of event ≡ origin
   pub hearer_is : who_of event.owner ≡ hearer
   pub call_is : event.notice ≡ Some call
   pub time_is : time ≡ call_time entry (now_of before)
@@ -185,9 +187,9 @@ pub record IsDrainTime (history : List Entry) (phase : Phase) (node : ℕ) (caus
 -- a call with a cause that is heard, and a drain that ends, does so at exactly the time that its cause gave it; and time passes over nothing that is due, and never
 -- goes back. (What is due when its phase or its sequence ends is never heard, and no longer due.)
 pub record OnTime : Type 0 where
-  pub calls : (script : ScriptValue) (later before : List Entry) (hearer : Who) (call : Call) (cause : Cause) (acts : List Act) → IsLegal script (later ++ Heard hearer call (Some cause) acts ∷ before) → IsCaused before hearer call cause (now_of before)
-  pub wakes : (script : ScriptValue) (later before : List Entry) (hearer : Who) (tag : ℕ) (cause : Cause) (acts : List Act) → IsLegal script (later ++ Heard hearer (call.Wake tag) (Some cause) acts ∷ before) → IsWakeTime before hearer tag cause (now_of before)
-  pub drains : (script : ScriptValue) (later before : List Entry) (node : ℕ) (cause : Cause) → IsLegal script (later ++ Drained node cause ∷ before) → (phase : Phase) × IsDrainTime before phase node cause (now_of before)
+  pub calls : (script : ScriptValue) (later before : List Entry) (hearer : Who) (call : Call) (origin : Origin) (acts : List Act) → IsLegal script (later ++ Heard hearer call (Some origin) acts ∷ before) → IsCaused before hearer call origin (now_of before)
+  pub wakes : (script : ScriptValue) (later before : List Entry) (hearer : Who) (tag : ℕ) (origin : Origin) (acts : List Act) → IsLegal script (later ++ Heard hearer (call.Wake tag) (Some origin) acts ∷ before) → IsWakeTime before hearer tag origin.cause (now_of before)
+  pub drains : (script : ScriptValue) (later before : List Entry) (node : ℕ) (origin : Origin) → IsLegal script (later ++ Drained node origin ∷ before) → IsDrainTime before origin.phase node origin.cause (now_of before)
   pub passes : (script : ScriptValue) (later before : List Entry) (time : ℕ) → IsLegal script (later ++ Time time ∷ before) → All (λ event. time ≤ event.time) (due_events before)
   pub forward : (script : ScriptValue) (later before : List Entry) (time : ℕ) → IsLegal script (later ++ Time time ∷ before) → now_of before ≤ time
 

@@ -25,7 +25,7 @@ use Rattle.uvm_object.specs.declared.entries.Entry.{Entry}
 use Rattle.uvm_object.specs.declared.entries.Entry.TheVariants.{Did, Passed}
 use Rattle.bench_history.specs.declared.askers.Asker.{Asker}
 use Rattle.bench_history.specs.declared.askers.Gate.{Gate}
-use Rattle.bench_history.specs.History.{acting_in, nodes_of, ended_of}
+use Rattle.bench_history.specs.History.{act_phase, nodes_of, ended_of}
 use Rattle.bench_history.specs.Wires.{wiring_of}
 use Rattle.bench_history.specs.Ports.{fifo_size, gate_below, fifos_below}
 
@@ -63,7 +63,7 @@ request_by fifo performer place wished (Some phase) None = None
 request_by fifo performer place wished None gate = None
 
 abbrev pub request_at : {Wish : Type 0} → List Entry → ℕ → Who → PortKind → List ℕ × Wish → Option (Request Wish)
-request_at before fifo performer kind wished = request_by fifo performer (length before) wished (acting_in before) (gate_below before performer kind wished.0)
+request_at before fifo performer kind wished = request_by fifo performer (length before) wished (act_phase before) (gate_below before performer kind wished.0)
 
 -- the puts that were asked for at a FIFO, the earliest first
 abbrev pub puts_asked : List Entry → ℕ → List (Request Item)
@@ -171,7 +171,7 @@ first_asker move.Put station = slice_get station.putters 0
 first_asker kind station = slice_get station.takers 0
 
 abbrev pub passage_by : Move → Asker → Passage
-passage_by move asker = record { kind = move.kind; who = asker.who; port = asker.port; item = move.item; request = asker.place }
+passage_by move asker = record { kind = move.kind; who = asker.who; port = asker.port; item = move.item; request = asker.place; phase = asker.phase }
 
 abbrev pub passage_for : Station → Move → Option Passage
 passage_for station move = option_map (passage_by move) (first_asker move.kind station)

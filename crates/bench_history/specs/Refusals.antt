@@ -83,14 +83,14 @@ creation_refusal creation =
 unfoldable pub addition_refusal : Bool → List Node → ℕ → List ℕ → Option Fatal
 addition_refusal built nodes parent name = first_given (fault_if built CreatedAfterBuild ∷ child_refusal nodes parent name ∷ [])
 
--- a phase runs that takes time
+-- an act belongs to a phase that takes time
 abbrev pub in_task : Option Phase → Bool
 in_task None = false
 in_task (Some phase) = is_task phase
 
 -- a sequence that is to be started: of which type by name, on which sequencer, at which path and with which priority, and what that depends on
 pub record Starting : Type 0 where
-  pub running : Option Phase
+  pub phase : Option Phase
   pub types : Types
   pub overrides : List Override
   pub type_name : List ℕ
@@ -120,7 +120,7 @@ is_none_at_all (Some priority) = priority == 0
 unfoldable pub starting_refusal : Starting → Option Fatal
 starting_refusal starting =
     first_given (
-    fault_if (not (in_task starting.running)) OutsideTask
+    fault_if (not (in_task starting.phase)) OutsideTask
     ∷ fault_if (is_none_at_all starting.priority) OutOfRange
     ∷ fault_if (is_none (sequence_named starting.types starting.type_name)) InvalidType
     ∷ fault_if (is_none starting.home) NoSequencer
@@ -154,7 +154,7 @@ connection_refusal connected from to =
 
 -- what goes through ports goes in such a phase, through a port that is there
 unfoldable pub passing_refusal : Option Phase → Bool → Option Fatal
-passing_refusal running is_there = first_given (fault_if (not (in_task running)) OutsideTask ∷ fault_if (not is_there) NoPort ∷ [])
+passing_refusal phase is_there = first_given (fault_if (not (in_task phase)) OutsideTask ∷ fault_if (not is_there) NoPort ∷ [])
 
 -- a driver asks again only where it is idle, and is done where it has an item in hand
 abbrev pub ask_refusal : SequencerValue → Option Fatal
@@ -165,7 +165,7 @@ done_refusal s = fault_if (is_none (hand_of s.driver)) NothingOut
 
 -- it does either in such a phase, and through a port that is there
 unfoldable pub driving_refusal : Option Phase → Bool → Option Fatal → Option Fatal
-driving_refusal running is_there refusal = first_given (fault_if (not (in_task running)) OutsideTask ∷ fault_if (not is_there) NoPort ∷ refusal ∷ [])
+driving_refusal phase is_there refusal = first_given (fault_if (not (in_task phase)) OutsideTask ∷ fault_if (not is_there) NoPort ∷ refusal ∷ [])
 
 -- a sequence requests to send an item where it neither waits to send one nor was granted one that it has not sent
 abbrev pub item_refusal : ℕ → SequencerValue → Option Fatal
@@ -187,11 +187,11 @@ send_refusal id s = fault_if (is_none (grant_of id s.driver)) NotGranted
 
 -- objections are raised in such a phase
 unfoldable pub raise_refusal : Option Phase → Option Fatal
-raise_refusal running = fault_if (not (in_task running)) OutsideTask
+raise_refusal phase = fault_if (not (in_task phase)) OutsideTask
 
 -- and dropped there, no more than was raised
 unfoldable pub drop_refusal : Option Phase → ℕ → ℕ → Option Fatal
-drop_refusal running raised count = first_given (fault_if (not (in_task running)) OutsideTask ∷ fault_if (nat_lt raised count) ObjectionBelowZero ∷ [])
+drop_refusal phase raised count = first_given (fault_if (not (in_task phase)) OutsideTask ∷ fault_if (nat_lt raised count) ObjectionBelowZero ∷ [])
 
 -- a drain time is set in any, and is not too long
 unfoldable pub drain_refusal : ℕ → Option Fatal
@@ -199,7 +199,7 @@ drain_refusal ticks = fault_if (nat_lt most_ticks ticks) OutOfRange
 
 -- a wait is for such a phase, but one of no ticks is for any; and is not too long
 unfoldable pub wait_refusal : Option Phase → ℕ → Option Fatal
-wait_refusal running ticks = first_given (fault_if (nat_lt 0 ticks && not (in_task running)) OutsideTask ∷ fault_if (nat_lt most_ticks ticks) OutOfRange ∷ [])
+wait_refusal phase ticks = first_given (fault_if (nat_lt 0 ticks && not (in_task phase)) OutsideTask ∷ fault_if (nat_lt most_ticks ticks) OutOfRange ∷ [])
 
 -- an act is open to a component, to a sequence, or to both
 abbrev pub is_component : Who → Bool

@@ -21,7 +21,7 @@ use Rattle.uvm_object.specs.declared.entries.Outcome.TheVariants.{Done, Started,
 use Rattle.uvm_object.specs.declared.entries.Entry.{Entry}
 use Rattle.uvm_object.specs.declared.entries.Entry.TheVariants.{Did, End}
 use Rattle.bench_history.specs.Limits.{usual_priority}
-use Rattle.bench_history.specs.History.{acting_in, nodes_of, ended_of}
+use Rattle.bench_history.specs.History.{act_phase, nodes_of, ended_of}
 use Rattle.bench_history.specs.Wires.{node_below}
 
 -- the sequence that somebody is, which starts its children
@@ -69,7 +69,7 @@ start_by nodes started performer (act.Start type_name name on priority) =
     record { home = unwrap_or (home_asked nodes performer on) 0; parent = sequence_in performer; name = name; priority = start_priority started (sequence_in performer) priority }
 start_by nodes started performer act = record { home = 0; parent = None; name = []; priority = usual_priority }
 
--- how a sequence was started, by whom, and in which phase
+-- how a sequence was started, by whom, and in which phase, that of the act
 pub record Beginning : Type 0 where
   pub start : Start
   pub starter : Who
@@ -85,8 +85,12 @@ begun_after nodes phase begun performer outcome act = begun
 -- all sequences that were started, the newest first: each by an accepted act
 abbrev pub begun_of : List Entry → List Beginning
 begun_of [] = []
-begun_of (Did performer outcome act ∷ before) = begun_after (nodes_of before) (acting_in before) (begun_of before) performer outcome act
+begun_of (Did performer outcome act ∷ before) = begun_after (nodes_of before) (act_phase before) (begun_of before) performer outcome act
 begun_of (entry ∷ before) = begun_of before
+
+-- the phase in which a sequence was started, to which it belongs
+abbrev pub phase_begun : List Entry → ℕ → Option Phase
+phase_begun history id = option_and_then (λ beginning. beginning.phase) (numbered (begun_of history) id)
 
 abbrev pub sequences_of : List Entry → List Start
 sequences_of history = starts_in (begun_of history)

@@ -25,7 +25,7 @@ use Rattle.uvm_object.specs.declared.entries.Outcome.TheVariants.{Made, Started}
 use Rattle.uvm_object.specs.declared.entries.Entry.{Entry}
 use Rattle.bench_script.specs.Scripts.{ScriptValue}
 use Rattle.bench_history.specs.declared.needs.Need.{Need}
-use Rattle.bench_history.specs.History.{acting_in, nodes_of, overrides_of, is_built, type_name_or}
+use Rattle.bench_history.specs.History.{act_phase, nodes_of, overrides_of, is_built, type_name_or}
 use Rattle.bench_history.specs.Configuration.{settings_of}
 use Rattle.bench_history.specs.Objections.{objections_of}
 use Rattle.bench_history.specs.Wires.{end_below, wiring_of, is_past_connect}
@@ -74,7 +74,7 @@ starting_upshot count starting = unless_refused (starting_refusal starting) (Nee
 -- a start after a log
 abbrev pub starting_now : ScriptValue → List Entry → Who → List ℕ → List ℕ → List (List ℕ) → Option ℕ → Starting
 starting_now script history performer type_name name on priority = record {
-  running = acting_in history;
+  phase = act_phase history;
   types = script.types;
   overrides = overrides_of script history;
   type_name = type_name;
@@ -116,19 +116,19 @@ open_upshot script history performer (OverrideType original new replace) = unles
 open_upshot script history performer (OverrideInst original new glob) = unless_refused (overriding_refusal script.types original new) Does
 open_upshot script history performer (Connect from to) =
     unless_refused (connection_refusal (is_past_connect history) (end_below (nodes_of history) (wiring_of history) performer from) (end_below (nodes_of history) (wiring_of history) performer to)) Does
-open_upshot script history performer (Put name item) = unless_refused (passing_refusal (acting_in history) (is_some (gate_below history performer through.Put name))) Does
+open_upshot script history performer (Put name item) = unless_refused (passing_refusal (act_phase history) (is_some (gate_below history performer through.Put name))) Does
 open_upshot script history performer (TryPut name item) =
-    unless_refused (passing_refusal (acting_in history) (is_some (gate_below history performer through.Put name))) (Stores (puts_now (station_below history performer through.Put name)))
-open_upshot script history performer (Take name) = unless_refused (passing_refusal (acting_in history) (is_some (gate_below history performer through.Get name))) Does
+    unless_refused (passing_refusal (act_phase history) (is_some (gate_below history performer through.Put name))) (Stores (puts_now (station_below history performer through.Put name)))
+open_upshot script history performer (Take name) = unless_refused (passing_refusal (act_phase history) (is_some (gate_below history performer through.Get name))) Does
 open_upshot script history performer (TryTake name) =
-    unless_refused (passing_refusal (acting_in history) (is_some (gate_below history performer through.Get name))) (Takes (takes_now (station_below history performer through.Get name)))
-open_upshot script history performer (Peek name) = unless_refused (passing_refusal (acting_in history) (is_some (gate_below history performer through.Get name))) Does
-open_upshot script history performer (Write name item) = unless_refused (passing_refusal (acting_in history) (is_some (port_below history performer through.Analysis name))) Does
+    unless_refused (passing_refusal (act_phase history) (is_some (gate_below history performer through.Get name))) (Takes (takes_now (station_below history performer through.Get name)))
+open_upshot script history performer (Peek name) = unless_refused (passing_refusal (act_phase history) (is_some (gate_below history performer through.Get name))) Does
+open_upshot script history performer (Write name item) = unless_refused (passing_refusal (act_phase history) (is_some (port_below history performer through.Analysis name))) Does
 open_upshot script history performer (Ask port how) =
-    unless_refused (driving_refusal (acting_in history) (is_some (sequencer_below history performer port)) (option_and_then ask_refusal (driven_at history performer port)))
+    unless_refused (driving_refusal (act_phase history) (is_some (sequencer_below history performer port)) (option_and_then ask_refusal (driven_at history performer port)))
     (asked_upshot how (has_candidate (sequences_of history) (driven_at history performer port)))
 open_upshot script history performer (ItemDone port response) =
-    unless_refused (driving_refusal (acting_in history) (is_some (sequencer_below history performer port)) (option_and_then done_refusal (driven_at history performer port))) Does
+    unless_refused (driving_refusal (act_phase history) (is_some (sequencer_below history performer port)) (option_and_then done_refusal (driven_at history performer port))) Does
 open_upshot script history performer (Start type_name name on priority) = starting_upshot (length (sequences_of history)) (starting_now script history performer type_name name on priority)
 open_upshot script history performer (Request priority) = unless_refused (request_refusal priority (option_and_then (item_refusal (id_in performer)) (home_sequencer history performer))) Does
 open_upshot script history performer Lock = unless_refused (option_and_then (lock_refusal (id_in performer)) (home_sequencer history performer)) Does
@@ -140,10 +140,10 @@ open_upshot script history performer (Report report) = Does
 open_upshot script history performer (Verbosity which level) = Does
 open_upshot script history performer (Actions which actions) = Does
 open_upshot script history performer (Severity from id to) = Does
-open_upshot script history performer (RaiseObjection count) = unless_refused (raise_refusal (acting_in history)) Does
-open_upshot script history performer (DropObjection count) = unless_refused (drop_refusal (acting_in history) (source_of (node_of performer) (objections_of history)) count) Does
+open_upshot script history performer (RaiseObjection count) = unless_refused (raise_refusal (act_phase history)) Does
+open_upshot script history performer (DropObjection count) = unless_refused (drop_refusal (act_phase history) (source_of (node_of performer) (objections_of history)) count) Does
 open_upshot script history performer (SetDrain ticks) = unless_refused (drain_refusal ticks) Does
-open_upshot script history performer (Wait ticks tag) = unless_refused (wait_refusal (acting_in history) ticks) Does
+open_upshot script history performer (Wait ticks tag) = unless_refused (wait_refusal (act_phase history) ticks) Does
 
 -- what each act comes to
 abbrev pub upshot_of : ScriptValue → List Entry → Who → Act → Upshot

@@ -34,4 +34,6 @@ pub struct DriverPort {
     pub who: Who,
     /// The name of the port.
     pub name: Name,
+    /// The phase in which it was asked, with whose end the ask ends.
+    pub phase: Option<Phase>,
 }

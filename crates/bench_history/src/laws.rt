@@ -1,7 +1,7 @@
 //! What holds of all logs, or of all in which each entry was next, as in each legal one, and of what comes next in them. The functions do
 //! nothing that shows; their contracts are the laws (`specs/Laws.antt`), for all scripts.
 
-ghost use Rattle.bench_history.specs.Laws.{PhasesGoInOrder, RunningPhasesEnd, AskedAreThere, PerformersAreThere, ComponentsAreNodes, ComponentsByKind, HomesAreNodes, CallsGoInTurn, DueCallsGoInOrder, DrainsGoInOrder, PassagesGoInOrder, WaitersAreComponents, LocksGoInOrder, LockersAreThere, GrantsGoInOrder, ChosenAreThere, DriversAreThere, ActsGoInOrder, NeedsAreWanted, NothingAfterOver, SomethingBeforeOver, MachineEntriesAreSilent, NodesStay, NodesAreATree, MadeObjectsAreNew, NewNodesAreUnasked, NewSequencesAreUnasked, LivingLived, LivingRun, LeaversLived, ReportsAreFew, TimeStaysWithin, WiringStays, ConnectFollowsBuild, TasksFollowConnect};
+ghost use Rattle.bench_history.specs.Laws.{PhasesGoInOrder, ActsAreInPhase, RunningPhasesEnd, AskedAreThere, PerformersAreThere, ComponentsAreNodes, ComponentsByKind, HomesAreNodes, CallsGoInTurn, DueCallsGoInOrder, DrainsGoInOrder, PassagesGoInOrder, PassagesAreInPhase, WaitersAreComponents, LocksGoInOrder, LockersAreThere, GrantsGoInOrder, ChosenAreThere, DriversAreThere, ActsGoInOrder, NeedsAreWanted, NothingAfterOver, SomethingBeforeOver, MachineEntriesAreSilent, NodesStay, NodesAreATree, MadeObjectsAreNew, NewNodesAreUnasked, NewSequencesAreUnasked, LivingLived, LivingRun, LeaversLived, ReportsAreFew, TimeStaysWithin, WiringStays, ConnectFollowsBuild, TasksFollowConnect};
 
 use crate::owners::Owner;
 use uvm_object::Call;
@@ -16,6 +16,14 @@ use uvm_tree::laws as trees;
 pub fn phases_go_in_order()
     ensures { PhasesGoInOrder }
 {}
+
+/// Where an act is next its phase runs, and so has not ended, and that of a sequence is the phase in which the sequence was started.
+pub fn acts_are_in_phase()
+    ensures { ActsAreInPhase }
+{
+    agenda::order_keeps_all::<Owner, Option<Call>>();
+    sequencers::lock_excludes();
+}
 
 /// The phase that ends is the one that runs.
 #[tactic(auto, using(crate::proofs::Performed::running_phases_end))]
@@ -82,6 +90,12 @@ pub fn passages_go_in_order()
     ensures { PassagesGoInOrder }
 {}
 
+/// It was asked for in a phase that has not ended.
+#[tactic(auto, using(crate::proofs::Performed::passages_are_in_phase))]
+pub fn passages_are_in_phase()
+    ensures { PassagesAreInPhase }
+{}
+
 /// And who waited there is a component.
 pub fn waiters_are_components()
     ensures { WaitersAreComponents }
@@ -118,8 +132,8 @@ pub fn chosen_are_there()
     sequencers::lock_excludes();
 }
 
-/// Where an act is next, each sequencer on which a sequence was started is there, who drives one is a component, and an item in a driver's
-/// hand is that of a sequence which was started there, in the phase that runs.
+/// Where an act is next, each sequencer on which a sequence was started is there, who drives one is a component, an item in a driver's
+/// hand is that of a sequence which was started there, and the phase in which a driver asked has not ended, unless it is idle.
 pub fn drivers_are_there()
     ensures { DriversAreThere }
 {
@@ -200,10 +214,12 @@ pub fn living_lived()
 {}
 
 /// A sequence that lives was started in the phase that runs, while the run goes on.
-#[tactic(auto, using(crate::proofs::Running::living_run))]
 pub fn living_run()
     ensures { LivingRun }
-{}
+{
+    agenda::order_keeps_all::<Owner, Option<Call>>();
+    sequencers::lock_excludes();
+}
 
 /// The sequences that an entry ends lived before it, live no longer, are all that do so, and go in rising number.
 pub fn leavers_lived()
@@ -239,8 +255,10 @@ pub fn connect_follows_build()
     ensures { ConnectFollowsBuild }
 {}
 
-/// Where a phase runs that takes time, connect has ended.
-#[tactic(auto, using(crate::proofs::Wired::tasks_follow_connect))]
+/// Where an act belongs to a phase that takes time, connect has ended, until the run is over.
 pub fn tasks_follow_connect()
     ensures { TasksFollowConnect }
-{}
+{
+    agenda::order_keeps_all::<Owner, Option<Call>>();
+    sequencers::lock_excludes();
+}

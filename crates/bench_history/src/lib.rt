@@ -11,5 +11,5 @@ mod stages;
 
 pub use askers::{Asker, DriverPort, Gate};
 pub use needs::Need;
-pub use owners::Owner;
+pub use owners::{Owner, Told};
 pub use stages::Stage;

@@ -10,7 +10,7 @@ use Rattle.std.specs.List.{IsDistinct}
 use Rattle.std.specs.List.Sorted.{IsPermutation}
 use Rattle.std.specs.Map.{keys_of}
 use Rattle.std.specs.declared.alloc.AllocError.{AllocError}
-use Rattle.uvm_phase.specs.declared.agendas.Cause.{Cause}
+use Rattle.uvm_object.specs.declared.entries.Origin.{Origin}
 use Rattle.uvm_object.specs.declared.acts.Who.{Who}
 use Rattle.uvm_object.specs.declared.acts.Who.TheVariants.{Node, Sequence}
 use Rattle.uvm_object.specs.declared.acts.Call.{Call}
@@ -51,13 +51,13 @@ IsHonestNow-more says others before after call acts life same said honest =
     (before ∷ honest.0, ((same before call acts after).1 said, IsHonest-same says others (before ∷ honest.0) life same honest.1))
 
 -- who was heard has one exchange more, and every other as many as before
-heard-same : (performer : Who) (call : Call) (cause : Option Cause) (acts : List Act) (history : List Entry)
-    → life_of performer (Heard performer call cause acts ∷ history) ≡ (call, acts) ∷ life_of performer history
-heard-same performer call cause acts history = rw (same_who-self performer) refl
+heard-same : (performer : Who) (call : Call) (origin : Option Origin) (acts : List Act) (history : List Entry)
+    → life_of performer (Heard performer call origin acts ∷ history) ≡ (call, acts) ∷ life_of performer history
+heard-same performer call origin acts history = rw (same_who-self performer) refl
 
-heard-other : (performer other : Who) (call : Call) (cause : Option Cause) (acts : List Act) (history : List Entry) → same_who performer other ≡ false
-    → life_of other (Heard performer call cause acts ∷ history) ≡ life_of other history
-heard-other performer other call cause acts history apart = rw apart refl
+heard-other : (performer other : Who) (call : Call) (origin : Option Origin) (acts : List Act) (history : List Entry) → same_who performer other ≡ false
+    → life_of other (Heard performer call origin acts ∷ history) ≡ life_of other history
+heard-other performer other call origin acts history apart = rw apart refl
 
 module _ {O : Type 0} (view : O → View) (name : O → List ℕ) (says : O → Says) where
   -- an object has lived what the log says, but for one that gave no answer
@@ -75,24 +75,24 @@ module _ {O : Type 0} (view : O → View) (name : O → List ℕ) (says : O → 
       (IsPermutation-map (λ (seat : Who × O). seat.0) old ((who, asked.before) ∷ asked.others) (IsPermutation-sym ((who, asked.before) ∷ asked.others) old asked.was)) distinct)))
 
   -- an answer in the log is a step of the life of the object that gave it
-  pub LiveHonestly-heard : (performer : Who) (call : Call) (cause : Option Cause) (acts : List Act) (old new : List (Who × O)) (history : List Entry)
+  pub LiveHonestly-heard : (performer : Who) (call : Call) (origin : Option Origin) (acts : List Act) (old new : List (Who × O)) (history : List Entry)
       → IsAsked view name says performer call (Ok acts) old new → IsDistinct same_who (keys_of old) → LiveHonestly view says old None history
-      → LiveHonestly view says new None (Heard performer call cause acts ∷ history)
-  LiveHonestly-heard performer call cause acts old new history asked distinct honest =
+      → LiveHonestly view says new None (Heard performer call origin acts ∷ history)
+  LiveHonestly-heard performer call origin acts old new history asked distinct honest =
       let were : All (Lives None history) ((performer, asked.before) ∷ asked.others) = All-permutation (Lives None history) old ((performer, asked.before) ∷ asked.others) (IsPermutation-sym ((performer, asked.before) ∷ asked.others) old asked.was) honest in
       let was = All-head (Lives None history) (performer, asked.before) asked.others were (λ n. none-some performer n) in
       let rest = All-tail (Lives None history) (performer, asked.before) asked.others were in
       let apart = others-differ performer call (Ok acts) old new asked distinct in
-      All-permutation (Lives None (Heard performer call cause acts ∷ history)) ((performer, asked.after) ∷ asked.others) new asked.is
-      (All-cons (Lives None (Heard performer call cause acts ∷ history)) (performer, asked.after) asked.others
+      All-permutation (Lives None (Heard performer call origin acts ∷ history)) ((performer, asked.after) ∷ asked.others) new asked.is
+      (All-cons (Lives None (Heard performer call origin acts ∷ history)) (performer, asked.after) asked.others
       (λ known.
-      subst (λ l. IsHonestNow (says asked.after) (view asked.after) l) (sym (heard-same performer call cause acts history))
+      subst (λ l. IsHonestNow (says asked.after) (view asked.after) l) (sym (heard-same performer call origin acts history))
       (IsHonestNow-more (says asked.after) (says asked.before) (view asked.before) (view asked.after) call acts (life_of performer history) asked.same_says asked.said was))
       (λ k d h. other (get_or asked.others k d) (apart k d h) (rest k d h)))
     where
-      other : (seat : Who × O) → same_who performer seat.0 ≡ false → Lives None history seat → Lives None (Heard performer call cause acts ∷ history) seat
+      other : (seat : Who × O) → same_who performer seat.0 ≡ false → Lives None history seat → Lives None (Heard performer call origin acts ∷ history) seat
       other seat apart lives known =
-          subst (λ l. IsHonestNow (says seat.1) (view seat.1) l) (sym (heard-other performer seat.0 call cause acts history apart)) (lives known)
+          subst (λ l. IsHonestNow (says seat.1) (view seat.1) l) (sym (heard-other performer seat.0 call origin acts history apart)) (lives known)
 
   -- who gave no answer is left out
   pub LiveHonestly-unanswered : (performer : Who) (call : Call) (answer : Result (List Act) AllocError) (old new : List (Who × O)) (history : List Entry)

@@ -38,7 +38,7 @@ made-are-new laws script history entry who each made is = go (next_of script his
         subst (λ (e : Entry). IsMadeNew script history e who) (same_Some (Did performer made act) entry enters)
         (record { types = come.types ∙ ap (λ type_name. (who, type_name) ∷ types_made script history) (sym wanted); unasked = come.unasked })
     go (Exactly expected) exact enters is = cc
-    go (Answer hearer call cause) exact enters is = cc
+    go (Answer hearer call origin) exact enters is = cc
     go (Grant sequencer drawn chosen) exact enters is = cc
     go Nothing exact enters is = cc
 
@@ -49,7 +49,7 @@ others-make-nobody laws script history entry unneeded allowed = go (next_of scri
     go (Exactly expected) exact unneeded is =
         let machines : IsMachines history expected = laws.silent script history expected exact in
         subst (λ (e : Entry). types_made script (e ∷ history) ≡ types_made script history) (sym is) (types-same script expected history machines.keeps machines.starts_none)
-    go (Answer hearer call cause) exact unneeded is = subst (λ (e : Entry). types_made script (e ∷ history) ≡ types_made script history) (sym is.1) refl
+    go (Answer hearer call origin) exact unneeded is = subst (λ (e : Entry). types_made script (e ∷ history) ≡ types_made script history) (sym is.1) refl
     go (Need need made performer act) exact unneeded is = cc
     go (Grant sequencer drawn chosen) exact unneeded is = subst (λ (e : Entry). types_made script (e ∷ history) ≡ types_made script history) (sym is.3) refl
     go Nothing exact unneeded is = absurd is
@@ -96,7 +96,7 @@ module _ (laws : LogLaws) (script : ScriptValue) where
       go (Exactly expected) exact is =
           let machines : IsMachines history expected = laws.silent script history expected exact in
           subst (λ (e : Entry). AreOnce script (e ∷ history)) (sym is) (once-same script expected history machines.keeps machines.starts_none once)
-      go (Answer hearer call cause) exact is = subst (λ (e : Entry). AreOnce script (e ∷ history)) (sym is.1) (once-same script (Heard hearer call cause is.0) history refl refl once)
+      go (Answer hearer call origin) exact is = subst (λ (e : Entry). AreOnce script (e ∷ history)) (sym is.1) (once-same script (Heard hearer call origin is.0) history refl refl once)
       go (Need need made performer act) needs (inl is) = subst (λ (e : Entry). AreOnce script (e ∷ history)) (sym is) (by-made need made performer act (made_who history (Need need made performer act)) refl needs)
       go (Need need made performer act) needs (inr is) =
           subst (λ (e : Entry). AreOnce script (e ∷ history)) (sym is) (once-same script (Did performer (Refused NoObject) act) history refl refl once)

@@ -2,7 +2,7 @@
 use Rattle.std.proofs.Common.{◌≡◌, ◌∙◌, ℕ, true, false, List, [], ◌∷◌, ◌<◌, length, Option, Some, None, IfSome, Result, Ok, Err, inl, inr, refl, sym, ap, subst}
 use Rattle.std.specs.List.Sorted.{IsPermutation}
 use Rattle.std.specs.declared.alloc.AllocError.{AllocError}
-use Rattle.uvm_phase.specs.declared.agendas.Cause.{Cause}
+use Rattle.uvm_object.specs.declared.entries.Origin.{Origin}
 use Rattle.uvm_object.specs.Objects.{View, Says}
 use Rattle.uvm_object.specs.declared.acts.Who.{Who}
 use Rattle.uvm_object.specs.declared.acts.Call.{Call}
@@ -60,7 +60,7 @@ pub record HasTold (who : Who) (old new : CoreValue) : Type 0 where
 
 no-leave : (comes : next.Next) (who : Who) (old new : CoreValue) → IsTurn comes (turn.TheVariants.Leave who) old new → ⊥
 no-leave (next.Exactly entry) who old new t = let e = t.0 in cc
-no-leave (next.Answer performer call cause) who old new t = let e = t.0 in cc
+no-leave (next.Answer performer call origin) who old new t = let e = t.0 in cc
 no-leave (next.Need need made performer act) who old new t = let e = t.0 in cc
 no-leave (next.Grant sequencer drawn chosen) who old new t = let e = t.0 in cc
 no-leave next.Nothing who old new t = let e = t.0 in cc
@@ -68,7 +68,7 @@ no-leave next.Nothing who old new t = let e = t.0 in cc
 no-leave-at : (standing : Standing) (who : Who) (old new : CoreValue) → IsNextTurn standing (Ok (turn.TheVariants.Leave who)) old new → ⊥
 no-leave-at Nothing who old new t = no-leave (next_of old.script old.history) who old new t.1
 no-leave-at (Needed need) who old new t = let e = t.0 in cc
-no-leave-at (Asked performer call cause) who old new t = let e = t.0 in cc
+no-leave-at (Asked performer call origin) who old new t = let e = t.0 in cc
 
 leave-by : (leaving : List Who) (who : Who) (old new : CoreValue) → old.leaving ≡ leaving → IsToldTurn leaving (Ok (turn.TheVariants.Leave who)) old new → HasTold who old new
 leave-by [] who old new is t = absurd (no-leave-at old.standing who old new t)
@@ -99,14 +99,14 @@ moved-by silent (next.Grant sequencer drawn chosen) old new comes t = granted t.
     granted : (entry : Entry) → coming.Allows (next.Grant sequencer drawn chosen) entry → new ≡ core_after entry old → HasMoved old new
     granted entry allowed is =
         record { entry = entry; next = rw comes allowed; something = rw comes tt; unneeded = rw comes refl; machines = subst (λ (e : Entry). IsMachines old.history e) (sym allowed.3) (granted-machines old.history sequencer allowed.0); is = is }
-moved-by silent (next.Answer performer call cause) old new exact t = absurd (let e = t.0 in cc)
+moved-by silent (next.Answer performer call origin) old new exact t = absurd (let e = t.0 in cc)
 moved-by silent (next.Need need made performer act) old new exact t = absurd (let e = t.0 in cc)
 moved-by silent next.Nothing old new exact t = absurd (let e = t.0 in cc)
 
 moved-at : MachineEntriesAreSilent → (standing : Standing) (old new : CoreValue) → IsNextTurn standing (Ok turn.TheVariants.Moved) old new → HasMoved old new
 moved-at silent Nothing old new t = moved-by silent (next_of old.script old.history) old new refl t.1
 moved-at silent (Needed need) old new t = absurd (let e = t.0 in cc)
-moved-at silent (Asked performer call cause) old new t = absurd (let e = t.0 in cc)
+moved-at silent (Asked performer call origin) old new t = absurd (let e = t.0 in cc)
 
 pub moved-turn : MachineEntriesAreSilent → (old new : CoreValue) → IsNextTurn old.standing (Ok turn.TheVariants.Moved) old new → HasMoved old new
 moved-turn silent old new t = moved-at silent old.standing old new t
@@ -119,7 +119,7 @@ pub record HasNeeded (old new : CoreValue) : Type 0 where
 
 need-by : (comes : next.Next) (old new : CoreValue) → next_of old.script old.history ≡ comes → IsTurn comes turn.TheVariants.Need old new → HasNeeded old new
 need-by (next.Exactly entry) old new is t = absurd (let e = t.0 in cc)
-need-by (next.Answer performer call cause) old new is t = absurd (let e = t.0 in cc)
+need-by (next.Answer performer call origin) old new is t = absurd (let e = t.0 in cc)
 need-by (next.Grant sequencer drawn chosen) old new is t = absurd (let e = t.0 in cc)
 need-by (next.Need need made performer act) old new is t = record { need = need; is = t.1; comes = rw is refl }
 need-by next.Nothing old new is t = absurd (let e = t.0 in cc)
@@ -127,7 +127,7 @@ need-by next.Nothing old new is t = absurd (let e = t.0 in cc)
 need-at : (standing : Standing) (old new : CoreValue) → old.standing ≡ standing → IsAskedNext standing (next_of old.script old.history) → IsNextTurn standing (Ok turn.TheVariants.Need) old new → HasNeeded old new
 need-at Nothing old new is comes t = need-by (next_of old.script old.history) old new refl t.1
 need-at (Needed need) old new is comes t = record { need = need; is = t.1 ∙ ap (λ s. record old { standing = s }) is; comes = comes }
-need-at (Asked performer call cause) old new is comes t = absurd (let e = t.0 in cc)
+need-at (Asked performer call origin) old new is comes t = absurd (let e = t.0 in cc)
 
 pub need-turn : (old new : CoreValue) → IsAskedNext old.standing (next_of old.script old.history) → IsNextTurn old.standing (Ok turn.TheVariants.Need) old new → HasNeeded old new
 need-turn old new comes t = need-at old.standing old new refl comes t
@@ -135,7 +135,7 @@ need-turn old new comes t = need-at old.standing old new refl comes t
 -- the run is over: nothing changes
 over-by : (comes : next.Next) (old new : CoreValue) → IsTurn comes turn.TheVariants.Over old new → new ≡ old
 over-by (next.Exactly entry) old new t = absurd (let e = t.0 in cc)
-over-by (next.Answer performer call cause) old new t = absurd (let e = t.0 in cc)
+over-by (next.Answer performer call origin) old new t = absurd (let e = t.0 in cc)
 over-by (next.Grant sequencer drawn chosen) old new t = absurd (let e = t.0 in cc)
 over-by (next.Need need made performer act) old new t = absurd (let e = t.0 in cc)
 over-by next.Nothing old new t = t.1
@@ -143,28 +143,28 @@ over-by next.Nothing old new t = t.1
 over-at : (standing : Standing) (old new : CoreValue) → IsNextTurn standing (Ok turn.TheVariants.Over) old new → new ≡ old
 over-at Nothing old new t = over-by (next_of old.script old.history) old new t.1
 over-at (Needed need) old new t = absurd (let e = t.0 in cc)
-over-at (Asked performer call cause) old new t = absurd (let e = t.0 in cc)
+over-at (Asked performer call origin) old new t = absurd (let e = t.0 in cc)
 
 pub over-turn : (old new : CoreValue) → IsNextTurn old.standing (Ok turn.TheVariants.Over) old new → new ≡ old
 over-turn old new t = over-at old.standing old new t
 
 -- somebody is asked, whose answer comes next, and no object was needed
 pub record HasAsked (performer : Who) (call : Call) (old new : CoreValue) : Type 0 where
-  pub cause : Option Cause
-  pub is : new ≡ record old { standing = Asked performer call cause }
-  pub answers : next_of old.script old.history ≡ next.Answer performer call cause
+  pub origin : Option Origin
+  pub is : new ≡ record old { standing = Asked performer call origin }
+  pub answers : next_of old.script old.history ≡ next.Answer performer call origin
   pub nothing_needed : need_of old.standing ≡ None
 
 ask-by : (comes : next.Next) (performer : Who) (call : Call) (old new : CoreValue) → next_of old.script old.history ≡ comes → old.standing ≡ Nothing
     → IsTurn comes (turn.TheVariants.Ask performer call) old new → HasAsked performer call old new
 ask-by (next.Exactly entry) performer call old new comes none t = absurd (let e = t.0 in cc)
-ask-by (next.Answer other told cause) performer call old new comes none t =
+ask-by (next.Answer other told origin) performer call old new comes none t =
     let same_who : other ≡ performer = let e = t.0 in cc in
     let same_call : told ≡ call = let e = t.0 in cc in
     record {
-      cause = cause;
-      is = t.1 ∙ ap (λ w. record old { standing = Asked w told cause }) same_who ∙ ap (λ c. record old { standing = Asked performer c cause }) same_call;
-      answers = comes ∙ ap (λ w. next.Answer w told cause) same_who ∙ ap (λ c. next.Answer performer c cause) same_call;
+      origin = origin;
+      is = t.1 ∙ ap (λ w. record old { standing = Asked w told origin }) same_who ∙ ap (λ c. record old { standing = Asked performer c origin }) same_call;
+      answers = comes ∙ ap (λ w. next.Answer w told origin) same_who ∙ ap (λ c. next.Answer performer c origin) same_call;
       nothing_needed = rw none refl;
     }
 ask-by (next.Grant sequencer drawn chosen) performer call old new comes none t = absurd (let e = t.0 in cc)
@@ -175,15 +175,15 @@ ask-at : (standing : Standing) (performer : Who) (call : Call) (old new : CoreVa
     → IsNextTurn standing (Ok (turn.TheVariants.Ask performer call)) old new → HasAsked performer call old new
 ask-at Nothing performer call old new is comes t = ask-by (next_of old.script old.history) performer call old new refl is t.1
 ask-at (Needed need) performer call old new is comes t = absurd (let e = t.0 in cc)
-ask-at (Asked other told cause) performer call old new is comes t =
+ask-at (Asked other told origin) performer call old new is comes t =
     let same_who : other ≡ performer = let e = t.0 in cc in
     let same_call : told ≡ call = let e = t.0 in cc in
     record {
-      cause = cause;
+      origin = origin;
       is =
-          t.1 ∙ ap (λ s. record old { standing = s }) is ∙ ap (λ w. record old { standing = Asked w told cause }) same_who
-          ∙ ap (λ c. record old { standing = Asked performer c cause }) same_call;
-      answers = comes ∙ ap (λ w. next.Answer w told cause) same_who ∙ ap (λ c. next.Answer performer c cause) same_call;
+          t.1 ∙ ap (λ s. record old { standing = s }) is ∙ ap (λ w. record old { standing = Asked w told origin }) same_who
+          ∙ ap (λ c. record old { standing = Asked performer c origin }) same_call;
+      answers = comes ∙ ap (λ w. next.Answer w told origin) same_who ∙ ap (λ c. next.Answer performer c origin) same_call;
       nothing_needed = rw is refl;
     }
 
@@ -197,7 +197,7 @@ asked-room performer call old asking asks room = rw asks.is at room
 
 -- its answer goes into the log, or the log stays
 pub heard-is : (performer : Who) (call : Call) (acts : List Act) (old asking new : CoreValue) (asks : HasAsked performer call old asking)
-    → IfSome (answer_in asking.standing acts) (λ entry. new ≡ core_after entry asking) → new ≡ core_after (Heard performer call asks.cause acts) old
+    → IfSome (answer_in asking.standing acts) (λ entry. new ≡ core_after entry asking) → new ≡ core_after (Heard performer call asks.origin acts) old
 heard-is performer call acts old asking new asks heard =
     subst (λ (p : CoreValue). IfSome (answer_in p.standing acts) (λ entry. new ≡ core_after entry p)) asks.is heard
 
@@ -211,7 +211,7 @@ unheard-log performer call old asking new health asks failed =
 module _ {O : Type 0} (view : O → View) (name : O → List ℕ) (says : O → Says) where
   -- an entry of the machine is nobody's answer
   given-machines : (history : List Entry) (entry : Entry) (held : List (Who × O)) → IsMachines history entry → WasGiven view name says entry held held
-  given-machines history (Heard performer call cause acts) held machines =
+  given-machines history (Heard performer call origin acts) held machines =
       absurd (let nothing = machines.silent performer in
       let bad : (call, acts) ∷ [] ≡ [] = rw (same_who-self performer) at nothing in cc)
   given-machines history entry held machines = refl
@@ -240,13 +240,13 @@ module _ {O : Type 0} (view : O → View) (name : O → List ℕ) (says : O → 
   }
 
   -- an object was asked, and its answer went into the log
-  pub answered-step : (kernel : KernelValue O) (core : CoreValue) (held : List (Who × O)) (performer : Who) (call : Call) (cause : Option Cause) (acts : List Act)
-      → next_of kernel.core.script kernel.core.history ≡ next.Answer performer call cause → kernel.failed ≡ false → kernel.unknown ≡ None → core ≡ core_after (Heard performer call cause acts) kernel.core
+  pub answered-step : (kernel : KernelValue O) (core : CoreValue) (held : List (Who × O)) (performer : Who) (call : Call) (origin : Option Origin) (acts : List Act)
+      → next_of kernel.core.script kernel.core.history ≡ next.Answer performer call origin → kernel.failed ≡ false → kernel.unknown ≡ None → core ≡ core_after (Heard performer call origin acts) kernel.core
       → IsAsked view name says performer call (Ok acts) kernel.held held
       → IsMoved view name says kernel (record { core = core; held = held; failed = false; unknown = None })
-  answered-step kernel core held performer call cause acts answers going known is asked = record {
+  answered-step kernel core held performer call origin acts answers going known is asked = record {
     unneeded = rw answers refl;
-    entry = Heard performer call cause acts;
+    entry = Heard performer call origin acts;
     next = rw answers (acts, refl);
     given = asked;
     is = rw (is, going, known) refl;
@@ -271,19 +271,19 @@ module _ {O : Type 0} (view : O → View) (name : O → List ℕ) (says : O → 
       → IsRefusedStep view name says fault kernel (record kernel { core = new; failed = true })
   refused-at Nothing fault kernel new is ready good t = refused-by fault kernel new ready good is t
   refused-at (Needed need) fault kernel new is ready good t = absurd (let e = t.0 in cc)
-  refused-at (Asked performer call cause) fault kernel new is ready good t = absurd (let e = t.0 in cc)
+  refused-at (Asked performer call origin) fault kernel new is ready good t = absurd (let e = t.0 in cc)
 
   pub refused-step : (fault : CoreFault) (kernel : KernelValue O) (new : CoreValue) → IsReady view name says kernel → kernel.core.health ≡ Good → IsNextTurn kernel.core.standing (Err fault) kernel.core new
       → IsRefusedStep view name says fault kernel (record kernel { core = new; failed = true })
   refused-step fault kernel new ready good t = refused-at kernel.core.standing fault kernel new refl ready good t
 
   -- an object was asked, and memory was refused
-  pub unanswered-step : (kernel : KernelValue O) (core : CoreValue) (performer asking : Who) (call : Call) (cause : Option Cause) (answer : Result (List Act) AllocError) (held : List (Who × O)) → asking ≡ performer
-      → next_of kernel.core.script kernel.core.history ≡ next.Answer performer call cause → need_of kernel.core.standing ≡ None → IsReady view name says kernel → IsSameLog kernel.core core → core ≡ unanswered_from performer call cause answer kernel.core
+  pub unanswered-step : (kernel : KernelValue O) (core : CoreValue) (performer asking : Who) (call : Call) (origin : Option Origin) (answer : Result (List Act) AllocError) (held : List (Who × O)) → asking ≡ performer
+      → next_of kernel.core.script kernel.core.history ≡ next.Answer performer call origin → need_of kernel.core.standing ≡ None → IsReady view name says kernel → IsSameLog kernel.core core → core ≡ unanswered_from performer call origin answer kernel.core
       → length kernel.core.history < log_limit kernel.core.script → IsAsked view name says performer call answer kernel.held held → IsRefusedStep view name says Memory kernel (record { core = core; held = held; failed = true; unknown = Some asking })
-  unanswered-step kernel core performer asking call cause answer held same_who answers none ready same left room asked = (
+  unanswered-step kernel core performer asking call origin answer held same_who answers none ready same left room asked = (
     record { ready = ready; some = rw answers tt; nothing_needed = rw (ready.going, none) refl },
-    inr (record { room = room; performer = performer; call = call; cause = cause; next = answers; answer = answer; asked = asked; same_log = same; left = left; is = rw same_who refl }),
+    inr (record { room = room; performer = performer; call = call; origin = origin; next = answers; answer = answer; asked = asked; same_log = same; left = left; is = rw same_who refl }),
   )
 
 -- where the machine refuses, the log stays
@@ -296,7 +296,7 @@ refused-log-by NoTest old new t = absurd t
 refused-log-at : (standing : Standing) (fault : CoreFault) (old new : CoreValue) → IsNextTurn standing (Err fault) old new → IsSameLog old new
 refused-log-at Nothing fault old new t = refused-log-by fault old new t
 refused-log-at (Needed need) fault old new t = rw t.1 (record { script = refl; history = refl })
-refused-log-at (Asked performer call cause) fault old new t = rw t.1 (record { script = refl; history = refl })
+refused-log-at (Asked performer call origin) fault old new t = rw t.1 (record { script = refl; history = refl })
 
 pub refused-log : (fault : CoreFault) (old new : CoreValue) → IsNextTurn old.standing (Err fault) old new → IsSameLog old new
 refused-log fault old new t = refused-log-at old.standing fault old new t

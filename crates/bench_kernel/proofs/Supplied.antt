@@ -41,7 +41,7 @@ going-where-needed kernel some = going-by kernel.failed (need_of kernel.core.sta
 need-comes : (standing : Standing) (need : Need) (comes : next.Next) → need_of standing ≡ Some need → IsAskedNext standing comes → coming.need_in comes ≡ Some need
 need-comes Nothing need comes e c = cc
 need-comes (Needed other) need comes e c = c ∙ e
-need-comes (Asked performer call cause) need comes e c = cc
+need-comes (Asked performer call origin) need comes e c = cc
 
 -- the one entry
 made-one : (made : Option Entry) → IsSome made → (entry : Entry) × (made ≡ Some entry)
@@ -57,7 +57,7 @@ pub record IsNeeded (script : ScriptValue) (history : List Entry) (need : Need) 
 
 needed-by : (comes : next.Next) (script : ScriptValue) (history : List Entry) (need : Need) → next_of script history ≡ comes → coming.need_in comes ≡ Some need → IsNeeded script history need
 needed-by (next.Exactly entry) script history need is wants = cc
-needed-by (next.Answer performer call cause) script history need is wants = cc
+needed-by (next.Answer performer call origin) script history need is wants = cc
 needed-by (next.Need other made performer act) script history need is wants =
     record { made = made; performer = performer; act = act; next_is = is ∙ ap (λ n. next.Need n made performer act) (same_Some other need wants) }
 needed-by (next.Grant sequencer drawn chosen) script history need is wants = cc
@@ -90,7 +90,7 @@ module _ (laws : LogLaws) {O : Type 0} (view : O → View) (name : O → List �
       → IfSome (declined_in comes) (λ entry. new ≡ core_after entry kernel.core) → All (λ (place : List (List ℕ) × ℕ). place.1 < length (nodes_of kernel.core.history)) paths
       → IsKernel view name says kernel × AreSeated kernel.core.history paths count sequences → IsKernel view name says (record kernel { core = new }) × AreSeated new.history paths count sequences
   declines-by (next.Exactly entry) kernel new paths count sequences is going some e under kept = cc
-  declines-by (next.Answer performer call cause) kernel new paths count sequences is going some e under kept = cc
+  declines-by (next.Answer performer call origin) kernel new paths count sequences is going some e under kept = cc
   declines-by (next.Need need made performer act) kernel new paths count sequences is going some e under kept =
       rw e (
         kept-declined laws view name says kernel need made performer act is going kept.0,

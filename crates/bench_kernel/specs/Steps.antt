@@ -8,7 +8,7 @@ use Rattle.uvm_object.specs.declared.acts.Call.{Call}
 use Rattle.uvm_object.specs.declared.acts.Act.{Act}
 use Rattle.uvm_object.specs.declared.entries.Entry.{Entry}
 use Rattle.uvm_object.specs.declared.entries.Entry.TheVariants.{Heard}
-use Rattle.uvm_phase.specs.declared.agendas.Cause.{Cause}
+use Rattle.uvm_object.specs.declared.entries.Origin.{Origin}
 use Rattle.bench_history.specs.Limits.{log_limit}
 use Rattle.bench_history.specs.History.{is_over}
 use Rattle.bench_history.specs.Laws.{IsSomething}
@@ -30,9 +30,9 @@ use Rattle.bench_kernel.specs.Kernels.{KernelValue, open_need, wanted_in}
 
 -- what is left of the machine where memory is refused: it waits on for an object that gave no answer, and has failed where
 -- one answered
-abbrev pub unanswered_from : Who → Call → Option Cause → Result (List Act) AllocError → CoreValue → CoreValue
-unanswered_from performer call cause (Ok acts) core = failed_from Broken core
-unanswered_from performer call cause (Err fault) core = record core { standing = Asked performer call cause }
+abbrev pub unanswered_from : Who → Call → Option Origin → Result (List Act) AllocError → CoreValue → CoreValue
+unanswered_from performer call origin (Ok acts) core = failed_from Broken core
+unanswered_from performer call origin (Err fault) core = record core { standing = Asked performer call origin }
 
 -- the word that is drawn by a step: that of the grant that it enters, where one decides whose it is
 abbrev pub drawn_in : {O : Type 0} → List Entry → Step O → Option ℕ
@@ -47,7 +47,7 @@ pub record IsSameLog (old new : CoreValue) : Type 0 where
 module _ {O : Type 0} (view : O → View) (name : O → List ℕ) (says : O → Says) where
   -- an answer in the log was given by the object that it names; no other entry changes an object
   abbrev pub WasGiven : Entry → List (Who × O) → List (Who × O) → Type 0
-  WasGiven (Heard performer call cause acts) old new = IsAsked view name says performer call (Ok acts) old new
+  WasGiven (Heard performer call origin acts) old new = IsAsked view name says performer call (Ok acts) old new
   WasGiven entry old new = new ≡ old
 
   -- an object is needed next, for whose entry there is room, and the machine waits for it
@@ -75,12 +75,12 @@ module _ {O : Type 0} (view : O → View) (name : O → List ℕ) (says : O → 
     pub room : length old.core.history < log_limit old.core.script
     pub performer : Who
     pub call : Call
-    pub cause : Option Cause
-    pub next : next_of old.core.script old.core.history ≡ Answer performer call cause
+    pub origin : Option Origin
+    pub next : next_of old.core.script old.core.history ≡ Answer performer call origin
     pub answer : Result (List Act) AllocError
     pub asked : IsAsked view name says performer call answer old.held new.held
     pub same_log : IsSameLog old.core new.core
-    pub left : new.core ≡ unanswered_from performer call cause answer old.core
+    pub left : new.core ≡ unanswered_from performer call origin answer old.core
     pub is : new ≡ record { core = new.core; held = new.held; failed = true; unknown = Some performer }
 
   -- a sequence that has ended was told, and its object is given back

@@ -8,7 +8,7 @@ use Rattle.std.specs.Prelude.{◌==◌, ◌⊎◌, All, Contains, IfSome, is_som
 use Rattle.std.specs.List.{IsDistinct, cons_option}
 use Rattle.std.specs.Map.{keys_of}
 use Rattle.rand_core.specs.Stream.{Stream, next_u64}
-use Rattle.uvm_phase.specs.declared.agendas.Cause.{Cause}
+use Rattle.uvm_object.specs.declared.entries.Origin.{Origin}
 use Rattle.uvm_object.specs.declared.acts.Who.{Who}
 use Rattle.uvm_object.specs.declared.acts.Call.{Call}
 use Rattle.uvm_object.specs.declared.acts.Act.{Act}
@@ -143,7 +143,7 @@ same-word words drawn older (Some x) (Some y) is are from also = ap Some (word-n
 -- ---- logs
 
 asked-older : (script : ScriptValue) (entry : Entry) (history : List Entry) → AreMade script (entry ∷ history) → AreMade script history
-asked-older script (Heard performer call cause acts) history made = made.1
+asked-older script (Heard performer call origin acts) history made = made.1
 asked-older script entry history made = made
 
 module _ {O : Type 0} (view : O → View) (name : O → List ℕ) (says : O → Says) (over : NothingAfterOver) (twice : NobodyIsMadeTwice)
@@ -189,18 +189,18 @@ module _ {O : Type 0} (view : O → View) (name : O → List ℕ) (says : O → 
   }
 
   -- whoever is asked gives one answer
-  same-answer : (history : List Entry) (hearer : Who) (call : Call) (cause : Option Cause) (acts others : List Act) → Log (Heard hearer call cause acts ∷ history) → Log (Heard hearer call cause others ∷ history) → others ≡ acts
-  same-answer history hearer call cause acts others log other = answers (All-contains (Lived (Heard hearer call cause acts ∷ history)) (keys_of (types_made script history)) hearer log.objects.lived log.objects.asked.0)
-      (All-contains (Lived (Heard hearer call cause others ∷ history)) (keys_of (types_made script history)) hearer other.objects.lived other.objects.asked.0)
+  same-answer : (history : List Entry) (hearer : Who) (call : Call) (origin : Option Origin) (acts others : List Act) → Log (Heard hearer call origin acts ∷ history) → Log (Heard hearer call origin others ∷ history) → others ≡ acts
+  same-answer history hearer call origin acts others log other = answers (All-contains (Lived (Heard hearer call origin acts ∷ history)) (keys_of (types_made script history)) hearer log.objects.lived log.objects.asked.0)
+      (All-contains (Lived (Heard hearer call origin others ∷ history)) (keys_of (types_made script history)) hearer other.objects.lived other.objects.asked.0)
     where
-      answers : Lived (Heard hearer call cause acts ∷ history) hearer → Lived (Heard hearer call cause others ∷ history) hearer → others ≡ acts
+      answers : Lived (Heard hearer call origin acts ∷ history) hearer → Lived (Heard hearer call origin others ∷ history) hearer → others ≡ acts
       answers lives also =
           let type_is : also.type_name ≡ lives.type_name = one-type (types_made script history) hearer lives.type_name also.type_name (twice script history log.legal.each.1).distinct lives.made also.made in
           let object_is : also.object ≡ lives.object = same_Some also.object lives.object (also.given.gives ∙ ap given type_is ∙ sym lives.given.gives) in
           same-acts (says lives.object) (one lives.object) call acts others (life_of hearer history) (view lives.object) lives.last also.last
-          (subst (IsHonestBetween (says lives.object) (view lives.object) lives.last) (heard-same hearer call cause acts history) lives.honest)
+          (subst (IsHonestBetween (says lives.object) (view lives.object) lives.last) (heard-same hearer call origin acts history) lives.honest)
           (subst (λ (o : O). IsHonestBetween (says o) (view o) also.last ((call, others) ∷ life_of hearer history)) object_is
-          (subst (IsHonestBetween (says also.object) (view also.object) also.last) (heard-same hearer call cause others history) also.honest))
+          (subst (IsHonestBetween (says also.object) (view also.object) also.last) (heard-same hearer call origin others history) also.honest))
 
   -- an object is given, or it is not
   clash : (type_name : List ℕ) (object : O) → IsGiven view name says Gives type_name object → IsUnknown view name says Gives type_name → ⊥
@@ -222,8 +222,8 @@ module _ {O : Type 0} (view : O → View) (name : O → List ℕ) (says : O → 
     where
       go : (comes : Next) → Allows comes entry → Allows comes other → IsFilled view name says Gives comes entry → IsFilled view name says Gives comes other → other ≡ entry
       go (Exactly expected) is are filled fills = are ∙ sym is
-      go (Answer hearer call cause) is are filled fills =
-          are.1 ∙ ap (Heard hearer call cause) (same-answer history hearer call cause is.0 are.0 (subst (λ (e : Entry). Log (e ∷ history)) is.1 log) (subst (λ (e : Entry). Log (e ∷ history)) are.1 also)) ∙ sym is.1
+      go (Answer hearer call origin) is are filled fills =
+          are.1 ∙ ap (Heard hearer call origin) (same-answer history hearer call origin is.0 are.0 (subst (λ (e : Entry). Log (e ∷ history)) is.1 log) (subst (λ (e : Entry). Log (e ∷ history)) are.1 also)) ∙ sym is.1
       go (Need need made performer act) is are (inl filled) (inl fills) = fills.0 ∙ sym filled.0
       go (Need need made performer act) is are (inr filled) (inr fills) = fills.0 ∙ sym filled.0
       go (Need need made performer act) is are (inl filled) (inr fills) = absurd (clash need.type_name filled.1 filled.2 fills.1)

@@ -11,7 +11,7 @@ use Rattle.std.specs.declared.alloc.AllocError.{AllocError}
 use Rattle.std.specs.List.{AllByRecursion, IsDistinct}
 use Rattle.std.specs.Map.{keys_of}
 use Rattle.std.specs.Option.{option_map_or}
-use Rattle.uvm_phase.specs.declared.agendas.Cause.{Cause}
+use Rattle.uvm_object.specs.declared.entries.Origin.{Origin}
 use Rattle.uvm_object.specs.declared.acts.Who.{Who}
 use Rattle.uvm_object.specs.declared.acts.Who.TheVariants.{Node, Sequence}
 use Rattle.uvm_object.specs.declared.acts.Call.{Call}
@@ -74,13 +74,13 @@ All-keys P [] all = All-nil (λ seat. P seat.0)
 All-keys P (seat ∷ held) all = All-cons (λ seat. P seat.0) seat held all.0 (All-keys P held all.1)
 
 -- who was heard has one exchange more, and every other as many as before
-pub heard-same : (performer : Who) (call : Call) (cause : Option Cause) (acts : List Act) (history : List Entry)
-    → life_of performer (Heard performer call cause acts ∷ history) ≡ (call, acts) ∷ life_of performer history
-heard-same performer call cause acts history = rw (same_who-self performer) refl
+pub heard-same : (performer : Who) (call : Call) (origin : Option Origin) (acts : List Act) (history : List Entry)
+    → life_of performer (Heard performer call origin acts ∷ history) ≡ (call, acts) ∷ life_of performer history
+heard-same performer call origin acts history = rw (same_who-self performer) refl
 
-heard-other : (performer other : Who) (call : Call) (cause : Option Cause) (acts : List Act) (history : List Entry) → same_who performer other ≡ false
-    → life_of other (Heard performer call cause acts ∷ history) ≡ life_of other history
-heard-other performer other call cause acts history apart = rw apart refl
+heard-other : (performer other : Who) (call : Call) (origin : Option Origin) (acts : List Act) (history : List Entry) → same_who performer other ≡ false
+    → life_of other (Heard performer call origin acts ∷ history) ≡ life_of other history
+heard-other performer other call origin acts history apart = rw apart refl
 
 silent-same : (who : Who) (entry : Entry) (history : List Entry) → exchanged_in who entry ≡ [] → life_of who (entry ∷ history) ≡ life_of who history
 silent-same who entry history silent = rw silent refl
@@ -101,7 +101,7 @@ contains-key (first ∷ types) made there = go (contains-key types made) there.0
 
 -- an entry that is nobody's answer asks nobody
 silent-made : (script : ScriptValue) (entry : Entry) (history : List Entry) → ((who : Who) → exchanged_in who entry ≡ []) → AreMade script history → AreMade script (entry ∷ history)
-silent-made script (Heard performer call cause acts) history silent made = absurd (let bad = rw (same_who-self performer) at (silent performer) in cc)
+silent-made script (Heard performer call origin acts) history silent made = absurd (let bad = rw (same_who-self performer) at (silent performer) in cc)
 silent-made script entry history silent made = made
 
 -- one more exchange
@@ -118,21 +118,21 @@ SameSays-chain says others last same more before call acts after =
 made-silent : (comes : Next) (entry : Entry) (who : Who) → made_in comes ≡ Some entry → exchanged_in who entry ≡ []
 made-silent (Need need made performer act) entry who is = subst (λ (e : Entry). exchanged_in who e ≡ []) (same_Some (Did performer made act) entry is) refl
 made-silent (Exactly expected) entry who is = cc
-made-silent (Answer hearer call cause) entry who is = cc
+made-silent (Answer hearer call origin) entry who is = cc
 made-silent (Grant sequencer drawn chosen) entry who is = cc
 made-silent Nothing entry who is = cc
 
 made-allowed : (comes : Next) (entry : Entry) → made_in comes ≡ Some entry → Allows comes entry
 made-allowed (Need need made performer act) entry is = inl (sym (same_Some (Did performer made act) entry is))
 made-allowed (Exactly expected) entry is = cc
-made-allowed (Answer hearer call cause) entry is = cc
+made-allowed (Answer hearer call origin) entry is = cc
 made-allowed (Grant sequencer drawn chosen) entry is = cc
 made-allowed Nothing entry is = cc
 
 declined-allowed : (comes : Next) (entry : Entry) → declined_in comes ≡ Some entry → Allows comes entry
 declined-allowed (Need need made performer act) entry is = inr (sym (same_Some (Did performer (Refused NoObject) act) entry is))
 declined-allowed (Exactly expected) entry is = cc
-declined-allowed (Answer hearer call cause) entry is = cc
+declined-allowed (Answer hearer call origin) entry is = cc
 declined-allowed (Grant sequencer drawn chosen) entry is = cc
 declined-allowed Nothing entry is = cc
 
@@ -140,14 +140,14 @@ declined-types : (comes : Next) (entry : Entry) (script : ScriptValue) (history 
 declined-types (Need need made performer act) entry script history is =
     subst (λ (e : Entry). types_made script (e ∷ history) ≡ types_made script history) (same_Some (Did performer (Refused NoObject) act) entry is) refl
 declined-types (Exactly expected) entry script history is = cc
-declined-types (Answer hearer call cause) entry script history is = cc
+declined-types (Answer hearer call origin) entry script history is = cc
 declined-types (Grant sequencer drawn chosen) entry script history is = cc
 declined-types Nothing entry script history is = cc
 
 declined-silent : (comes : Next) (entry : Entry) (who : Who) → declined_in comes ≡ Some entry → exchanged_in who entry ≡ []
 declined-silent (Need need made performer act) entry who is = subst (λ (e : Entry). exchanged_in who e ≡ []) (same_Some (Did performer (Refused NoObject) act) entry is) refl
 declined-silent (Exactly expected) entry who is = cc
-declined-silent (Answer hearer call cause) entry who is = cc
+declined-silent (Answer hearer call origin) entry who is = cc
 declined-silent (Grant sequencer drawn chosen) entry who is = cc
 declined-silent Nothing entry who is = cc
 
@@ -245,11 +245,11 @@ module _ {O : Type 0} (view : O → View) (name : O → List ℕ) (says : O → 
       )
 
   -- somebody's answer
-  heard-kept : (script : ScriptValue) (performer : Who) (call : Call) (cause : Option Cause) (acts : List Act) (history : List Entry) (old new : List (Who × O)) → IsAsked view name says performer call (Ok acts) old new
-      → IsDistinct same_who (keys_of old) → Allows (next_of script history) (Heard performer call cause acts) → IsFilled view name says Gives (next_of script history) (Heard performer call cause acts) → EachIsNext script history
+  heard-kept : (script : ScriptValue) (performer : Who) (call : Call) (origin : Option Origin) (acts : List Act) (history : List Entry) (old new : List (Who × O)) → IsAsked view name says performer call (Ok acts) old new
+      → IsDistinct same_who (keys_of old) → Allows (next_of script history) (Heard performer call origin acts) → IsFilled view name says Gives (next_of script history) (Heard performer call origin acts) → EachIsNext script history
       → HaveLived view name says Gives script history → All (Kept script history) old
-      → EachIsNext script (Heard performer call cause acts ∷ history) × HaveLived view name says Gives script (Heard performer call cause acts ∷ history) × All (Kept script (Heard performer call cause acts ∷ history)) new
-  heard-kept script performer call cause acts history old new asked distinct allowed filled each lived kept = (
+      → EachIsNext script (Heard performer call origin acts ∷ history) × HaveLived view name says Gives script (Heard performer call origin acts ∷ history) × All (Kept script (Heard performer call origin acts ∷ history)) new
+  heard-kept script performer call origin acts history old new asked distinct allowed filled each lived kept = (
     (allowed, each),
     record {
       filled = (filled, lived.filled);
@@ -262,7 +262,7 @@ module _ {O : Type 0} (view : O → View) (name : O → List ℕ) (says : O → 
   )
     where
       after : List Entry
-      after = Heard performer call cause acts ∷ history
+      after = Heard performer call origin acts ∷ history
 
       stays : (made : Who × List ℕ) → Contains (types_made script history) made → Contains (types_made script after) made
       stays made there = there
@@ -277,7 +277,7 @@ module _ {O : Type 0} (view : O → View) (name : O → List ℕ) (says : O → 
       apart = others-differ performer call acts old new asked distinct
 
       other : (seat : Who × O) → same_who performer seat.0 ≡ false → Kept script history seat → Kept script after seat
-      other seat differs was = kept-later script (Heard performer call cause acts) history seat stays (heard-other performer seat.0 call cause acts history differs) was
+      other seat differs was = kept-later script (Heard performer call origin acts) history seat stays (heard-other performer seat.0 call origin acts history differs) was
 
       was : Kept script history (performer, asked.before)
       was = All-head (Kept script history) (performer, asked.before) asked.others were
@@ -289,18 +289,18 @@ module _ {O : Type 0} (view : O → View) (name : O → List ℕ) (says : O → 
         object = was.object;
         given = was.given;
         same_says = SameSays-chain (says asked.after) (says asked.before) (says was.object) asked.same_says was.same_says;
-        honest = subst (IsHonestBetween (says was.object) (view was.object) (view asked.after)) (sym (heard-same performer call cause acts history))
+        honest = subst (IsHonestBetween (says was.object) (view was.object) (view asked.after)) (sym (heard-same performer call origin acts history))
             (more-honest (says asked.before) (says was.object) (view was.object) (view asked.before) (view asked.after) call acts (life_of performer history) was.same_says asked.said was.honest);
       }
 
       by-who : (who : Who) (same : Bool) → same_who performer who ≡ same → Lived script history who → Lived script after who
       by-who who true is lived = subst (Lived script after) (same_who-true performer who is) (kept-lived script after (performer, asked.after) performed)
-      by-who who false is lived = lived-later script (Heard performer call cause acts) history who stays (heard-other performer who call cause acts history is) lived
+      by-who who false is lived = lived-later script (Heard performer call origin acts) history who stays (heard-other performer who call origin acts history is) lived
 
   unneeded-filled : (comes : Next) (entry : Entry) → need_in comes ≡ None → IsFilled view name says Gives comes entry
   unneeded-filled (Need need made performer act) entry none = cc
   unneeded-filled (Exactly expected) entry none = tt
-  unneeded-filled (Answer hearer call cause) entry none = tt
+  unneeded-filled (Answer hearer call origin) entry none = tt
   unneeded-filled (Grant sequencer drawn chosen) entry none = tt
   unneeded-filled Nothing entry none = tt
 
@@ -313,8 +313,8 @@ module _ {O : Type 0} (view : O → View) (name : O → List ℕ) (says : O → 
       go : (entry : Entry) (held : List (Who × O)) → WasGiven view name says entry old.held held → Allows (next_of old.core.script old.core.history) entry → IsFilled view name says Gives (next_of old.core.script old.core.history) entry
           → types_made old.core.script (entry ∷ old.core.history) ≡ types_made old.core.script old.core.history
           → EachIsNext old.core.script (entry ∷ old.core.history) × HaveLived view name says Gives old.core.script (entry ∷ old.core.history) × All (Kept old.core.script (entry ∷ old.core.history)) held
-      go (Heard performer call cause acts) held given allowed filled types =
-          heard-kept old.core.script performer call cause acts old.core.history old.held held given distinct allowed filled kept.each kept.lived kept.kept
+      go (Heard performer call origin acts) held given allowed filled types =
+          heard-kept old.core.script performer call origin acts old.core.history old.held held given distinct allowed filled kept.each kept.lived kept.kept
       go entry held given allowed filled types =
           silent-kept old.core.script entry old.core.history held (λ who. refl) types allowed filled kept.each kept.lived (subst (All (Kept old.core.script old.core.history)) (sym given) kept.kept)
 
@@ -329,7 +329,7 @@ module _ {O : Type 0} (view : O → View) (name : O → List ℕ) (says : O → 
       filled : (comes : Next) (entry : Entry) → declined_in comes ≡ Some entry → IsUnknown view name says Gives (option_map_or (λ need. need.type_name) (need_in comes) []) → IsFilled view name says Gives comes entry
       filled (Need need made performer act) entry is none = inr (sym (same_Some (Did performer (Refused NoObject) act) entry is), none)
       filled (Exactly expected) entry is none = tt
-      filled (Answer hearer call cause) entry is none = tt
+      filled (Answer hearer call origin) entry is none = tt
       filled (Grant sequencer drawn chosen) entry is none = tt
       filled Nothing entry is none = tt
 
@@ -400,7 +400,7 @@ module _ {O : Type 0} (view : O → View) (name : O → List ℕ) (says : O → 
       filled : (comes : Next) → made_in comes ≡ Some entry → IsGiven view name says Gives (option_map_or (λ need. need.type_name) (need_in comes) []) object → IsFilled view name says Gives comes entry
       filled (Need need made performer act) is given = inl (sym (same_Some (Did performer made act) entry is), object, given)
       filled (Exactly expected) is given = tt
-      filled (Answer hearer call cause) is given = tt
+      filled (Answer hearer call origin) is given = tt
       filled (Grant sequencer drawn chosen) is given = tt
       filled Nothing is given = tt
 

@@ -23,7 +23,7 @@ module _ {O : Type 0} (view : O → View) (name : O → List ℕ) (says : O → 
   filled-as (Need need made performer act) entry (inl filled) = inl (filled.0, filled.1, given-as need.type_name filled.1 filled.2)
   filled-as (Need need made performer act) entry (inr filled) = inr (filled.0, record { given = filled.1.given; gives = means need.type_name filled.1.given filled.1.gives; none = filled.1.none })
   filled-as (Exactly expected) entry filled = filled
-  filled-as (Answer hearer call cause) entry filled = filled
+  filled-as (Answer hearer call origin) entry filled = filled
   filled-as (Grant sequencer drawn chosen) entry filled = filled
   filled-as Nothing entry filled = filled
 

@@ -1,5 +1,5 @@
 -- A world goes on with one more entry.
-use Rattle.std.proofs.Common.{◌≡◌, ◌<◌, true, List, ◌∷◌, length, Option, None, refl, ap, subst, ◌∙◌, arith, sym, Bool}
+use Rattle.std.proofs.Common.{◌≡◌, ◌<◌, true, List, ◌∷◌, length, Option, None, Some, refl, ap, subst, ◌∙◌, arith, sym, Bool}
 use Rattle.uvm_object.specs.declared.acts.Act.{Act}
 use Rattle.uvm_object.specs.declared.acts.Who.{Who}
 use Rattle.uvm_object.specs.declared.entries.Entry.{Entry}
@@ -15,10 +15,13 @@ use Rattle.bench_world.specs.Worlds.{IsWorld}
 use Rattle.uvm_object.specs.declared.entries.Entry.TheVariants.{Did}
 use Rattle.uvm_object.specs.declared.entries.Outcome.{Outcome}
 use Rattle.world_deeds.specs.declared.making.Waiting.{Waiting}
-use Rattle.bench_history.specs.History.{left_of, rest_of, speaker_of}
+use Rattle.uvm_phase.specs.declared.phases.Phase.{Phase}
+use Rattle.bench_history.specs.declared.stages.Stage.TheVariants.{Ended}
+use Rattle.bench_history.specs.Refusals.{in_task}
+use Rattle.bench_history.specs.History.{act_phase, left_of, rest_of, running, speaker_of, stage_of}
 use Rattle.bench_history.specs.Upshots.{Upshot, Needs, Does, Finds, Stores, Takes, Asks, Finishes, Refuses, upshot_of}
 use Rattle.bench_history.specs.Cases.{by_act, by_upshot}
-use Rattle.bench_history.specs.Laws.{DriversAreThere, IsSettled, PerformersAreThere, PhasesGoInOrder}
+use Rattle.bench_history.specs.Laws.{DriversAreThere, IsSettled, PerformersAreThere, ActsAreInPhase}
 use Rattle.world_services.specs.Attempts.{TakesIn, IsPerformed, one_done}
 use Rattle.world_services.proofs.Later.{scene-of}
 
@@ -74,17 +77,25 @@ act-is performer act (Refuses fatal) = tt
 pub act-next : (script : ScriptValue) (history : List Entry) (act : Act) → next_of script history ≡ by_act script history (speaker_of history) act → IsAct (next_of script history)
 act-next script history act next = subst IsAct (sym next) (act-is (speaker_of history) act (upshot_of script history (speaker_of history) act))
 
+-- where one is performed in a phase that takes time, the run has not ended
+pub goes-still : (history : List Entry) → ((phase : Phase) → act_phase history ≡ Some phase → running (stage_of history) ≡ Some phase) → in_task (act_phase history) ≡ true → stage_of history ≡ Ended → ⊥
+goes-still history runs task ended = by (act_phase history) refl task
+  where
+    by : (phase : Option Phase) → act_phase history ≡ phase → in_task phase ≡ true → ⊥
+    by None is task = cc
+    by (Some phase) is task = let still : running Ended ≡ Some phase = rw ended at (runs phase is) in cc
+
 -- and with the entry of an act
 pub acted-on :
     {P : Type 0} {sound : Bool} {script : ScriptValue} {log more : LogValue} {old new services : Services} {waiting : Option Waiting} {others leaving : List Who} (outcome : Outcome) (act : Act)
     → P × IsWorld sound script log old waiting others → sound ≡ true → length log.entries < log_limit script
     → IsSettled log.entries → left_of script log.entries ≡ act ∷ rest_of (left_of script log.entries) → IsNext script log.entries (Did (speaker_of log.entries) outcome act)
-    → IsAct (next_of script log.entries) → PhasesGoInOrder → PerformersAreThere → DriversAreThere → TakesIn act outcome (length log.entries) old new
+    → IsAct (next_of script log.entries) → ActsAreInPhase → PerformersAreThere → DriversAreThere → TakesIn act outcome (length log.entries) old new
     → more.entries ≡ Did new.answer.speaker outcome act ∷ log.entries → more.limit ≡ log.limit → leaving ≡ leaving_after old.answer.speaker outcome → services ≡ one_done new
     → P × IsWorld true script more services None leaving
-acted-on {script = script} {log} {old = old} {new} outcome act p sound room settled left next is_act order performers drivers kept is limit leaves done =
+acted-on {script = script} {log} {old = old} {new} outcome act p sound room settled left next is_act phases performers drivers kept is limit leaves done =
     let m = p.1.services_match sound in
-    let match = kept.with_entry script log.entries (scene-of act m p.1.legal.each settled left order performers drivers is_act) in
+    let match = kept.with_entry script log.entries (scene-of act m p.1.legal.each settled left phases performers drivers is_act) in
     goes-on (Did old.answer.speaker outcome act) p sound room (rw m.answer.speaker next) (is ∙ ap (λ (s : Who). Did s outcome act ∷ log.entries) (ap (λ a. a.speaker) kept.same_answer)) limit leaves (λ m. rw done match)
 
 -- what an act comes to by itself is next
@@ -92,11 +103,11 @@ pub performed :
     {P : Type 0} {sound : Bool} {script : ScriptValue} {log more : LogValue} {old new services : Services} {waiting : Option Waiting} {others leaving : List Who} (outcome : Outcome) (act : Act)
     → P × IsWorld sound script log old waiting others → sound ≡ true → length log.entries < log_limit script
     → IsSettled log.entries → left_of script log.entries ≡ act ∷ rest_of (left_of script log.entries) → next_of script log.entries ≡ by_act script log.entries (speaker_of log.entries) act
-    → PhasesGoInOrder → PerformersAreThere → DriversAreThere → IsPerformed by_act act outcome (length log.entries) old new
+    → ActsAreInPhase → PerformersAreThere → DriversAreThere → IsPerformed by_act act outcome (length log.entries) old new
     → more.entries ≡ Did new.answer.speaker outcome act ∷ log.entries → more.limit ≡ log.limit → leaving ≡ leaving_after old.answer.speaker outcome → services ≡ one_done new
     → P × IsWorld true script more services None leaving
-performed {script = script} {log} {old = old} outcome act p sound room settled left next order performers drivers did is limit leaves done =
+performed {script = script} {log} {old = old} outcome act p sound room settled left next phases performers drivers did is limit leaves done =
     let m = p.1.services_match sound in
     let is_act = act-next script log.entries act next in
-    let comes = next ∙ (rw m.answer.speaker at (did.comes script log.entries (scene-of act m p.1.legal.each settled left order performers drivers is_act))) in
-    acted-on outcome act p sound room settled left (rw comes refl) is_act order performers drivers did.kept is limit leaves done
+    let comes = next ∙ (rw m.answer.speaker at (did.comes script log.entries (scene-of act m p.1.legal.each settled left phases performers drivers is_act))) in
+    acted-on outcome act p sound room settled left (rw comes refl) is_act phases performers drivers did.kept is limit leaves done

@@ -75,7 +75,7 @@ module _ {script : ScriptValue} {log : LogValue} {services : Services} (waiting 
         can = record {
           starts = rw b.starts tt;
           home_is = asked;
-          task = rw m.stage u.task;
+          task = rw m.answer.phase u.task;
           positive = rw b.starts u.positive;
           parent = λ above e. parent performs above (rw m.answer.speaker at e);
           sequence_spare = ready.has_room.sequence_spare;

@@ -11,7 +11,7 @@ use Rattle.bench_history.specs.Cases.{Next, Exactly, Need, by_act}
 use Rattle.uvm_object.specs.declared.entries.Entry.TheVariants.{Did}
 use Rattle.world_services.specs.declared.services.LastAnswer.{LastAnswer}
 use Rattle.bench_history.specs.Next.{next_of, need_in}
-use Rattle.bench_history.specs.Laws.{DriversAreThere, IsSettled, PerformersAreThere, PhasesGoInOrder}
+use Rattle.bench_history.specs.Laws.{DriversAreThere, IsSettled, PerformersAreThere, ActsAreInPhase}
 use Rattle.bench_history.specs.Dues.{caused_of, heard_of}
 use Rattle.bench_history.specs.Sequences.{finished_of}
 use Rattle.uvm_object.specs.declared.acts.Who.{Who}
@@ -54,11 +54,11 @@ pub waits :
     {P : Type 0} {sound : Bool} {script : ScriptValue} {log more : LogValue} {old services : Services} {waiting : Option Waiting} {leaving : List Who} (act : Act) (wait : Waiting)
     → P × IsWorld sound script log old waiting leaving → sound ≡ true → length log.entries < log_limit script
     → IsSettled log.entries → left_of script log.entries ≡ act ∷ rest_of (left_of script log.entries) → next_of script log.entries ≡ by_act script log.entries (speaker_of log.entries) act
-    → PhasesGoInOrder → PerformersAreThere → DriversAreThere → WaitsForObject act wait log more old services → more.limit ≡ log.limit
+    → ActsAreInPhase → PerformersAreThere → DriversAreThere → WaitsForObject act wait log more old services → more.limit ≡ log.limit
     → P × IsWorld true script more services (Some wait) leaving
-waits {script = script} {log} {more} {old} {services} act wait p sound room settled left next order performers drivers w limit =
+waits {script = script} {log} {more} {old} {services} act wait p sound room settled left next phases performers drivers w limit =
     let m = p.1.services_match sound in
-    let scene = scene-of act m p.1.legal.each settled left order performers drivers (act-next script log.entries act next) in
+    let scene = scene-of act m p.1.legal.each settled left phases performers drivers (act-next script log.entries act next) in
     let comes = ap need_in next ∙ need-comes script log.entries act (speaker_of log.entries) m.answer.speaker (w.need.comes script log.entries scene) in
     let matches : ServicesMatch script log.entries services = same-match log w.same m in
     let speaker : services.answer.speaker ≡ old.answer.speaker = ap (λ (s : Services). s.answer.speaker) w.same.rest in (

@@ -167,8 +167,8 @@ impl World {
         ensures ok { OnOk result (IsActed (next_of self.old.script self.old.history) self.old self.new) }
         ensures err { OnErr result (self.new ≡ broken self.old) }
     {
-        // A call that an act causes is due in a phase that has not ended, and one more report can be counted.
-        laws::phases_go_in_order();
+        // A call that an act causes is due in a phase that runs, and one more report can be counted.
+        laws::acts_are_in_phase();
         laws::reports_are_few();
         // In a phase that takes time the wiring is closed, and whoever performs an act is there.
         laws::tasks_follow_connect();

@@ -11,9 +11,9 @@ use crate::worlds::World;
 use bench_history::laws;
 use std::alloc::AllocError;
 use uvm_object::{
-    Acts, Call, Entry, Fatal, Grant, Log, LoggedGrant, LoggedPassage, Passage, Reason, Who,
+    Acts, Call, Entry, Fatal, Grant, Log, LoggedGrant, LoggedPassage, Origin, Passage, Reason, Who,
 };
-use uvm_phase::{Cause, Phase};
+use uvm_phase::Phase;
 use uvm_sequences::SeqId;
 use uvm_tree::{NodeId, laws as trees};
 use world_deeds::logs::{noted_end, push};
@@ -82,34 +82,34 @@ impl World {
         self.waiting = None;
         self.leaving.clear();
         let (place, count) = (self.log.len(), acts.len());
-        let entry = Entry::heard(self.alloc, who.copy(), call, None, acts)?;
+        answers::hear(&mut self.services, place, who.copy(), &call, count);
+        let entry = Entry::heard(self.alloc, who, call, None, acts)?;
         push(&mut self.log, entry)?;
-        answers::hear(&mut self.services, place, who, count);
         self.sound = true;
         Ok(())
     }
 
     /// Somebody had a call that was due, and answered. The world is sound, its log is not full, and an answer of this one to this
-    /// call, due for this cause, is next. The error is want of memory: the log stays as it was, and the world is not sound any
+    /// call, due with this origin, is next. The error is want of memory: the log stays as it was, and the world is not sound any
     /// more.
     pub fn heard_due(
         &mut self,
         who: Who,
         call: Call,
-        cause: Cause,
+        origin: Origin,
         acts: Acts,
     ) -> Result<(), AllocError>
-        requires { MayEnter self.old (Answer who call (Some cause)) }
-        ensures ok { OnOk result (self.new ≡ world_after (Heard who call (Some cause) acts) self.old) }
+        requires { MayEnter self.old (Answer who call (Some origin)) }
+        ensures ok { OnOk result (self.new ≡ world_after (Heard who call (Some origin) acts) self.old) }
         ensures err { OnErr result (self.new ≡ broken self.old) }
     {
         self.sound = false;
         self.waiting = None;
         self.leaving.clear();
         let (place, count) = (self.log.len(), acts.len());
-        let entry = Entry::heard(self.alloc, who.copy(), call, Some(cause), acts)?;
+        let entry = Entry::heard(self.alloc, who.copy(), call, Some(origin), acts)?;
         push(&mut self.log, entry)?;
-        answers::hear_due(&mut self.services, place, who, count);
+        answers::hear_due(&mut self.services, place, who, origin, count);
         self.sound = true;
         Ok(())
     }
@@ -172,17 +172,17 @@ impl World {
 
     /// The drain of a node ends: what was held back is passed up (IEEE 1800.2-2020, 10.5). The world is sound, its log is not
     /// full, and this entry is next. The error is want of memory: the log stays as it was, and the world is not sound any more.
-    pub fn drained(&mut self, node: NodeId, cause: Cause) -> Result<(), AllocError>
-        requires { MayEnter self.old (Exactly (Drained node cause)) }
-        ensures ok { OnOk result (self.new ≡ world_after (Drained node cause) self.old) }
+    pub fn drained(&mut self, node: NodeId, origin: Origin) -> Result<(), AllocError>
+        requires { MayEnter self.old (Exactly (Drained node origin)) }
+        ensures ok { OnOk result (self.new ≡ world_after (Drained node origin) self.old) }
         ensures err { OnErr result (self.new ≡ broken self.old) }
     {
         self.sound = false;
         self.waiting = None;
         self.leaving.clear();
         let place = self.log.len();
-        phases::end_drain(&mut self.services, place, node)?;
-        push(&mut self.log, Entry::Drained { node, cause })?;
+        phases::end_drain(&mut self.services, place, node, origin)?;
+        push(&mut self.log, Entry::Drained { node, origin })?;
         self.sound = true;
         Ok(())
     }

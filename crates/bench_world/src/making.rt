@@ -32,7 +32,7 @@ impl World {
         laws::needs_are_wanted();
         laws::performers_are_there();
         laws::drivers_are_there();
-        laws::phases_go_in_order();
+        laws::acts_are_in_phase();
         self.sound = false;
         self.leaving.clear();
         let Some(waiting) = self.waiting.take() else {
@@ -63,7 +63,7 @@ impl World {
         laws::needs_are_wanted();
         laws::performers_are_there();
         laws::drivers_are_there();
-        laws::phases_go_in_order();
+        laws::acts_are_in_phase();
         laws::reports_are_few();
         self.sound = false;
         self.leaving.clear();

@@ -32,7 +32,7 @@ same_who who other = false
 
 -- what the object of somebody was asked and answered, the newest first
 abbrev pub exchanged_in : Who → Entry → List Exchange
-exchanged_in who (Heard performer call cause acts) = if same_who performer who then (call, acts) ∷ [] else []
+exchanged_in who (Heard performer call origin acts) = if same_who performer who then (call, acts) ∷ [] else []
 exchanged_in who entry = []
 
 abbrev pub life_of : Who → List Entry → List Exchange

@@ -53,11 +53,20 @@ pub enum Reason {
     Timeout,
 }
 
+/// Why a call, or the end of a drain, was due, and the phase to which it belongs: that of the act which caused it, or of what the act was for.
+#[derive(Clone, Copy, PartialEq, Eq)]
+pub struct Origin {
+    /// Why it was due.
+    pub cause: Cause,
+    /// The phase to which it belongs (IEEE 1800.2-2020, Clause 9).
+    pub phase: Phase,
+}
+
 // What an entry of a call holds beside who was called.
 #[derive(Drop)]
 struct Exchange {
     call: Call,
-    cause: Option<Cause>,
+    origin: Option<Origin>,
     acts: Acts,
 }
 
@@ -84,27 +93,27 @@ impl LoggedCall {
     }
 }
 
-/// The cause of the call of an entry. Contracts see the cause.
+/// The origin of the call of an entry: why it was due, and in which phase. Contracts see the origin.
 #[derive(Drop)]
-pub struct LoggedCause {
+pub struct LoggedOrigin {
     exchange: Rc<Exchange>,
 }
 
-impl Model for LoggedCause {
+impl Model for LoggedOrigin {
     ghost use Rattle.std.specs.Prelude.{Option};
-    ghost use Rattle.uvm_phase.specs.declared.agendas.Cause.{Cause};
+    ghost use Rattle.uvm_object.specs.declared.entries.Origin.{Origin};
 
-    ghost Value = { Option Cause };
+    ghost Value = { Option Origin };
 
-    ghost view = { λ l. l.exchange.value.cause };
+    ghost view = { λ l. l.exchange.value.origin };
 }
 
-impl LoggedCause {
-    /// The cause, which a phase's call has not.
-    pub fn get(&self) -> Option<Cause>
+impl LoggedOrigin {
+    /// The origin, which a phase's call has not.
+    pub fn get(&self) -> Option<Origin>
         ensures { result ≡ self.now }
     {
-        self.exchange.cause
+        self.exchange.origin
     }
 }
 
@@ -295,6 +304,8 @@ pub struct Passage {
     pub item: Item,
     /// The place of the entry of the act that asked.
     pub request: u64,
+    /// The phase in which it was asked for.
+    pub phase: Phase,
 }
 
 /// The passage of an entry. Contracts see the passage.
@@ -379,14 +390,14 @@ pub enum Entry {
     End(Phase),
     /// Time passes to this moment, in ticks.
     Time(u64),
-    /// An object was called and answered. A call that was due names its cause; a phase's call has none.
+    /// An object was called and answered. A call that was due names its origin; a phase's call has none.
     Heard {
         /// Who was called.
         who: Who,
         /// The call.
         call: LoggedCall,
-        /// Why it was due.
-        cause: LoggedCause,
+        /// Why it was due, and in which phase.
+        origin: LoggedOrigin,
         /// The answer.
         acts: LoggedActs,
     },
@@ -424,8 +435,8 @@ pub enum Entry {
     Drained {
         /// The node.
         node: NodeId,
-        /// Why its drain had begun.
-        cause: Cause,
+        /// Why its drain had begun, and in which phase.
+        origin: Origin,
     },
     /// The kernel reports at a node.
     Note {
@@ -444,18 +455,18 @@ impl Entry {
         alloc: Global,
         who: Who,
         call: Call,
-        cause: Option<Cause>,
+        origin: Option<Origin>,
         acts: Acts,
     ) -> Result<Entry, AllocError>
-        ensures { IfOk result (λ entry. entry ≡ Heard who call cause acts) }
+        ensures { IfOk result (λ entry. entry ≡ Heard who call origin acts) }
     {
-        let exchange = Rc::new(alloc, Exchange { call, cause, acts })?;
+        let exchange = Rc::new(alloc, Exchange { call, origin, acts })?;
         Ok(Entry::Heard {
             who,
             call: LoggedCall {
                 exchange: exchange.clone()?,
             },
-            cause: LoggedCause {
+            origin: LoggedOrigin {
                 exchange: exchange.clone()?,
             },
             acts: LoggedActs { exchange },

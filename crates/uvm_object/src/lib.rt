@@ -10,8 +10,8 @@ mod objects;
 
 pub use acts::{Act, Acts, ActsIter, Call, Deed, What, Who};
 pub use entries::{
-    Entry, Grant, LoggedActs, LoggedCall, LoggedCause, LoggedGrant, LoggedOutcome, LoggedPassage,
-    Outcome, Passage, Reason,
+    Entry, Grant, LoggedActs, LoggedCall, LoggedGrant, LoggedOrigin, LoggedOutcome, LoggedPassage,
+    Origin, Outcome, Passage, Reason,
 };
 pub use fatals::Fatal;
 pub use logs::{Log, LogFault};

@@ -15,7 +15,7 @@ use Rattle.uvm_tests.proofs.Shown.{shown, heard_by}
 
 -- what `uvm_test_top` had asked for at the FIFO `a`
 abbrev passed : MoveKind → List ℕ
-passed kind = shown (entry.Passed 2 (record { kind = kind; who = who.Node 1; port = codes "req"; item = record { 0 = pos 1 ∷ pos 2 ∷ pos 10 ∷ pos 0 ∷ [] }; request = 7 }))
+passed kind = shown (entry.Passed 2 (record { kind = kind; who = who.Node 1; port = codes "req"; item = record { 0 = pos 1 ∷ pos 2 ∷ pos 10 ∷ pos 0 ∷ [] }; request = 7; phase = phase.Run }))
 
 the-begin-of-a-phase : shown (entry.Begin phase.Build) ≡ codes "begin build\n"
 unfolding digits

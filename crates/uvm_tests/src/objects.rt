@@ -8,7 +8,7 @@ use std::test::Fail;
 use uvm_glob::Name;
 use uvm_object::{
     Act, Acts, Call, Deed, Entry, Fatal, Grant, Log, LogFault, LoggedGrant, LoggedOutcome,
-    LoggedPassage, Outcome, Passage, Who,
+    LoggedPassage, Origin, Outcome, Passage, Who,
 };
 use uvm_phase::{Cause, Phase};
 use uvm_report::{Report, Severity};
@@ -140,17 +140,20 @@ fn a_fatal_has_its_id_and_its_text(rt: HostRuntime) {
     assert!(rt; (fatal.id(), fatal.text()) == ("NOSQR", "no such sequencer"));
 }
 
-const CAUSE: Cause = Cause {
-    place: 9,
-    number: 2,
+const ORIGIN: Origin = Origin {
+    cause: Cause {
+        place: 9,
+        number: 2,
+    },
+    phase: Phase::Run,
 };
 
 #[test]
 fn an_entry_tells_what_it_holds(rt: HostRuntime) -> Result<(), Fail> {
     let call = Call::Phase(Phase::Run);
     let acts = three_acts(rt.alloc())?;
-    let heard = Entry::heard(rt.alloc(), Who::Node(NodeId::TOP), call, Some(CAUSE), acts)?;
-    assert!(rt; holds(&heard, &call, CAUSE, 3));
+    let heard = Entry::heard(rt.alloc(), Who::Node(NodeId::TOP), call, Some(ORIGIN), acts)?;
+    assert!(rt; holds(&heard, &call, ORIGIN, 3));
     Ok(())
 }
 
@@ -161,14 +164,14 @@ fn three_acts(alloc: Global) -> Result<Acts, Fail> {
     Ok(acts)
 }
 
-fn holds(entry: &Entry, call: &Call, cause: Cause, count: usize) -> bool {
+fn holds(entry: &Entry, call: &Call, origin: Origin, count: usize) -> bool {
     match entry {
         Entry::Heard {
             call: asked,
-            cause: why,
+            origin: why,
             acts,
             ..
-        } => *asked.get() == *call && why.get() == Some(cause) && acts.get().len() == count,
+        } => *asked.get() == *call && why.get() == Some(origin) && acts.get().len() == count,
         _ => false,
     }
 }
@@ -240,6 +243,7 @@ fn is_passage_kept(alloc: Global, port: Name) -> Result<bool, AllocError> {
         port,
         item: ITEM,
         request: 7,
+        phase: Phase::Run,
     };
     Ok(*LoggedPassage::new(alloc, passage)?.get() == passage)
 }

@@ -9,7 +9,7 @@ use Rattle.std.proofs.lemmas.List.Kept.{AllPairs-filter}
 use Rattle.std.proofs.lemmas.List.Sorted.{All-permutation}
 use Rattle.uvm_phase.specs.declared.phases.Phase.{Phase}
 use Rattle.uvm_phase.specs.declared.agendas.Cause.{Cause}
-use Rattle.uvm_phase.specs.Phases.{phase_number, same_phase}
+use Rattle.uvm_phase.specs.Phases.{same_phase}
 use Rattle.uvm_phase.specs.Dues.{same_cause, in_order}
 use Rattle.uvm_phase.specs.Laws.{OrderKeepsAll}
 use Rattle.uvm_objection.specs.Nodes.{Node, is_known, drain_of, held_of, due_of, changed_at, new_node, raised, dropped, released, with_drain}
@@ -18,14 +18,14 @@ use Rattle.uvm_objection.specs.Laws.{places, AreNodes, PlacesStay, SettledGoByTo
 use Rattle.uvm_object.specs.declared.acts.Who.{Who}
 use Rattle.uvm_object.specs.declared.acts.Call.{Call}
 use Rattle.uvm_object.specs.declared.entries.Entry.{Entry}
-use Rattle.bench_history.specs.declared.stages.Stage.{Stage}
+use Rattle.uvm_object.specs.declared.entries.Origin.{Origin}
 use Rattle.bench_history.specs.declared.owners.Owner.{Owner}
 use Rattle.bench_history.specs.declared.owners.Owner.TheVariants.{Object, Drain}
 use Rattle.uvm_object.specs.Acts.{node_of}
 use Rattle.bench_history.specs.Owners.{Event, is_drain_of, who_of}
-use Rattle.bench_history.specs.History.{now_of, running}
+use Rattle.bench_history.specs.History.{now_of}
 use Rattle.bench_history.specs.Dues.{event_in, caused_at, drain_from, with_drains, is_of_one, is_open, due_events}
-use Rattle.bench_history.specs.Laws.{next_number, IsDrainDue}
+use Rattle.bench_history.specs.Laws.{HasNotEnded, IsDrainDue}
 use Rattle.world_agenda.specs.Objectings.{IsEvent, AreEvents}
 use Rattle.world_agenda.specs.Agendas.{IsAgenda}
 use Rattle.world_agenda.proofs.Lists.{filter-twice, first-holds, one-heard-of, one-ended-of}
@@ -55,15 +55,15 @@ agenda-without caused heard ended finished count dues p a = record {
 
 -- and the end of a drain that began is due
 agenda-moved :
-    (stage : Stage) (began : Option drain.Due) (caused : List Event) (heard : List Cause) (ended : List Phase) (finished : List Who) (count : ℕ) (dues more : List Event) (p : Event → Bool)
-    → All (λ phase. phase_number phase < next_number stage) ended → IsAgenda caused heard ended finished count dues
-    → more ≡ in_order (flat_map (drain_from (running stage) (caused_at count)) (option_to_list began) ++ filter p (filter (is_open heard ended finished) caused))
-    → IsAgenda (flat_map (drain_from (running stage) (caused_at count)) (option_to_list began) ++ filter p caused) heard ended finished (suc count) more
-agenda-moved stage None caused heard ended finished count dues more p phases a is = rw is (agenda-later (agenda-without caused heard ended finished count dues p a))
-agenda-moved stage (Some begun) caused heard ended finished count dues more p phases a is =
-    let event : List Event = event_in (running stage) begun.at (caused_at count) (Drain begun.node) None in
+    (phase : Option Phase) (began : Option drain.Due) (caused : List Event) (heard : List Cause) (ended : List Phase) (finished : List Who) (count : ℕ) (dues more : List Event) (p : Event → Bool)
+    → HasNotEnded ended phase → IsAgenda caused heard ended finished count dues
+    → more ≡ in_order (flat_map (drain_from phase (caused_at count)) (option_to_list began) ++ filter p (filter (is_open heard ended finished) caused))
+    → IsAgenda (flat_map (drain_from phase (caused_at count)) (option_to_list began) ++ filter p caused) heard ended finished (suc count) more
+agenda-moved phase None caused heard ended finished count dues more p unended a is = rw is (agenda-later (agenda-without caused heard ended finished count dues p a))
+agenda-moved phase (Some begun) caused heard ended finished count dues more p unended a is =
+    let event : List Event = event_in phase begun.at (caused_at count) (Drain begun.node) None in
     rw (append-nil event)
-    (agenda-event (Drain begun.node) None begun.at stage (filter p caused) heard ended finished count _ more phases refl (agenda-without caused heard ended finished count dues p a)
+    (agenda-event (Drain begun.node) None begun.at phase (filter p caused) heard ended finished count _ more unended refl (agenda-without caused heard ended finished count dues p a)
     (rw (append-nil event, filter-order p (is_open heard ended finished) caused) at is))
 
 -- one more, if it passes a test
@@ -248,23 +248,23 @@ held-settled time k at nodes changed others settles stay are same is keeps goes 
     still = held-unless-ended (λ node. held_of node nodes) k others held.held (stay.known k nodes others same ∙ known-held k nodes held.held) goes
 
 -- what the drains that began and ended make of what is due
-pub record HasMoved (nodes others : List Node) (stage : Stage) (caused : List Event) (heard : List Cause) (ended : List Phase) (finished : List Who) (count : ℕ) (more : List Event) : Type 0 where
-  pub agenda : IsAgenda (with_drains (running stage) (caused_at count) nodes others caused) heard ended finished (suc count) more
-  pub events : AreEvents others (filter (is_open heard ended finished) (with_drains (running stage) (caused_at count) nodes others caused))
+pub record HasMoved (nodes others : List Node) (phase : Option Phase) (caused : List Event) (heard : List Cause) (ended : List Phase) (finished : List Who) (count : ℕ) (more : List Event) : Type 0 where
+  pub agenda : IsAgenda (with_drains phase (caused_at count) nodes others caused) heard ended finished (suc count) more
+  pub events : AreEvents others (filter (is_open heard ended finished) (with_drains phase (caused_at count) nodes others caused))
 
 pub moved :
-    (time : ℕ) (nodes changed others : List Node) (stage : Stage) (began : Option drain.Due) (ends : Option ℕ)
+    (time : ℕ) (nodes changed others : List Node) (phase : Option Phase) (began : Option drain.Due) (ends : Option ℕ)
     (caused : List Event) (heard : List Cause) (ended : List Phase) (finished : List Who) (count : ℕ) (dues more : List Event)
     → SettledGoByTotals → PlacesStay → AreNodes nodes → places others ≡ places nodes → others ≡ settled time (total nodes) changed → ((k : ℕ) → list_any (λ other. other == k) (option_to_list ends) ≡ false → due_of k changed ≡ due_of k nodes)
     → drains_begun nodes others ≡ option_to_list began → drains_ended nodes others ≡ option_to_list ends → All (IsHeldUntilDue others) (option_to_list began)
-    → All (λ phase. phase_number phase < next_number stage) ended → IsAgenda caused heard ended finished count dues → AreEvents nodes (filter (is_open heard ended finished) caused)
-    → more ≡ in_order (flat_map (drain_from (running stage) (caused_at count)) (option_to_list began) ++ filter (λ event. not (is_drain_of (option_to_list ends) event.owner)) (filter (is_open heard ended finished) caused))
-    → HasMoved nodes others stage caused heard ended finished count more
-moved time nodes changed others stage began ends caused heard ended finished count dues more settles stay are same is keeps begun over held phases a events due =
+    → HasNotEnded ended phase → IsAgenda caused heard ended finished count dues → AreEvents nodes (filter (is_open heard ended finished) caused)
+    → more ≡ in_order (flat_map (drain_from phase (caused_at count)) (option_to_list began) ++ filter (λ event. not (is_drain_of (option_to_list ends) event.owner)) (filter (is_open heard ended finished) caused))
+    → HasMoved nodes others phase caused heard ended finished count more
+moved time nodes changed others phase began ends caused heard ended finished count dues more settles stay are same is keeps begun over held unended a events due =
     let kept : Event → Bool = λ event. not (is_drain_of (option_to_list ends) event.owner) in
     record {
-      agenda = rw (begun, over) (agenda-moved stage began caused heard ended finished count dues more kept phases a due);
-      events = rw (begun, over) (events-begun others (is_open heard ended finished) (running stage) (caused_at count) began (filter kept caused) held
+      agenda = rw (begun, over) (agenda-moved phase began caused heard ended finished count dues more kept unended a due);
+      events = rw (begun, over) (events-begun others (is_open heard ended finished) phase (caused_at count) began (filter kept caused) held
           (events-at nodes others (is_open heard ended finished) kept caused (λ event. one event.owner event.notice event.time) events));
     }
   where
@@ -330,9 +330,9 @@ none-ended (event ∷ caused) = rw (none event.owner, none-ended caused) refl
 
 -- the node whose drain is due holds something until now
 pub due-is-held :
-    (nodes : List Node) (history : List Entry) (node : ℕ) (cause : Cause) → OrderKeepsAll Owner (Option Call) → AreEvents nodes (due_events history) → IsDrainDue history node cause
+    (nodes : List Node) (history : List Entry) (node : ℕ) (origin : Origin) → OrderKeepsAll Owner (Option Call) → AreEvents nodes (due_events history) → IsDrainDue history node origin
     → IsHeldUntilDue nodes (record { node = node; at = now_of history })
-due-is-held nodes history node cause keeps all drained =
+due-is-held nodes history node origin keeps all drained =
     let due = drained.due in
     let P : Event → Type 0 = λ event. IsEvent nodes event.owner event.notice event.time in
     let ordered : All P (in_order (due_events history)) = All-permutation P (due_events history) (in_order (due_events history)) (keeps (due_events history)) all in

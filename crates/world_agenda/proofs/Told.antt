@@ -1,5 +1,5 @@
 -- What is due, over lists alone.
-use Rattle.std.proofs.Common.{◌≡◌, ℕ, suc, ◌<◌, Bool, true, false, not, ◌&&◌, ◌||◌, List, [], ◌∷◌, ◌++◌, drop, filter, slice_get, Option, Some, All, refl, ap, ◌∙◌, sym, arith}
+use Rattle.std.proofs.Common.{◌≡◌, ℕ, suc, ◌<◌, Bool, true, false, not, ◌&&◌, ◌||◌, List, [], ◌∷◌, ◌++◌, drop, filter, slice_get, Option, Some, None, All, refl, ap, ◌∙◌, sym, arith}
 use Rattle.std.proofs.lemmas.Bool.Decides.{nat_tests}
 use Rattle.std.specs.List.{list_any}
 use Rattle.std.proofs.lemmas.List.Elements.{All-cons, All-weaker, All-filter}
@@ -8,7 +8,7 @@ use Rattle.std.proofs.lemmas.List.Sorted.{All-permutation}
 use Rattle.std.proofs.lemmas.List.Kept.{AllPairs-cons, AllPairs-filter}
 use Rattle.uvm_phase.specs.declared.phases.Phase.{Phase}
 use Rattle.uvm_phase.specs.declared.agendas.Cause.{Cause}
-use Rattle.uvm_phase.specs.Phases.{phase_number, same_phase}
+use Rattle.uvm_phase.specs.Phases.{same_phase}
 use Rattle.uvm_phase.specs.Dues.{same_cause, in_order}
 use Rattle.uvm_phase.specs.Laws.{OrderKeepsAll, OrderKeepsFilters, OrderLosesFirst}
 use Rattle.uvm_object.specs.declared.acts.Call.{Call}
@@ -17,12 +17,9 @@ use Rattle.uvm_object.specs.declared.acts.Who.TheVariants.{Node, Sequence}
 use Rattle.uvm_object.specs.Objects.{same_who}
 use Rattle.bench_history.specs.declared.owners.Owner.{Owner}
 use Rattle.bench_history.specs.declared.owners.Owner.TheVariants.{Object, Drain}
-use Rattle.bench_history.specs.declared.stages.Stage.{Stage}
-use Rattle.bench_history.specs.declared.stages.Stage.TheVariants.{Before, During, After, Ended}
-use Rattle.bench_history.specs.History.{running}
 use Rattle.bench_history.specs.Dues.{event_in, caused_at, is_of_one, is_open}
 use Rattle.bench_history.specs.Owners.{Event}
-use Rattle.bench_history.specs.Laws.{next_number}
+use Rattle.bench_history.specs.Laws.{HasNotEnded}
 use Rattle.world_agenda.specs.Agendas.{IsAgenda}
 use Rattle.world_agenda.proofs.Lists.{filter-twice, one-ended, one-heard-of, one-ended-of, first-holds}
 
@@ -45,11 +42,6 @@ pub fresh : (heard : List Cause) (cause : Cause) → All (λ other. other.place 
 fresh heard cause within =
     list_any_none (same_cause cause) heard (All-weaker (λ other. other.place < cause.place) (λ other. same_cause cause other ≡ false) (λ other lt. grind (arith, nat_tests)) heard within)
 
--- nor has a phase ended that stands behind all that have
-pub runs : (ended : List Phase) (phase : Phase) → All (λ other. phase_number other < phase_number phase) ended → list_any (same_phase phase) ended ≡ false
-runs ended phase within =
-    list_any_none (same_phase phase) ended (All-weaker (λ other. phase_number other < phase_number phase) (λ other. same_phase phase other ≡ false) (λ other lt. grind (arith, nat_tests)) ended within)
-
 -- one more entry
 pub agenda-later : {caused : List Event} {heard : List Cause} {ended : List Phase} {finished : List Who} {count : ℕ} {dues : List Event} → IsAgenda caused heard ended finished count dues → IsAgenda caused heard ended finished (suc count) dues
 agenda-later {caused} {heard} {ended} {count} a = record {
@@ -62,30 +54,28 @@ agenda-later {caused} {heard} {ended} {count} a = record {
 -- one that causes an event
 agenda-caused :
     (caused : List Event) (heard : List Cause) (ended : List Phase) (finished : List Who) (dues more : List Event) (due : Event)
-    → IsAgenda caused heard ended finished due.cause.place dues → All (λ other. phase_number other < phase_number due.phase) ended → is_of_one finished due.owner ≡ false
+    → IsAgenda caused heard ended finished due.cause.place dues → list_any (same_phase due.phase) ended ≡ false → is_of_one finished due.owner ≡ false
     → more ≡ in_order (due ∷ filter (is_open heard ended finished) caused)
     → IsAgenda (due ∷ caused) heard ended finished (suc due.cause.place) more
-agenda-caused caused heard ended finished dues more due a before unfinished is =
+agenda-caused caused heard ended finished dues more due a unended unfinished is =
     let l = agenda-later a in
     record {
-      are = rw (fresh heard due.cause a.heard_within, runs ended due.phase before, unfinished) is;
+      are = rw (fresh heard due.cause a.heard_within, unended, unfinished) is;
       distinct = AllPairs-cons (λ one other. same_cause one.cause other.cause ≡ false) due caused (All-weaker (λ other. other.cause.place < due.cause.place) (λ other. same_cause due.cause other.cause ≡ false) (λ other lt. grind (arith, nat_tests)) caused a.caused_within) a.distinct;
       caused_within = All-cons (λ other. other.cause.place < suc due.cause.place) due caused (omega arith) l.caused_within;
       heard_within = l.heard_within;
     }
 
--- an event is due, while a phase runs
+-- an event of a phase is due
 pub agenda-event :
-    (owner : Owner) (notice : Option Call) (time : ℕ) (stage : Stage)
+    (owner : Owner) (notice : Option Call) (time : ℕ) (phase : Option Phase)
     (caused : List Event) (heard : List Cause) (ended : List Phase) (finished : List Who) (count : ℕ) (dues more : List Event)
-    → All (λ phase. phase_number phase < next_number stage) ended → is_of_one finished owner ≡ false → IsAgenda caused heard ended finished count dues
-    → more ≡ in_order (event_in (running stage) time (caused_at count) owner notice ++ filter (is_open heard ended finished) caused)
-    → IsAgenda (event_in (running stage) time (caused_at count) owner notice ++ caused) heard ended finished (suc count) more
-agenda-event owner notice time (During phase) caused heard ended finished count dues more phases unfinished a is =
-    agenda-caused caused heard ended finished dues more (record { time = time; cause = caused_at count; phase = phase; owner = owner; notice = notice }) a phases unfinished is
-agenda-event owner notice time Before caused heard ended finished count dues more phases unfinished a is = rw (is, ← a.are) (agenda-later a)
-agenda-event owner notice time (After phase) caused heard ended finished count dues more phases unfinished a is = rw (is, ← a.are) (agenda-later a)
-agenda-event owner notice time Ended caused heard ended finished count dues more phases unfinished a is = rw (is, ← a.are) (agenda-later a)
+    → HasNotEnded ended phase → is_of_one finished owner ≡ false → IsAgenda caused heard ended finished count dues
+    → more ≡ in_order (event_in phase time (caused_at count) owner notice ++ filter (is_open heard ended finished) caused)
+    → IsAgenda (event_in phase time (caused_at count) owner notice ++ caused) heard ended finished (suc count) more
+agenda-event owner notice time (Some phase) caused heard ended finished count dues more unended unfinished a is =
+    agenda-caused caused heard ended finished dues more (record { time = time; cause = caused_at count; phase = phase; owner = owner; notice = notice }) a unended unfinished is
+agenda-event owner notice time None caused heard ended finished count dues more unended unfinished a is = rw (is, ← a.are) (agenda-later a)
 
 -- one call is heard
 pub agenda-heard :
@@ -138,11 +128,11 @@ agenda-finished who caused heard ended finished count dues a = record {
 
 -- an event of a sequence that has finished is never due
 pub agenda-closed :
-    (owner : Owner) (notice : Option Call) (time : ℕ) (stage : Stage)
+    (owner : Owner) (notice : Option Call) (time : ℕ) (phase : Option Phase)
     (caused : List Event) (heard : List Cause) (ended : List Phase) (finished : List Who) (count : ℕ) (dues : List Event)
     → is_of_one finished owner ≡ true → IsAgenda caused heard ended finished count dues
-    → IsAgenda (event_in (running stage) time (caused_at count) owner notice ++ caused) heard ended finished (suc count) dues
-agenda-closed owner notice time (During phase) caused heard ended finished count dues done a =
+    → IsAgenda (event_in phase time (caused_at count) owner notice ++ caused) heard ended finished (suc count) dues
+agenda-closed owner notice time (Some phase) caused heard ended finished count dues done a =
     let due : Event = record { time = time; cause = caused_at count; phase = phase; owner = owner; notice = notice } in
     let l = agenda-later a in
     record {
@@ -155,6 +145,4 @@ agenda-closed owner notice time (During phase) caused heard ended finished count
     never : (g : Bool) → (g && not (is_of_one finished owner)) ≡ false
     never true = rw done refl
     never false = refl
-agenda-closed owner notice time Before caused heard ended finished count dues done a = agenda-later a
-agenda-closed owner notice time (After phase) caused heard ended finished count dues done a = agenda-later a
-agenda-closed owner notice time Ended caused heard ended finished count dues done a = agenda-later a
+agenda-closed owner notice time None caused heard ended finished count dues done a = agenda-later a

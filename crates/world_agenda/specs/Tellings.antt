@@ -1,9 +1,9 @@
 -- Who is told of what is due.
 use Rattle.std.specs.Prelude.{ℕ, suc, Bool, true, is_some, List, [], ◌∷◌, ◌++◌, Option, Some, if◌then◌else◌}
-use Rattle.uvm_phase.specs.declared.phases.Phase.{Phase}
 use Rattle.uvm_object.specs.declared.acts.Who.{Who}
 use Rattle.uvm_object.specs.declared.acts.Call.{Call}
 use Rattle.bench_history.specs.declared.owners.Owner.TheVariants.{Object}
+use Rattle.bench_history.specs.declared.owners.Told.{Told}
 use Rattle.bench_history.specs.Dues.{event_in}
 use Rattle.bench_history.specs.Owners.{Event}
 use Rattle.uvm_sequences.specs.declared.starts.SeqStep.{SeqStep}
@@ -16,10 +16,10 @@ use Rattle.uvm_object.specs.declared.acts.Who.TheVariants as who
 abbrev pub if_told : Bool → List Event → List Event
 if_told told events = if told then events else []
 
-abbrev pub living_numbered : (Who → Bool) → Option Phase → ℕ → ℕ → ℕ → List (Who × Call) → List Event
-living_numbered told phase time place number [] = []
-living_numbered told phase time place number (call ∷ calls) =
-    living_numbered told phase time place (suc number) calls ++ if_told (told call.0) (event_in phase time (record { place = place; number = number }) (Object call.0) (Some call.1))
+abbrev pub living_numbered : (Who → Bool) → ℕ → ℕ → ℕ → List Told → List Event
+living_numbered told time place number [] = []
+living_numbered told time place number (call ∷ calls) =
+    living_numbered told time place (suc number) calls ++ if_told (told call.who) (event_in call.phase time (record { place = place; number = number }) (Object call.who) (Some call.call))
 
 -- somebody is told: a component, or a sequence that lives
 abbrev pub is_told : List (Option SeqStep) → Who → Bool

@@ -4,18 +4,17 @@ ghost use Rattle.std.specs.Prelude.{◌≡◌, ◌++◌, ℕ, List, not, filter,
 ghost use Rattle.std.specs.Option.{option_to_list};
 ghost use Rattle.uvm_phase.specs.Dues.{in_order};
 ghost use Rattle.bench_history.specs.Dues.{caused_at, is_of_one, event_in, calls_numbered};
-ghost use Rattle.bench_history.specs.History.{running};
 ghost use Rattle.bench_history.specs.Owners.{Event, is_drain_of};
 ghost use Rattle.uvm_object.specs.declared.acts.Act.TheVariants.{EndStep};
 ghost use Rattle.bench_history.specs.Refusals.{is_open_to};
 ghost use Rattle.uvm_phase.specs.declared.agendas.Due.{Due};
 ghost use Rattle.world_agenda.specs.Tellings.{if_told, living_numbered, is_told};
 
-use bench_history::{Owner, Stage};
+use bench_history::{Owner, Told};
 use std::alloc::AllocError;
 use std::hash::Hash;
 use uvm_object::{Call, Who};
-use uvm_phase::{Agenda, Cause, laws as agendas};
+use uvm_phase::{Agenda, Cause, Phase, laws as agendas};
 use uvm_sequences::Sequences;
 use uvm_tree::NodeId;
 
@@ -53,75 +52,64 @@ pub fn caused_at(place: usize) -> Cause
     }
 }
 
-/// Adds an event that is due at a time, in ticks, while a phase runs; at another stage it adds nothing. Its error is want of
-/// memory. It does not come where the agenda has room.
+/// Adds an event of a phase that is due at a time, in ticks; of none it adds nothing. Its error is want of memory. It does not come
+/// where the agenda has room.
 pub fn add_event<O: Copy + Eq + Hash + Drop, N: Drop>(
     agenda: &mut Agenda<O, N>,
-    stage: Stage,
+    phase: Option<Phase>,
     time: u64,
     cause: Cause,
     owner: O,
     notice: N,
 ) -> Result<(), AllocError>
     ensures dues { OnOk result ((caused : List (Due O N)) → agenda.old.dues ≡ in_order caused →
-        agenda.new.dues ≡ in_order (event_in (running stage) time cause owner notice ++ caused)) }
+        agenda.new.dues ≡ in_order (event_in phase time cause owner notice ++ caused)) }
     ensures memory { 0 < agenda.old.spare → IsOk result }
 {
-    let Stage::During(phase) = stage else {
-        return Ok(());
-    };
-    agenda.due(time, cause, phase, owner, notice)
+    match phase {
+        Some(phase) => agenda.due(time, cause, phase, owner, notice),
+        None => Ok(()),
+    }
 }
 
-/// Makes calls due at a time, in ticks, while a phase runs, but for those to sequences that live no longer. The place of the
-/// entry is their cause, and they are numbered in their order. Its error is want of memory.
+/// Makes calls due at a time, in ticks, each in its phase, but for those to sequences that live no longer. The place of the entry is
+/// their cause, and they are numbered in their order. Its error is want of memory.
 pub fn tell_each(
     agenda: &mut Agenda<Owner, Option<Call>>,
     sequences: &Sequences,
-    stage: Stage,
     time: u64,
     place: usize,
-    calls: &[(Who, Call)],
+    calls: &[Told],
 ) -> Result<(), AllocError>
     ensures { OnOk result ((caused : List Event) → agenda.old.dues ≡ in_order caused →
-        agenda.new.dues ≡ in_order (living_numbered (is_told sequences.now.steps) (running stage) time place 0 calls.now ++ caused)) }
+        agenda.new.dues ≡ in_order (living_numbered (is_told sequences.now.steps) time place 0 calls.now ++ caused)) }
 {
-    for (number, (who, call)) in calls.iter().enumerate() {
+    for (number, told) in calls.iter().enumerate() {
         let cause = Cause {
             place: place as u64,
             number: number as u64,
         };
-        tell_if(
-            agenda,
-            is_told(sequences, who),
-            stage,
-            time,
-            cause,
-            *who,
-            *call,
-        )?;
+        tell_if(agenda, is_told(sequences, &told.who), time, cause, told)?;
     }
     Ok(())
 }
 
-// A call of somebody is due, if he is told.
+// A call is due, if who is called is told.
 fn tell_if(
     agenda: &mut Agenda<Owner, Option<Call>>,
-    told: bool,
-    stage: Stage,
+    tells: bool,
     time: u64,
     cause: Cause,
-    who: Who,
-    call: Call,
+    told: &Told,
 ) -> Result<(), AllocError>
     ensures { OnOk result ((caused : List Event) → agenda.old.dues ≡ in_order caused →
-        agenda.new.dues ≡ in_order (if_told told (event_in (running stage) time cause (Owner.Object who) (Some call)) ++ caused)) }
+        agenda.new.dues ≡ in_order (if_told tells (event_in told.now.phase time cause (Owner.Object told.now.who) (Some told.now.call)) ++ caused)) }
 {
-    if told {
-        add_event(agenda, stage, time, cause, Owner::Object(who), Some(call))
-    } else {
-        Ok(())
+    if !tells {
+        return Ok(());
     }
+    let owner = Owner::Object(told.who);
+    add_event(agenda, told.phase, time, cause, owner, Some(told.call))
 }
 
 /// Answers whether somebody is told what is due: a component, or a sequence that lives.
@@ -134,24 +122,24 @@ pub fn is_told(sequences: &Sequences, who: &Who) -> bool
     }
 }
 
-/// Makes calls due at a time, in ticks, while a phase runs. The place of the entry is their cause, and they are numbered in their
+/// Makes calls due at a time, in ticks, each in its phase. The place of the entry is their cause, and they are numbered in their
 /// order. Its error is want of memory.
 pub fn tell_all(
     agenda: &mut Agenda<Owner, Option<Call>>,
-    stage: Stage,
     time: u64,
     place: usize,
-    calls: &[(Who, Call)],
+    calls: &[Told],
 ) -> Result<(), AllocError>
     ensures { OnOk result ((caused : List Event) → agenda.old.dues ≡ in_order caused →
-        agenda.new.dues ≡ in_order (calls_numbered (running stage) time place 0 calls.now ++ caused)) }
+        agenda.new.dues ≡ in_order (calls_numbered time place 0 calls.now ++ caused)) }
 {
-    for (number, (who, call)) in calls.iter().enumerate() {
+    for (number, told) in calls.iter().enumerate() {
         let cause = Cause {
             place: place as u64,
             number: number as u64,
         };
-        add_event(agenda, stage, time, cause, Owner::Object(*who), Some(*call))?;
+        let owner = Owner::Object(told.who);
+        add_event(agenda, told.phase, time, cause, owner, Some(told.call))?;
     }
     Ok(())
 }

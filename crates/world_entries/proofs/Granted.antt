@@ -12,15 +12,16 @@ use Rattle.bench_history.specs.Arbitration.{mode_at, next_locked, next_served}
 use Rattle.bench_history.specs.Cases.{chosen_at}
 use Rattle.bench_history.specs.History.{ended_of, nodes_of}
 use Rattle.bench_history.specs.Laws.{IsLiving}
-use Rattle.bench_history.specs.Sequences.{begun_of, finished_of, is_live, sequences_of, starts_in}
+use Rattle.bench_history.specs.Sequences.{Beginning, begun_of, finished_of, is_live, phase_begun, sequences_of, starts_in}
 use Rattle.world_services.specs.declared.services.Services.{Services}
 use Rattle.uvm_sequencer.specs.Laws.{PassedStays}
-use Rattle.uvm_sequences.specs.Sequences.{Start}
+use Rattle.uvm_sequences.specs.Sequences.{Start, numbered}
 use Rattle.world_sequencers.specs.declared.contests.Contest.{Contest}
 use Rattle.world_sequencers.specs.Contests.{IsKnown, LearnsAt, known_at}
 use Rattle.world_sequencers.specs.Arbiters.{ArbiterValue, ChangesAt, Kept, at_sequencer, lock_in, ready_in}
 use Rattle.world_sequencers.specs.Arbitratings.{IsArbitrated, IsArbitrating, arbiter_of, arbiter_with, ledger_at}
-use Rattle.world_sequences.specs.Sequencings.{live_by}
+use Rattle.world_sequences.specs.Sequencings.{live_by, phase_at}
+use Rattle.world_sequences.proofs.Starters.{phase-known}
 use Rattle.world_services.specs.Services.{ServicesMatch}
 use Rattle.world_sequencers.proofs.Arbited.{arbitrated-granted, arbitrated-locked, arbitrated-more, granted-is, locked-is}
 use Rattle.world_sequencers.proofs.Contested.{arbitrating-there, changed-each, learns-else, learns-here}
@@ -49,6 +50,14 @@ module _ {script : ScriptValue} {history : List Entry} {services : Services} (m 
   -- who is chosen
   pub chosen-known : (node id : ℕ) (word : Option ℕ) → option_and_then (λ a. choice_at services.sequences.started a.sequencer word) (get nat_eq services.arbiters node) ≡ Some id → chosen_at history node word ≡ Some id
   chosen-known node id word e = sym (said m node (λ s. choice_at (sequences_of history) s word)) ∙ rw m.sequencing.started at e
+
+  -- the phase in which a sequence was started that lives is kept
+  pub living-phase : (id : ℕ) {home : ℕ} → IsLiving history id home → phase_at services.beginnings.items id ≡ phase_begun history id
+  living-phase id {home} living = by (numbered (begun_of history) id) refl living.home_is
+    where
+      by : (found : Option Beginning) → numbered (begun_of history) id ≡ found → option_map (λ beginning. beginning.start.home) found ≡ Some home → phase_at services.beginnings.items id ≡ phase_begun history id
+      by None found e = cc
+      by (Some beginning) found e = phase-known (begun_of history) services.beginnings.items id beginning m.sequencing.are found
 
   -- a sequencer is there, where something is found
   lock-moded : (mode : Option Mode) (node id : ℕ) → lock_in (starts_in (begun_of history)) (option_map (arbiter_with (live_by (begun_of history) (finished_of history) (ended_of history)) (ledger_at history node)) mode) ≡ Some id → IsSome mode

@@ -1,7 +1,7 @@
 -- An answer.
 use Rattle.std.proofs.Common.{◌≡◌, ◌∙◌, ℕ, false, not, List, ◌∷◌, length, filter, Option, Some, None, option_map, All, subst, refl, ap, sym, arith, ◌<◌}
 use Rattle.std.proofs.lemmas.List.Elements.{All-contains}
-use Rattle.uvm_phase.specs.declared.agendas.Cause.{Cause}
+use Rattle.uvm_phase.specs.declared.phases.Phase.{Phase}
 use Rattle.uvm_object.specs.declared.acts.Who.{Who}
 use Rattle.uvm_object.specs.declared.acts.Call.{Call}
 use Rattle.uvm_object.specs.declared.acts.Act.{Act}
@@ -11,10 +11,11 @@ use Rattle.uvm_glob.specs.declared.orders.Direction.{Direction}
 use Rattle.uvm_glob.specs.Orders.{PathOrder, order_of}
 use Rattle.uvm_tree.specs.Cursors.{IsLeast, LeastIsLeast, OrdersNodes, is_before, least, node_cmp}
 use Rattle.bench_history.specs.Laws.{HasTurn, IsThere}
-use Rattle.bench_history.specs.History.{called_of, components_of, had_call, next_call, nodes_of, phase_order, stage_of}
+use Rattle.bench_history.specs.History.{called_of, components_of, had_call, next_call, nodes_of, phase_heard, phase_order, stage_of}
 use Rattle.bench_history.specs.Sequences.{Beginning, begun_of}
 use Rattle.uvm_sequences.specs.Sequences.{numbered}
 use Rattle.world_sequences.proofs.Numbered.{numbered-holds}
+use Rattle.uvm_object.specs.declared.entries.Origin.{Origin}
 use Rattle.uvm_object.specs.declared.entries.Entry.{Entry}
 use Rattle.uvm_object.specs.declared.entries.Entry.TheVariants.{Heard}
 use Rattle.world_services.specs.declared.turns.Turns.{Turns}
@@ -53,14 +54,15 @@ heard-turns history performer {old} {new} turn orders leasts turns heard =
 
 -- the answer is the last one, and all of it is left
 pub heard-answer :
-    (opening : Act) (before : List Entry) (performer : Who) (call : Call) (cause : Option Cause) (acts : List Act)
-    → IsLastAnswer opening (Heard performer call cause acts ∷ before) acts performer (record { speaker = performer; place = Some (length before); count = length acts; done = 0; noted = false })
-heard-answer opening before performer call cause acts =
-    let last = ap acts_in (get-last (Heard performer call cause acts) before) in
+    (opening : Act) (before : List Entry) (performer : Who) (call : Call) (origin : Option Origin) (acts : List Act) (phase : Option Phase) → phase ≡ phase_heard call origin
+    → IsLastAnswer opening (Heard performer call origin acts ∷ before) acts performer (phase_heard call origin) (record { speaker = performer; phase = phase; place = Some (length before); count = length acts; done = 0; noted = false })
+heard-answer opening before performer call origin acts phase is =
+    let last = ap acts_in (get-last (Heard performer call origin acts) before) in
     record {
       speaker = refl;
+      phase = is;
       rest = last;
-      within = answered-last (Heard performer call cause acts) before;
+      within = answered-last (Heard performer call origin acts) before;
       count = ap length (sym last);
       few = omega arith;
     }

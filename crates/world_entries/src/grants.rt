@@ -17,6 +17,7 @@ use uvm_sequences::SeqId;
 use uvm_tree::NodeId;
 use world_fifos::stations::pass;
 use world_sequencers::arbiters::{choose_at, passed_at, settle_at};
+use world_sequences::beginnings::phase_at;
 use world_services::services::Services;
 use world_services::tells::{tell_passed, tell_to};
 
@@ -34,14 +35,14 @@ pub fn lock(
     // It is the lock that leads first, and its sequence lives.
     laws::locks_go_in_order();
     laws::lockers_are_there();
-    laws::phases_go_in_order();
     laws::wiring_stays();
     let time = services.time;
+    let phase = phase_at(services.beginnings.as_slice(), id);
     let who = Who::Sequence {
         id,
         home: sequencer,
     };
-    tell_to(services, who, Call::Held, time, place)?;
+    tell_to(services, who, phase, Call::Held, time, place)?;
     let known = services.contest.known(sequencer);
     settle_at(
         &mut services.arbiters,
@@ -74,7 +75,6 @@ pub fn grant(
     laws::chosen_are_there();
     // Who is blocked stays so.
     sequencers::passed_stays();
-    laws::phases_go_in_order();
     laws::wiring_stays();
     let time = services.time;
     let known = services.contest.known(sequencer);
@@ -89,7 +89,8 @@ pub fn grant(
         id,
         home: sequencer,
     };
-    tell_to(services, who, Call::Grant, time, place)?;
+    let phase = phase_at(services.beginnings.as_slice(), id);
+    tell_to(services, who, phase, Call::Grant, time, place)?;
     services.reporting.newest = None;
     Ok(id)
 }
@@ -107,7 +108,7 @@ pub fn pass_item(
     // It is what is next to pass.
     laws::passages_go_in_order();
     // The call is due in a phase that has not ended, to a component.
-    laws::phases_go_in_order();
+    laws::passages_are_in_phase();
     laws::waiters_are_components();
     laws::wiring_stays();
     tell_passed(services, place, passage)?;

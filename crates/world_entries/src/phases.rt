@@ -1,7 +1,6 @@
 //! Phases and time, drains, notes, and the end of a run.
 
 ghost use Rattle.std.specs.Prelude.{◌≡◌, ◌||◌, ◌∷◌, ◌≤◌, ◌^◌, OnOk, IfOk, ℕ, List};
-ghost use Rattle.uvm_phase.specs.declared.agendas.Cause as causes;
 ghost use Rattle.uvm_object.specs.declared.entries.Entry.{Entry};
 ghost use Rattle.uvm_object.specs.declared.entries.Reason as reasons;
 ghost use Rattle.uvm_object.specs.declared.entries.Entry.TheVariants.{Begin, End, Time, Drained, Note, Over};
@@ -16,7 +15,7 @@ ghost use Rattle.world_entries.specs.Coming.{GoesOnWith, IsDueNext};
 
 use bench_history::{Owner, Stage, laws};
 use std::alloc::{AllocError, Global};
-use uvm_object::{Call, Fatal, Who};
+use uvm_object::{Call, Fatal, Origin, Who};
 use uvm_objection::laws as objections;
 use uvm_phase::{Phase, laws as agenda};
 use uvm_tree::{NodeId, laws as trees};
@@ -93,23 +92,27 @@ pub fn pass_time(services: &mut Services, time: u64)
     services.time = time;
 }
 
-/// Keeps that the drain of a node ends: what was held back is passed up (IEEE 1800.2-2020, 10.5). Its error is want of memory.
-pub fn end_drain(services: &mut Services, place: usize, node: NodeId) -> Result<(), AllocError>
-    requires { (cause : causes.Cause) × IsDueNext (λ _. Exactly (Drained node cause)) place services.old }
-    ensures { OnOk result ((cause : causes.Cause) → GoesOnWith (λ _. Exactly (Drained node cause)) (Drained node cause) place services.old services.new) }
+/// Keeps that the drain of a node ends: what was held back is passed up (IEEE 1800.2-2020, 10.5). What begins
+/// with that belongs to the phase of the drain. Its error is want of memory.
+pub fn end_drain(
+    services: &mut Services,
+    place: usize,
+    node: NodeId,
+    origin: Origin,
+) -> Result<(), AllocError>
+    requires { IsDueNext (λ _. Exactly (Drained node origin)) place services.old }
+    ensures { OnOk result (GoesOnWith (λ _. Exactly (Drained node origin)) (Drained node origin) place services.old services.new) }
 {
     // It is the first event of the agenda, so that something is held back, and due now.
     laws::drains_go_in_order();
     agenda::order_keeps_all::<Owner, Option<Call>>();
-    // What it begins is due in a phase that has not ended.
-    laws::phases_go_in_order();
     objections::places_stay();
     objections::nodes_grow();
     objections::settled_go_by_totals();
     objections::begun_drains_are_held();
     laws::wiring_stays();
     let began = services.objection.drained(node);
-    move_drains(services, place, began, Some(node))?;
+    move_drains(services, Some(origin.phase), place, began, Some(node))?;
     services.reporting.newest = None;
     Ok(())
 }

@@ -17,7 +17,6 @@ use Rattle.bench_history.specs.Passing.{Request, asker_of, is_waiting, station_w
 use Rattle.world_fifos.specs.Passings.{AreAsked}
 use Rattle.world_fifos.specs.Stations.{with_putter, with_taker, without_waits}
 use Rattle.world_agenda.proofs.Lists.{filter-twice, one-heard, one-ended, map-filter, filter-all}
-use Rattle.world_agenda.proofs.Told.{runs}
 
 -- one number among distinct ones
 others-none : (n : ℕ) (xs : List ℕ) → AllByRecursion (λ m. nat_eq n m ≡ false) xs → filter (nat_eq n) xs ≡ []
@@ -44,9 +43,9 @@ fresh-place answered count within = list_any_none (nat_eq count) answered (All-w
 module _ {Wish : Type 0} where
   -- what is asked for later waits
   pub waits-now :
-      (answered : List ℕ) (ended : List Phase) (request : Request Wish) → All (λ place. place < request.asker.place) answered → All (λ other. phase_number other < phase_number request.asker.phase) ended
+      (answered : List ℕ) (ended : List Phase) (request : Request Wish) → All (λ place. place < request.asker.place) answered → list_any (same_phase request.asker.phase) ended ≡ false
       → is_waiting answered ended request ≡ true
-  waits-now answered ended request within before = rw (fresh-place answered request.asker.place within, runs ended request.asker.phase before) refl
+  waits-now answered ended request within unended = rw (fresh-place answered request.asker.place within, unended) refl
 
   -- one more request waits behind the others
   pub waiting-more :

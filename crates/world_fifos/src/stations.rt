@@ -84,6 +84,7 @@ impl Station {
             port: asker.port,
             item,
             request: asker.place,
+            phase: asker.phase,
         })
     }
 

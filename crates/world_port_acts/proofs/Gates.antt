@@ -1,10 +1,10 @@
 -- What goes through FIFOs, once something is done at an open gate.
 use Rattle.std.proofs.Common.{◌≡◌, ℕ, suc, ◌<◌, ◌==◌, nat_eq, Bool, true, false, List, [], ◌∷◌, length, drop, slice_get, Option, Some, None, is_some, option_map, All, Contains, refl, ap, sym, ◌∙◌, subst, arith, if◌then◌else◌}
-use Rattle.std.specs.List.{IsDistinct}
+use Rattle.std.specs.List.{IsDistinct, list_any}
 use Rattle.std.proofs.lemmas.Bool.Decides.{nat_tests}
 use Rattle.std.proofs.lemmas.List.{length-drop}
 use Rattle.uvm_phase.specs.declared.phases.Phase.{Phase}
-use Rattle.uvm_phase.specs.Phases.{phase_number}
+use Rattle.uvm_phase.specs.Phases.{same_phase}
 use Rattle.uvm_tree.specs.Sorted.{path_order}
 use Rattle.uvm_tlm.specs.declared.ends.PortKind.{PortKind}
 use Rattle.uvm_tlm.specs.declared.items.Item.{Item}
@@ -19,10 +19,8 @@ use Rattle.uvm_object.specs.declared.entries.Entry.{Entry}
 use Rattle.uvm_object.specs.declared.entries.Entry.TheVariants.{Did}
 use Rattle.bench_script.specs.Scripts.{ScriptValue}
 use Rattle.bench_history.specs.declared.askers.Gate.{Gate}
-use Rattle.bench_history.specs.declared.stages.Stage.{Stage}
-use Rattle.bench_history.specs.declared.stages.Stage.TheVariants.{During}
-use Rattle.bench_history.specs.History.{nodes_of, running, stage_of, ended_of}
-use Rattle.bench_history.specs.Laws.{next_number}
+use Rattle.bench_history.specs.History.{act_phase, nodes_of, ended_of}
+use Rattle.bench_history.specs.Laws.{HasNotEnded}
 use Rattle.bench_history.specs.Wires.{wiring_of}
 use Rattle.bench_history.specs.Ports.{fifo_size, gate_below}
 use Rattle.bench_history.specs.Passing.{Request, Station, answered_at, is_no_put, is_put, items_entered, items_left, puts_asked, leads_to, puts_waiting, request_by, station_at, station_below, station_with, takes_asked, takes_now, takes_waiting, with_last}
@@ -41,41 +39,38 @@ use Rattle.uvm_tlm.specs.declared.ends.PortKind.TheVariants as through
 
 -- a gate is open after a log
 pub record IsGate (history : List Entry) (services : Services) (kind : PortKind) (name : List ℕ) (phase : Phase) (gate : Gate) : Type 0 where
-  pub runs : running (stage_of history) ≡ Some phase
+  pub acts : act_phase history ≡ Some phase
   pub task : in_task (Some phase) ≡ true
   pub leads : gate_below history services.answer.speaker kind name ≡ Some gate
   pub sized : fifo_size (wiring_of history) gate.fifo ≡ None → ⊥
   pub distinct : IsDistinct nat_eq (path_order (nodes_of history))
   pub there : Contains (path_order (nodes_of history)) gate.fifo
-  pub before : All (λ other. phase_number other < phase_number phase) (ended_of history)
-
-number-during : (stage : Stage) (phase : Phase) → stage ≡ During phase → next_number stage ≡ phase_number phase
-number-during stage phase is = rw is refl
+  pub unended : list_any (same_phase phase) (ended_of history) ≡ false
 
 pub gate-open :
     {script : ScriptValue} {history : List Entry} {act : Act} {place : ℕ} {services : Services} {kind : PortKind} {name : List ℕ} {phase : Phase} {gate : Gate} → IsScene script history act place services → CanPerform services
-    → (services.stage ≡ During phase) × (in_task (Some phase) ≡ true) × (gate_in services kind name ≡ Some gate) × IsWiring services.wiring → IsGate history services kind name phase gate
+    → (services.answer.phase ≡ Some phase) × (in_task (Some phase) ≡ true) × (gate_in services kind name ≡ Some gate) × IsWiring services.wiring → IsGate history services kind name phase gate
 gate-open {history = history} {services = services} {kind} {name} {phase} {gate} s can open_ =
     let m = s.known in
-    let during : stage_of history ≡ During phase = sym m.stage ∙ open_.0 in
-    let closed = can.closed (ap (λ (stage : Stage). in_task (running stage)) open_.0 ∙ open_.1) in
+    let acts : act_phase history ≡ Some phase = sym m.answer.phase ∙ open_.0 in
+    let closed = can.closed (ap in_task open_.0 ∙ open_.1) in
     let known = gate-known m kind name closed ∙ open_.2 in
     let sized : fifo_size services.wiring gate.fifo ≡ None → ⊥ = gate-sized services.wiring _ gate open_.2 in
     let order = open_.3.ordered (path_order (nodes_of history)) (ap (λ (w : WiringValue). w.order) (closed-same m.connecting closed)) in
     record {
-      runs = ap running during;
+      acts = acts;
       task = open_.1;
       leads = known;
       sized = λ none. sized (rw m.connecting.ends none);
       distinct = order.distinct;
       there = fifo-ordered (path_order (nodes_of history)) services.wiring gate.fifo order sized;
-      before = subst (λ (n : ℕ). All (λ other. phase_number other < n) (ended_of history)) (number-during (stage_of history) phase during) s.in_order;
+      unended = subst (HasNotEnded (ended_of history)) acts s.in_phase.unended;
     }
 
 -- so that nothing is refused there
-pub open-does : {history : List Entry} {services : Services} {kind : PortKind} {name : List ℕ} {phase : Phase} {gate : Gate} → IsGate history services kind name phase gate → passing_refusal (running (stage_of history)) (is_some (gate_below history services.answer.speaker kind name)) ≡ None
+pub open-does : {history : List Entry} {services : Services} {kind : PortKind} {name : List ℕ} {phase : Phase} {gate : Gate} → IsGate history services kind name phase gate → passing_refusal (act_phase history) (is_some (gate_below history services.answer.speaker kind name)) ≡ None
 unfolding passing_refusal
-open-does g = rw (g.runs, g.leads, g.task) refl
+open-does g = rw (g.acts, g.leads, g.task) refl
 
 -- and the FIFO that is reached is the gate's
 pub below-known : {history : List Entry} {services : Services} {kind : PortKind} {name : List ℕ} {phase : Phase} {gate : Gate} → IsGate history services kind name phase gate → station_below history services.answer.speaker kind name ≡ station_at history gate.fifo
@@ -84,16 +79,16 @@ below-known g = rw g.leads refl
 -- and else it is refused for that for which there is none
 pub open-refuses :
     {script : ScriptValue} {history : List Entry} {services : Services} → ServicesMatch script history services → CanPerform services → (kind : PortKind) (name : List ℕ) (fatal : Fatal)
-    → passing_refusal (running services.stage) (is_some (gate_in services kind name)) ≡ Some fatal → passing_refusal (running (stage_of history)) (is_some (gate_below history services.answer.speaker kind name)) ≡ Some fatal
+    → passing_refusal services.answer.phase (is_some (gate_in services kind name)) ≡ Some fatal → passing_refusal (act_phase history) (is_some (gate_below history services.answer.speaker kind name)) ≡ Some fatal
 open-refuses {history = history} {services} m can kind name fatal why =
-    ap (λ (stage : Stage). passing_refusal (running stage) (is_some (gate_below history services.answer.speaker kind name))) (sym m.stage)
-    ∙ refusal-known (running services.stage) (is_some (gate_below history services.answer.speaker kind name)) (is_some (gate_in services kind name)) (λ task. ap is_some (gate-known m kind name (can.closed task)))
+    ap (λ (phase : Option Phase). passing_refusal phase (is_some (gate_below history services.answer.speaker kind name))) (sym m.answer.phase)
+    ∙ refusal-known services.answer.phase (is_some (gate_below history services.answer.speaker kind name)) (is_some (gate_in services kind name)) (λ task. ap is_some (gate-known m kind name (can.closed task)))
     ∙ why
 
 request-is :
-    {Wish : Type 0} (n : ℕ) (performer : Who) (place : ℕ) (wished : List ℕ × Wish) (phase : Phase) (gate : Gate) (running' : Option Phase) (gate' : Option Gate) → running' ≡ Some phase → gate' ≡ Some gate
-    → request_by n performer place wished running' gate' ≡ (if gate.fifo == n then Some (record { asker = record { place = place; who = performer; port = wished.0; phase = phase }; port = gate.port; wish = wished.1 }) else None)
-request-is n performer place wished phase gate running' gate' runs leads = rw (runs, leads) refl
+    {Wish : Type 0} (n : ℕ) (performer : Who) (place : ℕ) (wished : List ℕ × Wish) (phase : Phase) (gate : Gate) (acting : Option Phase) (gate' : Option Gate) → acting ≡ Some phase → gate' ≡ Some gate
+    → request_by n performer place wished acting gate' ≡ (if gate.fifo == n then Some (record { asker = record { place = place; who = performer; port = wished.0; phase = phase }; port = gate.port; wish = wished.1 }) else None)
+request-is n performer place wished phase gate acting gate' acts leads = rw (acts, leads) refl
 
 -- a FIFO that is meant has a size
 at-gate : {history : List Entry} {services : Services} {kind : PortKind} {name : List ℕ} {phase : Phase} {gate : Gate} → IsGate history services kind name phase gate → (n : ℕ) → (gate.fifo == n) ≡ true → fifo_size (wiring_of history) n ≡ None → ⊥
@@ -153,10 +148,10 @@ module _ {script : ScriptValue} {history : List Entry} {act : Act} {place : ℕ}
       let m = s.known in
       let request : Request Item = record { asker = record { place = length history; who = services.answer.speaker; port = name; phase = phase }; port = gate.port; wish = item } in
       let here = subst (λ (p : ℕ). ChangesAt gate.fifo (with_putter (record { place = p; who = services.answer.speaker; port = name; phase = phase }) gate.port item) services.stations new) (sym s.place_is) at in
-      let asks = λ (n : ℕ). request-is n services.answer.speaker (length history) (name, item) phase gate (running (stage_of history)) (gate_below history services.answer.speaker through.Put name) g.runs g.leads in
+      let asks = λ (n : ℕ). request-is n services.answer.speaker (length history) (name, item) phase gate (act_phase history) (gate_below history services.answer.speaker through.Put name) g.acts g.leads in
       kept-on (Did services.answer.speaker Done (Put name item)) (with_putter request.asker gate.port item) g refl
       (λ n. put-asked (fifo_size (wiring_of history) n) (items_entered history n) (items_left history n) (puts_asked history n) (answered_at is_put history n) (takes_asked history n) (answered_at is_no_put history n) (ended_of history) _ (gate.fifo == n) request (asks n)
-      (waits-now (answered_at is_put history n) (ended_of history) request (m.passed.each n).are_puts.answered_within g.before))
+      (waits-now (answered_at is_put history n) (ended_of history) request (m.passed.each n).are_puts.answered_within g.unended))
       here is
       (record { each = λ n. node-put (m.passed.each n) _ (gate.fifo == n) request (asks n) refl (at-gate g n) })
 
@@ -166,10 +161,10 @@ module _ {script : ScriptValue} {history : List Entry} {act : Act} {place : ℕ}
     request = record { asker = record { place = length history; who = services.answer.speaker; port = name; phase = phase }; port = gate.port; wish = peeks }
 
     abbrev asked : ℕ → Option (Request Bool)
-    asked n = request_by n services.answer.speaker (length history) (name, peeks) (running (stage_of history)) (gate_below history services.answer.speaker through.Get name)
+    asked n = request_by n services.answer.speaker (length history) (name, peeks) (act_phase history) (gate_below history services.answer.speaker through.Get name)
 
     asks : (n : ℕ) → asked n ≡ (if gate.fifo == n then Some request else None)
-    asks n = request-is n services.answer.speaker (length history) (name, peeks) phase gate (running (stage_of history)) (gate_below history services.answer.speaker through.Get name) g.runs g.leads
+    asks n = request-is n services.answer.speaker (length history) (name, peeks) phase gate (act_phase history) (gate_below history services.answer.speaker through.Get name) g.acts g.leads
 
     here : ChangesAt gate.fifo (with_taker request.asker gate.port peeks) services.stations new
     here = subst (λ (p : ℕ). ChangesAt gate.fifo (with_taker (record { place = p; who = services.answer.speaker; port = name; phase = phase }) gate.port peeks) services.stations new) (sym s.place_is) at
@@ -177,7 +172,7 @@ module _ {script : ScriptValue} {history : List Entry} {act : Act} {place : ℕ}
     changes : (n : ℕ) → state (fifo_size (wiring_of history) n) (items_entered history n) (items_left history n) (puts_asked history n) (answered_at is_put history n) (with_last (takes_asked history n) (asked n)) (answered_at is_no_put history n) (ended_of history) ≡ changed_if (gate.fifo == n) (with_taker request.asker gate.port peeks) (station_at history n)
     changes n =
         take-asked (fifo_size (wiring_of history) n) (items_entered history n) (items_left history n) (puts_asked history n) (answered_at is_put history n) (takes_asked history n) (answered_at is_no_put history n) (ended_of history) (asked n) (gate.fifo == n) request (asks n)
-        (waits-now (answered_at is_no_put history n) (ended_of history) request (s.known.passed.each n).are_takes.answered_within g.before)
+        (waits-now (answered_at is_no_put history n) (ended_of history) request (s.known.passed.each n).are_takes.answered_within g.unended)
 
     more : (n : ℕ) → IsPassed (suc (length history)) (fifo_size (wiring_of history) n) (items_entered history n) (items_left history n) (puts_asked history n) (answered_at is_put history n) (with_last (takes_asked history n) (asked n)) (answered_at is_no_put history n)
     more n = node-take (s.known.passed.each n) (asked n) (gate.fifo == n) request (asks n) refl (at-gate g n)

@@ -22,9 +22,9 @@ use Rattle.uvm_object.specs.declared.entries.Entry.{Entry}
 use Rattle.uvm_object.specs.declared.entries.Entry.TheVariants.{Did}
 use Rattle.uvm_object.specs.declared.fatals.Fatal.{Fatal}
 use Rattle.bench_script.specs.Scripts.{ScriptValue}
-use Rattle.bench_history.specs.declared.stages.Stage.{Stage}
+use Rattle.uvm_phase.specs.declared.phases.Phase.{Phase}
 use Rattle.bench_history.specs.Dues.{calls_told, written_to}
-use Rattle.bench_history.specs.History.{nodes_of, running, stage_of, ended_of}
+use Rattle.bench_history.specs.History.{act_phase, nodes_of, ended_of}
 use Rattle.bench_history.specs.Ports.{fifo_size, fifos_below, if_sound, imps_below, is_imp, is_imp_at, is_sound_port, outlets_below, port_below, size_of}
 use Rattle.bench_history.specs.Passing.{Station, answered_at, fifo_items, is_no_put, is_put, items_entered, items_left, passage_in, puts_asked, puts_waiting, station_at, station_of, takes_asked, takes_waiting, waiting_put}
 use Rattle.bench_history.specs.Refusals.{in_task, passing_refusal}
@@ -42,7 +42,7 @@ use Rattle.uvm_tlm.specs.declared.ends.End.TheVariants as end
 
 -- an analysis port is open after a log, and this is what it reaches
 pub record IsOutlet (history : List Entry) (services : Services) (name : List ℕ) (targets : List ℕ) : Type 0 where
-  pub task : in_task (running (stage_of history)) ≡ true
+  pub task : in_task (act_phase history) ≡ true
   pub found : is_some (port_below history services.answer.speaker Analysis name) ≡ true
   pub outlets : outlets_below history services.answer.speaker name ≡ targets
   pub reached : ℕ → Bool
@@ -83,14 +83,14 @@ targets-are wiring order port is = rw is refl
 
 pub outlet-open :
     {script : ScriptValue} {history : List Entry} {services : Services} {name : List ℕ} {port : ℕ} → ServicesMatch script history services → CanPerform services → TargetsAcceptTheKind → IsWiring services.wiring
-    → (in_task (running services.stage) ≡ true) × (port_in services.tree.nodes services.wiring services.answer.speaker Analysis name ≡ Some port) → IsOutlet history services name (targets_of services.wiring port)
+    → (in_task services.answer.phase ≡ true) × (port_in services.tree.nodes services.wiring services.answer.speaker Analysis name ≡ Some port) → IsOutlet history services name (targets_of services.wiring port)
 outlet-open {history = history} {services} {name} {port} m can accept wiring open_ =
     let closed = can.closed open_.0 in
     let same = closed-same m.connecting closed in
     let leads = port-known m Analysis name closed ∙ open_.1 in
     let kind = sound-kind services.wiring _ port open_.1 in
     record {
-      task = ap (λ (stage : Stage). in_task (running stage)) (sym m.stage) ∙ open_.0;
+      task = ap in_task (sym m.answer.phase) ∙ open_.0;
       found = ap is_some leads;
       outlets = rw leads (ap (λ (w : WiringValue). targets_of w port) (sym same));
       reached = λ n. is_target_at services.wiring.ends n && reaches services.wiring.connections port n;
@@ -102,26 +102,27 @@ outlet-open {history = history} {services} {name} {port} m can accept wiring ope
 -- the calls to the owners of the imps among it
 pub calls-are :
     {script : ScriptValue} {history : List Entry} {services : Services} {name targets : List ℕ} (item : Item) → ServicesMatch script history services → IsOutlet history services name targets
-    → filter_map (written_to services.tree.nodes item) (filter (is_imp_at services.wiring) targets) ≡ calls_told history services.answer.speaker Done (Write name item)
+    → filter_map (written_to services.answer.phase services.tree.nodes item) (filter (is_imp_at services.wiring) targets) ≡ calls_told history services.answer.speaker Done (Write name item)
 unfolding imps_below
 calls-are {history = history} {services} {name} {targets} item m o =
-    ap (λ (nodes : List Node). filter_map (written_to nodes item) (filter (is_imp_at services.wiring) targets)) m.tree
-    ∙ ap (λ (ends : List (ℕ × End)). filter_map (written_to (nodes_of history) item) (filter (λ n. option_map_or is_imp (end_at ends n) false) targets)) m.connecting.ends
-    ∙ ap (λ (outlets : List ℕ). filter_map (written_to (nodes_of history) item) (filter (is_imp_at (closed_wiring history)) outlets)) (sym o.outlets)
+    ap (λ (phase : Option Phase). filter_map (written_to phase services.tree.nodes item) (filter (is_imp_at services.wiring) targets)) m.answer.phase
+    ∙ ap (λ (nodes : List Node). filter_map (written_to (act_phase history) nodes item) (filter (is_imp_at services.wiring) targets)) m.tree
+    ∙ ap (λ (ends : List (ℕ × End)). filter_map (written_to (act_phase history) (nodes_of history) item) (filter (λ n. option_map_or is_imp (end_at ends n) false) targets)) m.connecting.ends
+    ∙ ap (λ (outlets : List ℕ). filter_map (written_to (act_phase history) (nodes_of history) item) (filter (is_imp_at (closed_wiring history)) outlets)) (sym o.outlets)
 
 -- so that nothing is refused there
-pub outlet-does : {history : List Entry} {services : Services} {name targets : List ℕ} → IsOutlet history services name targets → passing_refusal (running (stage_of history)) (is_some (port_below history services.answer.speaker Analysis name)) ≡ None
+pub outlet-does : {history : List Entry} {services : Services} {name targets : List ℕ} → IsOutlet history services name targets → passing_refusal (act_phase history) (is_some (port_below history services.answer.speaker Analysis name)) ≡ None
 unfolding passing_refusal
 outlet-does o = rw (o.found, o.task) refl
 
 -- and else it is refused for that for which there is none
 pub outlet-refuses :
     {script : ScriptValue} {history : List Entry} {services : Services} → ServicesMatch script history services → CanPerform services → (name : List ℕ) (fatal : Fatal)
-    → passing_refusal (running services.stage) (is_some (port_in services.tree.nodes services.wiring services.answer.speaker Analysis name)) ≡ Some fatal
-    → passing_refusal (running (stage_of history)) (is_some (port_below history services.answer.speaker Analysis name)) ≡ Some fatal
+    → passing_refusal services.answer.phase (is_some (port_in services.tree.nodes services.wiring services.answer.speaker Analysis name)) ≡ Some fatal
+    → passing_refusal (act_phase history) (is_some (port_below history services.answer.speaker Analysis name)) ≡ Some fatal
 outlet-refuses {history = history} {services} m can name fatal why =
-    ap (λ (stage : Stage). passing_refusal (running stage) (is_some (port_below history services.answer.speaker Analysis name))) (sym m.stage)
-    ∙ refusal-known (running services.stage) (is_some (port_below history services.answer.speaker Analysis name)) (is_some (port_in services.tree.nodes services.wiring services.answer.speaker Analysis name)) (λ task. ap is_some (port-known m Analysis name (can.closed task)))
+    ap (λ (phase : Option Phase). passing_refusal phase (is_some (port_below history services.answer.speaker Analysis name))) (sym m.answer.phase)
+    ∙ refusal-known services.answer.phase (is_some (port_below history services.answer.speaker Analysis name)) (is_some (port_in services.tree.nodes services.wiring services.answer.speaker Analysis name)) (λ task. ap is_some (port-known m Analysis name (can.closed task)))
     ∙ why
 
 -- a FIFO without a limit at which nothing passes takes an item at once

@@ -5,7 +5,7 @@ ghost use Rattle.uvm_object.specs.declared.acts.Act.TheVariants.{Put, TryPut, Ta
 ghost use Rattle.world_services.specs.OpenPorts.{IsOpenGate};
 ghost use Rattle.world_services.specs.Attempts.{CanPerform, IsAttempt};
 
-use bench_history::{Asker, Gate, Stage};
+use bench_history::{Asker, Gate};
 use std::alloc::{AllocError, Global};
 use uvm_glob::Name;
 use uvm_object::{Call, Fatal, LoggedOutcome};
@@ -129,17 +129,15 @@ pub fn try_take(
     Ok(Attempt::Became(LoggedOutcome::taken(alloc, item)?))
 }
 
-// The gate through which a port of a name leads, and the phase that runs; or why there is none.
+// The gate through which a port of a name leads, and the phase of the act; or why there is none.
 #[tactic(auto, unfolding(bench_history::specs::Refusals::passing_refusal))]
 fn open_gate(services: &Services, kind: PortKind, name: &Name) -> Result<(Phase, Gate), Fatal>
     ensures { IsOpenGate services.now kind name.now result }
 {
-    let Stage::During(phase) = services.stage else {
-        return Err(Fatal::OutsideTask);
+    let phase = match services.answer.phase {
+        Some(phase) if phase.is_task() => phase,
+        _ => return Err(Fatal::OutsideTask),
     };
-    if !phase.is_task() {
-        return Err(Fatal::OutsideTask);
-    }
     let performer = services.answer.speaker;
     let (tree, wiring) = (&services.tree, &services.wiring);
     let port = port_below(tree, wiring, &performer, kind, name);

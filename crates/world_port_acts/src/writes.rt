@@ -35,12 +35,13 @@ pub fn write(
         Ok(port) => port,
         Err(fatal) => return refused(services, alloc, fatal),
     };
-    let (stage, time) = (services.stage, services.time);
+    let (phase, time) = (services.answer.phase, services.time);
     let targets = services.wiring.resolve(port);
     store_all(&mut services.stations, targets, item)?;
     look_at_all(&mut services.unsettled, targets)?;
-    let calls = written_calls(alloc, &services.tree, &services.wiring, targets, item)?;
-    tell_all(&mut services.agenda, stage, time, place, calls.as_slice())?;
+    let (tree, wiring) = (&services.tree, &services.wiring);
+    let calls = written_calls(alloc, tree, wiring, targets, item, phase)?;
+    tell_all(&mut services.agenda, time, place, calls.as_slice())?;
     Ok(done(services))
 }
 
@@ -49,7 +50,7 @@ pub fn write(
 fn open_outlet(services: &Services, name: &Name) -> Result<NodeId, Fatal>
     ensures { IsOpenOutlet services.now name.now result }
 {
-    if !in_task(services.stage) {
+    if !in_task(services.answer.phase) {
         return Err(Fatal::OutsideTask);
     }
     let performer = services.answer.speaker;

@@ -5,7 +5,6 @@ use Rattle.std.proofs.lemmas.List.{length-map}
 use Rattle.std.proofs.lemmas.List.Elements.{All-weaker}
 use Rattle.std.proofs.lemmas.List.Folds.{list_any_none}
 use Rattle.uvm_phase.specs.declared.phases.Phase.{Phase}
-use Rattle.uvm_phase.specs.Phases.{phase_number}
 use Rattle.uvm_sequences.specs.declared.starts.SeqStep.TheVariants.{PreStart}
 use Rattle.uvm_sequences.specs.Sequences.{SequencesValue, Start, numbered}
 use Rattle.uvm_tree.specs.Nodes.{Node}
@@ -16,11 +15,9 @@ use Rattle.uvm_object.specs.declared.entries.Entry.{Entry}
 use Rattle.uvm_object.specs.declared.entries.Outcome.TheVariants.{Started}
 use Rattle.bench_script.specs.Scripts.{ScriptValue}
 use Rattle.bench_history.specs.declared.needs.Need.{Need}
-use Rattle.bench_history.specs.declared.stages.Stage.{Stage}
-use Rattle.bench_history.specs.declared.stages.Stage.TheVariants.{Before, During, After, Ended}
 use Rattle.bench_history.specs.Dues.{is_of_one}
-use Rattle.bench_history.specs.History.{opening, overrides_of, running, speaker_of, stage_of}
-use Rattle.bench_history.specs.Laws.{IsLiving, IsThere, LivingRun, next_number, number_of, place_of}
+use Rattle.bench_history.specs.History.{act_phase, opening, overrides_of, speaker_of}
+use Rattle.bench_history.specs.Laws.{HasNotEnded, IsInPhase, IsThere, number_of, place_of}
 use Rattle.bench_history.specs.Refusals.{Starting, in_task, starting_refusal}
 use Rattle.bench_history.specs.Sequences.{Beginning, begun_of, is_over_phase, sequence_in, start_by, start_priority, starts_in}
 use Rattle.bench_history.specs.Upshots.{Needs, needed_sequence, starting_now, starting_upshot}
@@ -31,7 +28,6 @@ use Rattle.world_services.specs.Attempts.{IsScene}
 use Rattle.world_services.specs.Services.{ServicesMatch}
 use Rattle.world_services.specs.Creations.{starting_in}
 use Rattle.world_sequences.proofs.Sequenced.{sequencing-begun}
-use Rattle.world_agenda.proofs.Told.{runs}
 use Rattle.uvm_object.specs.declared.acts.Act.TheVariants as act
 use Rattle.uvm_object.specs.declared.acts.Who.TheVariants as who
 use Rattle.world_sequences.specs.declared.beginnings.Beginning as kept
@@ -40,7 +36,7 @@ use Rattle.world_sequences.specs.declared.beginnings.Beginning as kept
 pub starting-known :
     {script : ScriptValue} {history : List Entry} {services : Services} → ServicesMatch script history services → (performer : Who) (type_name name : List ℕ) (on : List (List ℕ)) (priority : Option ℕ)
     → starting_now script history performer type_name name on priority ≡ starting_in script.types (overrides_of script history) services performer type_name name on priority
-starting-known m performer type_name name on priority = rw (m.stage, m.tree, m.sequencing.started) refl
+starting-known m performer type_name name on priority = rw (m.answer.phase, m.tree, m.sequencing.started) refl
 
 -- one that is not refused needs a sequence
 pub unrefused-needs : (starting : Starting) {need : Need} (count : ℕ) → starting_refusal starting ≡ None → needed_sequence starting ≡ need → starting_upshot count starting ≡ Needs need (Started (suc count))
@@ -86,35 +82,27 @@ module _ {begun : List Beginning} {finished : List Who} {ended : List Phase} {en
       are ∙ ap (λ (n : ℕ). beginnings ++ record { who = who.Sequence n home; starter = performer; phase = phase } ∷ []) count ∙ ap (λ (h : ℕ). beginnings ++ record { who = who.Sequence (suc (length begun)) h; starter = performer; phase = phase } ∷ []) (sym same_home) in
       rw whole (sequencing-begun s beginning new first steps goes starter)
 
--- a phase that takes time and runs has not ended
-pub task-goes : (stage : Stage) (ended : List Phase) → in_task (running stage) ≡ true → All (λ phase. phase_number phase < next_number stage) ended → is_over_phase ended (running stage) ≡ false
-task-goes (During phase) ended task before = runs ended phase before
-task-goes Before ended task before = cc
-task-goes (After phase) ended task before = cc
-task-goes Ended ended task before = cc
+-- a phase that takes time has not ended, if there is one that has not
+pub task-goes : (ended : List Phase) (phase : Option Phase) → in_task phase ≡ true → HasNotEnded ended phase → is_over_phase ended phase ≡ false
+task-goes ended None task unended = cc
+task-goes ended (Some phase) task unended = unended
 
--- nor has the run
-task-unended : (stage : Stage) → in_task (running stage) ≡ true → stage ≡ Ended → ⊥
-task-unended (During phase) task is = cc
-task-unended Before task is = cc
-task-unended (After phase) task is = cc
-task-unended Ended task is = cc
-
-there-starts : (history : List Entry) (performer : Who) → ((id home : ℕ) → IsLiving history id home → option_and_then (λ beginning. beginning.phase) (numbered (begun_of history) id) ≡ running (stage_of history)) → IsThere history performer → IsStarter (begun_of history) (running (stage_of history)) performer
-there-starts history (who.Node node) run there = tt
-there-starts history (who.Sequence id home) run there = by (numbered (begun_of history) id) there.home_is (run id home there)
+there-starts : (history : List Entry) (performer : Who) → IsInPhase history performer → IsThere history performer → IsStarter (begun_of history) (act_phase history) performer
+there-starts history (who.Node node) own there = tt
+there-starts history (who.Sequence id home) own there = by (numbered (begun_of history) id) there.home_is own
   where
-    by : (found : Option Beginning) → option_map (λ beginning. beginning.start.home) found ≡ Some home → option_and_then (λ beginning. beginning.phase) found ≡ running (stage_of history) → place_of found ≡ Some (home, running (stage_of history))
+    by : (found : Option Beginning) → option_map (λ beginning. beginning.start.home) found ≡ Some home → option_and_then (λ beginning. beginning.phase) found ≡ act_phase history → place_of found ≡ Some (home, act_phase history)
     by None at e = cc
     by (Some beginning) at e = let same : beginning.start.home ≡ home = cc in rw (same, e) refl
 
 starts-none : (script : ScriptValue) (deed : Act) → IsStart deed → deed ≡ opening script → ⊥
 starts-none script deed is opens = let P : Act → Type 0 = IsStart in subst P opens is
 
--- who starts a sequence is a component, or a sequence that was started in the phase that runs
-pub scene-starts : {script : ScriptValue} {history : List Entry} {deed : Act} {place : ℕ} {services : Services} → LivingRun → IsScene script history deed place services → IsStart deed → in_task (running (stage_of history)) ≡ true → IsStarter (begun_of history) (running (stage_of history)) services.answer.speaker
-scene-starts {script} {history} {deed} {services = services} run s is task = rw s.known.answer.speaker (by s.there)
+-- who starts a sequence is a component, or a sequence that was started in the phase of the act
+pub scene-starts : {script : ScriptValue} {history : List Entry} {deed : Act} {place : ℕ} {services : Services} → IsScene script history deed place services → IsStart deed → IsStarter (begun_of history) (act_phase history) services.answer.speaker
+scene-starts {script} {history} {deed} {services = services} s is = rw s.known.answer.speaker (by s.in_phase.own s.there)
   where
-    by : (deed ≡ opening script) ⊎ IsThere history (speaker_of history) → IsStarter (begun_of history) (running (stage_of history)) (speaker_of history)
-    by (inl opens) = absurd (starts-none script deed is opens)
-    by (inr there) = there-starts history (speaker_of history) (λ id home living. run script history id home s.each (task-unended (stage_of history) task) living) there
+    by : (deed ≡ opening script) ⊎ IsInPhase history (speaker_of history) → (deed ≡ opening script) ⊎ IsThere history (speaker_of history) → IsStarter (begun_of history) (act_phase history) (speaker_of history)
+    by (inl opens) there = absurd (starts-none script deed is opens)
+    by (inr own) (inl opens) = absurd (starts-none script deed is opens)
+    by (inr own) (inr there) = there-starts history (speaker_of history) own there

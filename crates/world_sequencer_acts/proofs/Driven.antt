@@ -1,5 +1,5 @@
 -- What drivers do at a sequencer, and what a sequence that finishes leaves there.
-use Rattle.std.proofs.Common.{◌≡◌, ℕ, suc, ◌<◌, ◌==◌, nat_eq, nat_lt, Bool, true, false, not, ◌&&◌, List, [], ◌∷◌, length, slice_get, All, Contains, Option, Some, None, IsSome, is_none, is_some, option_map, option_and_then, Ok, Err, refl, ap, sym, ◌∙◌, subst, arith, rules, if◌then◌else◌}
+use Rattle.std.proofs.Common.{◌≡◌, ℕ, suc, ◌<◌, ◌==◌, nat_eq, nat_lt, Bool, true, false, not, ◌&&◌, List, [], ◌∷◌, length, slice_get, All, Contains, Option, Some, None, IsSome, IfSome, is_none, is_some, option_map, option_and_then, Ok, Err, refl, ap, sym, ◌∙◌, subst, arith, rules, if◌then◌else◌}
 use Rattle.std.specs.List.{list_any}
 use Rattle.std.specs.Option.{option_map_or}
 use Rattle.std.specs.HashMap.{get}
@@ -7,24 +7,24 @@ use Rattle.std.proofs.lemmas.Bool.Decides.{nat_tests}
 use Rattle.std.proofs.lemmas.List.Elements.{All-cons, All-nil, All-weaker}
 use Rattle.uvm_glob.specs.Faults.{fault_if, unless}
 use Rattle.uvm_phase.specs.declared.phases.Phase.{Phase}
-use Rattle.uvm_phase.specs.Phases.{phase_number, same_phase}
+use Rattle.uvm_phase.specs.Phases.{same_phase}
 use Rattle.uvm_tree.specs.Sorted.{AreInPathOrder, path_order}
 use Rattle.uvm_tree.specs.Nodes.{Node}
 use Rattle.uvm_tlm.specs.declared.items.Item.{Item}
 use Rattle.uvm_tlm.specs.declared.ends.PortKind.TheVariants.{Seq}
 use Rattle.uvm_tlm.specs.Wirings.{WiringValue, is_closed, targets_of}
 use Rattle.uvm_sequencer.specs.declared.drivers.Asked.{Asked}
-use Rattle.uvm_sequencer.specs.declared.drivers.Driver.TheVariants.{Idle, Waiting}
+use Rattle.uvm_sequencer.specs.declared.drivers.Driver.{Driver}
+use Rattle.uvm_sequencer.specs.declared.drivers.Driver.TheVariants.{Idle, Waiting, Granted, InHand}
 use Rattle.uvm_sequencer.specs.declared.drivers.How.{How}
 use Rattle.uvm_sequencer.specs.declared.modes.Mode.{Mode}
 use Rattle.uvm_sequencer.specs.declared.requests.Request.{Request}
 use Rattle.uvm_sequences.specs.declared.starts.SeqStep.{SeqStep}
-use Rattle.uvm_sequencer.specs.Drivers.{grant_of, hand_of, is_try, left_by}
-use Rattle.uvm_sequences.specs.Sequences.{numbered}
+use Rattle.uvm_sequencer.specs.Drivers.{grant_of, hand_of, is_idle, is_try, left_by}
+use Rattle.uvm_sequences.specs.Sequences.{SequencesValue, numbered}
 use Rattle.uvm_sequencer.specs.Sequencers.{after_leave, answer, candidates_at, with_idle}
 use Rattle.uvm_object.specs.Objects.{same_who}
 use Rattle.uvm_object.specs.declared.acts.Who.{Who}
-use Rattle.uvm_object.specs.declared.acts.Call.{Call}
 use Rattle.uvm_object.specs.declared.acts.Act.{Act}
 use Rattle.uvm_object.specs.declared.acts.Act.TheVariants.{Ask, EndStep, ItemDone}
 use Rattle.uvm_object.specs.declared.fatals.Fatal.{Fatal}
@@ -36,16 +36,13 @@ use Rattle.uvm_object.specs.declared.entries.Entry.TheVariants.{Did}
 use Rattle.bench_script.specs.Scripts.{ScriptValue}
 use Rattle.bench_history.specs.declared.askers.DriverPort.{DriverPort}
 use Rattle.bench_history.specs.declared.owners.Owner.TheVariants.{Object}
-use Rattle.bench_history.specs.declared.stages.Stage.{Stage}
-use Rattle.bench_history.specs.declared.stages.Stage.TheVariants.{Before, During, After, Ended}
 use Rattle.bench_history.specs.Arbitration.{Wanted, driver_asker, driver_state, if_arbitrated, mode_at, sequencer_at, sequencer_below}
 use Rattle.bench_history.specs.Cases.{Exactly, by_open, by_upshot}
-use Rattle.bench_history.specs.Dues.{calls_told, is_of_one, lapsed_by, told_done, told_item}
-use Rattle.bench_history.specs.History.{components_of, ended_of, left_of, nodes_of, rest_of, running, stage_of}
-use Rattle.bench_history.specs.Laws.{next_number, place_of}
+use Rattle.bench_history.specs.Dues.{calls_told, is_of_one, lapsed_by, told_done, told_in, told_item}
+use Rattle.bench_history.specs.History.{act_phase, components_of, ended_of, left_of, nodes_of, rest_of}
 use Rattle.bench_history.specs.Ports.{port_below}
 use Rattle.bench_history.specs.Refusals.{ask_refusal, done_refusal, driving_refusal, in_task}
-use Rattle.bench_history.specs.Sequences.{Beginning, begun_of, finished_of, sequences_of, starts_in}
+use Rattle.bench_history.specs.Sequences.{Beginning, begun_of, finished_of, phase_begun, sequences_of, starts_in}
 use Rattle.bench_history.specs.Upshots.{asked_upshot, driven_at}
 use Rattle.world_sequencers.specs.declared.arbiters.Reached.{Reached}
 use Rattle.world_services.specs.declared.services.Services.{Services}
@@ -56,7 +53,8 @@ use Rattle.world_sequencers.specs.Arbitratings.{IsArbitrated, IsArbitrating, Led
 use Rattle.world_sequencer_acts.specs.Drivings.{if_kept, lapsed_calls, reached_at, reached_in, waiting_outcome}
 use Rattle.world_wiring.specs.Ports.{port_in}
 use Rattle.world_agenda.specs.Tellings.{is_told}
-use Rattle.world_sequences.specs.Sequencings.{live_by, lives_by}
+use Rattle.world_sequences.specs.Sequencings.{IsSequencing, live_by, lives_by, phase_at}
+use Rattle.world_sequences.proofs.Starters.{phase-known}
 use Rattle.world_services.specs.Attempts.{CanPerform, IsScene, one_done, unreported}
 use Rattle.world_services.specs.Services.{ServicesMatch}
 use Rattle.world_sequencers.proofs.Arbited.{alike-is, arbitrated-driver, arbitrated-more, arbiter-changed, left-is}
@@ -65,11 +63,12 @@ use Rattle.world_services.proofs.Later.{acted}
 use Rattle.world_services.proofs.Passages.{closed-same, port-known}
 use Rattle.world_sequencer_acts.proofs.Seated.{item-told, kept-there, placed}
 use Rattle.world_services.proofs.Known.{itself}
-use Rattle.world_agenda.proofs.Told.{runs}
+use Rattle.world_agenda.proofs.Written.{IsToldOpen}
 use Rattle.uvm_sequencer.specs.declared.drivers.Asked.TheVariants as asked
 use Rattle.uvm_sequencer.specs.declared.drivers.How.TheVariants as how
 use Rattle.uvm_object.specs.declared.acts.Who.TheVariants as who
 use Rattle.uvm_object.specs.declared.acts.Call.TheVariants as call
+use Rattle.world_sequences.specs.declared.beginnings.Beginning as kept
 
 -- which sequencer is reached
 module _ {script : ScriptValue} {history : List Entry} {services : Services} (m : ServicesMatch script history services) (name : List ℕ) (closed : is_closed services.wiring ≡ true) where
@@ -123,27 +122,27 @@ some-mapped f (Some a) = refl
 
 pub driving-refuses :
     {script : ScriptValue} {history : List Entry} {services : Services} → ServicesMatch script history services → CanPerform services → (name : List ℕ) (fatal : Fatal) (refusal : Option Fatal)
-    → driving_refusal (running services.stage) (is_some (reached_in services name)) refusal ≡ Some fatal → driving_refusal (running (stage_of history)) (is_some (sequencer_below history services.answer.speaker name)) refusal ≡ Some fatal
+    → driving_refusal services.answer.phase (is_some (reached_in services name)) refusal ≡ Some fatal → driving_refusal (act_phase history) (is_some (sequencer_below history services.answer.speaker name)) refusal ≡ Some fatal
 driving-refuses {history = history} {services} m can name fatal refusal why =
-    ap (λ (stage : Stage). driving_refusal (running stage) (is_some (sequencer_below history services.answer.speaker name)) refusal) (sym m.stage)
-    ∙ driving-alike (running services.stage) (is_some (sequencer_below history services.answer.speaker name)) (is_some (reached_in services name)) refusal (λ task. ap is_some (sym (reached-known m name (can.closed task))) ∙ some-mapped (λ (r : Reached). r.sequencer) (reached_in services name))
+    ap (λ (phase : Option Phase). driving_refusal phase (is_some (sequencer_below history services.answer.speaker name)) refusal) (sym m.answer.phase)
+    ∙ driving-alike services.answer.phase (is_some (sequencer_below history services.answer.speaker name)) (is_some (reached_in services name)) refusal (λ task. ap is_some (sym (reached-known m name (can.closed task))) ∙ some-mapped (λ (r : Reached). r.sequencer) (reached_in services name))
     ∙ why
 
 -- an act is refused where no sequencer is reached
 module _ (script : ScriptValue) (history : List Entry) (speaker : Who) (name : List ℕ) where
   pub ask-unreached :
-      (way : How) (fatal : Fatal) → ((refusal : Option Fatal) → driving_refusal (running (stage_of history)) (is_some (sequencer_below history speaker name)) refusal ≡ Some fatal)
+      (way : How) (fatal : Fatal) → ((refusal : Option Fatal) → driving_refusal (act_phase history) (is_some (sequencer_below history speaker name)) refusal ≡ Some fatal)
       → by_open script history speaker (Ask name way) ≡ Exactly (Did speaker (Refused fatal) (Ask name way))
   ask-unreached way fatal why = rw (why (option_and_then ask_refusal (driven_at history speaker name))) refl
 
   pub done-unreached :
-      (response : Option Item) (fatal : Fatal) → ((refusal : Option Fatal) → driving_refusal (running (stage_of history)) (is_some (sequencer_below history speaker name)) refusal ≡ Some fatal)
+      (response : Option Item) (fatal : Fatal) → ((refusal : Option Fatal) → driving_refusal (act_phase history) (is_some (sequencer_below history speaker name)) refusal ≡ Some fatal)
       → by_open script history speaker (ItemDone name response) ≡ Exactly (Did speaker (Refused fatal) (ItemDone name response))
   done-unreached response fatal why = rw (why (option_and_then done_refusal (driven_at history speaker name))) refl
 
 -- a sequencer is reached after a log
 pub record IsReaching (history : List Entry) (speaker : Who) (name : List ℕ) (node : ℕ) : Type 0 where
-  pub task : in_task (running (stage_of history)) ≡ true
+  pub task : in_task (act_phase history) ≡ true
   pub leads : sequencer_below history speaker name ≡ Some node
   pub moded : IsSome (mode_at history node)
   pub there : Contains (path_order (nodes_of history)) node
@@ -154,12 +153,12 @@ moded-by history node (Some mode) some = refl
 
 pub reaching :
     {script : ScriptValue} {history : List Entry} {act : Act} {place : ℕ} {services : Services} (name : List ℕ) (reached : Reached) → IsScene script history act place services → CanPerform services → ((nodes : List Node) → AreInPathOrder nodes (path_order nodes))
-    → (in_task (running services.stage) ≡ true) × (reached_in services name ≡ Some reached) × IsSome (get nat_eq services.arbiters reached.sequencer) → IsReaching history services.answer.speaker name reached.sequencer
+    → (in_task services.answer.phase ≡ true) × (reached_in services name ≡ Some reached) × IsSome (get nat_eq services.arbiters reached.sequencer) → IsReaching history services.answer.speaker name reached.sequencer
 reaching {history = history} {services = services} name reached s can order found =
     let m = s.known in
     let moded = moded-by history reached.sequencer (mode_at history reached.sequencer) (rw (m.arbitrating.arbiters_are.each reached.sequencer) at found.2) in
     record {
-      task = ap (λ (stage : Stage). in_task (running stage)) (sym m.stage) ∙ found.0;
+      task = ap (λ (phase : Option Phase). in_task phase) (sym m.answer.phase) ∙ found.0;
       leads = sym (reached-known m name (can.closed found.0)) ∙ rw found.1 refl;
       moded = moded;
       there = placed s reached.sequencer order moded;
@@ -195,7 +194,7 @@ module _ (script : ScriptValue) (history : List Entry) (speaker : Who) (name : L
 
   ask-open : (way : How) (a : ArbiterValue) → sequencer_at history node ≡ Some a.sequencer → ask_refusal a.sequencer ≡ None → by_open script history speaker (Ask name way) ≡ by_upshot speaker (Ask name way) (asked_upshot way (nat_lt 0 (length (candidates_at (sequences_of history) a.sequencer))))
   ask-open way a at none =
-      let does : driving_refusal (running (stage_of history)) true (ask_refusal a.sequencer) ≡ None = driving-in (running (stage_of history)) (ask_refusal a.sequencer) r.task ∙ none in
+      let does : driving_refusal (act_phase history) true (ask_refusal a.sequencer) ≡ None = driving-in (act_phase history) (ask_refusal a.sequencer) r.task ∙ none in
       rw (r.leads, at, does) refl
 
   pub ask-waits : (way : How) → asked_in (sequences_of history) way kept ≡ Ok asked.Waits → by_open script history speaker (Ask name way) ≡ Exactly (Did speaker (waiting_outcome way) (Ask name way))
@@ -218,7 +217,7 @@ module _ (script : ScriptValue) (history : List Entry) (speaker : Who) (name : L
   ask-refused way fatal e =
       let t = there-is in
       let why = refused-for (ask_refusal t.0.sequencer) (answer way (candidates_at (sequences_of history) t.0.sequencer)) fatal (rw t.1 at e) in
-      let refuses : driving_refusal (running (stage_of history)) true (ask_refusal t.0.sequencer) ≡ Some fatal = driving-in (running (stage_of history)) (ask_refusal t.0.sequencer) r.task ∙ why in
+      let refuses : driving_refusal (act_phase history) true (ask_refusal t.0.sequencer) ≡ Some fatal = driving-in (act_phase history) (ask_refusal t.0.sequencer) r.task ∙ why in
       rw (r.leads, t.2, refuses) refl
 
   -- and of being done
@@ -230,14 +229,14 @@ module _ (script : ScriptValue) (history : List Entry) (speaker : Who) (name : L
   done-comes response id e =
       let t = there-is in
       let hand : hand_of t.0.sequencer.driver ≡ Some id = rw t.1 at e in
-      let does : driving_refusal (running (stage_of history)) true (done_refusal t.0.sequencer) ≡ None = driving-in (running (stage_of history)) (done_refusal t.0.sequencer) r.task ∙ done-allowed (hand_of t.0.sequencer.driver) id hand in
+      let does : driving_refusal (act_phase history) true (done_refusal t.0.sequencer) ≡ None = driving-in (act_phase history) (done_refusal t.0.sequencer) r.task ∙ done-allowed (hand_of t.0.sequencer.driver) id hand in
       rw (r.leads, t.2, does) refl
 
   pub done-refused : (response : Option Item) (fatal : Fatal) → option_and_then (λ a. done_refusal a.sequencer) kept ≡ Some fatal → by_open script history speaker (ItemDone name response) ≡ Exactly (Did speaker (Refused fatal) (ItemDone name response))
   done-refused response fatal e =
       let t = there-is in
       let why : done_refusal t.0.sequencer ≡ Some fatal = rw t.1 at e in
-      let refuses : driving_refusal (running (stage_of history)) true (done_refusal t.0.sequencer) ≡ Some fatal = driving-in (running (stage_of history)) (done_refusal t.0.sequencer) r.task ∙ why in
+      let refuses : driving_refusal (act_phase history) true (done_refusal t.0.sequencer) ≡ Some fatal = driving-in (act_phase history) (done_refusal t.0.sequencer) r.task ∙ why in
       rw (r.leads, t.2, refuses) refl
 
   -- whose item is in hand
@@ -256,12 +255,12 @@ module _ {script : ScriptValue} {history : List Entry} {act : Act} {place : ℕ}
   asked-kept :
       (way : How) (outcome : Outcome) (more : Kept) → ((n : ℕ) → ledger_at (Did services.answer.speaker outcome (Ask name way) ∷ history) n ≡ record (ledger_at history n) {
         driver = if option_map_or (λ other. other == n) (sequencer_below history services.answer.speaker name) false then Waiting way else driver_state history n;
-        asker = if option_map_or (λ other. other == n) (sequencer_below history services.answer.speaker name) false then Some (record { who = services.answer.speaker; name = name }) else driver_asker history n;
+        asker = if option_map_or (λ other. other == n) (sequencer_below history services.answer.speaker name) false then Some (record { who = services.answer.speaker; name = name; phase = act_phase history }) else driver_asker history n;
       })
-      → ChangesAt node (asked_at (record { who = services.answer.speaker; name = name }) way asked.Waits) services.arbiters more
+      → ChangesAt node (asked_at (record { who = services.answer.speaker; name = name; phase = act_phase history }) way asked.Waits) services.arbiters more
       → IsArbitrating (suc (length history)) (nodes_of history) (begun_of history) (finished_of history) (ended_of history) (ledger_at (Did services.answer.speaker outcome (Ask name way) ∷ history)) more (record services.contest { node = Some node })
   asked-kept way outcome more are changes =
-      let driver : DriverPort = record { who = services.answer.speaker; name = name } in
+      let driver : DriverPort = record { who = services.answer.speaker; name = name; phase = act_phase history } in
       let l = ledger_at history node in
       let live = live_by (begun_of history) (finished_of history) (ended_of history) in
       let here : ledger_at (Did services.answer.speaker outcome (Ask name way) ∷ history) node ≡ record l { driver = Waiting way; asker = Some driver } = are node ∙ rw (r.leads, itself node) refl in
@@ -271,7 +270,7 @@ module _ {script : ScriptValue} {history : List Entry} {act : Act} {place : ℕ}
       (record services.contest { node = Some node }) refl (λ n other. refl) (λ a passed. record { within = passed.within; blocked = passed.blocked })
 
   pub asked-goes :
-      (way : How) (more : Kept) → left_of script history ≡ Ask name way ∷ rest_of (left_of script history) → ChangesAt node (asked_at (record { who = services.answer.speaker; name = name }) way asked.Waits) services.arbiters more
+      (way : How) (more : Kept) → left_of script history ≡ Ask name way ∷ rest_of (left_of script history) → ChangesAt node (asked_at (record { who = services.answer.speaker; name = name; phase = act_phase history }) way asked.Waits) services.arbiters more
       → ServicesMatch script (Did services.answer.speaker (waiting_outcome way) (Ask name way) ∷ history) (one_done (unreported (record services { arbiters = more; contest = record services.contest { node = Some node } })))
   asked-goes how.Next more left changes = let m = s.known in let arbitrating = asked-kept how.Next Done more (λ n. refl) changes in search (rules, acted)
   asked-goes how.Try more left changes = let m = s.known in let arbitrating = asked-kept how.Try (Waits true) more (λ n. refl) changes in search (rules, acted)
@@ -290,36 +289,42 @@ module _ {script : ScriptValue} {history : List Entry} {act : Act} {place : ℕ}
       (subst (λ (m : Ledger). IsArbitrated (suc (length history)) (length (nodes_of history)) (begun_of history) node m) (sym here) (arbitrated-driver one-there Idle l.asker r.moded)) changes
       (record services.contest { node = Some node }) refl (λ n other. refl) (λ a passed. record { within = passed.within; blocked = passed.blocked })
 
-  -- whose item it was hears of it, if it lives
-  pub done-told : (response : Option Item) (id : ℕ) → hand_of (driver_state history node) ≡ Some id → All (λ (c : Who × Call). is_told services.sequences.steps c.0 ≡ not (is_of_one (finished_of history) (Object c.0))) (told_done response node (Some id))
-  done-told response id hand = All-cons (λ (c : Who × Call). is_told services.sequences.steps c.0 ≡ not (is_of_one (finished_of history) (Object c.0))) (who.Sequence id node, call.ItemDone response) [] (s.known.sequencing.living id ∙ lived (running (stage_of history)) refl r.task (s.driving.hands node id hand)) (All-nil _)
+  -- whose item it was hears of it, if it lives, in the phase in which it was started
+  pub done-told : (response : Option Item) (id : ℕ) → hand_of (driver_state history node) ≡ Some id → All (IsToldOpen (is_told services.sequences.steps) (ended_of history) (finished_of history)) (told_done (phase_begun history) response node (Some id))
+  done-told response id hand =
+      All-cons (IsToldOpen (is_told services.sequences.steps) (ended_of history) (finished_of history)) (told_in (phase_begun history id) (who.Sequence id node) (call.ItemDone response)) []
+      (rw (s.known.sequencing.living id) (found-told (numbered (begun_of history) id) (s.driving.hands node id hand))) (All-nil _)
     where
-      at-phase : (stage : Stage) (phase : Phase) → running stage ≡ Some phase → next_number stage ≡ phase_number phase
-      at-phase (During other) phase e = let same : other ≡ phase = cc in ap phase_number same
-      at-phase Before phase e = cc
-      at-phase (After other) phase e = cc
-      at-phase Ended phase e = cc
+      swap : (a b : Bool) → a && b ≡ b && a
+      swap true true = refl
+      swap true false = refl
+      swap false true = refl
+      swap false false = refl
 
-      found-lives : (phase : Phase) (found : Option Beginning) → list_any (same_phase phase) (ended_of history) ≡ false → place_of found ≡ Some (node, Some phase) → option_map_or (lives_by (finished_of history) (ended_of history) id) found false ≡ not (list_any (same_who (who.Sequence id node)) (finished_of history))
-      found-lives phase None goes e = cc
-      found-lives phase (Some b) goes e =
-          let pair : (b.start.home, b.phase) ≡ (node, Some phase) = cc in
-          let at : b.start.home ≡ node = ap (λ (p : ℕ × Option Phase). p.0) pair in
-          let in_it : b.phase ≡ Some phase = ap (λ (p : ℕ × Option Phase). p.1) pair in
-          rw (at, in_it, goes) (and-true (not (list_any (same_who (who.Sequence id node)) (finished_of history))))
+      found-told :
+          (found : Option Beginning) → option_map (λ beginning. beginning.start.home) found ≡ Some node
+          → IfSome (option_and_then (λ beginning. beginning.phase) found) (λ phase. option_map_or (lives_by (finished_of history) (ended_of history) id) found false ≡ (not (list_any (same_phase phase) (ended_of history)) && not (is_of_one (finished_of history) (Object (who.Sequence id node)))))
+      found-told None e = cc
+      found-told (Some b) e = by b.phase refl
         where
-          and-true : (b : Bool) → b && true ≡ b
-          and-true true = refl
-          and-true false = refl
+          by : (phase : Option Phase) → b.phase ≡ phase → IfSome phase (λ one. lives_by (finished_of history) (ended_of history) id b ≡ (not (list_any (same_phase one) (ended_of history)) && not (is_of_one (finished_of history) (Object (who.Sequence id node)))))
+          by None is = tt
+          by (Some one) is =
+              let at : b.start.home ≡ node = cc in
+              rw (is, at) (swap (not (list_any (same_who (who.Sequence id node)) (finished_of history))) (not (list_any (same_phase one) (ended_of history))))
 
-      lived : (phase : Option Phase) → running (stage_of history) ≡ phase → in_task phase ≡ true → place_of (numbered (begun_of history) id) ≡ Some (node, running (stage_of history)) → live_by (begun_of history) (finished_of history) (ended_of history) id ≡ not (list_any (same_who (who.Sequence id node)) (finished_of history))
-      lived None is task e = cc
-      lived (Some phase) is task e =
-          let before = subst (λ (n : ℕ). All (λ other. phase_number other < n) (ended_of history)) (at-phase (stage_of history) phase is) s.in_order in
-          found-lives phase (numbered (begun_of history) id) (runs (ended_of history) phase before) (rw is at e)
-
-  pub done-calls : (response : Option Item) (id : ℕ) → hand_of (driver_state history node) ≡ Some id → calls_told history services.answer.speaker Done (ItemDone name response) ≡ told_done response node (Some id)
+  pub done-calls : (response : Option Item) (id : ℕ) → hand_of (driver_state history node) ≡ Some id → calls_told history services.answer.speaker Done (ItemDone name response) ≡ told_done (phase_begun history) response node (Some id)
   done-calls response id hand = rw (r.leads, hand) refl
+
+-- the phase in which a sequence was started is kept
+pub hand-phase :
+    {begun : List Beginning} {finished : List Who} {ended : List Phase} {enders : List Who} {old : SequencesValue} {beginnings : List kept.Beginning} → IsSequencing begun finished ended enders old beginnings
+    → (home id : ℕ) → option_map (λ beginning. beginning.start.home) (numbered begun id) ≡ Some home → phase_at beginnings id ≡ option_and_then (λ beginning. beginning.phase) (numbered begun id)
+hand-phase {begun = begun} {beginnings = beginnings} s home id hands = by (numbered begun id) refl hands
+  where
+    by : (found : Option Beginning) → numbered begun id ≡ found → option_map (λ beginning. beginning.start.home) found ≡ Some home → phase_at beginnings id ≡ option_and_then (λ beginning. beginning.phase) (numbered begun id)
+    by None found e = cc
+    by (Some b) found e = phase-known begun beginnings id b s.are found
 
 -- a sequence that has finished leaves its sequencer
 module _ {script : ScriptValue} {history : List Entry} {act : Act} {place : ℕ} {services : Services} (s : IsScene script history act place services) (id : ℕ) (b : Beginning) (found : numbered (begun_of history) id ≡ Some b) (lives : lives_by (finished_of history) (ended_of history) id b ≡ true) (moded : IsSome (mode_at history b.start.home)) (there : Contains (path_order (nodes_of history)) b.start.home) where
@@ -408,9 +413,15 @@ module _ {script : ScriptValue} {history : List Entry} {act : Act} {place : ℕ}
   pub lapsed-known : lapsed_calls (get nat_eq services.arbiters b.start.home) id ≡ lapsed_by history b.start.home (Some id)
   lapsed-known = rw (s.known.arbitrating.arbiters_are.each b.start.home) (lapsed-by (mode_at history b.start.home) moded)
 
-  pub lapsed-told : (finished : List Who) (steps : List (Option SeqStep)) → All (λ (c : Who × Call). is_told steps c.0 ≡ not (is_of_one finished (Object c.0))) (lapsed_by history b.start.home (Some id))
-  lapsed-told finished steps = by (is_try (grant_of id (driver_state history b.start.home)))
+  pub lapsed-told : (finished : List Who) (steps : List (Option SeqStep)) → All (IsToldOpen (is_told steps) (ended_of history) finished) (lapsed_by history b.start.home (Some id))
+  lapsed-told finished steps = by (is_try (grant_of id (driver_state history b.start.home))) refl
     where
-      by : (lapses : Bool) → All (λ (c : Who × Call). is_told steps c.0 ≡ not (is_of_one finished (Object c.0))) (if lapses then told_item (driver_asker history b.start.home) None else [])
-      by true = item-told finished steps (components_of history) (driver_asker history b.start.home) None (s.driving.drivers b.start.home)
-      by false = All-nil _
+      try-busy : (state : Driver) → is_try (grant_of id state) ≡ true → is_idle state ≡ false
+      try-busy Idle e = cc
+      try-busy (Waiting way) e = refl
+      try-busy (Granted other way) e = refl
+      try-busy (InHand other) e = refl
+
+      by : (lapses : Bool) → is_try (grant_of id (driver_state history b.start.home)) ≡ lapses → All (IsToldOpen (is_told steps) (ended_of history) finished) (if lapses then told_item (driver_asker history b.start.home) None else [])
+      by true is = item-told (ended_of history) finished steps (components_of history) (driver_asker history b.start.home) None (s.driving.drivers b.start.home) (s.driving.asks b.start.home (try-busy (driver_state history b.start.home) is))
+      by false is = All-nil _

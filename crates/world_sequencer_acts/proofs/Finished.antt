@@ -1,13 +1,14 @@
 -- A sequence that finishes.
-use Rattle.std.proofs.Common.{◌≡◌, ℕ, suc, true, false, not, List, [], ◌∷◌, ◌++◌, ◌<◌, length, filter, All, Option, Some, None, option_map, ◌⊎◌, inl, inr, refl, ap, sym, subst}
+use Rattle.std.proofs.Common.{◌≡◌, ℕ, suc, Bool, true, false, not, ◌&&◌, List, [], ◌∷◌, ◌++◌, ◌<◌, length, filter, All, Option, Some, None, IfSome, option_map, ◌⊎◌, inl, inr, refl, ap, sym, subst}
+use Rattle.std.specs.List.{list_any}
 use Rattle.std.specs.Option.{option_map_or}
 use Rattle.std.proofs.lemmas.List.Elements.{All-cons}
-use Rattle.uvm_phase.specs.Phases.{phase_number}
+use Rattle.uvm_phase.specs.declared.phases.Phase.{Phase}
+use Rattle.uvm_phase.specs.Phases.{same_phase}
 use Rattle.uvm_phase.specs.Dues.{in_order}
 use Rattle.uvm_sequences.specs.Laws.{StepsChangeAlone}
 use Rattle.uvm_sequences.specs.Sequences.{name_at, numbered}
 use Rattle.uvm_object.specs.declared.acts.Who.{Who}
-use Rattle.uvm_object.specs.declared.acts.Call.{Call}
 use Rattle.uvm_object.specs.declared.acts.Act.{Act}
 use Rattle.uvm_object.specs.declared.acts.Act.TheVariants.{EndStep}
 use Rattle.uvm_object.specs.declared.entries.Entry.{Entry}
@@ -15,12 +16,13 @@ use Rattle.uvm_object.specs.declared.entries.Entry.TheVariants.{Did}
 use Rattle.uvm_object.specs.declared.entries.Outcome.TheVariants.{Finished}
 use Rattle.bench_script.specs.Scripts.{ScriptValue}
 use Rattle.bench_history.specs.declared.owners.Owner.TheVariants.{Object}
-use Rattle.bench_history.specs.Dues.{calls_told, caused_of, due_events, heard_of, is_of_one, is_open, lapsed_by}
-use Rattle.bench_history.specs.History.{ended_of, now_of, opening, running, speaker_of, stage_of}
-use Rattle.bench_history.specs.Laws.{IsThere, next_number}
+use Rattle.bench_history.specs.Dues.{calls_told, caused_of, due_events, heard_of, is_of_one, is_open, lapsed_by, told_in}
+use Rattle.bench_history.specs.History.{ended_of, now_of, opening, speaker_of}
+use Rattle.bench_history.specs.Laws.{IsThere}
 use Rattle.bench_history.specs.Objections.{objections_of}
+use Rattle.bench_history.specs.declared.owners.Told.{Told}
 use Rattle.bench_history.specs.Owners.{Event}
-use Rattle.bench_history.specs.Sequences.{Beginning, begun_of, finished_of, is_live, sequence_in}
+use Rattle.bench_history.specs.Sequences.{Beginning, begun_of, finished_of, is_live, is_over_phase, sequence_in}
 use Rattle.world_services.specs.declared.services.Services.{Services}
 use Rattle.world_agenda.specs.Objectings.{AreEvents}
 use Rattle.world_sequencer_acts.specs.Drivings.{finished_calls}
@@ -30,7 +32,7 @@ use Rattle.world_agenda.specs.Agendas.{IsAgenda}
 use Rattle.world_services.specs.Attempts.{IsScene}
 use Rattle.world_services.specs.Services.{ServicesMatch}
 use Rattle.world_agenda.proofs.Drained.{events-finished}
-use Rattle.world_agenda.proofs.Written.{agenda-living, events-calls}
+use Rattle.world_agenda.proofs.Written.{IsToldOpen, agenda-living, events-calls}
 use Rattle.world_sequences.proofs.Numbered.{numbered-map}
 use Rattle.world_sequences.proofs.Sequenced.{starter-open}
 use Rattle.world_sequences.proofs.Starters.{kept-at}
@@ -73,7 +75,7 @@ pub record HasFinished (history : List Entry) (performer : Who) (more : List Eve
 
 module _
     {script : ScriptValue} {history : List Entry} {services : Services} (m : ServicesMatch script history services) (alone : StepsChangeAlone) (id : ℕ) (beginning : Beginning) (found : numbered (begun_of history) id ≡ Some beginning) (lives : lives_by (finished_of history) (ended_of history) id beginning ≡ true)
-    (lapse : List (Who × Call)) (lapses : lapse ≡ lapsed_by history beginning.start.home (Some id)) where
+    (lapse : List Told) (lapses : lapse ≡ lapsed_by history beginning.start.home (Some id)) where
   name-known : name_at services.sequences.started id ≡ Some beginning.start.name
   name-known = rw (m.sequencing.started, numbered-map (λ (b : Beginning). b.start) (begun_of history) id, found) refl
 
@@ -81,21 +83,31 @@ module _
   calls-known = rw (m.sequencing.are, kept-at (begun_of history) id beginning found, name-known, lapses, found) refl
 
   pub has-finished :
-      (more : List Event) → All (λ phase. phase_number phase < next_number (stage_of history)) (ended_of history)
-      → All (λ (c : Who × Call). is_told (service.finished id services.sequences).steps c.0 ≡ not (is_of_one (who.Sequence id beginning.start.home ∷ finished_of history) (Object c.0))) (lapsed_by history beginning.start.home (Some id))
-      → more ≡ in_order (living_numbered (is_told (service.finished id services.sequences).steps) (running (stage_of history)) (now_of history) (length history) 0
+      (more : List Event)
+      → All (IsToldOpen (is_told (service.finished id services.sequences).steps) (ended_of history) (who.Sequence id beginning.start.home ∷ finished_of history)) (lapsed_by history beginning.start.home (Some id))
+      → more ≡ in_order (living_numbered (is_told (service.finished id services.sequences).steps) (now_of history) (length history) 0
       (finished_calls (beginning_at services.beginnings.items id) (name_at services.sequences.started id) id ++ lapse)
       ++ filter (λ event. not (is_of_one (who.Sequence id beginning.start.home ∷ []) event.owner)) (filter (is_open (heard_of history) (ended_of history) (finished_of history)) (caused_of history)))
       → HasFinished history (who.Sequence id beginning.start.home) more
-  has-finished more phases lapsed is = record {
-    agenda = agenda-living (is_told (service.finished id services.sequences).steps) (stage_of history) (now_of history) (calls_told history (who.Sequence id beginning.start.home) Finished EndStep) (caused_of history) (heard_of history) (ended_of history) (who.Sequence id beginning.start.home ∷ finished_of history) (length history) _ more phases told left (rw (calls-known, ← twice) at is);
-    events = events-calls (objections_of history) (is_open (heard_of history) (ended_of history) (who.Sequence id beginning.start.home ∷ finished_of history)) (running (stage_of history)) (now_of history) (length history) 0 (calls_told history (who.Sequence id beginning.start.home) Finished EndStep) (caused_of history)
+  has-finished more lapsed is = record {
+    agenda = agenda-living (is_told (service.finished id services.sequences).steps) (heard_of history) (ended_of history) (who.Sequence id beginning.start.home ∷ finished_of history) (now_of history) (calls_told history (who.Sequence id beginning.start.home) Finished EndStep) (caused_of history) (length history) _ more told left (rw (calls-known, ← twice) at is);
+    events = events-calls (objections_of history) (is_open (heard_of history) (ended_of history) (who.Sequence id beginning.start.home ∷ finished_of history)) (now_of history) (length history) 0 (calls_told history (who.Sequence id beginning.start.home) Finished EndStep) (caused_of history)
         (events-finished (who.Sequence id beginning.start.home) (objections_of history) (caused_of history) (heard_of history) (ended_of history) (finished_of history) m.events);
   }
     where
-      told : All (λ (c : Who × Call). is_told (service.finished id services.sequences).steps c.0 ≡ not (is_of_one (who.Sequence id beginning.start.home ∷ finished_of history) (Object c.0))) (calls_told history (who.Sequence id beginning.start.home) Finished EndStep)
-      told = rw found (All-cons (λ (c : Who × Call). is_told (service.finished id services.sequences).steps c.0 ≡ not (is_of_one (who.Sequence id beginning.start.home ∷ finished_of history) (Object c.0))) (beginning.starter, call.Finished beginning.start.name id) _
-          (starter-open m.sequencing alone id beginning found lives beginning.starter refl) lapsed)
+      told : All (IsToldOpen (is_told (service.finished id services.sequences).steps) (ended_of history) (who.Sequence id beginning.start.home ∷ finished_of history)) (calls_told history (who.Sequence id beginning.start.home) Finished EndStep)
+      told = rw found (All-cons (IsToldOpen (is_told (service.finished id services.sequences).steps) (ended_of history) (who.Sequence id beginning.start.home ∷ finished_of history)) (told_in beginning.phase beginning.starter (call.Finished beginning.start.name id)) _
+          (by beginning.phase (goes-on _ _ lives)) lapsed)
+        where
+          goes-on : (a b : Bool) → not a && not b ≡ true → b ≡ false
+          goes-on true b e = cc
+          goes-on false true e = cc
+          goes-on false false e = refl
+
+          by : (phase : Option Phase) → is_over_phase (ended_of history) phase ≡ false
+              → IfSome phase (λ one. is_told (service.finished id services.sequences).steps beginning.starter ≡ (not (list_any (same_phase one) (ended_of history)) && not (is_of_one (who.Sequence id beginning.start.home ∷ finished_of history) (Object beginning.starter))))
+          by None goes = tt
+          by (Some one) goes = rw goes (starter-open m.sequencing alone id beginning found lives beginning.starter refl)
 
       twice : filter (is_open (heard_of history) (ended_of history) (who.Sequence id beginning.start.home ∷ finished_of history)) (caused_of history) ≡ filter (λ event. not (is_of_one (who.Sequence id beginning.start.home ∷ []) event.owner)) (filter (is_open (heard_of history) (ended_of history) (finished_of history)) (caused_of history))
       twice = filter-twice (λ event. not (is_of_one (who.Sequence id beginning.start.home ∷ []) event.owner)) (is_open (heard_of history) (ended_of history) (finished_of history)) (is_open (heard_of history) (ended_of history) (who.Sequence id beginning.start.home ∷ finished_of history)) (open-finished (who.Sequence id beginning.start.home) (heard_of history) (ended_of history) (finished_of history)) (caused_of history)

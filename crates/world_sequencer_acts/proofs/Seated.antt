@@ -6,20 +6,21 @@ use Rattle.std.specs.declared.alloc.AllocError.{AllocError}
 use Rattle.std.specs.List.{list_any}
 use Rattle.std.proofs.lemmas.Bool.Decides.{nat_tests}
 use Rattle.std.proofs.lemmas.List.Elements.{All-cons, All-nil, All-push}
+use Rattle.uvm_phase.specs.declared.phases.Phase.{Phase}
+use Rattle.uvm_phase.specs.Phases.{same_phase}
 use Rattle.uvm_tree.specs.Nodes.{Node}
 use Rattle.uvm_tree.specs.Sorted.{AreInPathOrder, path_order}
 use Rattle.uvm_sequencer.specs.declared.modes.Mode.{Mode}
 use Rattle.uvm_sequences.specs.declared.starts.SeqStep.{SeqStep}
 use Rattle.uvm_sequencer.specs.declared.drivers.How.{How}
-use Rattle.uvm_sequencer.specs.Drivers.{grant_of, sent}
+use Rattle.uvm_sequencer.specs.declared.drivers.Driver.{Driver}
+use Rattle.uvm_sequencer.specs.Drivers.{grant_of, is_idle, sent}
 use Rattle.uvm_sequencer.specs.Queues.{item_request, lock_request}
 use Rattle.uvm_sequences.specs.Sequences.{numbered}
 use Rattle.uvm_sequencer.specs.Sequencers.{after_send, unlocked, with_grab, with_item, with_lock}
 use Rattle.uvm_tlm.specs.declared.items.Item.{Item}
 use Rattle.uvm_object.specs.Acts.{node_of}
 use Rattle.uvm_object.specs.declared.acts.Who.{Who}
-use Rattle.uvm_object.specs.Objects.{same_who}
-use Rattle.uvm_object.specs.declared.acts.Call.{Call}
 use Rattle.uvm_object.specs.declared.acts.Act.{Act}
 use Rattle.uvm_object.specs.declared.acts.Act.TheVariants.{Request, Lock, Grab, Unlock, Send}
 use Rattle.uvm_object.specs.declared.fatals.Fatal.{Fatal}
@@ -30,11 +31,11 @@ use Rattle.uvm_object.specs.declared.entries.Entry.TheVariants.{Did}
 use Rattle.bench_script.specs.Scripts.{ScriptValue}
 use Rattle.bench_history.specs.declared.askers.DriverPort.{DriverPort}
 use Rattle.bench_history.specs.declared.owners.Owner.TheVariants.{Object}
-use Rattle.bench_history.specs.Dues.{calls_told, is_of_one, told_item, told_sent}
+use Rattle.bench_history.specs.Dues.{calls_told, is_of_one, told_in, told_item, told_sent}
 use Rattle.bench_history.specs.Arbitration.{driver_asker, driver_state, mode_at, request_priority, sequencer_at, sequencer_with}
 use Rattle.bench_history.specs.Cases.{Exactly, by_open}
-use Rattle.bench_history.specs.History.{components_of, ended_of, nodes_of, opening, speaker_of}
-use Rattle.bench_history.specs.Laws.{IsComponent, IsThere}
+use Rattle.bench_history.specs.History.{act_phase, components_of, ended_of, nodes_of, opening, speaker_of}
+use Rattle.bench_history.specs.Laws.{HasNotEnded, IsComponent, IsThere}
 use Rattle.bench_history.specs.Refusals.{is_none_at_all, request_refusal, send_refusal}
 use Rattle.bench_history.specs.Reports.{newest_fate, report_commands}
 use Rattle.bench_history.specs.Sequences.{Beginning, begun_of, finished_of, is_live, sequence_in, sequences_of, starts_in}
@@ -54,10 +55,12 @@ use Rattle.world_services.specs.Services.{ServicesMatch}
 use Rattle.world_sequencers.proofs.Arbited.{arbitrated-before, arbitrated-behind, arbitrated-driver, arbitrated-more, arbitrated-unlocked, arbiter-changed, asked-before, asked-behind, unlocked-is}
 use Rattle.world_wiring.proofs.Connected.{permutation-contains, range-contains}
 use Rattle.world_sequencers.proofs.Contested.{arbitrating-one, known-changed, known-none, learns-else, learns-here, none-locked, none-served}
+use Rattle.world_agenda.proofs.Written.{IsToldOpen}
 use Rattle.world_services.proofs.Known.{itself, said}
 use Rattle.world_services.proofs.Later.{acted}
 use Rattle.world_sequences.proofs.Numbered.{numbered-holds}
 use Rattle.uvm_sequencer.specs.declared.drivers.How.TheVariants as how
+use Rattle.uvm_sequencer.specs.declared.drivers.Driver.TheVariants as driver
 use Rattle.uvm_object.specs.declared.acts.Who.TheVariants as who
 use Rattle.uvm_object.specs.declared.acts.Call.TheVariants as call
 
@@ -271,36 +274,46 @@ module _ {script : ScriptValue} {history : List Entry} {services : Services} (m 
       by None e = cc
       by (Some mode) e = e
 
-pub sent-calls : (history : List Entry) (speaker : Who) (id home : ℕ) (item : Item) (way : How) → speaker ≡ who.Sequence id home → grant_of id (driver_state history home) ≡ Some way → calls_told history speaker Done (Send item) ≡ told_sent speaker (driver_asker history home) item (Some way)
-sent-calls history speaker id home item way is granted = subst (λ (w : Who). calls_told history w Done (Send item) ≡ told_sent w (driver_asker history home) item (Some way)) (sym is) (rw granted refl)
+pub sent-calls : (history : List Entry) (speaker : Who) (id home : ℕ) (item : Item) (way : How) → speaker ≡ who.Sequence id home → grant_of id (driver_state history home) ≡ Some way → calls_told history speaker Done (Send item) ≡ told_sent (act_phase history) speaker (driver_asker history home) item (Some way)
+sent-calls history speaker id home item way is granted = subst (λ (w : Who). calls_told history w Done (Send item) ≡ told_sent (act_phase history) w (driver_asker history home) item (Some way)) (sym is) (rw granted refl)
 
--- who is told of an item is a component, and hears of it
-pub item-told : (finished : List Who) (steps : List (Option SeqStep)) (components : List ℕ) (driver : Option DriverPort) (item : Option Item) → IfSome driver (λ driver. IsComponent components driver.who) → All (λ (c : Who × Call). is_told steps c.0 ≡ not (is_of_one finished (Object c.0))) (told_item driver item)
-item-told finished steps components None item has = All-nil _
-item-told finished steps components (Some driver) item has = All-cons (λ (c : Who × Call). is_told steps c.0 ≡ not (is_of_one finished (Object c.0))) (driver.who, call.NextItem driver.name item) [] (by driver.who has) (All-nil _)
+-- who is told of an item is a component, and hears of it in the phase in which it asked, which has not ended
+pub item-told :
+    (ended : List Phase) (finished : List Who) (steps : List (Option SeqStep)) (components : List ℕ) (asker : Option DriverPort) (item : Option Item) → IfSome asker (λ driver. IsComponent components driver.who) → HasNotEnded ended (option_and_then (λ driver. driver.phase) asker)
+    → All (IsToldOpen (is_told steps) ended finished) (told_item asker item)
+item-told ended finished steps components None item has unended = All-nil _
+item-told ended finished steps components (Some driver) item has unended = All-cons (IsToldOpen (is_told steps) ended finished) (told_in driver.phase driver.who (call.NextItem driver.name item)) [] (by driver.who driver.phase has unended) (All-nil _)
   where
-    by : (w : Who) → IsComponent components w → is_told steps w ≡ not (is_of_one finished (Object w))
-    by (who.Node node) has = refl
-    by (who.Sequence id home) has = absurd has
+    by : (w : Who) (phase : Option Phase) → IsComponent components w → HasNotEnded ended phase → IfSome phase (λ one. is_told steps w ≡ (not (list_any (same_phase one) ended) && not (is_of_one finished (Object w))))
+    by w None has unended = tt
+    by (who.Node node) (Some phase) has unended = rw unended refl
+    by (who.Sequence id home) (Some phase) has unended = absurd has
 
 module _ {script : ScriptValue} {history : List Entry} {act : Act} {place : ℕ} {services : Services} (s : IsScene script history act place services) (id home : ℕ) (seat : IsSeated history services.answer.speaker id home) where
-  performer-told : is_told services.sequences.steps services.answer.speaker ≡ not (is_of_one (finished_of history) (Object services.answer.speaker))
-  performer-told = rw seat.speaker_is (s.known.sequencing.living id ∙ lived (numbered (begun_of history) id) refl seat.here seat.lives)
+  performer-told : is_of_one (finished_of history) (Object services.answer.speaker) ≡ false → IsToldOpen (is_told services.sequences.steps) (ended_of history) (finished_of history) (told_in (act_phase history) services.answer.speaker (call.ItemDone None))
+  performer-told goes = by (act_phase history) s.in_phase.unended
     where
-      lived : (found : Option Beginning) → numbered (begun_of history) id ≡ found → option_map (λ beginning. beginning.start.home) found ≡ Some home → option_map_or (lives_by (finished_of history) (ended_of history) id) found false ≡ true
-          → live_by (begun_of history) (finished_of history) (ended_of history) id ≡ not (list_any (same_who (who.Sequence id home)) (finished_of history))
-      lived None is here lives = cc
-      lived (Some b) is here lives =
-          let at : b.start.home ≡ home = cc in
-          rw (is, ← at) (both _ _ lives)
-        where
-          both : (a c : Bool) → not a && c ≡ true → (not a && c) ≡ not a
-          both true c e = cc
-          both false c e = e
+      told : is_told services.sequences.steps services.answer.speaker ≡ true
+      told = rw seat.speaker_is (s.known.sequencing.living id ∙ seat.lives)
 
-  pub sends-told : (item : Item) (way : How) → All (λ (c : Who × Call). is_told services.sequences.steps c.0 ≡ not (is_of_one (finished_of history) (Object c.0))) (told_sent services.answer.speaker (driver_asker history home) item (Some way))
-  sends-told item how.Next = item-told (finished_of history) services.sequences.steps (components_of history) (driver_asker history home) (Some item) (s.driving.drivers home)
-  sends-told item how.Try = item-told (finished_of history) services.sequences.steps (components_of history) (driver_asker history home) (Some item) (s.driving.drivers home)
-  sends-told item how.Get =
-      All-push (λ (c : Who × Call). is_told services.sequences.steps c.0 ≡ not (is_of_one (finished_of history) (Object c.0))) (told_item (driver_asker history home) (Some item)) (services.answer.speaker, call.ItemDone None)
-      (item-told (finished_of history) services.sequences.steps (components_of history) (driver_asker history home) (Some item) (s.driving.drivers home)) performer-told
+      by : (phase : Option Phase) → HasNotEnded (ended_of history) phase → IfSome phase (λ one. is_told services.sequences.steps services.answer.speaker ≡ (not (list_any (same_phase one) (ended_of history)) && not (is_of_one (finished_of history) (Object services.answer.speaker))))
+      by None unended = tt
+      by (Some phase) unended = rw (told, unended, goes) refl
+
+  granted-busy : (way : How) (state : Driver) → grant_of id state ≡ Some way → is_idle state ≡ false
+  granted-busy way driver.Idle e = cc
+  granted-busy way (driver.Waiting other) e = refl
+  granted-busy way (driver.Granted one other) e = refl
+  granted-busy way (driver.InHand one) e = refl
+
+  asker-told : (item : Item) (way : How) → grant_of id (driver_state history home) ≡ Some way → All (IsToldOpen (is_told services.sequences.steps) (ended_of history) (finished_of history)) (told_item (driver_asker history home) (Some item))
+  asker-told item way granted = item-told (ended_of history) (finished_of history) services.sequences.steps (components_of history) (driver_asker history home) (Some item) (s.driving.drivers home) (s.driving.asks home (granted-busy way (driver_state history home) granted))
+
+  pub sends-told :
+      (item : Item) (way : How) → grant_of id (driver_state history home) ≡ Some way → is_of_one (finished_of history) (Object services.answer.speaker) ≡ false
+      → All (IsToldOpen (is_told services.sequences.steps) (ended_of history) (finished_of history)) (told_sent (act_phase history) services.answer.speaker (driver_asker history home) item (Some way))
+  sends-told item how.Next granted goes = asker-told item how.Next granted
+  sends-told item how.Try granted goes = asker-told item how.Try granted
+  sends-told item how.Get granted goes =
+      All-push (IsToldOpen (is_told services.sequences.steps) (ended_of history) (finished_of history)) (told_item (driver_asker history home) (Some item)) (told_in (act_phase history) services.answer.speaker (call.ItemDone None))
+      (asker-told item how.Get granted) (performer-told goes)

@@ -1,5 +1,5 @@
 -- What drivers and sequences do at the sequencers that a world keeps.
-use Rattle.std.specs.Prelude.{◌≡◌, ℕ, true, nat_eq, is_some, List, [], ◌∷◌, ◌++◌, slice_get, filter, not, Option, Some, None, IsSome, option_and_then, Result, Ok, Err, if◌then◌else◌}
+use Rattle.std.specs.Prelude.{◌≡◌, ℕ, Bool, true, nat_eq, is_some, List, [], ◌∷◌, ◌++◌, slice_get, filter, not, Option, Some, None, IsSome, option_and_then, Result, Ok, Err, if◌then◌else◌}
 use Rattle.std.specs.HashMap.{get}
 use Rattle.uvm_phase.specs.Dues.{in_order}
 use Rattle.uvm_tlm.specs.declared.ends.PortKind.TheVariants.{Seq}
@@ -9,14 +9,13 @@ use Rattle.uvm_sequences.specs.Sequences.{finished, name_at}
 use Rattle.uvm_sequencer.specs.Sequencers.{after_leave}
 use Rattle.uvm_sequencer.specs.declared.drivers.How.{How}
 use Rattle.uvm_sequencer.specs.declared.drivers.How.TheVariants.{Try}
-use Rattle.uvm_object.specs.declared.acts.Who.{Who}
 use Rattle.uvm_object.specs.Acts.{node_of}
-use Rattle.uvm_object.specs.declared.acts.Call.{Call}
 use Rattle.uvm_object.specs.declared.fatals.Fatal.{Fatal}
 use Rattle.uvm_object.specs.declared.entries.Outcome.{Outcome}
 use Rattle.uvm_object.specs.declared.entries.Outcome.TheVariants.{Done, Waits}
-use Rattle.bench_history.specs.Dues.{is_of_one, told_item}
-use Rattle.bench_history.specs.History.{running}
+use Rattle.bench_history.specs.declared.askers.DriverPort.{DriverPort}
+use Rattle.bench_history.specs.Dues.{is_of_one, told_in, told_item}
+use Rattle.bench_history.specs.declared.owners.Told.{Told}
 use Rattle.bench_history.specs.Owners.{Event}
 use Rattle.bench_history.specs.Refusals.{driving_refusal, in_task}
 use Rattle.world_sequencers.specs.declared.arbiters.Reached.{Reached}
@@ -41,8 +40,8 @@ reached_in services name = option_and_then (reached_at services.wiring services.
 
 -- it is reached, in a phase that takes time; or why it is not
 abbrev pub IsReached : Services → List ℕ → Result Reached Fatal → Type 0
-IsReached services name (Ok reached) = (in_task (running services.stage) ≡ true) × (reached_in services name ≡ Some reached) × IsSome (get nat_eq services.arbiters reached.sequencer)
-IsReached services name (Err fatal) = (refusal : Option Fatal) → driving_refusal (running services.stage) (is_some (reached_in services name)) refusal ≡ Some fatal
+IsReached services name (Ok reached) = (in_task services.answer.phase ≡ true) × (reached_in services name ≡ Some reached) × IsSome (get nat_eq services.arbiters reached.sequencer)
+IsReached services name (Err fatal) = (refusal : Option Fatal) → driving_refusal services.answer.phase (is_some (reached_in services name)) refusal ≡ Some fatal
 
 -- the outcome where a driver waits
 abbrev pub waiting_outcome : How → Outcome
@@ -59,22 +58,25 @@ pub record IsContestedAnew (home : ℕ) (old new : Services) : Type 0 where
   pub node : new.contest.node ≡ Some home
   pub learns : LearnsAt home 0 old.contest new.contest
 
--- the call that tells who started a sequence that it has finished
-abbrev pub finished_calls : Option kept.Beginning → Option (List ℕ) → ℕ → List (Who × Call)
-finished_calls (Some beginning) (Some name) id = (beginning.starter, call.Finished name id) ∷ []
+-- the call that tells who started a sequence that it has finished, in the phase in which it was started
+abbrev pub finished_calls : Option kept.Beginning → Option (List ℕ) → ℕ → List Told
+finished_calls (Some beginning) (Some name) id = told_in beginning.phase beginning.starter (call.Finished name id) ∷ []
 finished_calls (Some beginning) None id = []
 finished_calls None name id = []
 
 -- and the one that tells the driver of its sequencer that there is no item, if the grant of a `try` lapses
-abbrev pub lapsed_calls : Option ArbiterValue → ℕ → List (Who × Call)
+abbrev pub lapsed_item : Bool → Option DriverPort → List Told
+lapsed_item lapses driver = if lapses then told_item driver None else []
+
+abbrev pub lapsed_calls : Option ArbiterValue → ℕ → List Told
 lapsed_calls None id = []
-lapsed_calls (Some a) id = if is_try (grant_of id a.sequencer.driver) then told_item a.driver None else []
+lapsed_calls (Some a) id = lapsed_item (is_try (grant_of id a.sequencer.driver)) a.driver
 
 -- the speaker, a sequence, finishes by an act whose entry will stand at a place: nothing is due to it any more, none of its acts is left, what it asked for
 -- and holds is gone, and the calls of that are due
 pub record IsFinished (id place : ℕ) (old new : Services) : Type 0 where
   pub dues : (caused : List Event) → old.agenda.dues ≡ in_order caused → new.agenda.dues ≡
-      in_order (living_numbered (is_told (finished id old.sequences).steps) (running old.stage) old.time place 0
+      in_order (living_numbered (is_told (finished id old.sequences).steps) old.time place 0
       (finished_calls (beginning_at old.beginnings.items id) (name_at old.sequences.started id) id ++ lapsed_calls (get nat_eq old.arbiters (node_of old.answer.speaker)) id)
       ++ filter (λ event. not (is_of_one (old.answer.speaker ∷ []) event.owner)) caused)
   pub arbiters : ChangesAt (node_of old.answer.speaker) (at_sequencer (after_leave id)) old.arbiters new.arbiters

@@ -6,16 +6,18 @@ ghost use Rattle.bench_history.specs.Dues.{told_done};
 ghost use Rattle.world_sequencer_acts.specs.Drivings.{IsReached, reached_at, waiting_outcome};
 ghost use Rattle.world_services.specs.Attempts.{CanPerform, IsAttempt, unreported};
 
-use bench_history::DriverPort;
+use bench_history::{DriverPort, Told};
 use std::alloc::{AllocError, Global};
 use uvm_glob::Name;
 use uvm_object::{Call, Fatal, LoggedOutcome, Who};
+use uvm_phase::Phase;
 use uvm_sequencer::{Asked, How};
 use uvm_sequences::SeqId;
 use uvm_tlm::{Item, PortKind, Wiring};
 use uvm_tree::{NodeId, laws as trees};
 use world_agenda::stages::in_task;
 use world_sequencers::arbiters::{Arbiters, Reached, ask_at, done_at};
+use world_sequences::beginnings::phase_at;
 use world_services::attempts::{Attempt, done, refused};
 use world_services::services::Services;
 use world_services::tells::{tell, tell_living};
@@ -40,6 +42,7 @@ pub fn ask(
     let driver = DriverPort {
         who: services.answer.speaker,
         name: *name,
+        phase: services.answer.phase,
     };
     let known = services.contest.known(reached.sequencer);
     let (arbiters, sequences) = (&mut services.arbiters, &services.sequences);
@@ -95,7 +98,8 @@ pub fn item_done(
     match done_at(&mut services.arbiters, &reached) {
         Ok(id) => {
             services.contest.node = Some(reached.sequencer);
-            let calls = done_calls(alloc, reached.sequencer, id, response)?;
+            let phase = phase_at(services.beginnings.as_slice(), id);
+            let calls = done_calls(alloc, reached.sequencer, id, phase, response)?;
             tell_living(services, place, calls.as_slice())?;
             Ok(done(services))
         }
@@ -103,17 +107,20 @@ pub fn item_done(
     }
 }
 
-// The call to the sequence whose item it was.
+// The call to the sequence whose item it was, in the phase in which that was started.
 fn done_calls(
     alloc: Global,
     home: NodeId,
     id: SeqId,
+    phase: Option<Phase>,
     response: Option<Item>,
-) -> Result<Vec<(Who, Call)>, AllocError>
-    ensures { IfOk result (λ calls. calls.items ≡ told_done response home (Some id)) }
+) -> Result<Vec<Told>, AllocError>
+    ensures { IfOk result (λ calls. calls.items ≡ told_done (λ one. phase) response home (Some id)) }
 {
     let mut calls = Vec::new(alloc);
-    calls.push((Who::Sequence { id, home }, Call::ItemDone { response }))?;
+    let who = Who::Sequence { id, home };
+    let call = Call::ItemDone { response };
+    calls.push(Told { who, call, phase })?;
     Ok(calls)
 }
 
@@ -121,7 +128,7 @@ fn done_calls(
 fn reached_through(services: &Services, name: &Name) -> Result<Reached, Fatal>
     ensures { IsReached services.now name.now result }
 {
-    if !in_task(services.stage) {
+    if !in_task(services.answer.phase) {
         return Err(Fatal::OutsideTask);
     }
     let performer = services.answer.speaker;

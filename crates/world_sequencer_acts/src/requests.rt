@@ -9,9 +9,10 @@ ghost use Rattle.bench_history.specs.Refusals.{is_none_at_all, is_open_to};
 ghost use Rattle.world_sequencer_acts.specs.Drivings.{IsContestedAnew, contested_at};
 ghost use Rattle.world_services.specs.Attempts.{CanPerform, IsAttempt};
 
-use bench_history::DriverPort;
+use bench_history::{DriverPort, Told};
 use std::alloc::{AllocError, Global};
 use uvm_object::{Call, Fatal, Who};
+use uvm_phase::Phase;
 use uvm_sequencer::{How, laws as sequencers};
 use uvm_sequences::{SeqId, Sequences};
 use uvm_tlm::Item;
@@ -126,7 +127,8 @@ pub fn send(
     let driver = driver_at(&services.arbiters, home);
     match send_at(&mut services.arbiters, home, id) {
         Some(how) => {
-            let calls = sent_calls(alloc, &performer, driver, item, how)?;
+            let phase = services.answer.phase;
+            let calls = sent_calls(alloc, phase, &performer, driver, item, how)?;
             tell_living(services, place, calls.as_slice())?;
             Ok(contested(services, home))
         }
@@ -134,34 +136,38 @@ pub fn send(
     }
 }
 
-// The calls of what is sent: to the driver, and where it asked by a `Get` to who sends, who is done.
+// The calls of what is sent: to the driver, and where it asked by a `Get` to who sends, who is done, in the phase of the act.
 fn sent_calls(
     alloc: Global,
+    phase: Option<Phase>,
     performer: &Who,
     driver: Option<DriverPort>,
     item: Item,
     how: How,
-) -> Result<Vec<(Who, Call)>, AllocError>
-    ensures { IfOk result (λ calls. calls.items ≡ told_sent performer.now driver item (Some how)) }
+) -> Result<Vec<Told>, AllocError>
+    ensures { IfOk result (λ calls. calls.items ≡ told_sent phase performer.now driver item (Some how)) }
 {
     let mut calls = Vec::new(alloc);
     push_item(&mut calls, driver, Some(item))?;
     if let How::Get = how {
-        calls.push((performer.copy(), Call::ItemDone { response: None }))?;
+        let who = performer.copy();
+        let call = Call::ItemDone { response: None };
+        calls.push(Told { who, call, phase })?;
     }
     Ok(calls)
 }
 
-/// Adds the call that tells a driver of an item, or of none, where there is a driver. Its error is want of memory.
+/// Adds the call that tells a driver of an item, or of none, in the phase in which it asked, where there is a driver. Its error is want of memory.
 pub fn push_item(
-    calls: &mut Vec<(Who, Call)>,
+    calls: &mut Vec<Told>,
     driver: Option<DriverPort>,
     item: Option<Item>,
 ) -> Result<(), AllocError>
     ensures { OnOk result (calls.new.items ≡ calls.old.items ++ told_item driver item) }
 {
-    if let Some(DriverPort { who, name }) = driver {
-        calls.push((who, Call::NextItem { port: name, item }))?;
+    if let Some(DriverPort { who, name, phase }) = driver {
+        let call = Call::NextItem { port: name, item };
+        calls.push(Told { who, call, phase })?;
     }
     Ok(())
 }

@@ -20,7 +20,7 @@ ghost use Rattle.world_services.specs.Attempts.{IsAttempt, TakesIn};
 ghost use Rattle.world_services.specs.Services.{IsFactory};
 ghost use Rattle.world_services.specs.Creations.{IsUnstarted, starting_in};
 
-use bench_history::{Need, laws};
+use bench_history::Need;
 use std::alloc::{AllocError, Global};
 use uvm_factory::{Factory, Kind, TypeId};
 use uvm_glob::{Name, Path, PathFault};
@@ -28,7 +28,7 @@ use uvm_object::{Act, Call, Fatal, Who};
 use uvm_sequencer::laws as sequencers;
 use uvm_sequences::SeqId;
 use uvm_tree::{NodeId, NodeKind, Tree};
-use world_agenda::stages::{in_task, phase_of};
+use world_agenda::stages::in_task;
 use world_sequences::beginnings::{
     is_none_at_all, name_started, parent_names, path_below, priority_given, push, start_under,
 };
@@ -80,7 +80,7 @@ pub fn what_is_started(
     ensures err { IfErr result (λ fault. (types : Types) (overrides : List Override) → IsFactory types overrides services.now.factory →
         IsUnstarted (starting_refusal (starting_in types overrides services.now performer.now type_name.now name.now on.now priority)) fault) }
 {
-    if !in_task(services.stage) {
+    if !in_task(services.answer.phase) {
         return Err(Uncreated::Refused(Fatal::OutsideTask));
     }
     if is_none_at_all(priority) {
@@ -174,8 +174,7 @@ pub fn begin(services: &mut Services, act: &Act, home: &NodeId, place: usize) ->
     ensures id { result ≡ length services.old.sequences.started + 1 }
     ensures kept { TakesIn act.now (Started (suc (length services.old.sequences.started))) place services.old services.new }
 {
-    // Who starts it runs in the phase in which it is started. For those that wait at a sequencer nothing changes.
-    laws::living_run();
+    // For those that wait at a sequencer nothing changes.
     sequencers::starts_change_nothing();
     let starter = services.answer.speaker;
     let name = name_started(act);
@@ -184,12 +183,12 @@ pub fn begin(services: &mut Services, act: &Act, home: &NodeId, place: usize) ->
         unreachable!()
     };
     let who = Who::Sequence { id, home: *home };
-    let phase = phase_of(services.stage);
+    let phase = services.answer.phase;
     let Ok(()) = push(&mut services.beginnings, &who, &starter, phase) else {
         unreachable!()
     };
     let time = services.time;
-    let Ok(()) = tell_to(services, who.copy(), Call::PreStart, time, place) else {
+    let Ok(()) = tell_to(services, who.copy(), phase, Call::PreStart, time, place) else {
         unreachable!()
     };
     services.reporting.newest = None;

@@ -5,13 +5,14 @@ ghost use Rattle.uvm_sequences.specs.Sequences.{finished, name_at};
 ghost use Rattle.uvm_object.specs.declared.acts.Act.TheVariants.{EndStep};
 ghost use Rattle.bench_history.specs.Dues.{step_call};
 ghost use Rattle.bench_history.specs.Refusals.{is_open_to};
-ghost use Rattle.world_sequencer_acts.specs.Drivings.{IsFinished, finished_calls};
+ghost use Rattle.world_sequencer_acts.specs.Drivings.{IsFinished, finished_calls, lapsed_item};
 ghost use Rattle.world_sequences.specs.Sequencings.{beginning_at};
 ghost use Rattle.world_services.specs.Attempts.{IsAttempt};
 
 use crate::requests::push_item;
+use bench_history::{DriverPort, Told};
 use std::alloc::{AllocError, Global};
-use uvm_object::{Call, LoggedOutcome, Who};
+use uvm_object::{Call, LoggedOutcome};
 use uvm_sequences::{SeqId, laws};
 use uvm_tree::laws as trees;
 use world_agenda::events::cancel;
@@ -61,27 +62,43 @@ fn finish(services: &mut Services, alloc: Global, place: usize, id: SeqId) -> Re
     services.contest.node = Some(home);
     services.contest.learn(home, 0);
     cancel(&mut services.agenda, performer);
-    let lapses = leave_at(&mut services.arbiters, home, id);
     let driver = driver_at(&services.arbiters, home);
+    let lapses = leave_at(&mut services.arbiters, home, id);
+    let calls = calls_left(alloc, services, id, driver, lapses)?;
+    tell_living(services, place, calls.as_slice())
+}
+
+// The calls that a sequence leaves which has finished: to who started it, and to a driver whose `Try` lapses.
+fn calls_left(
+    alloc: Global,
+    services: &Services,
+    id: SeqId,
+    driver: Option<DriverPort>,
+    lapses: bool,
+) -> Result<Vec<Told>, AllocError>
+    ensures { IfOk result (λ calls. calls.items ≡ finished_calls (beginning_at services.now.beginnings.items id) (name_at services.now.sequences.started id) id ++ lapsed_item lapses driver) }
+{
     let mut calls = finished_calls(alloc, services, id)?;
     if lapses {
         push_item(&mut calls, driver, None)?;
     }
-    tell_living(services, place, calls.as_slice())
+    Ok(calls)
 }
 
-// The call that tells who started a sequence that it has finished.
+// The call that tells who started a sequence that it has finished, in the phase in which it was started.
 fn finished_calls(
     alloc: Global,
     services: &Services,
     id: SeqId,
-) -> Result<Vec<(Who, Call)>, AllocError>
+) -> Result<Vec<Told>, AllocError>
     ensures { IfOk result (λ calls. calls.items ≡ finished_calls (beginning_at services.now.beginnings.items id) (name_at services.now.sequences.started id) id) }
 {
     let mut calls = Vec::new(alloc);
     let beginning = beginning_at(services.beginnings.as_slice(), id);
     if let (Some(beginning), Some(name)) = (beginning, services.sequences.name(id)) {
-        calls.push((beginning.starter, Call::Finished { name: *name, id }))?;
+        let (who, phase) = (beginning.starter, beginning.phase);
+        let call = Call::Finished { name: *name, id };
+        calls.push(Told { who, call, phase })?;
     }
     Ok(calls)
 }

@@ -1,12 +1,12 @@
 -- Who started a sequence, and what is kept of it.
-use Rattle.std.proofs.Common.{◌≡◌, ◌<◌, ◌==◌, ℕ, suc, zero, Bool, true, false, List, [], ◌∷◌, ◌++◌, length, slice_get, Option, Some, None, refl, ap, ◌∙◌, subst, arith, length-append, if◌then◌else◌}
+use Rattle.std.proofs.Common.{◌≡◌, ◌<◌, ◌==◌, ℕ, suc, zero, Bool, true, false, List, [], ◌∷◌, ◌++◌, length, slice_get, Option, Some, None, option_and_then, refl, ap, ◌∙◌, subst, arith, length-append, if◌then◌else◌}
 use Rattle.std.proofs.lemmas.Bool.Decides.{nat_tests}
 use Rattle.std.specs.Option.{option_map_or}
 use Rattle.uvm_phase.specs.declared.phases.Phase.{Phase}
 use Rattle.uvm_sequences.specs.Sequences.{numbered}
 use Rattle.bench_history.specs.Sequences.{Beginning}
 use Rattle.bench_history.specs.Laws.{place_of}
-use Rattle.world_sequences.specs.Sequencings.{AreStarters, beginning_at, kept_beginnings}
+use Rattle.world_sequences.specs.Sequencings.{AreStarters, beginning_at, kept_beginnings, phase_at}
 use Rattle.world_sequences.proofs.Numbered.{numbered-more, numbered-within}
 use Rattle.uvm_object.specs.declared.acts.Who.TheVariants as who
 use Rattle.world_sequences.specs.declared.beginnings.Beginning as kept
@@ -83,3 +83,7 @@ kept-at (x ∷ older) (suc n) beginning e = tested (suc n == length (x ∷ older
         let within = numbered-within older (suc n) beginning found in
         let low : n < length (kept_beginnings older) = omega (arith, kept-length older, within) in
         get-front (kept_beginnings older) (kept_as (length (x ∷ older)) x ∷ []) n low ∙ rest found
+
+-- the phase in which a sequence was started is kept
+pub phase-known : (begun : List Beginning) (beginnings : List kept.Beginning) (id : ℕ) (beginning : Beginning) → beginnings ≡ kept_beginnings begun → numbered begun id ≡ Some beginning → phase_at beginnings id ≡ option_and_then (λ one. one.phase) (numbered begun id)
+phase-known begun beginnings id beginning are found = rw (are, kept-at begun id beginning found, found) refl

@@ -1,5 +1,5 @@
 -- What a world keeps of the sequences that were started, and that it is what the log says.
-use Rattle.std.specs.Prelude.{◌≡◌, ◌≤◌, ℕ, zero, suc, Bool, false, not, ◌&&◌, List, [], ◌∷◌, ◌++◌, length, map, filter, slice_get, All, Option, Some, None, is_some, IsSome, if◌then◌else◌}
+use Rattle.std.specs.Prelude.{◌≡◌, ◌≤◌, ℕ, zero, suc, Bool, false, not, ◌&&◌, List, [], ◌∷◌, ◌++◌, length, map, filter, slice_get, All, Option, Some, None, is_some, IsSome, option_and_then, if◌then◌else◌}
 use Rattle.std.specs.List.{flat_map, list_any}
 use Rattle.std.specs.Option.{option_map_or}
 use Rattle.uvm_glob.specs.declared.faults.PathFault.{PathFault}
@@ -116,6 +116,9 @@ home_for nodes performer act = None
 abbrev pub beginning_at : List kept.Beginning → ℕ → Option kept.Beginning
 beginning_at beginnings zero = None
 beginning_at beginnings (suc place) = slice_get beginnings place
+
+abbrev pub phase_at : List kept.Beginning → ℕ → Option Phase
+phase_at beginnings id = option_and_then (λ beginning. beginning.phase) (beginning_at beginnings id)
 
 -- a path is not made for its fault, or for want of memory
 abbrev pub MayFail : Option PathFault → PathFault → Type 0

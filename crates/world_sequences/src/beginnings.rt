@@ -9,7 +9,7 @@ ghost use Rattle.uvm_factory.specs.declared.types.Kind.TheVariants.{Sequence};
 ghost use Rattle.uvm_object.specs.declared.acts.Act.TheVariants.{Start};
 ghost use Rattle.bench_history.specs.Refusals.{is_none_at_all};
 ghost use Rattle.bench_history.specs.Sequences.{parent_names, sequence_in, start_priority};
-ghost use Rattle.world_sequences.specs.Sequencings.{IsStart, MayFail, name_started, priority_given, beginning_at};
+ghost use Rattle.world_sequences.specs.Sequencings.{IsStart, MayFail, name_started, priority_given, beginning_at, phase_at};
 ghost use Rattle.bench_history.specs.Dues.{step_call};
 
 use std::alloc::{AllocError, Global};
@@ -179,4 +179,11 @@ pub fn beginning_at(beginnings: &[Beginning], id: SeqId) -> Option<&Beginning>
         0 => None,
         number => beginnings.get(number as usize - 1),
     }
+}
+
+/// Answers the phase in which the sequence of a number was started; none where no sequence has it.
+pub fn phase_at(beginnings: &[Beginning], id: SeqId) -> Option<Phase>
+    ensures { result ≡ phase_at beginnings.now id }
+{
+    beginning_at(beginnings, id)?.phase
 }

@@ -72,7 +72,7 @@ home-there None e = cc
 home-there (Some node) e = (node, refl)
 
 pub record IsUnrefused (starting : Starting) : Type 0 where
-  pub task : in_task starting.running ≡ true
+  pub task : in_task starting.phase ≡ true
   pub positive : is_none_at_all starting.priority ≡ false
   pub home : ℕ
   pub home_is : starting.home ≡ Some home

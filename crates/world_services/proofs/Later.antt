@@ -16,7 +16,7 @@ use Rattle.bench_history.specs.Reports.{report_commands, newest_fate}
 use Rattle.bench_history.specs.Refusals.{is_open_to}
 use Rattle.bench_history.specs.Cases.{Exactly, by_act, by_open}
 use Rattle.bench_history.specs.Next.{next_of, EachIsNext, IsAct}
-use Rattle.bench_history.specs.Laws.{DriversAreThere, IsSettled, PerformersAreThere, PhasesGoInOrder}
+use Rattle.bench_history.specs.Laws.{ActsAreInPhase, DriversAreThere, IsSettled, PerformersAreThere}
 use Rattle.world_services.specs.Attempts.{ComesBy, TakesIn, IsScene, IsTried, IsAttempt, IsAttemptOfAny, IsRefusing}
 use Rattle.world_services.specs.Services.{ServicesMatch}
 use Rattle.world_services.proofs.Answered.{answer-later, answer-next, answer-noted}
@@ -36,9 +36,9 @@ pub ruleset acted = (answer-next, agenda-later, quiet, objecting-later, closing-
 -- an act is to be performed
 pub scene-of :
     {script : ScriptValue} {history : List Entry} {services : Services} (act : Act) → ServicesMatch script history services → EachIsNext script history → IsSettled history
-    → left_of script history ≡ act ∷ rest_of (left_of script history) → PhasesGoInOrder → PerformersAreThere → DriversAreThere → IsAct (next_of script history) → IsScene script history act (length history) services
-scene-of {script} {history} act m each settled left order performers drivers is =
-    record { each = each; known = m; settled = settled; left = left; place_is = refl; in_order = (order script history each).before; there = performers script history act each is left; driving = drivers script history each is }
+    → left_of script history ≡ act ∷ rest_of (left_of script history) → ActsAreInPhase → PerformersAreThere → DriversAreThere → IsAct (next_of script history) → IsScene script history act (length history) services
+scene-of {script} {history} act m each settled left phases performers drivers is =
+    record { each = each; known = m; settled = settled; left = left; place_is = refl; in_phase = phases script history act each is left; there = performers script history act each is left; driving = drivers script history each is }
 
 -- any act may be refused
 pub refused-taken-in : {old new : Services} {place : ℕ} (act : Act) (fatal : Fatal) → IsRefusing fatal old new → TakesIn act (Refused fatal) place old new

@@ -1,6 +1,5 @@
 -- What an act comes to.
-use Rattle.std.specs.Prelude.{◌≡◌, ℕ, ◌<◌, ◌≤◌, ◌+◌, true, false, ◌==◌, ◌||◌, ◌^◌, List, ◌∷◌, length, Option, None, All, ◌⊎◌}
-use Rattle.uvm_phase.specs.Phases.{phase_number}
+use Rattle.std.specs.Prelude.{◌≡◌, ℕ, ◌<◌, ◌≤◌, ◌+◌, true, false, ◌==◌, ◌||◌, ◌^◌, List, ◌∷◌, length, Option, None, ◌⊎◌}
 use Rattle.uvm_tree.specs.Nodes.{path_at}
 use Rattle.uvm_object.specs.Acts.{node_of}
 use Rattle.uvm_object.specs.Fatals.{fatal_report}
@@ -14,7 +13,7 @@ use Rattle.bench_script.specs.Scripts.{ScriptValue}
 use Rattle.world_services.specs.declared.attempts.Attempt.{Attempt}
 use Rattle.world_services.specs.declared.attempts.Attempt.TheVariants.{Became, Needed}
 use Rattle.world_services.specs.declared.services.Services.{Services}
-use Rattle.bench_history.specs.History.{stage_of, running, opening, left_of, rest_of, speaker_of, ended_of}
+use Rattle.bench_history.specs.History.{opening, left_of, rest_of, speaker_of}
 use Rattle.world_reports.specs.Reportings.{CanReport, IsReported}
 use Rattle.world_agenda.specs.Objectings.{AreNumbered}
 use Rattle.uvm_objection.specs.Totals.{total}
@@ -24,7 +23,7 @@ use Rattle.world_sequences.specs.Sequencings.{home_for}
 use Rattle.bench_history.specs.Refusals.{in_task}
 use Rattle.bench_history.specs.Cases.{Next, Exactly, Need, by_act, by_open}
 use Rattle.bench_history.specs.Next.{EachIsNext}
-use Rattle.bench_history.specs.Laws.{IsDriving, IsSettled, IsThere, next_number}
+use Rattle.bench_history.specs.Laws.{AreActsInPhase, IsDriving, IsSettled, IsThere}
 use Rattle.world_services.specs.Services.{ServicesMatch}
 use Rattle.bench_history.specs.declared.needs.Need as needs
 
@@ -40,18 +39,18 @@ pub record CanPerform (services : Services) : Type 0 where
   pub building : services.built ≡ false → late_fault services.wiring ≡ None
   pub connectable : services.past_connect ≡ false → late_fault services.wiring ≡ None
   pub unused : end_at services.wiring.ends (length services.tree.nodes) ≡ None
-  pub closed : in_task (running services.stage) ≡ true → is_closed services.wiring ≡ true
+  pub closed : in_task services.answer.phase ≡ true → is_closed services.wiring ≡ true
   pub known : AreKnown services.sequences.started services.arbiters services.contest
 
--- an act of the last answer is to be performed: each entry was next, what is kept is what the log says, nothing passes and nothing is granted, the phases went in their order,
--- its performer is there, it is known who drives the sequencers, and its entry will stand at a place
+-- an act of the last answer is to be performed: each entry was next, what is kept is what the log says, nothing passes and nothing is granted, its phase
+-- runs, its performer is there, it is known who drives the sequencers, and its entry will stand at a place
 pub record IsScene (script : ScriptValue) (history : List Entry) (act : Act) (place : ℕ) (services : Services) : Type 0 where
   pub each : EachIsNext script history
   pub known : ServicesMatch script history services
   pub settled : IsSettled history
   pub left : left_of script history ≡ act ∷ rest_of (left_of script history)
   pub place_is : length history ≡ place
-  pub in_order : All (λ phase. phase_number phase < next_number (stage_of history)) (ended_of history)
+  pub in_phase : AreActsInPhase script history act
   pub there : (act ≡ opening script) ⊎ IsThere history (speaker_of history)
   pub driving : IsDriving history
 

@@ -11,7 +11,6 @@ use Rattle.uvm_object.specs.declared.fatals.Fatal.TheVariants.{NoSequencer, Over
 use Rattle.world_services.specs.declared.creations.Uncreated.{Uncreated}
 use Rattle.world_services.specs.declared.creations.Uncreated.TheVariants.{Refused, Memory}
 use Rattle.world_services.specs.declared.services.Services.{Services}
-use Rattle.bench_history.specs.History.{running}
 use Rattle.bench_history.specs.Sequences.{home_asked, sequence_path}
 use Rattle.bench_history.specs.Refusals.{Creation, Starting}
 
@@ -41,7 +40,7 @@ MayWantMemoryFor act refusal = MayWantMemory refusal
 -- a start by somebody, as the services know it
 abbrev pub starting_in : Types → List Override → Services → Who → List ℕ → List ℕ → List (List ℕ) → Option ℕ → Starting
 starting_in types overrides services performer type_name name on priority = record {
-  running = running services.stage;
+  phase = services.answer.phase;
   types = types;
   overrides = overrides;
   type_name = type_name;

@@ -8,7 +8,7 @@ use Rattle.uvm_object.specs.declared.entries.Outcome.{Outcome}
 use Rattle.uvm_object.specs.declared.entries.Outcome.TheVariants.{Made, Started}
 use Rattle.uvm_object.specs.Acts.{node_of}
 use Rattle.bench_history.specs.Sequences.{sequence_in}
-use Rattle.bench_history.specs.History.{created_name, running}
+use Rattle.bench_history.specs.History.{created_name}
 use Rattle.bench_history.specs.Refusals.{child_refusal, in_task, is_none_at_all}
 use Rattle.bench_history.specs.Laws.{IsCreation}
 use Rattle.world_services.specs.declared.services.Services.{Services}
@@ -21,7 +21,7 @@ use Rattle.uvm_object.specs.declared.acts.Who.TheVariants as who
 pub record CanBegin (act : Act) (home : ℕ) (services : Services) : Type 0 where
   pub starts : IsStart act
   pub home_is : home_for services.tree.nodes services.answer.speaker act ≡ Some home
-  pub task : in_task (running services.stage) ≡ true
+  pub task : in_task services.answer.phase ≡ true
   pub positive : is_none_at_all (priority_given act) ≡ false
   pub parent : ForSome (sequence_in services.answer.speaker) (λ above. IsSome (numbered services.sequences.started above))
   pub sequence_spare : 0 < services.sequences.spare

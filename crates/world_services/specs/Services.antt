@@ -8,6 +8,7 @@ use Rattle.uvm_factory.specs.Faults.{Types}
 use Rattle.uvm_factory.specs.Overrides.{type_step}
 use Rattle.uvm_factory.specs.Observed.{Kept, types_of, step_at}
 use Rattle.uvm_config.specs.Answers.{Setting, strongest_answer}
+use Rattle.uvm_phase.specs.declared.phases.Phase.{Phase}
 use Rattle.uvm_object.specs.Acts.{node_of}
 use Rattle.uvm_object.specs.declared.acts.Who.{Who}
 use Rattle.uvm_object.specs.declared.acts.Act.{Act}
@@ -19,7 +20,7 @@ use Rattle.world_services.specs.declared.services.Services.{Services}
 use Rattle.world_services.specs.Turns.{AreTurns}
 use Rattle.bench_history.specs.Configuration.{settings_of}
 use Rattle.bench_history.specs.Dues.{caused_of, heard_of, due_events}
-use Rattle.bench_history.specs.History.{stage_of, now_of, nodes_of, components_of, called_of, opening, left_of, speaker_of, overrides_of, ends_build, ended_of}
+use Rattle.bench_history.specs.History.{act_phase, stage_of, now_of, nodes_of, components_of, called_of, opening, left_of, speaker_of, overrides_of, ends_build, ended_of}
 use Rattle.bench_history.specs.Objections.{objections_of}
 use Rattle.bench_history.specs.Reports.{report_commands, newest_fate, refuses_test}
 use Rattle.world_reports.specs.Reportings.{IsReporting}
@@ -56,10 +57,11 @@ abbrev pub unless_noted : Bool → List Act → List Act
 unless_noted true acts = []
 unless_noted false acts = acts
 
--- who gave the last answer, where it stands, how many acts it has and how many have their entry, and whether it ended with a note, or its speaker has
+-- who gave the last answer, to which phase its acts belong, where it stands, how many acts it has and how many have their entry, and whether it ended with a note, or its speaker has
 -- finished: else the others are left
-pub record IsLastAnswer (opening : Act) (history : List Entry) (left : List Act) (last : Who) (kept : LastAnswer) : Type 0 where
+pub record IsLastAnswer (opening : Act) (history : List Entry) (left : List Act) (last : Who) (acting : Option Phase) (kept : LastAnswer) : Type 0 where
   pub speaker : kept.speaker ≡ last
+  pub phase : kept.phase ≡ acting
   pub rest : unless_noted kept.noted (drop kept.done (acts_at opening history kept.place)) ≡ left
   pub within : ForSome kept.place (λ place. place < length history)
   pub count : kept.count ≡ length (acts_at opening history kept.place)
@@ -88,7 +90,7 @@ pub record ServicesMatch (script : ScriptValue) (history : List Entry) (services
   pub objections : IsObjecting (objections_of history) (length (nodes_of history)) (length history) services.objection
   pub factory : IsFactory script.types (overrides_of script history) services.factory
   pub turns : AreTurns (stage_of history) (nodes_of history) (components_of history) (called_of history) services.turns
-  pub answer : IsLastAnswer (opening script) history (left_of script history) (speaker_of history) services.answer
+  pub answer : IsLastAnswer (opening script) history (left_of script history) (speaker_of history) (act_phase history) services.answer
   pub speaks : node_of (speaker_of history) < length (nodes_of history)
   pub built : services.built ≡ list_any ends_build history
   pub reporting : IsReporting (report_commands script history) (newest_fate script history) services.reporting

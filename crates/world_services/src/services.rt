@@ -19,7 +19,7 @@ use uvm_config::Settings;
 use uvm_factory::Factory;
 use uvm_object::{Call, Who};
 use uvm_objection::{Objection, laws as objections};
-use uvm_phase::Agenda;
+use uvm_phase::{Agenda, Phase};
 use uvm_sequences::Sequences;
 use uvm_tlm::Wiring;
 use uvm_tree::{NodeId, Tree};
@@ -34,6 +34,8 @@ use world_sequences::beginnings::Beginning;
 pub struct LastAnswer {
     /// Who gave it.
     pub speaker: Who,
+    /// The phase of the call that it answers, to which its acts belong; none for the script's.
+    pub phase: Option<Phase>,
     /// The place of its entry; none for the script's.
     pub place: Option<usize>,
     /// How many acts it has.
@@ -116,6 +118,7 @@ impl Services {
             turns: Turns::new(alloc),
             answer: LastAnswer {
                 speaker: Who::Node(NodeId::TOP),
+                phase: None,
                 place: None,
                 count: 1,
                 done: 0,

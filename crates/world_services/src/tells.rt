@@ -5,39 +5,40 @@ ghost use Rattle.std.specs.List.{flat_map};
 ghost use Rattle.std.specs.Option.{option_to_list};
 ghost use Rattle.uvm_phase.specs.Dues.{in_order};
 ghost use Rattle.bench_history.specs.Dues.{caused_at, drain_from, due_from, told_of};
-ghost use Rattle.bench_history.specs.History.{running};
 ghost use Rattle.bench_history.specs.Owners.{Event, is_drain_of};
 ghost use Rattle.uvm_object.specs.declared.acts.Act.TheVariants.{Put, Take, Peek};
 ghost use Rattle.uvm_phase.specs.declared.agendas.Due.{Due};
 ghost use Rattle.world_agenda.specs.Tellings.{living_numbered, is_told};
 
 use crate::services::Services;
-use bench_history::Owner;
+use bench_history::{Owner, Told};
 use std::alloc::AllocError;
 use uvm_object::{Call, Passage, Who};
 use uvm_objection::Due;
+use uvm_phase::Phase;
 use uvm_tlm::MoveKind;
 use uvm_tree::NodeId;
 use world_agenda::events::{add_event, caused_at, end_drain, tell_each};
 
-/// Makes the end of a drain due that began, and takes that of one that ended out of what is due. The place of the entry is the
-/// cause. Its error is want of memory.
+/// Makes the end of a drain due that began in a phase, and takes that of one that ended out of what is due. The place of the entry is
+/// the cause. Its error is want of memory.
 pub fn move_drains(
     services: &mut Services,
+    phase: Option<Phase>,
     place: usize,
     began: Option<Due>,
     ended: Option<NodeId>,
 ) -> Result<(), AllocError>
     ensures dues { OnOk result ((caused : List Event) → services.old.agenda.dues ≡ in_order caused →
-        services.new.agenda.dues ≡ in_order (flat_map (drain_from (running services.old.stage) (caused_at place)) (option_to_list began) ++ filter (λ event. not (is_drain_of (option_to_list ended) event.owner)) caused)) }
+        services.new.agenda.dues ≡ in_order (flat_map (drain_from phase (caused_at place)) (option_to_list began) ++ filter (λ event. not (is_drain_of (option_to_list ended) event.owner)) caused)) }
     ensures rest { services.new ≡ record services.old { agenda = services.new.agenda } }
 {
     end_drain(&mut services.agenda, ended);
     if let Some(drain) = began {
-        let (stage, owner) = (services.stage, Owner::Drain(drain.node));
+        let owner = Owner::Drain(drain.node);
         prove!(owner.who() == Who::Node(drain.node));
         let cause = caused_at(place);
-        add_event(&mut services.agenda, stage, drain.at, cause, owner, None)?;
+        add_event(&mut services.agenda, phase, drain.at, cause, owner, None)?;
     }
     Ok(())
 }
@@ -50,11 +51,11 @@ pub fn tell_passed(
     passage: &Passage,
 ) -> Result<(), AllocError>
     ensures dues { OnOk result ((caused : List Event) → services.old.agenda.dues ≡ in_order caused →
-        services.new.agenda.dues ≡ in_order (due_from (Some (told_of passage.now.kind passage.now)) passage.now.who (running services.old.stage) services.old.time (caused_at place) ++ caused)) }
+        services.new.agenda.dues ≡ in_order (due_from (Some (told_of passage.now.kind passage.now)) passage.now.who (Some passage.now.phase) services.old.time (caused_at place) ++ caused)) }
     ensures rest { services.new ≡ record services.old { agenda = services.new.agenda } }
 {
-    let time = services.time;
-    tell_to(services, passage.who, told_of(passage), time, place)
+    let (time, phase) = (services.time, Some(passage.phase));
+    tell_to(services, passage.who, phase, told_of(passage), time, place)
 }
 
 fn told_of(passage: &Passage) -> Call
@@ -68,48 +69,49 @@ fn told_of(passage: &Passage) -> Call
     }
 }
 
-/// Makes a call of the speaker due at a time, in ticks, while a phase runs. The place of the entry is its cause. Its error is
-/// want of memory.
+/// Makes a call of the speaker due at a time, in ticks, in the phase of its act. The place of the entry is its cause. Its error is want
+/// of memory.
 pub fn tell(services: &mut Services, call: Call, time: u64, place: usize) -> Result<(), AllocError>
     ensures dues { OnOk result ((caused : List Event) → services.old.agenda.dues ≡ in_order caused →
-        services.new.agenda.dues ≡ in_order (due_from (Some call) services.old.answer.speaker (running services.old.stage) time (caused_at place) ++ caused)) }
+        services.new.agenda.dues ≡ in_order (due_from (Some call) services.old.answer.speaker services.old.answer.phase time (caused_at place) ++ caused)) }
     ensures rest { services.new ≡ record services.old { agenda = services.new.agenda } }
 {
-    let performer = services.answer.speaker;
-    tell_to(services, performer, call, time, place)
+    let (performer, phase) = (services.answer.speaker, services.answer.phase);
+    tell_to(services, performer, phase, call, time, place)
 }
 
-/// Makes a call of somebody due at a time, in ticks, while a phase runs. The place of the entry is its cause. Its error is want
-/// of memory. It does not come where the agenda has room.
+/// Makes a call of somebody due at a time, in ticks, in a phase; of none it makes nothing due. The place of the entry is its cause. Its
+/// error is want of memory. It does not come where the agenda has room.
 pub fn tell_to(
     services: &mut Services,
     who: Who,
+    phase: Option<Phase>,
     call: Call,
     time: u64,
     place: usize,
 ) -> Result<(), AllocError>
     ensures dues { OnOk result ((caused : List Event) → services.old.agenda.dues ≡ in_order caused →
-        services.new.agenda.dues ≡ in_order (due_from (Some call) who (running services.old.stage) time (caused_at place) ++ caused)) }
+        services.new.agenda.dues ≡ in_order (due_from (Some call) who phase time (caused_at place) ++ caused)) }
     ensures rest { services.new ≡ record services.old { agenda = services.new.agenda } }
     ensures memory { 0 < services.old.agenda.spare → IsOk result }
 {
-    let (stage, owner) = (services.stage, Owner::Object(who));
+    let owner = Owner::Object(who);
     let agenda = &mut services.agenda;
-    add_event(agenda, stage, time, caused_at(place), owner, Some(call))
+    add_event(agenda, phase, time, caused_at(place), owner, Some(call))
 }
 
-/// Makes calls due at once, while a phase runs, but for those to sequences that live no longer. The place of the entry is their
-/// cause, and they are numbered in their order. Its error is want of memory.
+/// Makes calls due at once, each in its phase, but for those to sequences that live no longer. The place of the entry is their cause,
+/// and they are numbered in their order. Its error is want of memory.
 pub fn tell_living(
     services: &mut Services,
     place: usize,
-    calls: &[(Who, Call)],
+    calls: &[Told],
 ) -> Result<(), AllocError>
     ensures dues { OnOk result ((caused : List Event) → services.old.agenda.dues ≡ in_order caused →
-        services.new.agenda.dues ≡ in_order (living_numbered (is_told services.old.sequences.steps) (running services.old.stage) services.old.time place 0 calls.now ++ caused)) }
+        services.new.agenda.dues ≡ in_order (living_numbered (is_told services.old.sequences.steps) services.old.time place 0 calls.now ++ caused)) }
     ensures rest { services.new ≡ record services.old { agenda = services.new.agenda } }
 {
-    let (stage, time) = (services.stage, services.time);
+    let time = services.time;
     let agenda = &mut services.agenda;
-    tell_each(agenda, &services.sequences, stage, time, place, calls)
+    tell_each(agenda, &services.sequences, time, place, calls)
 }

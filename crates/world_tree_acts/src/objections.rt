@@ -24,16 +24,16 @@ pub fn raise(
     requires { CanPerform services.old }
     ensures { IfOk result (λ attempt. IsAttempt (RaiseObjection count) attempt place services.old services.new) }
 {
-    if !in_task(services.stage) {
+    if !in_task(services.answer.phase) {
         return refused(services, alloc, Fatal::OutsideTask);
     }
     // The nodes stand where they stood, and raises alone let the total of the top grow. What goes on to be held stays due when it was.
     laws::places_stay();
     laws::nodes_grow();
     laws::settled_go_by_totals();
-    let node = services.answer.speaker.node();
+    let (node, phase) = (services.answer.speaker.node(), services.answer.phase);
     let ended = services.objection.raise(node, count);
-    move_drains(services, place, None, ended)?;
+    move_drains(services, phase, place, None, ended)?;
     Ok(done(services))
 }
 
@@ -47,17 +47,17 @@ pub fn drop(
     requires { CanPerform services.old }
     ensures { IfOk result (λ attempt. IsAttempt (DropObjection count) attempt place services.old services.new) }
 {
-    if !in_task(services.stage) {
+    if !in_task(services.answer.phase) {
         return refused(services, alloc, Fatal::OutsideTask);
     }
     laws::places_stay();
     laws::nodes_grow();
     laws::settled_go_by_totals();
     laws::begun_drains_are_held();
-    let node = services.answer.speaker.node();
+    let (node, phase) = (services.answer.speaker.node(), services.answer.phase);
     match services.objection.drop(node, count, services.time) {
         Ok(began) => {
-            move_drains(services, place, began, None)?;
+            move_drains(services, phase, place, began, None)?;
             Ok(done(services))
         }
         Err(_) => refused(services, alloc, Fatal::ObjectionBelowZero),

@@ -2,14 +2,13 @@
 
 ghost use Rattle.std.specs.Prelude.{◌≡◌, ◌<◌, ◌≤◌, ◌++◌, IfOk, IfNone, Some};
 ghost use Rattle.uvm_object.specs.declared.acts.Act.TheVariants.{Wait};
-ghost use Rattle.bench_history.specs.History.{running};
 ghost use Rattle.bench_history.specs.Limits.{most_ticks};
 ghost use Rattle.bench_history.specs.Refusals.{wait_refusal};
 ghost use Rattle.world_services.specs.Attempts.{CanPerform, IsAttempt};
 
-use bench_history::Stage;
 use std::alloc::{AllocError, Global};
 use uvm_object::{Call, Fatal};
+use uvm_phase::Phase;
 use world_agenda::events::MAX_TICKS;
 use world_agenda::stages::in_task;
 use world_services::attempts::{Attempt, done, refused};
@@ -27,7 +26,7 @@ pub fn wait(
     requires { CanPerform services.old }
     ensures { IfOk result (λ attempt. IsAttempt (Wait ticks tag) attempt place services.old services.new) }
 {
-    if let Some(fatal) = wait_refusal(services.stage, ticks) {
+    if let Some(fatal) = wait_refusal(services.answer.phase, ticks) {
         return refused(services, alloc, fatal);
     }
     let time = services.time + ticks;
@@ -37,11 +36,11 @@ pub fn wait(
 
 // Why nobody waits, if so.
 #[tactic(auto, unfolding(bench_history::specs::Refusals::wait_refusal))]
-fn wait_refusal(stage: Stage, ticks: u64) -> Option<Fatal>
-    ensures refusal { result ≡ wait_refusal (running stage) ticks }
+fn wait_refusal(phase: Option<Phase>, ticks: u64) -> Option<Fatal>
+    ensures refusal { result ≡ wait_refusal phase ticks }
     ensures few { IfNone result (ticks ≤ most_ticks) }
 {
-    if ticks > 0 && !in_task(stage) {
+    if ticks > 0 && !in_task(phase) {
         return Some(Fatal::OutsideTask);
     }
     if ticks > MAX_TICKS {

@@ -7,10 +7,11 @@ ghost use Rattle.world_wiring.specs.Ports.{port_in};
 ghost use Rattle.std.specs.List.{filter_map};
 ghost use Rattle.bench_history.specs.Dues.{written_to};
 
-use bench_history::Gate;
+use bench_history::{Gate, Told};
 use std::alloc::{AllocError, Global};
 use uvm_glob::Name;
 use uvm_object::{Call, Who};
+use uvm_phase::Phase;
 use uvm_tlm::{End, Item, PortKind, Wiring};
 use uvm_tree::{NodeId, Tree};
 
@@ -53,20 +54,21 @@ pub fn gate_of(wiring: &Wiring, port: Option<NodeId>) -> Option<Gate>
     }
 }
 
-/// Answers the calls to who owns the imps among some nodes, in their order. Its error is want of memory.
+/// Answers the calls to who owns the imps among some nodes, in their order, which belong to a phase. Its error is want of memory.
 pub fn written_calls(
     alloc: Global,
     tree: &Tree,
     wiring: &Wiring,
     targets: &[NodeId],
     item: Item,
-) -> Result<Vec<(Who, Call)>, AllocError>
-    ensures { IfOk result (λ calls. calls.items ≡ filter_map (written_to tree.now.nodes item) (filter (is_imp_at wiring.now) targets.now)) }
+    phase: Option<Phase>,
+) -> Result<Vec<Told>, AllocError>
+    ensures { IfOk result (λ calls. calls.items ≡ filter_map (written_to phase tree.now.nodes item) (filter (is_imp_at wiring.now) targets.now)) }
 {
     targets
         .iter()
         .filter(|target| is_imp(wiring, **target))
-        .filter_map(|target| written_to(tree, item, *target))
+        .filter_map(|target| written_to(phase, tree, item, *target))
         .collect(alloc)
 }
 
@@ -78,9 +80,13 @@ fn is_imp(wiring: &Wiring, node: NodeId) -> bool
 }
 
 // The call to who owns an imp.
-fn written_to(tree: &Tree, item: Item, imp: NodeId) -> Option<(Who, Call)>
-    ensures { result ≡ written_to tree.now.nodes item imp }
+fn written_to(phase: Option<Phase>, tree: &Tree, item: Item, imp: NodeId) -> Option<Told>
+    ensures { result ≡ written_to phase tree.now.nodes item imp }
 {
     let (owner, imp) = tree.under(imp)?;
-    Some((Who::Node(owner), Call::Written { imp, item }))
+    Some(Told {
+        who: Who::Node(owner),
+        call: Call::Written { imp, item },
+        phase,
+    })
 }

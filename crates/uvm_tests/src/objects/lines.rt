@@ -1,7 +1,7 @@
 //! Lines of entries as they are written: of each sort of entry one, with each sort of what a line may have in it. What the line
 //! of each act and call is stands in the lemmas on lines.
 
-use super::{CAUSE, ITEM};
+use super::{ITEM, ORIGIN};
 use crate::nodes::add_node;
 use std::alloc::{AllocError, Global};
 use std::test::Fail;
@@ -201,6 +201,7 @@ fn write_passage(page: &mut Page, place: &Place, port: Name) -> Result<(), Alloc
         port,
         item: ITEM,
         request: 7,
+        phase: Phase::Run,
     };
     let passage = LoggedPassage::new(page.alloc, what)?;
     let fifo = place.home;
@@ -210,7 +211,8 @@ fn write_passage(page: &mut Page, place: &Place, port: Name) -> Result<(), Alloc
 fn write_ends(page: &mut Page, place: &Place) -> Result<(), AllocError> {
     let node = place.test;
     let fatal = Fatal::TooManyActs;
-    page.write(place, Entry::Drained { node, cause: CAUSE })?;
+    let origin = ORIGIN;
+    page.write(place, Entry::Drained { node, origin })?;
     page.write(place, Entry::Note { fatal, node })?;
     page.write(place, Entry::Over(Reason::NoTest))
 }

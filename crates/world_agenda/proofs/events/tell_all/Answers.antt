@@ -4,8 +4,8 @@ use Rattle.uvm_phase.specs.Dues.{in_order}
 use Rattle.uvm_object.specs.declared.acts.Call.{Call}
 use Rattle.uvm_object.specs.declared.acts.Who.{Who}
 use Rattle.bench_history.specs.declared.owners.Owner.TheVariants.{Object}
+use Rattle.bench_history.specs.declared.owners.Told.{Told}
 use Rattle.bench_history.specs.Dues.{event_in}
-use Rattle.bench_history.specs.History.{running}
 use Rattle.bench_history.specs.Owners.{Event}
 use Rattle.world_agenda.proofs.Lists.{drop-past}
 use Rattle.world_agenda.proofs.Written.{numbered-one}
@@ -21,10 +21,9 @@ loop-number-preserved c = λ caused is.
     let calls = c.args.calls.now in
     let at = c.loop-number.number in
     let told = c.index-calls-number.result in
-    let phase = running c.args.stage in
-    let here : drop at calls ≡ told ∷ drop (suc at) calls = drop-cons calls at told c.loop-number-test.true ∙ ap (λ (t : Who × Call). t ∷ drop (suc at) calls) (sym c.index-calls-number.is) in
-    let event : List Event = event_in phase c.args.time (record { place = c.args.place; number = at }) (Object told.0) (Some told.1) in
-    (event ++ p.0, c.in_ok-add_event.ensures.dues p.0 p.1, rw add-one (numbered-one phase c.args.time c.args.place at (drop at calls) (drop (suc at) calls) told p.0 _ here p.2))
+    let here : drop at calls ≡ told ∷ drop (suc at) calls = drop-cons calls at told c.loop-number-test.true ∙ ap (λ (t : Told). t ∷ drop (suc at) calls) (sym c.index-calls-number.is) in
+    let event : List Event = event_in told.phase c.args.time (record { place = c.args.place; number = at }) (Object told.who) (Some told.call) in
+    (event ++ p.0, c.in_ok-add_event.ensures.dues p.0 p.1, rw add-one (numbered-one c.args.time c.args.place at (drop at calls) (drop (suc at) calls) told p.0 _ here p.2))
 
 pub returns : goal.returns
 returns c = λ caused is.

@@ -1,11 +1,10 @@
 use Rattle.std.proofs.Common.{◌≡◌, ◌++◌, List, drop}
 use Rattle.uvm_phase.specs.Dues.{in_order}
 use Rattle.bench_history.specs.Dues.{calls_numbered}
-use Rattle.bench_history.specs.History.{running}
 use Rattle.bench_history.specs.Owners.{Event}
 use Rattle.world_agenda.proofs.events.tell_all.Given as goal
 
 -- those that are left, with what is due so far, are all
 abbrev pub invariant-loop-number : goal.invariant-loop-number
 invariant-loop-number l = (caused : List Event) → l.initial.agenda.dues ≡ in_order caused →
-    (others : List Event) × (l.agenda.dues ≡ in_order others) × (calls_numbered (running l.stage) l.time l.place l.number (drop l.number l.calls) ++ others ≡ calls_numbered (running l.stage) l.time l.place 0 l.calls ++ caused)
+    (others : List Event) × (l.agenda.dues ≡ in_order others) × (calls_numbered l.time l.place l.number (drop l.number l.calls) ++ others ≡ calls_numbered l.time l.place 0 l.calls ++ caused)

@@ -4,8 +4,8 @@ use Rattle.uvm_phase.specs.Dues.{in_order}
 use Rattle.uvm_object.specs.declared.acts.Call.{Call}
 use Rattle.uvm_object.specs.declared.acts.Who.{Who}
 use Rattle.bench_history.specs.declared.owners.Owner.TheVariants.{Object}
+use Rattle.bench_history.specs.declared.owners.Told.{Told}
 use Rattle.bench_history.specs.Dues.{event_in}
-use Rattle.bench_history.specs.History.{running}
 use Rattle.bench_history.specs.Owners.{Event}
 use Rattle.world_agenda.specs.Tellings.{if_told}
 use Rattle.world_agenda.specs.Tellings.{is_told}
@@ -23,11 +23,10 @@ loop-number-preserved c = λ caused is.
     let calls = c.args.calls.now in
     let at = c.loop-number.number in
     let told = c.index-calls-number.result in
-    let phase = running c.args.stage in
-    let here : drop at calls ≡ told ∷ drop (suc at) calls = drop-cons calls at told c.loop-number-test.true ∙ ap (λ (t : Who × Call). t ∷ drop (suc at) calls) (sym c.index-calls-number.is) in
+    let here : drop at calls ≡ told ∷ drop (suc at) calls = drop-cons calls at told c.loop-number-test.true ∙ ap (λ (t : Told). t ∷ drop (suc at) calls) (sym c.index-calls-number.is) in
     let test = is_told c.args.sequences.now.steps in
-    let event : List Event = if_told (test told.0) (event_in phase c.args.time (record { place = c.args.place; number = at }) (Object told.0) (Some told.1)) in
-    (event ++ p.0, rw c.is_told.ensures at (c.in_ok-tell_if.ensures p.0 p.1), rw add-one (living-one test phase c.args.time c.args.place at (drop at calls) (drop (suc at) calls) told p.0 _ here p.2))
+    let event : List Event = if_told (test told.who) (event_in told.phase c.args.time (record { place = c.args.place; number = at }) (Object told.who) (Some told.call)) in
+    (event ++ p.0, rw c.is_told.ensures at (c.in_ok-tell_if.ensures p.0 p.1), rw add-one (living-one test c.args.time c.args.place at (drop at calls) (drop (suc at) calls) told p.0 _ here p.2))
 
 pub returns : goal.returns
 returns c = λ caused is.

@@ -1,4 +1,5 @@
-use Rattle.std.proofs.Common.{Some, refl, ap, ◌∙◌, slice_get, rules}
+use Rattle.std.proofs.Common.{◌≡◌, Some, refl, ap, ◌∙◌, slice_get, rules}
+use Rattle.uvm_object.specs.declared.entries.Origin.{Origin}
 use Rattle.uvm_object.specs.declared.entries.Entry.TheVariants.{Heard}
 use Rattle.bench_history.specs.History.{opening, ended_of}
 use Rattle.bench_history.specs.Sequences.{finished_of}
@@ -12,18 +13,20 @@ use Rattle.world_entries.proofs.Heard.{there-within, heard-answer}
 use Rattle.world_entries.proofs.answers.hear_due.Goals as goal
 
 pub pass_blocked-requires : goal.pass_blocked-requires
-pass_blocked-requires c = known-there c.requires.2.known
+pass_blocked-requires c = known-there c.requires.1.known
 
 pub returns : goal.returns
-returns c = λ call cause acts many script before coming known.
+returns c = λ call acts many script before coming known.
+    let origin = c.args.origin in
     let m = rw (← c.pass_blocked.ensures.rest) at (known-better c.pass_blocked.new.self.contest c.pass_blocked.ensures.node c.pass_blocked.ensures.known known) in
-    let stays = c.wiring_stays.ensures script before (Heard c.args.who call (Some cause) acts) (rw coming.next (_, refl)) in
-    let d = c.due_calls_go_in_order.ensures script before c.args.who call cause coming.next in
+    let stays = c.wiring_stays.ensures script before (Heard c.args.who call (Some origin) acts) (rw coming.next (_, refl)) in
+    let d = c.due_calls_go_in_order.ensures script before c.args.who call origin coming.next in
     let first = ap (λ l. slice_get l 0) m.agenda.are ∙ d.first in
-    let agenda = rw d.cause_is at (agenda-heard (caused_of before) (heard_of before) (ended_of before) (finished_of before) _ _ _ d.event c.order_keeps_all.ensures c.order_loses_first.ensures m.agenda first c.take_first.ensures.rest) in
-    let events = events-heard cause (objections_of before) (caused_of before) (heard_of before) (ended_of before) (finished_of before) m.events in
-    let asked = c.asked_are_there.ensures script before c.args.who call (Some cause) coming.each coming.next in
+    let at-origin : d.event.cause ≡ origin.cause = ap (λ (one : Origin). one.cause) d.origin_is in
+    let agenda = rw at-origin at (agenda-heard (caused_of before) (heard_of before) (ended_of before) (finished_of before) _ _ _ d.event c.order_keeps_all.ensures c.order_loses_first.ensures m.agenda first c.take_first.ensures.rest) in
+    let events = events-heard origin.cause (objections_of before) (caused_of before) (heard_of before) (ended_of before) (finished_of before) m.events in
+    let asked = c.asked_are_there.ensures script before c.args.who call (Some origin) coming.each coming.next in
     let homes = c.homes_are_nodes.ensures script before coming.each in
     let speaks = there-within before c.args.who asked homes m.turns in
-    let answer = rw (← c.last_answer-services.ensures) at (rw (coming.place_is, many) at (heard-answer (opening script) before c.args.who call (Some cause) acts)) in
+    let answer = rw (← c.last_answer-services.ensures) at (rw (coming.place_is, many) at (heard-answer (opening script) before c.args.who call (Some origin) acts (Some origin.phase) refl)) in
     search (rules, later)

@@ -3,7 +3,7 @@ use Rattle.uvm_object.specs.declared.entries.Entry.TheVariants.{Passed}
 use Rattle.bench_history.specs.declared.owners.Owner.TheVariants.{Object}
 use Rattle.bench_history.specs.Sequences.{finished_of}
 use Rattle.bench_history.specs.Dues.{caused_at, caused_of, heard_of, is_open, told_of}
-use Rattle.bench_history.specs.History.{now_of, running, stage_of, ended_of}
+use Rattle.bench_history.specs.History.{now_of, ended_of}
 use Rattle.bench_history.specs.Objections.{objections_of}
 use Rattle.world_agenda.proofs.Drained.{events-told}
 use Rattle.world_agenda.proofs.Told.{agenda-event}
@@ -18,12 +18,12 @@ returns c = λ script before coming m.
     let passage = c.args.passage.now in
     let stays = c.wiring_stays.ensures script before (Passed c.args.fifo passage) (rw coming.next refl) in
     let passes = next-passes before c.args.fifo passage (c.passages_go_in_order.ensures script before c.args.fifo passage coming.next) in
-    let phases = (c.phases_go_in_order.ensures script before coming.each).before in
+    let unended = c.passages_are_in_phase.ensures script before c.args.fifo passage coming.next in
     let waiter = c.waiters_are_components.ensures script before c.args.fifo passage coming.each coming.next in
     let call = told_of passage.kind passage in
-    let dues = rw (m.stage, m.time, ← coming.place_is) at (told.dues (filter (is_open (heard_of before) (ended_of before) (finished_of before)) (caused_of before)) m.agenda.are) in
-    let events = events-told (objections_of before) (is_open (heard_of before) (ended_of before) (finished_of before)) (running (stage_of before)) (now_of before) (caused_at (length before)) passage.who call (caused_of before) m.events in
-    let agenda = agenda-event (Object passage.who) (Some call) (now_of before) (stage_of before) (caused_of before) (heard_of before) (ended_of before) (finished_of before) _ _ _ phases (component-open before passage.who waiter) m.agenda dues in
+    let dues = rw (m.time, ← coming.place_is) at (told.dues (filter (is_open (heard_of before) (ended_of before) (finished_of before)) (caused_of before)) m.agenda.are) in
+    let events = events-told (objections_of before) (is_open (heard_of before) (ended_of before) (finished_of before)) (Some passage.phase) (now_of before) (caused_at (length before)) passage.who call (caused_of before) m.events in
+    let agenda = agenda-event (Object passage.who) (Some call) (now_of before) (Some passage.phase) (caused_of before) (heard_of before) (ended_of before) (finished_of before) _ _ _ unended (component-open before passage.who waiter) m.agenda dues in
     let pass = rw told.rest at c.pass.ensures in
     let stations = stations-changed c.args.fifo _ {new = c.pass.new.stations} (passed-changes before c.args.fifo passage m.passed passes) pass m.stations in
     let passed = passed-more before c.args.fifo passage m.passed passes in

@@ -6,40 +6,45 @@ use Rattle.uvm_objection.specs.Nodes.{released}
 use Rattle.uvm_objection.specs.Totals.{total, settled}
 use Rattle.bench_history.specs.Sequences.{finished_of}
 use Rattle.bench_history.specs.Dues.{caused_of, heard_of, is_open}
-use Rattle.bench_history.specs.History.{now_of, stage_of, ended_of}
+use Rattle.bench_history.specs.History.{now_of, ended_of}
 use Rattle.bench_history.specs.Objections.{objections_of}
 use Rattle.world_agenda.proofs.Drained.{moved, due-released, due-is-held, known-held}
 use Rattle.world_agenda.proofs.Objected.{objecting-changed}
+use Rattle.world_services.proofs.Opened.{drain-unended}
 use Rattle.world_services.proofs.Later.{later}
 use Rattle.world_entries.proofs.phases.end_drain.Goals as goal
 
 pub drained-began-requires-clause-known : goal.drained-began-requires-clause-known
 drained-began-requires-clause-known c =
-    let (cause, due) = c.requires in
+    let due = c.requires in
+    let origin = c.args.origin in
     let m = due.known in
-    let held = due-is-held (objections_of due.history) due.history c.args.node cause c.order_keeps_all.ensures m.events (c.drains_go_in_order.ensures due.script due.history c.args.node cause due.coming.next) in
+    let held = due-is-held (objections_of due.history) due.history c.args.node origin c.order_keeps_all.ensures m.events (c.drains_go_in_order.ensures due.script due.history c.args.node origin due.coming.next) in
     rw m.objections.are (known-held c.args.node (objections_of due.history) held.held)
 
 pub drained-began-requires-clause-held : goal.drained-began-requires-clause-held
 drained-began-requires-clause-held c =
-    let (cause, due) = c.requires in
+    let due = c.requires in
+    let origin = c.args.origin in
     let m = due.known in
-    let held = due-is-held (objections_of due.history) due.history c.args.node cause c.order_keeps_all.ensures m.events (c.drains_go_in_order.ensures due.script due.history c.args.node cause due.coming.next) in
+    let held = due-is-held (objections_of due.history) due.history c.args.node origin c.order_keeps_all.ensures m.events (c.drains_go_in_order.ensures due.script due.history c.args.node origin due.coming.next) in
     rw m.objections.are held.held
 
 pub drained-began-requires-clause-limit : goal.drained-began-requires-clause-limit
 drained-began-requires-clause-limit c =
-    let (cause, due) = c.requires in
+    let due = c.requires in
+    let origin = c.args.origin in
     let m = due.known in
-    let held = due-is-held (objections_of due.history) due.history c.args.node cause c.order_keeps_all.ensures m.events (c.drains_go_in_order.ensures due.script due.history c.args.node cause due.coming.next) in
+    let held = due-is-held (objections_of due.history) due.history c.args.node origin c.order_keeps_all.ensures m.events (c.drains_go_in_order.ensures due.script due.history c.args.node origin due.coming.next) in
     rw (m.objections.are, held.due, ← m.time) m.early
 
 pub returns : goal.returns
-returns c = λ cause script before coming m.
-    let stays = c.wiring_stays.ensures script before (Drained c.args.node cause) (rw coming.next refl) in
+returns c = λ script before coming m.
+    let origin = c.args.origin in
+    let stays = c.wiring_stays.ensures script before (Drained c.args.node origin) (rw coming.next refl) in
     let due = c.in_ok-move_drains.ensures in
     let nodes = objections_of before in
-    let held = due-is-held nodes before c.args.node cause c.order_keeps_all.ensures m.events (c.drains_go_in_order.ensures script before c.args.node cause coming.next) in
+    let held = due-is-held nodes before c.args.node origin c.order_keeps_all.ensures m.events (c.drains_go_in_order.ensures script before c.args.node origin coming.next) in
     let changed = released c.args.node nodes in
     let others = settled (now_of before) (total nodes) changed in
     let stay = c.places_stay.ensures in
@@ -50,11 +55,11 @@ returns c = λ cause script before coming m.
     let grown = (c.nodes_grow.ensures.1 nodes m.objections.are_nodes).released (now_of before) c.args.node in
     let low : 0 ≤ 65535 = omega arith in
     let objections = objecting-changed c.drained-began.new.self others stay same m.objections is 0 low grown in
-    let phases = (c.phases_go_in_order.ensures script before coming.each).before in
-    let dues = rw (m.stage, ← coming.place_is) at (due.dues (filter (is_open (heard_of before) (ended_of before) (finished_of before)) (caused_of before)) m.agenda.are) in
+    let unended = drain-unended before c.args.node origin c.order_keeps_all.ensures (c.drains_go_in_order.ensures script before c.args.node origin coming.next) in
+    let dues = rw (← coming.place_is) at (due.dues (filter (is_open (heard_of before) (ended_of before) (finished_of before)) (caused_of before)) m.agenda.are) in
     let begun_held : All (IsHeldUntilDue others) (option_to_list c.drained-began.result) = rw (← begun) (c.begun_drains_are_held.ensures nodes others grown.nodes) in
-    let drains = moved (now_of before) nodes changed others (stage_of before) c.drained-began.result (Some c.args.node) (caused_of before) (heard_of before) (ended_of before) (finished_of before) (length before) _ _
-    c.settled_go_by_totals.ensures stay m.objections.are_nodes same refl (due-released c.args.node nodes) begun over begun_held phases m.agenda m.events dues in
+    let drains = moved (now_of before) nodes changed others (Some origin.phase) c.drained-began.result (Some c.args.node) (caused_of before) (heard_of before) (ended_of before) (finished_of before) (length before) _ _
+    c.settled_go_by_totals.ensures stay m.objections.are_nodes same refl (due-released c.args.node nodes) begun over begun_held unended m.agenda m.events dues in
     let agenda = drains.agenda in
     let events = drains.events in
     rw due.rest (search (rules, later))

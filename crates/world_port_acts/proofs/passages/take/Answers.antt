@@ -1,7 +1,7 @@
 use Rattle.std.proofs.Common.{◌≡◌, Some, None, is_some, refl, rules}
 use Rattle.uvm_tlm.specs.declared.ends.PortKind.TheVariants as through
 use Rattle.uvm_object.specs.declared.acts.Act.TheVariants.{Take}
-use Rattle.bench_history.specs.History.{running, stage_of}
+use Rattle.bench_history.specs.History.{act_phase}
 use Rattle.bench_history.specs.Ports.{gate_below}
 use Rattle.bench_history.specs.Refusals.{passing_refusal}
 use Rattle.world_services.proofs.Later.{acted, refused-here}
@@ -13,7 +13,7 @@ returns-in-Err c =
     let speaker = c.args.services.now.answer.speaker in
     let why = c.in-Err.ensures in
     refused-here _ _ _ (Take c.args.name.now) c.in-Err.fatal c.args.place c.refused.ensures.attempt c.refused.ensures.services (λ script history m.
-    let refuses : passing_refusal (running (stage_of history)) (is_some (gate_below history speaker through.Get c.args.name.now)) ≡ Some c.in-Err.fatal = open-refuses m c.requires through.Get c.args.name.now c.in-Err.fatal why in
+    let refuses : passing_refusal (act_phase history) (is_some (gate_below history speaker through.Get c.args.name.now)) ≡ Some c.in-Err.fatal = open-refuses m c.requires through.Get c.args.name.now c.in-Err.fatal why in
     rw refuses refl)
 
 pub returns : goal.returns
@@ -23,7 +23,7 @@ returns c =
     rw (c.done.ensures.attempt, c.done.ensures.services) (record {
       comes = λ script history s.
           let g = gate-open s c.requires found in
-          let does : passing_refusal (running (stage_of history)) (is_some (gate_below history speaker through.Get c.args.name.now)) ≡ None = open-does g in
+          let does : passing_refusal (act_phase history) (is_some (gate_below history speaker through.Get c.args.name.now)) ≡ None = open-does g in
           rw does refl;
       kept = record {
         same_answer = refl;

@@ -5,7 +5,7 @@ use Rattle.uvm_object.specs.declared.acts.Call.TheVariants as call
 use Rattle.bench_history.specs.declared.owners.Owner.TheVariants.{Object}
 use Rattle.bench_history.specs.Sequences.{finished_of}
 use Rattle.bench_history.specs.Dues.{caused_at, caused_of, heard_of, is_open}
-use Rattle.bench_history.specs.History.{now_of, running, stage_of, ended_of}
+use Rattle.bench_history.specs.History.{act_phase, now_of, ended_of}
 use Rattle.bench_history.specs.Objections.{objections_of}
 use Rattle.bench_history.specs.Passing.{station_below, takes_now}
 use Rattle.bench_history.specs.Ports.{gate_below}
@@ -22,7 +22,7 @@ returns-in-Err c =
     let speaker = c.args.services.now.answer.speaker in
     let why = c.in-Err.ensures in
     refused-here _ _ _ (TryTake c.args.name.now) c.in-Err.fatal c.args.place c.refused.ensures.attempt c.refused.ensures.services (λ script history m.
-    let refuses : passing_refusal (running (stage_of history)) (is_some (gate_below history speaker through.Get c.args.name.now)) ≡ Some c.in-Err.fatal = open-refuses m c.requires through.Get c.args.name.now c.in-Err.fatal why in
+    let refuses : passing_refusal (act_phase history) (is_some (gate_below history speaker through.Get c.args.name.now)) ≡ Some c.in-Err.fatal = open-refuses m c.requires through.Get c.args.name.now c.in-Err.fatal why in
     rw refuses refl)
 
 pub returns : goal.returns
@@ -34,7 +34,7 @@ returns c =
     rw (c.in_ok-taken.ensures.ok, told.rest) (record {
       comes = λ script history s.
           let g = gate-open s c.requires found in
-          let does : passing_refusal (running (stage_of history)) (is_some (gate_below history speaker through.Get c.args.name.now)) ≡ None = open-does g in
+          let does : passing_refusal (act_phase history) (is_some (gate_below history speaker through.Get c.args.name.now)) ≡ None = open-does g in
           let takes : takes_now (station_below history speaker through.Get c.args.name.now) ≡ item = ap takes_now (below-known g ∙ sym (s.known.stations.each _)) ∙ sym c.take_at_once-item.ensures.value in
           rw (does, takes) refl;
       kept = record {
@@ -46,9 +46,9 @@ returns c =
             let stations = k.stations_are in
             let passed = k.passed in
             let unsettled = k.unsettled_are in
-            let dues = rw (m.stage, m.time, ← s.place_is) at (told.dues (filter (is_open (heard_of history) (ended_of history) (finished_of history)) (caused_of history)) m.agenda.are) in
-            let events = events-told (objections_of history) (is_open (heard_of history) (ended_of history) (finished_of history)) (running (stage_of history)) (now_of history) (caused_at (length history)) speaker (call.TryTaken c.args.name.now item) (caused_of history) m.events in
-            let agenda = agenda-event (Object speaker) (Some (call.TryTaken c.args.name.now item)) (now_of history) (stage_of history) (caused_of history) (heard_of history) (ended_of history) (finished_of history) _ _ _ s.in_order (scene-open s (λ opens. cc)) m.agenda dues in
+            let dues = rw (m.answer.phase, m.time, ← s.place_is) at (told.dues (filter (is_open (heard_of history) (ended_of history) (finished_of history)) (caused_of history)) m.agenda.are) in
+            let events = events-told (objections_of history) (is_open (heard_of history) (ended_of history) (finished_of history)) (act_phase history) (now_of history) (caused_at (length history)) speaker (call.TryTaken c.args.name.now item) (caused_of history) m.events in
+            let agenda = agenda-event (Object speaker) (Some (call.TryTaken c.args.name.now item)) (now_of history) (act_phase history) (caused_of history) (heard_of history) (ended_of history) (finished_of history) _ _ _ s.in_phase.unended (scene-open s (λ opens. cc)) m.agenda dues in
             search (rules, acted);
       };
     })

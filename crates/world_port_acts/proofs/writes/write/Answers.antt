@@ -4,7 +4,7 @@ use Rattle.uvm_object.specs.declared.acts.Act.TheVariants.{Write}
 use Rattle.uvm_object.specs.declared.entries.Outcome.TheVariants.{Done}
 use Rattle.bench_history.specs.Sequences.{finished_of}
 use Rattle.bench_history.specs.Dues.{caused_of, heard_of, is_open, calls_told}
-use Rattle.bench_history.specs.History.{nodes_of, now_of, running, stage_of, ended_of}
+use Rattle.bench_history.specs.History.{act_phase, nodes_of, now_of, ended_of}
 use Rattle.bench_history.specs.Objections.{objections_of}
 use Rattle.bench_history.specs.Ports.{imps_below, port_below}
 use Rattle.bench_history.specs.Refusals.{passing_refusal}
@@ -18,7 +18,7 @@ returns-in-Err c =
     let speaker = c.args.services.now.answer.speaker in
     let why = c.in-Err.ensures in
     refused-here _ _ _ (Write c.args.name.now c.args.item) c.in-Err.fatal c.args.place c.refused.ensures.attempt c.refused.ensures.services (λ script history m.
-    let refuses : passing_refusal (running (stage_of history)) (is_some (port_below history speaker Analysis c.args.name.now)) ≡ Some c.in-Err.fatal = outlet-refuses m c.requires c.args.name.now c.in-Err.fatal why in
+    let refuses : passing_refusal (act_phase history) (is_some (port_below history speaker Analysis c.args.name.now)) ≡ Some c.in-Err.fatal = outlet-refuses m c.requires c.args.name.now c.in-Err.fatal why in
     rw refuses refl)
 
 pub store_all-requires : goal.store_all-requires
@@ -38,7 +38,7 @@ returns c =
     rw (c.done.ensures.attempt, c.done.ensures.services) (record {
       comes = λ script history s.
           let o = outlet-open s.known c.requires c.targets_accept_the_kind.ensures reached.wiring found in
-          let does : passing_refusal (running (stage_of history)) (is_some (port_below history speaker Analysis name)) ≡ None = outlet-does o in
+          let does : passing_refusal (act_phase history) (is_some (port_below history speaker Analysis name)) ≡ None = outlet-does o in
           rw does refl;
       kept = record {
         same_answer = refl;
@@ -52,9 +52,9 @@ returns c =
             let unsettled = k.unsettled_are in
             let written = calls_told history speaker Done (Write name item) in
             let calls : c.as_slice.result.now ≡ written = c.as_slice.ensures.value ∙ c.in_ok-calls.ensures ∙ rw reached.targets (calls-are item m o) in
-            let dues = rw (m.stage, m.time, ← s.place_is, calls) at (c.in_ok-tell_all.ensures (filter (is_open (heard_of history) (ended_of history) (finished_of history)) (caused_of history)) m.agenda.are) in
-            let events = events-calls (objections_of history) (is_open (heard_of history) (ended_of history) (finished_of history)) (running (stage_of history)) (now_of history) (length history) 0 written (caused_of history) m.events in
-            let agenda = agenda-written (stage_of history) (now_of history) written (caused_of history) (heard_of history) (ended_of history) (finished_of history) (length history) _ _ o.task s.in_order (written-open (nodes_of history) item (finished_of history) (imps_below history speaker name)) m.agenda dues in
+            let dues = rw (m.time, ← s.place_is, calls) at (c.in_ok-tell_all.ensures (filter (is_open (heard_of history) (ended_of history) (finished_of history)) (caused_of history)) m.agenda.are) in
+            let events = events-calls (objections_of history) (is_open (heard_of history) (ended_of history) (finished_of history)) (now_of history) (length history) 0 written (caused_of history) m.events in
+            let agenda = agenda-written (now_of history) written (caused_of history) (heard_of history) (ended_of history) (finished_of history) (length history) _ _ (written-open (act_phase history) (nodes_of history) item (ended_of history) (finished_of history) (imps_below history speaker name) s.in_phase.unended) m.agenda dues in
             search (rules, acted);
       };
     })

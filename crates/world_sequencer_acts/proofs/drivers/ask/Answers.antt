@@ -4,7 +4,7 @@ use Rattle.uvm_object.specs.declared.acts.Call.TheVariants as call
 use Rattle.bench_history.specs.declared.owners.Owner.TheVariants.{Object}
 use Rattle.bench_history.specs.Sequences.{finished_of}
 use Rattle.bench_history.specs.Dues.{caused_at, caused_of, heard_of, is_open}
-use Rattle.bench_history.specs.History.{ended_of, now_of, running, stage_of}
+use Rattle.bench_history.specs.History.{act_phase, ended_of, now_of}
 use Rattle.bench_history.specs.Objections.{objections_of}
 use Rattle.world_sequencers.specs.Arbiters.{ChangesAt, asked_at}
 use Rattle.world_agenda.proofs.Drained.{events-told}
@@ -26,7 +26,7 @@ returns-in-Ok-Waits c =
     let how = c.args.how in
     let reached = c.in-Ok.reached in
     let found = c.in-Ok.ensures in
-    let asks : ChangesAt reached.sequencer (asked_at (record { who = c.args.services.now.answer.speaker; name = name }) how c.in-Ok-Waits.field-0) c.args.services.now.arbiters c.ask_at.new.arbiters = c.in-Ok-Waits.ensures.after in
+    let asks : ChangesAt reached.sequencer (asked_at (record { who = c.args.services.now.answer.speaker; name = name; phase = c.args.services.now.answer.phase }) how c.in-Ok-Waits.field-0) c.args.services.now.arbiters c.ask_at.new.arbiters = c.in-Ok-Waits.ensures.after in
     let value = rw c.in-Ok-Waits.field-0-is at c.in-Ok-Waits.ensures.value in
     let after = rw c.in-Ok-Waits.field-0-is at asks in
     rw (c.waiting.ensures.attempt, c.waiting.ensures.services) (record {
@@ -37,7 +37,7 @@ returns-in-Ok-Waits c =
         same_answer = refl;
         with_entry = λ script history s.
             let r = reaching name reached s c.requires c.path_order_is_in_order.ensures found in
-            asked-goes s name reached.sequencer r how c.ask_at.new.arbiters s.left after;
+            asked-goes s name reached.sequencer r how c.ask_at.new.arbiters s.left (rw s.known.answer.phase at after);
       };
     })
 
@@ -49,7 +49,7 @@ returns-in_ok-tell-in-Ok-Nothing c =
     let how = c.args.how in
     let reached = c.in-Ok.reached in
     let found = c.in-Ok.ensures in
-    let asks : ChangesAt reached.sequencer (asked_at (record { who = speaker; name = name }) how c.in-Ok-Nothing.field-0) services.arbiters c.ask_at.new.arbiters = c.in-Ok-Nothing.ensures.after in
+    let asks : ChangesAt reached.sequencer (asked_at (record { who = speaker; name = name; phase = c.args.services.now.answer.phase }) how c.in-Ok-Nothing.field-0) services.arbiters c.ask_at.new.arbiters = c.in-Ok-Nothing.ensures.after in
     let value = rw c.in-Ok-Nothing.field-0-is at c.in-Ok-Nothing.ensures.value in
     let told = c.in_ok-tell-in-Ok-Nothing.ensures in
     let same = unchanged reached.sequencer services.arbiters c.ask_at.new.arbiters (rw c.in-Ok-Nothing.field-0-is at asks) in
@@ -62,9 +62,9 @@ returns-in_ok-tell-in-Ok-Nothing c =
         with_entry = λ script history s.
             let m = with-arbiters c.ask_at.new.arbiters same s.known in
             let left = s.left in
-            let dues = rw (m.stage, m.time, ← s.place_is) at (told.dues (filter (is_open (heard_of history) (ended_of history) (finished_of history)) (caused_of history)) m.agenda.are) in
-            let events = events-told (objections_of history) (is_open (heard_of history) (ended_of history) (finished_of history)) (running (stage_of history)) (now_of history) (caused_at (length history)) speaker (call.NextItem name None) (caused_of history) m.events in
-            let agenda = agenda-event (Object speaker) (Some (call.NextItem name None)) (now_of history) (stage_of history) (caused_of history) (heard_of history) (ended_of history) (finished_of history) _ _ _ s.in_order (scene-open s (λ opens. cc)) m.agenda dues in
+            let dues = rw (m.answer.phase, m.time, ← s.place_is) at (told.dues (filter (is_open (heard_of history) (ended_of history) (finished_of history)) (caused_of history)) m.agenda.are) in
+            let events = events-told (objections_of history) (is_open (heard_of history) (ended_of history) (finished_of history)) (act_phase history) (now_of history) (caused_at (length history)) speaker (call.NextItem name None) (caused_of history) m.events in
+            let agenda = agenda-event (Object speaker) (Some (call.NextItem name None)) (now_of history) (act_phase history) (caused_of history) (heard_of history) (ended_of history) (finished_of history) _ _ _ s.in_phase.unended (scene-open s (λ opens. cc)) m.agenda dues in
             search (rules, acted);
       };
     })

@@ -1,18 +1,19 @@
-use Rattle.std.proofs.Common.{◌≡◌, not, length, filter, List, All, subst, sym, ◌∙◌, refl, rules}
-use Rattle.uvm_object.specs.declared.acts.Who.{Who}
-use Rattle.uvm_object.specs.declared.acts.Call.{Call}
+use Rattle.std.proofs.Common.{◌≡◌, ◌∷◌, [], length, filter, List, All, Option, subst, ap, sym, ◌∙◌, refl, rules}
+use Rattle.uvm_phase.specs.declared.phases.Phase.{Phase}
+use Rattle.uvm_object.specs.declared.acts.Who.TheVariants.{Sequence}
+use Rattle.uvm_object.specs.declared.acts.Call.TheVariants as call
+use Rattle.bench_history.specs.declared.owners.Told.{Told}
 use Rattle.uvm_object.specs.declared.acts.Act.TheVariants.{ItemDone}
 use Rattle.uvm_object.specs.declared.entries.Outcome.TheVariants.{Done}
 use Rattle.bench_history.specs.Sequences.{finished_of}
-use Rattle.bench_history.specs.Dues.{calls_told, caused_of, heard_of, is_of_one, is_open}
-use Rattle.bench_history.specs.declared.owners.Owner.TheVariants.{Object}
-use Rattle.bench_history.specs.History.{ended_of, now_of, running, stage_of}
+use Rattle.bench_history.specs.Dues.{calls_told, caused_of, heard_of, is_open, told_in}
+use Rattle.bench_history.specs.History.{ended_of, now_of}
 use Rattle.bench_history.specs.Objections.{objections_of}
 use Rattle.world_agenda.specs.Tellings.{is_told}
 use Rattle.world_services.proofs.Later.{acted, refused-here}
 use Rattle.world_sequencer_acts.proofs.Seated.{refused-still, unchanged}
-use Rattle.world_sequencer_acts.proofs.Driven.{done-calls, done-comes, done-kept, done-refused, done-told, done-unreached, driving-refuses, hand-known, reaching}
-use Rattle.world_agenda.proofs.Written.{agenda-living, events-calls}
+use Rattle.world_sequencer_acts.proofs.Driven.{done-calls, done-comes, done-kept, done-refused, done-told, done-unreached, driving-refuses, hand-known, hand-phase, reaching}
+use Rattle.world_agenda.proofs.Written.{IsToldOpen, agenda-living, events-calls}
 use Rattle.world_sequencer_acts.proofs.drivers.item_done.Goals as goal
 
 pub returns-in-Err : goal.returns-in-Err
@@ -42,12 +43,13 @@ returns-in_ok-tell_living-in-Ok-done_at c =
             let r = reaching name reached s c.requires c.path_order_is_in_order.ensures found in
             let hand = hand-known script history speaker name reached.sequencer r _ (m.arbitrating.arbiters_are.each reached.sequencer) found.2 id c.in-Ok-done_at.ensures.ok in
             let arbitrating = done-kept s name reached.sequencer r response c.done_at.new.arbiters c.in-Ok-done_at.ensures.after in
+            let phase = (rw c.as_slice.ensures.value at c.phase_at-phase.ensures) ∙ hand-phase m.sequencing reached.sequencer id (s.driving.hands reached.sequencer id hand) in
             let is = done-calls s name reached.sequencer r response id hand in
-            let calls : c.as_slice.result.now ≡ calls_told history speaker Done (ItemDone name response) = c.as_slice.ensures.value ∙ c.in_ok-calls-in-Ok-done_at.ensures ∙ sym is in
-            let told_living = subst (λ (calls : List (Who × Call)). All (λ (c : Who × Call). is_told services.sequences.steps c.0 ≡ not (is_of_one (finished_of history) (Object c.0))) calls) (sym is) (done-told s name reached.sequencer r response id hand) in
-            let dues = rw (m.stage, m.time, ← s.place_is, calls) at (told.dues (filter (is_open (heard_of history) (ended_of history) (finished_of history)) (caused_of history)) m.agenda.are) in
-            let events = events-calls (objections_of history) (is_open (heard_of history) (ended_of history) (finished_of history)) (running (stage_of history)) (now_of history) (length history) 0 (calls_told history speaker Done (ItemDone name response)) (caused_of history) m.events in
-            let agenda = agenda-living (is_told services.sequences.steps) (stage_of history) (now_of history) (calls_told history speaker Done (ItemDone name response)) (caused_of history) (heard_of history) (ended_of history) (finished_of history) (length history) _ _ s.in_order told_living m.agenda dues in
+            let calls : c.as_slice-in-Ok-done_at.result.now ≡ calls_told history speaker Done (ItemDone name response) = c.as_slice-in-Ok-done_at.ensures.value ∙ c.in_ok-calls-in-Ok-done_at.ensures ∙ ap (λ (phase : Option Phase). told_in phase (Sequence id reached.sequencer) (call.ItemDone response) ∷ []) phase ∙ sym is in
+            let told_living = subst (λ (calls : List Told). All (IsToldOpen (is_told services.sequences.steps) (ended_of history) (finished_of history)) calls) (sym is) (done-told s name reached.sequencer r response id hand) in
+            let dues = rw (m.time, ← s.place_is, calls) at (told.dues (filter (is_open (heard_of history) (ended_of history) (finished_of history)) (caused_of history)) m.agenda.are) in
+            let events = events-calls (objections_of history) (is_open (heard_of history) (ended_of history) (finished_of history)) (now_of history) (length history) 0 (calls_told history speaker Done (ItemDone name response)) (caused_of history) m.events in
+            let agenda = agenda-living (is_told services.sequences.steps) (heard_of history) (ended_of history) (finished_of history) (now_of history) (calls_told history speaker Done (ItemDone name response)) (caused_of history) (length history) _ _ told_living m.agenda dues in
             search (rules, acted);
       };
     })

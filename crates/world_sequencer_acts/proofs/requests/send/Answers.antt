@@ -2,9 +2,10 @@ use Rattle.std.proofs.Common.{◌≡◌, length, filter, Option, Some, None, opt
 use Rattle.uvm_object.specs.declared.acts.Act.TheVariants.{Send}
 use Rattle.uvm_object.specs.declared.entries.Outcome.TheVariants.{Done}
 use Rattle.uvm_object.specs.declared.fatals.Fatal.TheVariants.{NotGranted}
+use Rattle.uvm_phase.specs.declared.phases.Phase.{Phase}
 use Rattle.bench_history.specs.declared.askers.DriverPort.{DriverPort}
 use Rattle.bench_history.specs.Dues.{told_sent, calls_told, caused_of, heard_of, is_open}
-use Rattle.bench_history.specs.History.{ended_of, now_of, running, stage_of}
+use Rattle.bench_history.specs.History.{act_phase, ended_of, now_of}
 use Rattle.bench_history.specs.Objections.{objections_of}
 use Rattle.bench_history.specs.Refusals.{send_refusal}
 use Rattle.bench_history.specs.Sequences.{finished_of, sequence_in}
@@ -12,6 +13,7 @@ use Rattle.bench_history.specs.Upshots.{home_sequencer, id_in}
 use Rattle.world_agenda.specs.Tellings.{is_told}
 use Rattle.world_services.proofs.Later.{acted}
 use Rattle.world_sequencer_acts.proofs.Seated.{driver-known, granted-known, refused-still, seated, send-allowed, send-kept, send-refused, sends-told, sent-calls, unchanged}
+use Rattle.world_services.proofs.Opened.{scene-open}
 use Rattle.world_agenda.proofs.Written.{agenda-living, events-calls}
 use Rattle.world_sequencer_acts.proofs.requests.send.Goals as goal
 
@@ -54,11 +56,11 @@ returns-in_ok-tell_living-in-Some-send_at c =
             let seat = seated s id home (λ opens. cc) c.path_order_is_in_order.ensures is c.node-home.ensures in
             let granted = granted-known m id home way (sym value) in
             let arbitrating = send-kept s id home seat item way c.send_at.new.arbiters granted after in
-            let calls : c.as_slice.result.now ≡ calls_told history speaker Done (Send item) = c.as_slice.ensures.value ∙ c.in_ok-calls-in-Some-send_at.ensures ∙ ap (λ (driver : Option DriverPort). told_sent speaker driver item (Some way)) (c.driver_at-driver.ensures ∙ driver-known m id home seat.moded) ∙ sym (sent-calls history speaker id home item way seat.speaker_is granted) in
-            let told_living = rw (← sent-calls history speaker id home item way seat.speaker_is granted) at (sends-told s id home seat item way) in
-            let dues = rw (m.stage, m.time, ← s.place_is, calls) at (told.dues (filter (is_open (heard_of history) (ended_of history) (finished_of history)) (caused_of history)) m.agenda.are) in
-            let events = events-calls (objections_of history) (is_open (heard_of history) (ended_of history) (finished_of history)) (running (stage_of history)) (now_of history) (length history) 0 (calls_told history speaker Done (Send item)) (caused_of history) m.events in
-            let agenda = agenda-living (is_told services.sequences.steps) (stage_of history) (now_of history) (calls_told history speaker Done (Send item)) (caused_of history) (heard_of history) (ended_of history) (finished_of history) (length history) _ _ s.in_order told_living m.agenda dues in
+            let calls : c.as_slice.result.now ≡ calls_told history speaker Done (Send item) = c.as_slice.ensures.value ∙ c.in_ok-calls-in-Some-send_at.ensures ∙ ap (λ (phase : Option Phase). told_sent phase speaker c.driver_at-driver.result item (Some way)) m.answer.phase ∙ ap (λ (driver : Option DriverPort). told_sent (act_phase history) speaker driver item (Some way)) (c.driver_at-driver.ensures ∙ driver-known m id home seat.moded) ∙ sym (sent-calls history speaker id home item way seat.speaker_is granted) in
+            let told_living = rw (← sent-calls history speaker id home item way seat.speaker_is granted) at (sends-told s id home seat item way granted (scene-open s (λ opens. cc))) in
+            let dues = rw (m.time, ← s.place_is, calls) at (told.dues (filter (is_open (heard_of history) (ended_of history) (finished_of history)) (caused_of history)) m.agenda.are) in
+            let events = events-calls (objections_of history) (is_open (heard_of history) (ended_of history) (finished_of history)) (now_of history) (length history) 0 (calls_told history speaker Done (Send item)) (caused_of history) m.events in
+            let agenda = agenda-living (is_told services.sequences.steps) (heard_of history) (ended_of history) (finished_of history) (now_of history) (calls_told history speaker Done (Send item)) (caused_of history) (length history) _ _ told_living m.agenda dues in
             search (rules, acted);
       };
     })

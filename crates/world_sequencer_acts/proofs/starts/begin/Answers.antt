@@ -6,7 +6,7 @@ use Rattle.uvm_object.specs.declared.entries.Entry.TheVariants.{Did}
 use Rattle.uvm_object.specs.declared.entries.Outcome.TheVariants.{Started}
 use Rattle.bench_history.specs.declared.owners.Owner.TheVariants.{Object}
 use Rattle.bench_history.specs.Dues.{caused_at, caused_of, due_events, heard_of, is_open}
-use Rattle.bench_history.specs.History.{ended_of, nodes_of, now_of, running, stage_of}
+use Rattle.bench_history.specs.History.{act_phase, ended_of, nodes_of, now_of}
 use Rattle.bench_history.specs.Objections.{objections_of}
 use Rattle.bench_history.specs.Sequences.{begun_of, finished_of, sequences_of, start_by}
 use Rattle.world_agenda.specs.Objectings.{AreEvents}
@@ -37,16 +37,16 @@ returns-clause-kept c =
           let m = s.known in
           let left = s.left in
           let asked = rw m.tree at c.requires.home_is in
-          let task = rw m.stage at c.requires.task in
+          let task = rw m.answer.phase at c.requires.task in
           let at : (start_by (nodes_of history) (sequences_of history) speaker deed).home ≡ home = ap (λ (x : Start). x.home) (start-of (nodes_of history) (sequences_of history) speaker deed home c.requires.starts asked) in
-          let dues = rw (c.copy.ensures, id, m.stage, m.time, ← s.place_is) at (c.in-Ok-tell_to.ensures.dues (filter (is_open (heard_of history) (ended_of history) (finished_of history)) (caused_of history)) m.agenda.are) in
+          let dues = rw (c.copy.ensures, id, m.answer.phase, m.time, ← s.place_is) at (c.in-Ok-tell_to.ensures.dues (filter (is_open (heard_of history) (ended_of history) (finished_of history)) (caused_of history)) m.agenda.are) in
           let unfinished = next-unfinished m.sequencing next home refl in
-          let agenda : IsAgenda (caused_of (Did speaker (Started next) deed ∷ history)) (heard_of history) (ended_of history) (finished_of history) (suc (length history)) c.tell_to.new.services.agenda.dues = rw at (agenda-event (Object (Sequence next home)) (Some PreStart) (now_of history) (stage_of history) (caused_of history) (heard_of history) (ended_of history) (finished_of history) (length history) _ _ s.in_order unfinished m.agenda dues) in
-          let events : AreEvents (objections_of history) (due_events (Did speaker (Started next) deed ∷ history)) = rw at (events-told (objections_of history) (is_open (heard_of history) (ended_of history) (finished_of history)) (running (stage_of history)) (now_of history) (caused_at (length history)) (Sequence next home) PreStart (caused_of history) m.events) in
-          let items = rw (c.phase_of-phase.ensures, m.stage) at c.in-Ok-push.ensures.items in
-          let goes = task-goes (stage_of history) (ended_of history) task s.in_order in
-          let starter = scene-starts c.living_run.ensures s c.requires.starts task in
-          let sequencing : IsSequencing (begun_of (Did speaker (Started next) deed ∷ history)) (finished_of history) (ended_of history) (enders_of history) c.start_under.new.sequences c.push.new.beginnings.items = sequencing-started m.sequencing (nodes_of history) speaker deed home c.in-Ok.id (running (stage_of history)) c.name_started-name.result c.priority_given-given.result c.start_under.new.sequences c.push.new.beginnings.items c.requires.starts asked c.name_started-name.ensures c.priority_given-given.ensures c.in-Ok.ensures.started c.in-Ok.ensures.steps c.in-Ok.ensures.id items goes starter in
-          let arbitrating = arbitrating-begun m.arbitrating c.starts_change_nothing.ensures (record { start = start_by (nodes_of history) (sequences_of history) speaker deed; starter = speaker; phase = running (stage_of history) }) in
+          let agenda : IsAgenda (caused_of (Did speaker (Started next) deed ∷ history)) (heard_of history) (ended_of history) (finished_of history) (suc (length history)) c.tell_to.new.services.agenda.dues = rw at (agenda-event (Object (Sequence next home)) (Some PreStart) (now_of history) (act_phase history) (caused_of history) (heard_of history) (ended_of history) (finished_of history) (length history) _ _ s.in_phase.unended unfinished m.agenda dues) in
+          let events : AreEvents (objections_of history) (due_events (Did speaker (Started next) deed ∷ history)) = rw at (events-told (objections_of history) (is_open (heard_of history) (ended_of history) (finished_of history)) (act_phase history) (now_of history) (caused_at (length history)) (Sequence next home) PreStart (caused_of history) m.events) in
+          let items = rw m.answer.phase at c.in-Ok-push.ensures.items in
+          let goes = task-goes (ended_of history) (act_phase history) task s.in_phase.unended in
+          let starter = scene-starts s c.requires.starts in
+          let sequencing : IsSequencing (begun_of (Did speaker (Started next) deed ∷ history)) (finished_of history) (ended_of history) (enders_of history) c.start_under.new.sequences c.push.new.beginnings.items = sequencing-started m.sequencing (nodes_of history) speaker deed home c.in-Ok.id (act_phase history) c.name_started-name.result c.priority_given-given.result c.start_under.new.sequences c.push.new.beginnings.items c.requires.starts asked c.name_started-name.ensures c.priority_given-given.ensures c.in-Ok.ensures.started c.in-Ok.ensures.steps c.in-Ok.ensures.id items goes starter in
+          let arbitrating = arbitrating-begun m.arbitrating c.starts_change_nothing.ensures (record { start = start_by (nodes_of history) (sequences_of history) speaker deed; starter = speaker; phase = act_phase history }) in
           search (rules, acted);
     })

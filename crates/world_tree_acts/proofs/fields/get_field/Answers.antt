@@ -6,7 +6,7 @@ use Rattle.uvm_object.specs.Acts.{node_of}
 use Rattle.bench_history.specs.Configuration.{settings_of}
 use Rattle.bench_history.specs.Sequences.{finished_of}
 use Rattle.bench_history.specs.Dues.{caused_at, caused_of, heard_of, is_open}
-use Rattle.bench_history.specs.History.{stage_of, now_of, nodes_of, running, ended_of}
+use Rattle.bench_history.specs.History.{act_phase, now_of, nodes_of, ended_of}
 use Rattle.uvm_object.specs.declared.acts.Call.TheVariants as call
 use Rattle.world_services.proofs.Configured.{value-found}
 use Rattle.world_services.proofs.Opened.{scene-open}
@@ -31,9 +31,9 @@ returns c =
         with_entry = λ script history s.
             let m = s.known in
             let left = s.left in
-            let dues = rw (m.stage, m.time, ← s.place_is) at (told.dues (filter (is_open (heard_of history) (ended_of history) (finished_of history)) (caused_of history)) m.agenda.are) in
-            let events = events-told (objections_of history) (is_open (heard_of history) (ended_of history) (finished_of history)) (running (stage_of history)) (now_of history) (caused_at (length history)) c.args.services.now.answer.speaker (call.Config c.args.field value) (caused_of history) m.events in
-            let agenda = agenda-event (Object c.args.services.now.answer.speaker) (Some (call.Config c.args.field value)) (now_of history) (stage_of history) (caused_of history) (heard_of history) (ended_of history) (finished_of history) _ _ _ s.in_order (scene-open s (λ opens. cc)) m.agenda dues in
+            let dues = rw (m.answer.phase, m.time, ← s.place_is) at (told.dues (filter (is_open (heard_of history) (ended_of history) (finished_of history)) (caused_of history)) m.agenda.are) in
+            let events = events-told (objections_of history) (is_open (heard_of history) (ended_of history) (finished_of history)) (act_phase history) (now_of history) (caused_at (length history)) c.args.services.now.answer.speaker (call.Config c.args.field value) (caused_of history) m.events in
+            let agenda = agenda-event (Object c.args.services.now.answer.speaker) (Some (call.Config c.args.field value)) (now_of history) (act_phase history) (caused_of history) (heard_of history) (ended_of history) (finished_of history) _ _ _ s.in_phase.unended (scene-open s (λ opens. cc)) m.agenda dues in
             search (rules, acted);
       };
     })

@@ -10,7 +10,7 @@ use Rattle.uvm_objection.specs.Nodes.{ObjectionValue, dropped, source_of}
 use Rattle.uvm_objection.specs.Totals.{total, settled}
 use Rattle.bench_history.specs.Sequences.{finished_of}
 use Rattle.bench_history.specs.Dues.{caused_of, heard_of, is_open}
-use Rattle.bench_history.specs.History.{now_of, stage_of, running, ended_of}
+use Rattle.bench_history.specs.History.{act_phase, now_of, ended_of}
 use Rattle.bench_history.specs.Objections.{objections_of}
 use Rattle.bench_history.specs.Refusals.{in_task, drop_refusal}
 use Rattle.world_services.specs.Attempts.{IsRefusing}
@@ -22,7 +22,7 @@ use Rattle.world_tree_acts.proofs.objections.drop.Goals as goal
 pub returns-then-not-in_task : goal.returns-then-not-in_task
 unfolding drop_refusal
 returns-then-not-in_task c = refused-here _ _ _ (DropObjection c.args.count) OutsideTask c.args.place c.refused.ensures.attempt c.refused.ensures.services (λ script history m.
-    let outside : in_task (running (stage_of history)) ≡ false = rw (← m.stage) (sym c.in_task.ensures ∙ c.if-not-in_task.true) in
+    let outside : in_task (act_phase history) ≡ false = rw (← m.answer.phase) (sym c.in_task.ensures ∙ c.if-not-in_task.true) in
     rw outside refl)
 
 pub returns-in-Err : goal.returns-in-Err
@@ -31,7 +31,7 @@ returns-in-Err c =
     let same = same-objection c.args.services.now.objection c.drop.new.self c.in-Err.ensures.unchanged c.drop.ensures.spare in
     let Refusing : ObjectionValue → Type 0 = λ o. OnOk c.refused-in-Err.result (IsRefusing ObjectionBelowZero (record c.args.services.now { objection = o }) c.refused-in-Err.new.services) in
     refused-here _ _ _ (DropObjection c.args.count) ObjectionBelowZero c.args.place c.refused-in-Err.ensures.attempt (subst Refusing same c.refused-in-Err.ensures.services) (λ script history m.
-    let within : in_task (running (stage_of history)) ≡ true = rw (← m.stage) (sym c.in_task.ensures ∙ c.if-not-in_task.false) in
+    let within : in_task (act_phase history) ≡ true = rw (← m.answer.phase) (sym c.in_task.ensures ∙ c.if-not-in_task.false) in
     let speaker = node_of c.args.services.now.answer.speaker in
     let source = source_of speaker (objections_of history) in
     let below = rw (c.node-node.ensures, m.objections.are) at c.in-Err.ensures.err in
@@ -45,7 +45,7 @@ returns-in_ok-move_drains-in-Ok c =
     rw (c.done.ensures.attempt, c.done.ensures.services, due.rest) (record {
       comes = λ script history s.
           let m = s.known in
-          let within : in_task (running (stage_of history)) ≡ true = rw (← m.stage) (sym c.in_task.ensures ∙ c.if-not-in_task.false) in
+          let within : in_task (act_phase history) ≡ true = rw (← m.answer.phase) (sym c.in_task.ensures ∙ c.if-not-in_task.false) in
           let speaker = node_of c.args.services.now.answer.speaker in
           let source = source_of speaker (objections_of history) in
           let enough = rw (c.node-node.ensures, m.objections.are) at c.in-Ok.ensures.ok in
@@ -68,10 +68,10 @@ returns-in_ok-move_drains-in-Ok c =
             let grown = (c.nodes_grow.ensures.1 nodes m.objections.are_nodes).dropped (now_of history) speaker c.args.count in
             let low : 0 ≤ 65535 = omega arith in
             let objections = objecting-changed c.drop.new.self others stay same m.objections is 0 low grown in
-            let dues = rw (m.stage, ← s.place_is) at (due.dues (filter (is_open (heard_of history) (ended_of history) (finished_of history)) (caused_of history)) m.agenda.are) in
+            let dues = rw (m.answer.phase, ← s.place_is) at (due.dues (filter (is_open (heard_of history) (ended_of history) (finished_of history)) (caused_of history)) m.agenda.are) in
             let held : All (IsHeldUntilDue others) (option_to_list c.in-Ok.began) = rw (← begun) (c.begun_drains_are_held.ensures nodes others grown.nodes) in
-            let drains = moved (now_of history) nodes changed others (stage_of history) c.in-Ok.began None (caused_of history) (heard_of history) (ended_of history) (finished_of history) (length history) _ _
-            c.settled_go_by_totals.ensures stay m.objections.are_nodes same refl (λ k still. due-dropped speaker c.args.count nodes k) begun over held s.in_order m.agenda m.events dues in
+            let drains = moved (now_of history) nodes changed others (act_phase history) c.in-Ok.began None (caused_of history) (heard_of history) (ended_of history) (finished_of history) (length history) _ _
+            c.settled_go_by_totals.ensures stay m.objections.are_nodes same refl (λ k still. due-dropped speaker c.args.count nodes k) begun over held s.in_phase.unended m.agenda m.events dues in
             let agenda = drains.agenda in
             let events = drains.events in
             search (rules, acted);

@@ -8,7 +8,7 @@ use Rattle.uvm_objection.specs.Nodes.{raised}
 use Rattle.uvm_objection.specs.Totals.{total, settled}
 use Rattle.bench_history.specs.Sequences.{finished_of}
 use Rattle.bench_history.specs.Dues.{caused_of, heard_of, is_open}
-use Rattle.bench_history.specs.History.{now_of, stage_of, running, ended_of}
+use Rattle.bench_history.specs.History.{act_phase, now_of, ended_of}
 use Rattle.bench_history.specs.Objections.{objections_of}
 use Rattle.bench_history.specs.Refusals.{in_task, raise_refusal}
 use Rattle.world_services.proofs.Later.{acted, refused-here}
@@ -19,7 +19,7 @@ use Rattle.world_tree_acts.proofs.objections.raise.Goals as goal
 pub returns-then-not-in_task : goal.returns-then-not-in_task
 unfolding raise_refusal
 returns-then-not-in_task c = refused-here _ _ _ (RaiseObjection c.args.count) OutsideTask c.args.place c.refused.ensures.attempt c.refused.ensures.services (λ script history m.
-    let outside : in_task (running (stage_of history)) ≡ false = rw (← m.stage) (sym c.in_task.ensures ∙ c.if-not-in_task.true) in
+    let outside : in_task (act_phase history) ≡ false = rw (← m.answer.phase) (sym c.in_task.ensures ∙ c.if-not-in_task.true) in
     rw outside refl)
 
 pub returns : goal.returns
@@ -28,7 +28,7 @@ returns c =
     let due = c.in_ok-move_drains.ensures in
     rw (c.done.ensures.attempt, c.done.ensures.services, due.rest) (record {
       comes = λ script history s.
-          let within : in_task (running (stage_of history)) ≡ true = rw (← s.known.stage) (sym c.in_task.ensures ∙ c.if-not-in_task.false) in
+          let within : in_task (act_phase history) ≡ true = rw (← s.known.answer.phase) (sym c.in_task.ensures ∙ c.if-not-in_task.false) in
           rw within refl;
       kept = record {
         same_answer = refl;
@@ -49,8 +49,8 @@ returns c =
             let objections = objecting-changed c.raise-ended.new.self others stay same m.objections is c.args.count low grown in
             let dues = due.dues (filter (is_open (heard_of history) (ended_of history) (finished_of history)) (caused_of history)) m.agenda.are in
             let held : All (IsHeldUntilDue others) [] = All-nil (IsHeldUntilDue others) in
-            let drains = moved (now_of history) nodes changed others (stage_of history) None c.raise-ended.result (caused_of history) (heard_of history) (ended_of history) (finished_of history) (length history) _ _
-            c.settled_go_by_totals.ensures stay m.objections.are_nodes same refl (λ k still. due-raised speaker c.args.count nodes k) begun over held s.in_order m.agenda m.events dues in
+            let drains = moved (now_of history) nodes changed others (act_phase history) None c.raise-ended.result (caused_of history) (heard_of history) (ended_of history) (finished_of history) (length history) _ _
+            c.settled_go_by_totals.ensures stay m.objections.are_nodes same refl (λ k still. due-raised speaker c.args.count nodes k) begun over held s.in_phase.unended m.agenda m.events dues in
             let agenda = drains.agenda in
             let events = drains.events in
             search (rules, acted);

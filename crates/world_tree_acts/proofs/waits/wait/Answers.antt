@@ -3,7 +3,7 @@ use Rattle.uvm_object.specs.declared.acts.Act.TheVariants.{Wait}
 use Rattle.uvm_object.specs.declared.acts.Call.TheVariants as call
 use Rattle.bench_history.specs.Sequences.{finished_of}
 use Rattle.bench_history.specs.Dues.{caused_of, heard_of, is_open}
-use Rattle.bench_history.specs.History.{now_of, stage_of, running, ended_of}
+use Rattle.bench_history.specs.History.{act_phase, now_of, ended_of}
 use Rattle.bench_history.specs.Refusals.{wait_refusal}
 use Rattle.world_services.proofs.Opened.{scene-open}
 use Rattle.world_services.proofs.Later.{acted, refused-here}
@@ -16,7 +16,7 @@ use Rattle.world_tree_acts.proofs.waits.wait.Goals as goal
 
 pub returns-in-Some : goal.returns-in-Some
 returns-in-Some c = refused-here _ _ _ (Wait c.args.ticks c.args.tag) c.in-Some.fatal c.args.place c.refused.ensures.attempt c.refused.ensures.services (λ script history m.
-    let refuses : wait_refusal (running (stage_of history)) c.args.ticks ≡ Some c.in-Some.fatal = rw (← m.stage) (sym c.wait_refusal.ensures.refusal ∙ c.in-Some.is) in
+    let refuses : wait_refusal (act_phase history) c.args.ticks ≡ Some c.in-Some.fatal = rw (← m.answer.phase) (sym c.wait_refusal.ensures.refusal ∙ c.in-Some.is) in
     rw refuses refl)
 
 pub returns : goal.returns
@@ -24,16 +24,16 @@ returns c =
     let told = c.in_ok-tell.ensures in
     rw (c.done.ensures.attempt, c.done.ensures.services, told.rest) (record {
       comes = λ script history s.
-          let does : wait_refusal (running (stage_of history)) c.args.ticks ≡ None = rw (← s.known.stage) (sym c.in_default.ensures.refusal) in
+          let does : wait_refusal (act_phase history) c.args.ticks ≡ None = rw (← s.known.answer.phase) (sym c.in_default.ensures.refusal) in
           rw does refl;
       kept = record {
         same_answer = refl;
         with_entry = λ script history s.
             let m = s.known in
             let left = s.left in
-            let dues = rw (m.stage, m.time, ← s.place_is) at (told.dues (filter (is_open (heard_of history) (ended_of history) (finished_of history)) (caused_of history)) m.agenda.are) in
-            let events = events-told (objections_of history) (is_open (heard_of history) (ended_of history) (finished_of history)) (running (stage_of history)) (now_of history + c.args.ticks) (caused_at (length history)) c.args.services.now.answer.speaker (call.Wake c.args.tag) (caused_of history) m.events in
-            let agenda = agenda-event (Object c.args.services.now.answer.speaker) (Some (call.Wake c.args.tag)) (now_of history + c.args.ticks) (stage_of history) (caused_of history) (heard_of history) (ended_of history) (finished_of history) _ _ _ s.in_order (scene-open s (λ opens. cc)) m.agenda dues in
+            let dues = rw (m.answer.phase, m.time, ← s.place_is) at (told.dues (filter (is_open (heard_of history) (ended_of history) (finished_of history)) (caused_of history)) m.agenda.are) in
+            let events = events-told (objections_of history) (is_open (heard_of history) (ended_of history) (finished_of history)) (act_phase history) (now_of history + c.args.ticks) (caused_at (length history)) c.args.services.now.answer.speaker (call.Wake c.args.tag) (caused_of history) m.events in
+            let agenda = agenda-event (Object c.args.services.now.answer.speaker) (Some (call.Wake c.args.tag)) (now_of history + c.args.ticks) (act_phase history) (caused_of history) (heard_of history) (ended_of history) (finished_of history) _ _ _ s.in_phase.unended (scene-open s (λ opens. cc)) m.agenda dues in
             search (rules, acted);
       };
     })

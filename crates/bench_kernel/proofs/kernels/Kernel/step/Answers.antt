@@ -86,7 +86,7 @@ hear-answer-requires-clause-sits g c =
     let kept = c.self.invariant.0 in
     let told = told-turn (Ask c.in-Ok-Ask.who c.in-Ok-Ask.call) k.core c.next.new.self tt (rw c.in-Ok-Ask.field-0-is at (c.in-Ok-Ask.ensures.turn)) in
     let asks = ask-turn c.in-Ok-Ask.who c.in-Ok-Ask.call k.core c.next.new.self (kept.comes c.if-self.false) told.turn in
-    asked-held c.hold.ensures m.view m.name m.says kernel c.in-Ok-Ask.who c.in-Ok-Ask.call asks.cause asks.answers c.if-self.false (rw c.in-Ok-Ask.field-0-is at (c.in-Ok-Ask.ensures.asked)) kept
+    asked-held c.hold.ensures m.view m.name m.says kernel c.in-Ok-Ask.who c.in-Ok-Ask.call asks.origin asks.answers c.if-self.false (rw c.in-Ok-Ask.field-0-is at (c.in-Ok-Ask.ensures.asked)) kept
 
 pub invariant_of-self-in_default : goal.invariant_of-self-in_default
 invariant_of-self-in_default g c =
@@ -111,7 +111,7 @@ returns-in_default-clause-step g c =
     let asks = ask-turn c.in-Ok-Ask.who c.in-Ok-Ask.call k.core c.next.new.self (kept.comes c.if-self.false) told.turn in
     let room = asked-room c.in-Ok-Ask.who c.in-Ok-Ask.call k.core c.next.new.self asks ((rw c.in-Ok-Ask.field-0-is at (c.in-Ok-Ask.ensures.room)) tt) in
     rw (← c.self.view_is)
-    (unanswered-step m.view m.name m.says kernel c.next.new.self c.in-Ok-Ask.who c.copy.result c.in-Ok-Ask.call asks.cause c.hear-answer.result (all_held c.hear-answer.new.seats.taken c.hear-answer.new.sequences.held) c.copy.ensures asks.answers asks.nothing_needed
+    (unanswered-step m.view m.name m.says kernel c.next.new.self c.in-Ok-Ask.who c.copy.result c.in-Ok-Ask.call asks.origin c.hear-answer.result (all_held c.hear-answer.new.seats.taken c.hear-answer.new.sequences.held) c.copy.ensures asks.answers asks.nothing_needed
     (record { going = c.if-self.false; told = told.told }) (asked-log c.in-Ok-Ask.who c.in-Ok-Ask.call k.core c.next.new.self asks) (rw c.in_default.is asks.is) room c.hear-answer.ensures.asked)
 
 pub invariant_of-self-in_err-heard-in-Ok-Ask : goal.invariant_of-self-in_err-heard-in-Ok-Ask
@@ -140,7 +140,7 @@ returns-in_err-heard-in-Ok-Ask-clause-step g c =
     let room = asked-room c.in-Ok-Ask.who c.in-Ok-Ask.call k.core c.next.new.self asks ((rw c.in-Ok-Ask.field-0-is at (c.in-Ok-Ask.ensures.room)) tt) in
     let result : c.from_residual.result ≡ Err Memory = search rules in
     rw (← c.self.view_is, result)
-    (unanswered-step m.view m.name m.says kernel c.heard.new.self c.in-Ok-Ask.who c.copy.result c.in-Ok-Ask.call asks.cause c.hear-answer.result (all_held c.hear-answer.new.seats.taken c.hear-answer.new.sequences.held) c.copy.ensures asks.answers asks.nothing_needed
+    (unanswered-step m.view m.name m.says kernel c.heard.new.self c.in-Ok-Ask.who c.copy.result c.in-Ok-Ask.call asks.origin c.hear-answer.result (all_held c.hear-answer.new.seats.taken c.hear-answer.new.sequences.held) c.copy.ensures asks.answers asks.nothing_needed
     (record { going = c.if-self.false; told = told.told }) same_log (rw c.in-Ok.is (refused.1 ∙ rw asks.is refl)) room c.hear-answer.ensures.asked)
 
 pub invariant_of-self-in-Ok-Ask : goal.invariant_of-self-in-Ok-Ask
@@ -153,8 +153,8 @@ invariant_of-self-in-Ok-Ask g c =
     let asks = ask-turn c.in-Ok-Ask.who c.in-Ok-Ask.call k.core c.next.new.self (kept.comes c.if-self.false) told.turn in
     let is = heard-is c.in-Ok-Ask.who c.in-Ok-Ask.call c.in-Ok.acts k.core c.next.new.self c.heard.new.self asks c.in_ok-heard-in-Ok-Ask.ensures.ok in
     let under = nodes-asked k.core.history (paths_in k.seats.taken) (paths_in c.hear-answer.new.seats.taken) c.hear-answer.ensures.paths (below c.hold.ensures m.view m.name m.says kernel k.seats.taken k.sequences.held refl kept) in (
-      kept-heard c.hold.ensures m.view m.name m.says kernel c.heard.new.self (all_held c.hear-answer.new.seats.taken c.hear-answer.new.sequences.held) c.in-Ok-Ask.who c.in-Ok-Ask.call asks.cause c.in-Ok.acts asks.answers c.if-self.false is c.in-Ok.ensures.asked kept,
-      rw is (seated-later c.hold.ensures k.core.history (Heard c.in-Ok-Ask.who c.in-Ok-Ask.call asks.cause c.in-Ok.acts) (paths_in c.hear-answer.new.seats.taken) c.hear-answer.new.sequences.count c.hear-answer.new.sequences.held refl under
+      kept-heard c.hold.ensures m.view m.name m.says kernel c.heard.new.self (all_held c.hear-answer.new.seats.taken c.hear-answer.new.sequences.held) c.in-Ok-Ask.who c.in-Ok-Ask.call asks.origin c.in-Ok.acts asks.answers c.if-self.false is c.in-Ok.ensures.asked kept,
+      rw is (seated-later c.hold.ensures k.core.history (Heard c.in-Ok-Ask.who c.in-Ok-Ask.call asks.origin c.in-Ok.acts) (paths_in c.hear-answer.new.seats.taken) c.hear-answer.new.sequences.count c.hear-answer.new.sequences.held refl under
           (seated-asked k.core.history (paths_in k.seats.taken) (paths_in c.hear-answer.new.seats.taken) k.sequences.count c.hear-answer.new.sequences.count k.sequences.held c.hear-answer.new.sequences.held c.hear-answer.ensures.paths c.hear-answer.ensures.count c.hear-answer.ensures.keys c.self.invariant.1)),
     )
 
@@ -169,7 +169,7 @@ returns-in_ok-heard-in-Ok-Ask-clause-step g c =
     let is = heard-is c.in-Ok-Ask.who c.in-Ok-Ask.call c.in-Ok.acts k.core c.next.new.self c.heard.new.self asks c.in_ok-heard-in-Ok-Ask.ensures.ok in
     rw (← c.self.view_is) (
       record { going = c.if-self.false; told = told.told },
-      answered-step m.view m.name m.says kernel c.heard.new.self (all_held c.hear-answer.new.seats.taken c.hear-answer.new.sequences.held) c.in-Ok-Ask.who c.in-Ok-Ask.call asks.cause c.in-Ok.acts asks.answers c.if-self.false (kept.known c.if-self.false) is c.in-Ok.ensures.asked,
+      answered-step m.view m.name m.says kernel c.heard.new.self (all_held c.hear-answer.new.seats.taken c.hear-answer.new.sequences.held) c.in-Ok-Ask.who c.in-Ok-Ask.call asks.origin c.in-Ok.acts asks.answers c.if-self.false (kept.known c.if-self.false) is c.in-Ok.ensures.asked,
     )
 
 pub invariant_of-self-in-Ok-Moved : goal.invariant_of-self-in-Ok-Moved

@@ -61,4 +61,4 @@ invariant_of-self c =
     let next : IsNext c.self.inside.script before (Did (speaker_of before) (Refused NoObject) act) = rw w.next (inr refl) in
     let entries = rw c.in-Ok.ensures.outcome at c.in-Ok-enter.ensures.ok in
     let is_act = subst IsAct (sym w.next) tt in
-    rw c.take.ensures.after (acted-on (Refused NoObject) act c.self.invariant sound ready.room w.settled ready.left next is_act c.phases_go_in_order.ensures c.performers_are_there.ensures c.drivers_are_there.ensures (refused-taken-in act NoObject c.in-Ok.ensures.services) entries c.in-Ok-enter.ensures.limit c.clear.ensures.items (ap (λ (a : LastAnswer). record c.refused_by.new.services { answer = a }) c.in-Ok-enter.ensures.answer))
+    rw c.take.ensures.after (acted-on (Refused NoObject) act c.self.invariant sound ready.room w.settled ready.left next is_act c.acts_are_in_phase.ensures c.performers_are_there.ensures c.drivers_are_there.ensures (refused-taken-in act NoObject c.in-Ok.ensures.services) entries c.in-Ok-enter.ensures.limit c.clear.ensures.items (ap (λ (a : LastAnswer). record c.refused_by.new.services { answer = a }) c.in-Ok-enter.ensures.answer))

@@ -7,11 +7,11 @@ use Rattle.bench_world.proofs.worlds.World.heard_due.Goals as goal
 pub hear_due-requires : goal.hear_due-requires
 hear_due-requires c =
     let r = rw (← c.self.view_is) at c.requires in
-    (c.args.call, c.args.cause, rw c.len-place.ensures (due-here (λ _. Answer c.args.who c.args.call (Some c.args.cause)) c.self.invariant r.sound r.next))
+    (c.args.call, rw c.len-place.ensures (due-here (λ _. Answer c.args.who c.args.call (Some c.args.origin)) c.self.invariant r.sound r.next))
 
 pub invariant_of-self-2 : goal.invariant_of-self-2
 invariant_of-self-2 c =
     let r = rw (← c.self.view_is) at c.requires in
     let entries = rw (c.in_ok-entry.ensures, c.copy.ensures) at c.in_ok-push.ensures.ok in
-    entered (λ _. Answer c.args.who c.args.call (Some c.args.cause)) (Heard c.args.who c.args.call (Some c.args.cause) c.args.acts) c.self.invariant r.sound r.room r.next (_, refl) entries c.in_ok-push.ensures.limit (λ m. c.clear.ensures.items)
-    (rw c.len-place.ensures at (c.hear_due.ensures c.args.call c.args.cause c.args.acts (sym c.len-count.ensures)))
+    entered (λ _. Answer c.args.who c.args.call (Some c.args.origin)) (Heard c.args.who c.args.call (Some c.args.origin) c.args.acts) c.self.invariant r.sound r.room r.next (_, refl) entries c.in_ok-push.ensures.limit (λ m. c.clear.ensures.items)
+    (rw c.len-place.ensures at (c.hear_due.ensures c.args.call c.args.acts (sym c.len-count.ensures)))

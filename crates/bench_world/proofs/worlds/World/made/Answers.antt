@@ -59,7 +59,7 @@ invariant_of-self c =
     let kept = rw (c.act.ensures, c.len-place.ensures) at c.make-who.ensures.kept in
     let entries = rw c.make-who.ensures.outcome at c.in-Ok.ensures.ok in
     let leaves = c.clear.ensures.items ∙ sym (made-leaves services c.in-Some.waiting.need.type_name c.in-Some.waiting.home services.answer.speaker) in
-    rw c.take.ensures.after (acted-on outcome act c.self.invariant sound ready.room w.settled ready.left next is_act c.phases_go_in_order.ensures c.performers_are_there.ensures c.drivers_are_there.ensures kept entries c.in-Ok.ensures.limit leaves (ap (λ (a : LastAnswer). record c.make-who.new.services { answer = a }) c.in-Ok.ensures.answer))
+    rw c.take.ensures.after (acted-on outcome act c.self.invariant sound ready.room w.settled ready.left next is_act c.acts_are_in_phase.ensures c.performers_are_there.ensures c.drivers_are_there.ensures kept entries c.in-Ok.ensures.limit leaves (ap (λ (a : LastAnswer). record c.make-who.new.services { answer = a }) c.in-Ok.ensures.answer))
 
 pub returns-clause-who : goal.returns-clause-who
 returns-clause-who c =

@@ -1,8 +1,7 @@
 use Rattle.std.proofs.Common.{◌≡◌, false, true, None, length, refl, sym, ◌∙◌, rules}
 use Rattle.uvm_tlm.specs.Wirings.{end_at, is_closed, late_fault}
-use Rattle.bench_history.specs.History.{running}
 use Rattle.bench_history.specs.Refusals.{in_task}
-use Rattle.bench_world.proofs.Going.{act-next, performed}
+use Rattle.bench_world.proofs.Going.{act-next, goes-still, performed}
 use Rattle.world_services.proofs.Answered.{answer-open}
 use Rattle.world_services.proofs.Known.{known-there}
 use Rattle.world_services.proofs.Later.{scene-of}
@@ -18,9 +17,24 @@ carry_out-requires-clause-can c =
     let building : c.self.inside.services.built ≡ false → late_fault wiring ≡ None = λ built. building-open wiring m.closing (sym m.built ∙ built) in
     let connectable : c.self.inside.services.past_connect ≡ false → late_fault wiring ≡ None = λ past. connectable-open wiring r.left m.closing (sym m.past_connect ∙ past) in
     let unused : end_at wiring.ends (length c.self.inside.services.tree.nodes) ≡ None = rw m.tree (unused m.connecting) in
-    let closed : in_task (running c.self.inside.services.stage) ≡ true → is_closed wiring ≡ true = λ task. m.closed_past.is (c.tasks_follow_connect.ensures c.self.inside.script c.self.inside.log.entries c.self.invariant.1.legal.each (rw m.stage at task)) in
-    let known = known-there m in
-    search rules
+    let before = c.self.inside.log.entries in
+    let each = c.self.invariant.1.legal.each in
+    let phases = c.acts_are_in_phase.ensures c.self.inside.script before c.args.deed each (act-next c.self.inside.script before c.args.deed r.next) r.left in
+    let closed : in_task c.self.inside.services.answer.phase ≡ true → is_closed wiring ≡ true = λ task.
+        let acts = rw m.answer.phase at task in
+        m.closed_past.is (c.tasks_follow_connect.ensures c.self.inside.script before each (goes-still before phases.runs acts) acts) in
+    record {
+      speaks = rw (m.tree, m.answer.speaker) m.speaks;
+      numbered = rw (m.objections.are, m.tree) m.objections.numbered;
+      report = search rules;
+      few = search rules;
+      time = m.early;
+      building = building;
+      connectable = connectable;
+      unused = unused;
+      closed = closed;
+      known = known-there m;
+    }
 
 pub carry_out-requires-clause-open : goal.carry_out-requires-clause-open
 carry_out-requires-clause-open c =
@@ -31,13 +45,13 @@ pub invariant_of-self-in-Entered : goal.invariant_of-self-in-Entered
 invariant_of-self-in-Entered c =
     let r = rw (← c.self.view_is) at c.requires in
     let e = rw c.in-Entered.is at c.in_ok-leaving.ensures.ok in
-    performed e.outcome c.args.deed c.self.invariant r.sound r.room r.settled r.left r.next c.phases_go_in_order.ensures c.performers_are_there.ensures c.drivers_are_there.ensures e.performed e.entries c.in_ok-leaving.ensures.limit e.leaves e.done
+    performed e.outcome c.args.deed c.self.invariant r.sound r.room r.settled r.left r.next c.acts_are_in_phase.ensures c.performers_are_there.ensures c.drivers_are_there.ensures e.performed e.entries c.in_ok-leaving.ensures.limit e.leaves e.done
 
 pub invariant_of-self-in-Waits : goal.invariant_of-self-in-Waits
 invariant_of-self-in-Waits c =
     let r = rw (← c.self.view_is) at c.requires in
     let w = rw c.in-Waits.is at c.in_ok-leaving.ensures.ok in
-    waits c.args.deed c.in-Waits.waiting c.self.invariant r.sound r.room r.settled r.left r.next c.phases_go_in_order.ensures c.performers_are_there.ensures c.drivers_are_there.ensures w c.in_ok-leaving.ensures.limit
+    waits c.args.deed c.in-Waits.waiting c.self.invariant r.sound r.room r.settled r.left r.next c.acts_are_in_phase.ensures c.performers_are_there.ensures c.drivers_are_there.ensures w c.in_ok-leaving.ensures.limit
 
 pub returns-in-Entered-clause-ok : goal.returns-in-Entered-clause-ok
 returns-in-Entered-clause-ok c =
@@ -45,7 +59,7 @@ returns-in-Entered-clause-ok c =
     let m = c.self.invariant.1.services_match r.sound in
     let before = c.self.inside.log.entries in
     let e = rw c.in-Entered.is at c.in_ok-leaving.ensures.ok in
-    let scene = scene-of c.args.deed m c.self.invariant.1.legal.each r.settled r.left c.phases_go_in_order.ensures c.performers_are_there.ensures c.drivers_are_there.ensures (act-next c.self.inside.script before c.args.deed r.next) in
+    let scene = scene-of c.args.deed m c.self.invariant.1.legal.each r.settled r.left c.acts_are_in_phase.ensures c.performers_are_there.ensures c.drivers_are_there.ensures (act-next c.self.inside.script before c.args.deed r.next) in
     rw (← c.self.view_is) (acted-enters c.self.inside.script c.self.inside.sound _ _ e r.next m.answer.speaker scene r.sound)
 
 pub returns-in-Waits-clause-ok : goal.returns-in-Waits-clause-ok
@@ -54,5 +68,5 @@ returns-in-Waits-clause-ok c =
     let m = c.self.invariant.1.services_match r.sound in
     let before = c.self.inside.log.entries in
     let w = rw c.in-Waits.is at c.in_ok-leaving.ensures.ok in
-    let scene = scene-of c.args.deed m c.self.invariant.1.legal.each r.settled r.left c.phases_go_in_order.ensures c.performers_are_there.ensures c.drivers_are_there.ensures (act-next c.self.inside.script before c.args.deed r.next) in
+    let scene = scene-of c.args.deed m c.self.invariant.1.legal.each r.settled r.left c.acts_are_in_phase.ensures c.performers_are_there.ensures c.drivers_are_there.ensures (act-next c.self.inside.script before c.args.deed r.next) in
     rw (← c.self.view_is) (acted-needs c.self.inside.script before _ c.self.inside.sound _ r.next m.answer.speaker (w.need.comes c.self.inside.script before scene) w.entries r.sound refl)

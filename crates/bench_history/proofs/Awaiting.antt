@@ -1,0 +1,140 @@
+-- While a driver waits, is granted a sequence or has an item in hand, the phase in which it asked runs.
+use Rattle.std.proofs.Common.{◌≡◌, ℕ, Bool, true, false, not, ◌==◌, List, [], ◌∷◌, Option, Some, None, is_some, option_and_then, refl, sym, ap, subst, ◌∙◌, if◌then◌else◌}
+use Rattle.std.specs.Option.{option_map_or}
+use Rattle.uvm_glob.specs.Lists.{first_given}
+use Rattle.uvm_glob.specs.Faults.{fault_if}
+use Rattle.uvm_phase.specs.Laws.{OrderKeepsAll}
+use Rattle.uvm_phase.specs.declared.phases.Phase.{Phase}
+use Rattle.uvm_sequencer.specs.declared.drivers.How.{How}
+use Rattle.uvm_sequencer.specs.declared.drivers.Driver.{Driver}
+use Rattle.uvm_sequencer.specs.declared.drivers.Driver.TheVariants as driver
+use Rattle.uvm_sequencer.specs.Drivers.{grant_of, granted_by, is_idle, left_by}
+use Rattle.uvm_sequencer.specs.Laws.{LockExcludes}
+use Rattle.uvm_object.specs.declared.acts.Who.{Who}
+use Rattle.uvm_object.specs.declared.acts.Call.{Call}
+use Rattle.uvm_object.specs.declared.acts.Act.{Act}
+use Rattle.uvm_object.specs.declared.acts.Act.TheVariants.{Ask, ItemDone, Send}
+use Rattle.uvm_object.specs.declared.fatals.Fatal.{Fatal}
+use Rattle.uvm_object.specs.declared.fatals.Fatal.TheVariants.{NoPort, NotOpen, OutsideTask}
+use Rattle.uvm_object.specs.declared.entries.Outcome.{Outcome}
+use Rattle.uvm_object.specs.declared.entries.Outcome.TheVariants.{Done, Waits, Finished, Refused}
+use Rattle.uvm_object.specs.declared.entries.Entry.{Entry}
+use Rattle.uvm_object.specs.declared.entries.Entry.TheVariants.{Begin, Did, End, Granted, Over}
+use Rattle.bench_script.specs.Scripts.{ScriptValue}
+use Rattle.bench_history.specs.declared.owners.Owner.{Owner}
+use Rattle.bench_history.specs.declared.stages.Stage.TheVariants.{Ended}
+use Rattle.bench_history.specs.History.{act_phase, running, speaker_of, stage_of}
+use Rattle.bench_history.specs.Sequences.{sequences_of}
+use Rattle.bench_history.specs.Arbitration.{asked_in, driver_asker, driver_state, leads_there, sent_by, sequence_on, sequencer_below}
+use Rattle.bench_history.specs.Refusals.{ask_refusal, driving_refusal, in_task, is_open_to}
+use Rattle.bench_history.specs.Upshots.{Upshot, asked_upshot, driven_at, has_candidate, unless_refused, upshot_of}
+use Rattle.bench_history.specs.Cases.{Next, by_act, by_upshot}
+use Rattle.bench_history.specs.Next.{next_of, Allows, IsNext, EachIsNext}
+use Rattle.bench_history.proofs.Called.{acts_are_in_phase}
+use Rattle.bench_history.proofs.Deeds.{deed-next, is-act}
+use Rattle.bench_history.proofs.Ended.{none-after}
+use Rattle.bench_history.proofs.Living.{begin-runs}
+use Rattle.bench_history.proofs.Performed.{acts_go_in_order}
+
+-- an act that was performed came to its upshot
+pub upshot-next : (script : ScriptValue) (before : List Entry) (performer : Who) (outcome : Outcome) (act : Act) → IsNext script before (Did performer outcome act) → Allows (by_upshot performer act (upshot_of script before performer act)) (Did performer outcome act)
+upshot-next script before performer outcome act next =
+    let deed = deed-next script before performer outcome act (next_of script before) refl next in
+    let first = acts_go_in_order script before (is-act performer outcome act (next_of script before) next) in
+    let lists : act ∷ _ ≡ first.0 ∷ _ = sym deed.left ∙ first.1.left in
+    let same : act ≡ first.0 = cc in
+    let comes : Allows (by_act script before (speaker_of before) first.0) (Did performer outcome act) = subst (λ (n : Next). Allows n (Did performer outcome act)) first.1.next next in
+    let his : Allows (by_act script before (speaker_of before) act) (Did performer outcome act) = subst (λ (one : Act). Allows (by_act script before (speaker_of before) one) (Did performer outcome act)) (sym same) comes in
+    subst (λ (one : Who). Allows (by_act script before one act) (Did performer outcome act)) (sym deed.performer_is) his
+
+-- and was not refused, if it was accepted
+abbrev pub is_accepted : Outcome → Bool
+is_accepted (Refused fatal) = false
+is_accepted outcome = true
+
+pub not-refused : (performer : Who) (outcome : Outcome) (act : Act) (first second : Option Fatal) (upshot : Upshot) → is_accepted outcome ≡ true → Allows (by_upshot performer act (unless_refused first (unless_refused second upshot))) (Did performer outcome act) → second ≡ None
+not-refused performer outcome act (Some fatal) second upshot accepted allows = let same : outcome ≡ Refused fatal = cc in let none : is_accepted (Refused fatal) ≡ true = ap is_accepted (sym same) ∙ accepted in cc
+not-refused performer outcome act None (Some fatal) upshot accepted allows = let same : outcome ≡ Refused fatal = cc in let none : is_accepted (Refused fatal) ≡ true = ap is_accepted (sym same) ∙ accepted in cc
+not-refused performer outcome act None None upshot accepted allows = refl
+
+-- an ask that is accepted is asked in a phase that takes time
+first-none : (first second third : Option Fatal) → first_given (first ∷ second ∷ third ∷ []) ≡ None → first ≡ None
+first-none (Some fatal) second third e = cc
+first-none None second third e = refl
+
+task-of : (phase : Option Phase) (there : Bool) (refusal : Option Fatal) → driving_refusal phase there refusal ≡ None → (one : Phase) × (phase ≡ Some one)
+unfolding driving_refusal
+task-of None there refusal e = let none = first-none (fault_if (not (in_task None)) OutsideTask) (fault_if (not there) NoPort) refusal e in cc
+task-of (Some phase) there refusal e = (phase, refl)
+
+asks-task : (script : ScriptValue) (before : List Entry) (performer : Who) (outcome : Outcome) (port : List ℕ) (way : How) → IsNext script before (Did performer outcome (Ask port way)) → is_accepted outcome ≡ true → (phase : Phase) × (act_phase before ≡ Some phase)
+asks-task script before performer outcome port way next accepted =
+    task-of (act_phase before) (is_some (sequencer_below before performer port)) (option_and_then ask_refusal (driven_at before performer port))
+    (not-refused performer outcome (Ask port way) (fault_if (not (is_open_to (Ask port way) performer)) NotOpen) _ (asked_upshot way (has_candidate (sequences_of before) (driven_at before performer port))) accepted (upshot-next script before performer outcome (Ask port way) next))
+
+-- a driver that is not idle asked in the phase that runs
+abbrev pub IsAsking : List Entry → ℕ → Type 0
+IsAsking history node = (phase : Phase) × (asked_in history node ≡ Some phase) × (running (stage_of history) ≡ Some phase)
+
+abbrev pub AsksWhile : List Entry → ℕ → Type 0
+AsksWhile history node = (stage_of history ≡ Ended → ⊥) → is_idle (driver_state history node) ≡ false → IsAsking history node
+
+busy-sent : (found : Option ℕ) (state : Driver) → is_idle (option_map_or (sent_by state) found state) ≡ false → is_idle state ≡ false
+busy-sent None state e = e
+busy-sent (Some id) driver.Idle e = e
+busy-sent (Some id) (driver.Waiting way) e = refl
+busy-sent (Some id) (driver.Granted other way) e = refl
+busy-sent (Some id) (driver.InHand other) e = refl
+
+busy-left : (found : Option ℕ) (state : Driver) → is_idle (option_map_or (λ id. left_by (grant_of id state) state) found state) ≡ false → is_idle state ≡ false
+busy-left None state e = e
+busy-left (Some id) driver.Idle e = e
+busy-left (Some id) (driver.Waiting way) e = refl
+busy-left (Some id) (driver.Granted other way) e = refl
+busy-left (Some id) (driver.InHand other) e = refl
+
+busy-granted : (here : Bool) (id : ℕ) (state : Driver) → is_idle (if here then granted_by id state else state) ≡ false → is_idle state ≡ false
+busy-granted false id state e = e
+busy-granted true id driver.Idle e = e
+busy-granted true id (driver.Waiting way) e = refl
+busy-granted true id (driver.Granted other way) e = refl
+busy-granted true id (driver.InHand other) e = refl
+
+module _ (keeps : OrderKeepsAll Owner (Option Call)) (excludes : LockExcludes) where
+  asking-ask : (script : ScriptValue) (before : List Entry) (node : ℕ) (performer : Who) (outcome : Outcome) (port : List ℕ) (way : How) (leads : Bool) → EachIsNext script before → IsNext script before (Did performer outcome (Ask port way)) → is_accepted outcome ≡ true
+      → (is_idle (driver_state before node) ≡ false → IsAsking before node) → is_idle (if leads then driver.Waiting way else driver_state before node) ≡ false
+      → (phase : Phase) × (option_and_then (λ asker. asker.phase) (if leads then Some (record { who = performer; name = port; phase = act_phase before }) else driver_asker before node) ≡ Some phase) × (running (stage_of before) ≡ Some phase)
+  asking-ask script before node performer outcome port way true each next accepted was busy =
+      let task = asks-task script before performer outcome port way next accepted in
+      let deed = deed-next script before performer outcome (Ask port way) (next_of script before) refl next in
+      let in_phase = acts_are_in_phase keeps excludes script before (Ask port way) each (is-act performer outcome (Ask port way) (next_of script before) next) deed.left in
+      (task.0, task.1, in_phase.runs task.0 task.1)
+  asking-ask script before node performer outcome port way false each next accepted was busy = was busy
+
+  asking-done : (before : List Entry) (node : ℕ) (leads : Bool) → (is_idle (driver_state before node) ≡ false → IsAsking before node) → is_idle (if leads then driver.Idle else driver_state before node) ≡ false → IsAsking before node
+  asking-done before node true was busy = cc
+  asking-done before node false was busy = was busy
+
+  asking-did : (script : ScriptValue) (before : List Entry) (node : ℕ) (performer : Who) (outcome : Outcome) (act : Act) → EachIsNext script before → IsNext script before (Did performer outcome act) → (is_idle (driver_state before node) ≡ false → IsAsking before node)
+      → is_idle (driver_state (Did performer outcome act ∷ before) node) ≡ false → IsAsking (Did performer outcome act ∷ before) node
+  asking-did script before node performer Done (Ask port way) each next was busy = asking-ask script before node performer Done port way (leads_there node (sequencer_below before performer port)) each next refl was busy
+  asking-did script before node performer (Waits true) (Ask port way) each next was busy = asking-ask script before node performer (Waits true) port way (leads_there node (sequencer_below before performer port)) each next refl was busy
+  asking-did script before node performer (Waits false) (Ask port way) each next was busy = was busy
+  asking-did script before node performer Done (ItemDone port response) each next was busy = asking-done before node (leads_there node (sequencer_below before performer port)) was busy
+  asking-did script before node performer Done (Send item) each next was busy = was (busy-sent (sequence_on node performer) (driver_state before node) busy)
+  asking-did script before node performer Finished act each next was busy = was (busy-left (sequence_on node performer) (driver_state before node) busy)
+  asking-did script before node performer (Waits true) act each next was busy = was busy
+  asking-did script before node performer (Waits false) act each next was busy = was busy
+  asking-did script before node performer outcome act each next was busy = was busy
+
+  asking-more : (script : ScriptValue) (before : List Entry) (entry : Entry) (node : ℕ) → EachIsNext script before → IsNext script before entry → (is_idle (driver_state before node) ≡ false → IsAsking before node) → AsksWhile (entry ∷ before) node
+  asking-more script before (Did performer outcome act) node each next was on busy = asking-did script before node performer outcome act each next was busy
+  asking-more script before (Granted other grant) node each next was on busy = was (busy-granted (other == node) grant.id (driver_state before node) busy)
+  asking-more script before (Begin phase) node each next was on busy = let asks = was busy in absurd (begin-runs script before phase asks.0 next asks.2)
+  asking-more script before (End phase) node each next was on busy = cc
+  asking-more script before (Over reason) node each next was on busy = absurd (on refl)
+  asking-more script before entry node each next was on busy = was busy
+
+  pub asking-of : (script : ScriptValue) (history : List Entry) (node : ℕ) → EachIsNext script history → AsksWhile history node
+  asking-of script [] node each on busy = cc
+  asking-of script (entry ∷ before) node each on busy = asking-more script before entry node each.1 each.0 (asking-of script before node each.1 (none-after script before entry each.0)) on busy

@@ -1,0 +1,40 @@
+use Rattle.std.proofs.Common.{◌≡◌, ◌++◌, ◌∷◌, [], ℕ, Option, Some, None, not, filter, nat_eq, option_and_then, Result, Ok, Err, OnOk, ap, refl, subst, ◌∙◌}
+use Rattle.std.specs.HashMap.{get}
+use Rattle.uvm_phase.specs.Dues.{in_order}
+use Rattle.uvm_sequences.specs.Sequences.{SequencesValue, name_at}
+use Rattle.uvm_object.specs.Acts.{node_of}
+use Rattle.uvm_sequencer.specs.Drivers.{grant_of, is_try}
+use Rattle.bench_history.specs.Dues.{is_of_one}
+use Rattle.world_sequences.specs.Sequencings.{beginning_at}
+use Rattle.world_agenda.specs.Tellings.{is_told, living_numbered}
+use Rattle.world_sequencers.specs.Arbiters.{ArbiterValue}
+use Rattle.world_sequencer_acts.specs.Drivings.{finished_calls, lapsed_calls, lapsed_item}
+use Rattle.world_sequencer_acts.proofs.steps.finish.Goals as goal
+
+on-ok : {T E : Type 0} (result : Result T E) {P Q : Type 0} → (P → Q) → OnOk result P → OnOk result Q
+on-ok (Ok value) f p = f p
+on-ok (Err fault) f p = tt
+
+lapse-known : (id : ℕ) (o : Option ArbiterValue) → lapsed_item (is_try (option_and_then (λ a. grant_of id a.sequencer.driver) o)) (option_and_then (λ a. a.driver) o) ≡ lapsed_calls o id
+lapse-known id None = refl
+lapse-known id (Some a) = refl
+
+pub returns : goal.returns
+returns c =
+    let services = c.args.services.now in
+    let id = c.args.id in
+    let node = c.node-home.result in
+    let lapse : lapsed_item c.leave_at-lapses.result c.driver_at-driver.result ≡ lapsed_calls (get nat_eq services.arbiters node) id =
+        rw (c.leave_at-lapses.ensures.value, c.driver_at-driver.ensures) (lapse-known id (get nat_eq services.arbiters node)) in
+    let calls = c.as_slice.ensures.value ∙ c.in_ok-calls.ensures in
+    let home = c.node-home.ensures in
+    on-ok c.tell_living.result (λ told. record {
+      dues = λ caused are. subst (λ (s : SequencesValue). c.tell_living.new.services.agenda.dues ≡ in_order (living_numbered (is_told s.steps) services.time c.args.place 0
+          (finished_calls (beginning_at services.beginnings.items id) (name_at s.started id) id ++ lapsed_calls (get nat_eq services.arbiters (node_of services.answer.speaker)) id)
+          ++ filter (λ event. not (is_of_one (services.answer.speaker ∷ []) event.owner)) caused)) c.finish.ensures
+          (rw (calls, lapse, home) at (told (filter (λ event. not (is_of_one (services.answer.speaker ∷ []) event.owner)) caused) (c.cancel.ensures caused are)));
+      arbiters = rw c.tell_living.ensures.rest (rw home at c.leave_at-lapses.ensures.after);
+      rest = rw (c.tell_living.ensures.rest, c.finish.ensures) refl;
+      node = rw c.tell_living.ensures.rest (c.learn.ensures.node ∙ ap (λ (n : ℕ). Some n) home);
+      learns = rw (c.tell_living.ensures.rest, ← home) c.learn.ensures.known;
+    }) c.tell_living.ensures.dues

@@ -39,7 +39,7 @@ pub fn one_item_out()
     legal_logs::one_item_out();
 }
 
-/// Says that a call with a cause that is heard, and a drain that ends, does so at exactly the time that its cause gave it, and that time passes
+/// Says that a call with an origin that is heard, and a drain that ends, does so at exactly the time that its cause gave it, and that time passes
 /// over nothing that is due. What is due when its phase or its sequence ends is never heard.
 pub fn on_time()
     ensures { OnTime }

@@ -56,7 +56,7 @@ use Rattle.bench_history.proofs.Expected.{GoesOn, IsGoing, going-did, IsStartedB
 
 module _ (keeps : OrderKeepsAll Owner (Option Call)) (excludes : LockExcludes) where
   speaking-more : (script : ScriptValue) (before : List Entry) (entry : Entry) → Known script before → IsNext script before entry → GoesOn (entry ∷ before) → Speaking script (entry ∷ before)
-  speaking-more script before (Heard performer call cause acts) known next on = Speaks (speaker-stays script before (Heard performer call cause acts) (phase_heard call cause) performer next on refl refl (heard-one keeps script before performer call cause acts known next).0)
+  speaking-more script before (Heard performer call origin acts) known next on = Speaks (speaker-stays script before (Heard performer call origin acts) (phase_heard call origin) performer next on refl refl (heard-one keeps script before performer call origin acts known next).0)
   speaking-more script before (Did performer outcome act) known next on = speaking-did script before performer outcome act next on known.speaker
   speaking-more script before (Begin phase) known next on = NoneLeft (begin-left script before phase next)
   speaking-more script before (End phase) known next on = NoneLeft (end-left script before phase next)
@@ -198,18 +198,18 @@ module _ (keeps : OrderKeepsAll Owner (Option Call)) (excludes : LockExcludes) w
   known-more : (script : ScriptValue) (before : List Entry) (entry : Entry) → Known script before → IsNext script before entry → GoesOn (entry ∷ before) → Known script (entry ∷ before)
   known-more script before (Did performer outcome act) known next on = known-did script before performer outcome act known next on
   known-more script before (Passed fifo passage) known next on = known-passed script before fifo passage known next on
-  known-more script before (Drained node cause) known next on = record {
-    owners = with-drains-call (Drained node cause ∷ before) (Some cause.phase) (caused_at (length before)) (objections_of before) (objections_of (Drained node cause ∷ before)) (caused_of before) (owners-more script before (Drained node cause) next on known);
-    acting = acting-more script before (Drained node cause) (act_phase before) next on known.acting;
+  known-more script before (Drained node origin) known next on = record {
+    owners = with-drains-call (Drained node origin ∷ before) (Some origin.phase) (caused_at (length before)) (objections_of before) (objections_of (Drained node origin ∷ before)) (caused_of before) (owners-more script before (Drained node origin) next on known);
+    acting = acting-more script before (Drained node origin) (act_phase before) next on known.acting;
     going = known.going;
-    starters = starters-more script before (Drained node cause) next on known;
-    speaker = speaking-on script before (Drained node cause) next on refl refl refl refl refl known.speaker;
-    putters = λ fifo. one-more script before (Drained node cause) (puts_asked before fifo) next on (known.putters fifo);
-    takers = λ fifo. one-more script before (Drained node cause) (takes_asked before fifo) next on (known.takers fifo);
+    starters = starters-more script before (Drained node origin) next on known;
+    speaker = speaking-on script before (Drained node origin) next on refl refl refl refl refl known.speaker;
+    putters = λ fifo. one-more script before (Drained node origin) (puts_asked before fifo) next on (known.putters fifo);
+    takers = λ fifo. one-more script before (Drained node origin) (takes_asked before fifo) next on (known.takers fifo);
     imps = known.imps;
-    wanting = λ at. wanting-more script before (Drained node cause) at (all_wanted before at) next on (known.wanting at);
-    served = λ at id e. requester-more script before (Drained node cause) at id next on (known.served at id e);
-    askers = λ at. asker-more script before (Drained node cause) (driver_asker before at) next on (known.askers at);
+    wanting = λ at. wanting-more script before (Drained node origin) at (all_wanted before at) next on (known.wanting at);
+    served = λ at id e. requester-more script before (Drained node origin) at id next on (known.served at id e);
+    askers = λ at. asker-more script before (Drained node origin) (driver_asker before at) next on (known.askers at);
   }
   known-more script before (Over reason) known next on = absurd (on refl)
   known-more script before (Locked node id) known next on = known-locked script before node id known next on
@@ -240,11 +240,11 @@ module _ (keeps : OrderKeepsAll Owner (Option Call)) (excludes : LockExcludes) w
     served = λ node id e. absurd cc;
     askers = λ node. asker-more script before (End phase) (driver_asker before node) next on (known.askers node);
   }
-  known-more script before (Heard performer call cause acts) known next on =
-      let entry = Heard performer call cause acts in
+  known-more script before (Heard performer call origin acts) known next on =
+      let entry = Heard performer call origin acts in
       record {
-        acting = acting-more script before entry (phase_heard call cause) next on (λ p is. Runs ((heard-one keeps script before performer call cause acts known next).1 p is));
-        going = inr (heard-one keeps script before performer call cause acts known next).1;
+        acting = acting-more script before entry (phase_heard call origin) next on (λ p is. Runs ((heard-one keeps script before performer call origin acts known next).1 p is));
+        going = inr (heard-one keeps script before performer call origin acts known next).1;
         owners = owners-more script before entry next on known;
         starters = starters-more script before entry next on known;
         speaker = speaking-more script before entry known next on;
@@ -339,12 +339,12 @@ module _ (keeps : OrderKeepsAll Owner (Option Call)) (excludes : LockExcludes) w
   acting-stands script history each on = (known-of script history each on).acting
 
   -- who is asked is there
-  asked-speaks : (script : ScriptValue) (history : List Entry) (performer : Who) (call : Call) (cause : Option Origin) → EachIsNext script history → next_of script history ≡ Answer performer call cause → IsSpeaker history (phase_heard call cause) performer
-  asked-speaks script history performer call cause each e =
-      (asks-one keeps script history performer call cause (known-of script history each (λ ended. let none : Nothing ≡ Answer performer call cause = sym (nothing-comes script history ended) ∙ e in cc)) e).0
+  asked-speaks : (script : ScriptValue) (history : List Entry) (performer : Who) (call : Call) (origin : Option Origin) → EachIsNext script history → next_of script history ≡ Answer performer call origin → IsSpeaker history (phase_heard call origin) performer
+  asked-speaks script history performer call origin each e =
+      (asks-one keeps script history performer call origin (known-of script history each (λ ended. let none : Nothing ≡ Answer performer call origin = sym (nothing-comes script history ended) ∙ e in cc)) e).0
 
   pub asked_are_there : AskedAreThere
-  asked_are_there script history performer call cause each e = speaker-there history (phase_heard call cause) performer (asked-speaks script history performer call cause each e)
+  asked_are_there script history performer call origin each e = speaker-there history (phase_heard call origin) performer (asked-speaks script history performer call origin each e)
 
   -- so is who performs an act, but the script
   acts-before-end : (script : ScriptValue) (history : List Entry) → IsAct (next_of script history) → GoesOn history
@@ -386,25 +386,25 @@ module _ (keeps : OrderKeepsAll Owner (Option Call)) (excludes : LockExcludes) w
   performers_are_there script history act each is left = performer-there script history act left (known-of script history each (acts-before-end script history is)).speaker
 
   -- an answer of another is not the node's
-  apart : (performer : Who) (node : ℕ) (call : Call) (cause : Option Origin) (acts : List Act) → node_of performer < node → exchanged_in (Node node) (Heard performer call cause acts) ≡ []
-  apart (Node other) node call cause acts lt =
+  apart : (performer : Who) (node : ℕ) (call : Call) (origin : Option Origin) (acts : List Act) → node_of performer < node → exchanged_in (Node node) (Heard performer call origin acts) ≡ []
+  apart (Node other) node call origin acts lt =
       let differs : (other == node) ≡ false = grind (arith, nat_tests) in
       rw differs refl
-  apart (Sequence id home) node call cause acts lt = refl
+  apart (Sequence id home) node call origin acts lt = refl
 
   -- who has an answer had spoken
-  answered : (script : ScriptValue) (before : List Entry) (performer : Who) (call : Call) (cause : Option Origin) (acts : List Act) → EachIsNext script before → IsNext script before (Heard performer call cause acts) → IsSpeaker before (phase_heard call cause) performer
-  answered script before performer call cause acts each next = (heard-one keeps script before performer call cause acts (known-of script before each (went-on script before (Heard performer call cause acts) next)) next).0
+  answered : (script : ScriptValue) (before : List Entry) (performer : Who) (call : Call) (origin : Option Origin) (acts : List Act) → EachIsNext script before → IsNext script before (Heard performer call origin acts) → IsSpeaker before (phase_heard call origin) performer
+  answered script before performer call origin acts each next = (heard-one keeps script before performer call origin acts (known-of script before each (went-on script before (Heard performer call origin acts) next)) next).0
 
-  unasked-node : (script : ScriptValue) (before : List Entry) (node : ℕ) (performer : Who) (call : Call) (cause : Option Origin) (acts : List Act) → EachIsNext script before → IsSpeaker before (phase_heard call cause) performer → length (nodes_of before) ≤ node → exchanged_in (Node node) (Heard performer call cause acts) ≡ []
-  unasked-node script before node (Node other) call cause acts each has le =
+  unasked-node : (script : ScriptValue) (before : List Entry) (node : ℕ) (performer : Who) (call : Call) (origin : Option Origin) (acts : List Act) → EachIsNext script before → IsSpeaker before (phase_heard call origin) performer → length (nodes_of before) ≤ node → exchanged_in (Node node) (Heard performer call origin acts) ≡ []
+  unasked-node script before node (Node other) call origin acts each has le =
       let lt : other < length (nodes_of before) = All-contains (λ other. other < length (nodes_of before)) (components_of before) other (components_are_nodes script before each) has in
-      apart (Node other) node call cause acts (omega (arith, lt, le))
-  unasked-node script before node (Sequence id home) call cause acts each speaks le = refl
+      apart (Node other) node call origin acts (omega (arith, lt, le))
+  unasked-node script before node (Sequence id home) call origin acts each speaks le = refl
 
   -- an entry that is next asks no node behind those of the tree
   unasked-in : (script : ScriptValue) (before : List Entry) (node : ℕ) (entry : Entry) → EachIsNext script before → IsNext script before entry → length (nodes_of before) ≤ node → exchanged_in (Node node) entry ≡ []
-  unasked-in script before node (Heard performer call cause acts) each next le = unasked-node script before node performer call cause acts each (answered script before performer call cause acts each next) le
+  unasked-in script before node (Heard performer call origin acts) each next le = unasked-node script before node performer call origin acts each (answered script before performer call origin acts each next) le
   unasked-in script before node entry each next le = refl
 
   -- behind the nodes of the tree nobody was asked
@@ -416,15 +416,15 @@ module _ (keeps : OrderKeepsAll Owner (Option Call)) (excludes : LockExcludes) w
       rw (unasked-in script before node entry each.1 each.0 fewer) (new_nodes_are_unasked script before node each.1 fewer)
 
   -- nor behind the sequences that were started
-  unasked-sequence : (before : List Entry) (id home : ℕ) (performer : Who) (call : Call) (cause : Option Origin) (acts : List Act) → IsSpeaker before (phase_heard call cause) performer → length (begun_of before) < id → exchanged_in (Sequence id home) (Heard performer call cause acts) ≡ []
-  unasked-sequence before id home (Node node) call cause acts has lt = refl
-  unasked-sequence before id home (Sequence other at) call cause acts speaks lt =
+  unasked-sequence : (before : List Entry) (id home : ℕ) (performer : Who) (call : Call) (origin : Option Origin) (acts : List Act) → IsSpeaker before (phase_heard call origin) performer → length (begun_of before) < id → exchanged_in (Sequence id home) (Heard performer call origin acts) ≡ []
+  unasked-sequence before id home (Node node) call origin acts has lt = refl
+  unasked-sequence before id home (Sequence other at) call origin acts speaks lt =
       let low = numbered-within (begun_of before) other speaks.sequence.beginning speaks.sequence.begun in
       let differs : (other == id) ≡ false = grind (arith, nat_tests, low, lt) in
       rw differs refl
 
   unstarted-in : (script : ScriptValue) (before : List Entry) (id home : ℕ) (entry : Entry) → EachIsNext script before → IsNext script before entry → length (begun_of before) < id → exchanged_in (Sequence id home) entry ≡ []
-  unstarted-in script before id home (Heard performer call cause acts) each next lt = unasked-sequence before id home performer call cause acts (answered script before performer call cause acts each next) lt
+  unstarted-in script before id home (Heard performer call origin acts) each next lt = unasked-sequence before id home performer call origin acts (answered script before performer call origin acts each next) lt
   unstarted-in script before id home entry each next lt = refl
 
   pub new_sequences_are_unasked : NewSequencesAreUnasked

@@ -88,7 +88,7 @@ below-need before need other performer act has below = absurd has
 -- and so does each entry that is next
 below-next : (script : ScriptValue) (before : List Entry) (entry : Entry) (next : Next) → next_of script before ≡ next → Allows next entry → All (λ node. node < length (nodes_of before)) (components_of before) → All (λ node. node < length (nodes_of (entry ∷ before))) (components_of (entry ∷ before))
 below-next script before entry (Exactly expected) is allows below = below-same entry before (exact-keeps-components script before entry (is ∙ ap Exactly (sym allows))) below
-below-next script before entry (Answer performer call cause) is allows below = below-same entry before (ap (λ (e : Entry). components_of (e ∷ before)) allows.1) below
+below-next script before entry (Answer performer call origin) is allows below = below-same entry before (ap (λ (e : Entry). components_of (e ∷ before)) allows.1) below
 below-next script before entry (Need need made performer act) is (inl e) below = subst (λ (one : Entry). All (λ node. node < length (nodes_of (one ∷ before))) (components_of (one ∷ before))) (sym e) (below-need before need made performer act (made_objects_are_new script before need made performer act is) below)
 below-next script before entry (Need need made performer act) is (inr declined) below = below-same entry before (ap (λ (e : Entry). components_of (e ∷ before)) declined) below
 below-next script before entry (Grant sequencer drawn chosen) is allows below = below-same entry before (ap (λ (e : Entry). components_of (e ∷ before)) allows.3) below
@@ -250,7 +250,7 @@ granted-served before node at id other s known e = tested (node == at) refl e
 -- a lock that is granted leads, and an item goes to who is chosen
 pub lock-alone : (node id : ℕ) (next : Next) → Allows next (Locked node id) → next ≡ Exactly (Locked node id)
 lock-alone node id (Exactly entry) allows = rw allows refl
-lock-alone node id (Answer performer call cause) allows = let other = allows.1 in cc
+lock-alone node id (Answer performer call origin) allows = let other = allows.1 in cc
 lock-alone node id (Need need made performer act) (inl e) = cc
 lock-alone node id (Need need made performer act) (inr declined) = cc
 lock-alone node id (Grant sequencer drawn chosen) allows = let e : Locked node id ≡ Granted sequencer allows.0 = allows.3 in cc
@@ -281,7 +281,7 @@ grant-case script history node grant next (ByGrant sequencer drawn served e) = s
 
 grant-by : (history : List Entry) (node : ℕ) (grant : entries.Grant) (next : Next) → GrantsIn history node grant next → Allows next (Granted node grant) → chosen_at history node grant.word ≡ Some grant.id
 grant-by history node grant (Exactly entry) in_it allows = absurd (in_it allows)
-grant-by history node grant (Answer performer call cause) in_it allows = let e : Granted node grant ≡ Heard performer call cause allows.0 = allows.1 in cc
+grant-by history node grant (Answer performer call origin) in_it allows = let e : Granted node grant ≡ Heard performer call origin allows.0 = allows.1 in cc
 grant-by history node grant (Need need made performer act) in_it (inl e) = cc
 grant-by history node grant (Need need made performer act) in_it (inr e) = cc
 grant-by history node grant (Grant sequencer drawn chosen) in_it allows =
@@ -308,7 +308,7 @@ lives_of history id found = option_map_or (lives history id) found false
 
 -- who is asked may act
 abbrev AsksOne : List Entry → Next → Type 0
-AsksOne history (Answer performer call cause) = IsSpeaker history (phase_heard call cause) performer × IsGoing history (phase_heard call cause)
+AsksOne history (Answer performer call origin) = IsSpeaker history (phase_heard call origin) performer × IsGoing history (phase_heard call origin)
 AsksOne history next = Unit {0}
 
 -- the node whose turn has come is a component
@@ -405,22 +405,22 @@ module _ (keeps : OrderKeepsAll Owner (Option Call)) where
   asks-case script history next known (ByGrant sequencer drawn served e) = subst (AsksOne history) (sym e) tt
 
   -- so that an answer is of one who may act
-  pub asks-one : (script : ScriptValue) (history : List Entry) (performer : Who) (call : Call) (cause : Option Origin) → Known script history → next_of script history ≡ Answer performer call cause → IsSpeaker history (phase_heard call cause) performer × IsGoing history (phase_heard call cause)
-  asks-one script history performer call cause known e = subst (AsksOne history) e (asks-case script history _ known (case-of script history))
+  pub asks-one : (script : ScriptValue) (history : List Entry) (performer : Who) (call : Call) (origin : Option Origin) → Known script history → next_of script history ≡ Answer performer call origin → IsSpeaker history (phase_heard call origin) performer × IsGoing history (phase_heard call origin)
+  asks-one script history performer call origin known e = subst (AsksOne history) e (asks-case script history _ known (case-of script history))
 
   -- an answer was asked for
-  heard-asked : (performer : Who) (call : Call) (cause : Option Origin) (acts : List Act) (next : Next) → IsPlainNext next → Allows next (Heard performer call cause acts) → next ≡ Answer performer call cause
-  heard-asked performer call cause acts (Exactly entry) plain allows = absurd (subst IsPlain (sym allows) plain)
-  heard-asked performer call cause acts (Answer other asked why) plain allows = let same : Heard performer call cause acts ≡ Heard other asked why allows.0 = allows.1 in cc
-  heard-asked performer call cause acts (Need need made other act) plain (inl is) = cc
-  heard-asked performer call cause acts (Need need made other act) plain (inr declined) = cc
-  heard-asked performer call cause acts (Grant sequencer drawn chosen) plain allows = let e : Heard performer call cause acts ≡ Granted sequencer allows.0 = allows.3 in cc
-  heard-asked performer call cause acts Nothing plain allows = absurd allows
+  heard-asked : (performer : Who) (call : Call) (origin : Option Origin) (acts : List Act) (next : Next) → IsPlainNext next → Allows next (Heard performer call origin acts) → next ≡ Answer performer call origin
+  heard-asked performer call origin acts (Exactly entry) plain allows = absurd (subst IsPlain (sym allows) plain)
+  heard-asked performer call origin acts (Answer other asked why) plain allows = let same : Heard performer call origin acts ≡ Heard other asked why allows.0 = allows.1 in cc
+  heard-asked performer call origin acts (Need need made other act) plain (inl is) = cc
+  heard-asked performer call origin acts (Need need made other act) plain (inr declined) = cc
+  heard-asked performer call origin acts (Grant sequencer drawn chosen) plain allows = let e : Heard performer call origin acts ≡ Granted sequencer allows.0 = allows.3 in cc
+  heard-asked performer call origin acts Nothing plain allows = absurd allows
 
   -- and who was heard may act
-  pub heard-one : (script : ScriptValue) (before : List Entry) (performer : Who) (call : Call) (cause : Option Origin) (acts : List Act) → Known script before → IsNext script before (Heard performer call cause acts) → IsSpeaker before (phase_heard call cause) performer × IsGoing before (phase_heard call cause)
-  heard-one script before performer call cause acts known next =
-      asks-one script before performer call cause known (heard-asked performer call cause acts (next_of script before) (plain-next script before) next)
+  pub heard-one : (script : ScriptValue) (before : List Entry) (performer : Who) (call : Call) (origin : Option Origin) (acts : List Act) → Known script before → IsNext script before (Heard performer call origin acts) → IsSpeaker before (phase_heard call origin) performer × IsGoing before (phase_heard call origin)
+  heard-one script before performer call origin acts known next =
+      asks-one script before performer call origin known (heard-asked performer call origin acts (next_of script before) (plain-next script before) next)
 
 -- what is caused is told to who is expected in the phase
 one-owner : (history : List Entry) (phase : Option Phase) (time : ℕ) (cause : Cause) (owner : Owner) (notice : Option Call) → ((p : Phase) → phase ≡ Some p → OnSome notice (IsExpected history p (who_of owner))) → All (IsCallTo history) (event_in phase time cause owner notice)
@@ -694,7 +694,7 @@ imps-more script before performer outcome act owned who closed node is = by (imp
 -- what passes comes alone
 pub passed-alone : (fifo : ℕ) (passage : Passage) (next : Next) → Allows next (Passed fifo passage) → next ≡ Exactly (Passed fifo passage)
 passed-alone fifo passage (Exactly entry) allows = rw allows refl
-passed-alone fifo passage (Answer performer call cause) allows = let other = allows.1 in cc
+passed-alone fifo passage (Answer performer call origin) allows = let other = allows.1 in cc
 passed-alone fifo passage (Need need made performer act) (inl e) = cc
 passed-alone fifo passage (Need need made performer act) (inr declined) = cc
 passed-alone fifo passage (Grant sequencer drawn chosen) allows = let e : Passed fifo passage ≡ Granted sequencer allows.0 = allows.3 in cc

@@ -101,7 +101,7 @@ IsThere history (who.Sequence id home) = IsLiving history id home
 
 -- whoever is asked is there
 abbrev pub AskedAreThere : Type 0
-AskedAreThere = (script : ScriptValue) (history : List Entry) (hearer : Who) (call : Call) (cause : Option Origin) → EachIsNext script history → next_of script history ≡ Answer hearer call cause → IsThere history hearer
+AskedAreThere = (script : ScriptValue) (history : List Entry) (hearer : Who) (call : Call) (origin : Option Origin) → EachIsNext script history → next_of script history ≡ Answer hearer call origin → IsThere history hearer
 
 -- so is whoever performs an act, but the script, which has the first act of all
 abbrev pub PerformersAreThere : Type 0
@@ -142,7 +142,7 @@ pub record IsDrainDue (history : List Entry) (node : ℕ) (origin : Origin) : Ty
   pub stands : node_of hearer ≡ node
   pub due : IsDue history hearer None origin
 
--- it is the turn of whoever is called without a cause, in the phase that runs
+-- it is the turn of whoever is called without an origin, in the phase that runs
 pub record HasTurn (history : List Entry) (hearer : Who) : Type 0 where
   pub phase : Phase
   pub runs : stage_of history ≡ During phase
@@ -151,7 +151,7 @@ pub record HasTurn (history : List Entry) (hearer : Who) : Type 0 where
 abbrev pub CallsGoInTurn : Type 0
 CallsGoInTurn = (script : ScriptValue) (history : List Entry) (hearer : Who) (call : Call) → next_of script history ≡ Answer hearer call None → HasTurn history hearer
 
--- a call with a cause happens so, and the end of a drain
+-- a call with an origin happens so, and the end of a drain
 abbrev pub DueCallsGoInOrder : Type 0
 DueCallsGoInOrder = (script : ScriptValue) (history : List Entry) (hearer : Who) (call : Call) (origin : Origin) → next_of script history ≡ Answer hearer call (Some origin) → IsDue history hearer (Some call) origin
 

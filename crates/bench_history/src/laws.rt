@@ -66,13 +66,13 @@ pub fn homes_are_nodes()
     sequencers::lock_excludes();
 }
 
-/// A call without a cause is that of the phase which runs, to the node whose turn it is.
+/// A call without an origin is that of the phase which runs, to the node whose turn it is.
 #[tactic(auto, using(crate::proofs::Performed::calls_go_in_turn))]
 pub fn calls_go_in_turn()
     ensures { CallsGoInTurn }
 {}
 
-/// A call that has a cause is that of the event which is due first, now, and its owner's.
+/// A call that has an origin is that of the event which is due first, now, and its owner's.
 #[tactic(auto, using(crate::proofs::Performed::due_calls_go_in_order))]
 pub fn due_calls_go_in_order()
     ensures { DueCallsGoInOrder }

@@ -47,7 +47,7 @@ pub fn quiet_end()
     objections::total_is_sum();
 }
 
-/// A call with a cause that is heard, and a drain that ends, does so at exactly the time that its cause gave it; and time passes over
+/// A call with an origin that is heard, and a drain that ends, does so at exactly the time that its cause gave it; and time passes over
 /// nothing that is due.
 pub fn on_time()
     ensures { OnTime }

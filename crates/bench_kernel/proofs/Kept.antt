@@ -24,8 +24,8 @@ use Rattle.bench_history.specs.Sequences.{begun_of, leaving_of}
 use Rattle.bench_history.specs.declared.needs.Need.{Need}
 use Rattle.bench_history.specs.Cases as next
 use Rattle.bench_history.specs.Next as coming
-use Rattle.bench_history.specs.Cases.{Next, Exactly, Answer}
-use Rattle.bench_history.specs.Next.{next_of, EachIsNext, IsNext}
+use Rattle.bench_history.specs.Cases.{Next, Answer}
+use Rattle.bench_history.specs.Next.{next_of, IsNext}
 use Rattle.bench_history.specs.Laws.{IsLiving, IsMachines, IsSomething, IsThere, NothingAfterOver}
 use Rattle.bench_world.specs.Worlds.{made_who}
 use Rattle.bench_core.specs.Cores.{CoreValue, Nothing, Needed, core_after}

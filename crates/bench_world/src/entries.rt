@@ -1,6 +1,6 @@
 //! The entries of a log that are no act's: one call for each kind.
 
-ghost use Rattle.std.specs.Prelude.{◌≡◌, ◌∷◌, ◌<◌, length, true, OnOk, OnErr, IsOk, None, Some};
+ghost use Rattle.std.specs.Prelude.{◌≡◌, ◌∷◌, ◌<◌, true, OnOk, OnErr, None, Some};
 ghost use Rattle.uvm_object.specs.declared.entries.Entry.TheVariants.{Begin, End, Time, Heard, Locked, Passed, Drained, Note, Over};
 ghost use Rattle.bench_history.specs.History.{next_call};
 ghost use Rattle.bench_history.specs.Reports.{noted_end, reason_of};

@@ -1,7 +1,6 @@
 -- What the definitions say, in other words.
-use Rattle.std.specs.Prelude.{◌≡◌, ◌+◌, ◌<◌, ◌≤◌, ◌==◌, ◌&&◌, ℕ, Bool, true, IsTrue, nat_le, List, [], ◌∷◌, ◌++◌, length, filter, sum_by, All, Contains, Option, Some, None, IsSome, option_map, if◌then◌else◌}
+use Rattle.std.specs.Prelude.{◌≡◌, ◌+◌, ◌<◌, ◌≤◌, ◌==◌, ◌&&◌, ℕ, Bool, true, IsTrue, nat_le, List, [], ◌∷◌, ◌++◌, length, filter, sum_by, All, Contains, Option, Some, None, IsSome, if◌then◌else◌}
 use Rattle.std.specs.List.{list_all}
-use Rattle.std.specs.Option.{option_map_or}
 use Rattle.uvm_sequencer.specs.declared.modes.Mode.{Mode}
 use Rattle.uvm_sequencer.specs.declared.modes.Mode.TheVariants.{Fifo, StrictFifo}
 use Rattle.uvm_sequencer.specs.declared.requests.Request.{Request}

@@ -1,6 +1,11 @@
 -- Filters and parts of lists.
-use Rattle.std.proofs.Common.{◌≡◌, ℕ, suc, Bool, true, false, not, ◌&&◌, ◌||◌, List, [], ◌∷◌, ◌++◌, drop, filter, slice_get, Some, All, refl, ap, subst, arith, if◌then◌else◌, ◌≤◌, ◌+◌, length, map, zero, take}
-use Rattle.std.proofs.lemmas.List.Elements.{All-head, All-tail}
+use Rattle.std.proofs.Common.{◌≡◌, ℕ, nat_eq, Contains, Option, None, suc, Bool, true, false, not, ◌&&◌, ◌||◌, List, [], ◌∷◌, ◌++◌, drop, filter, slice_get, Some, All, refl, ap, subst, arith, if◌then◌else◌, ◌≤◌, ◌+◌, length, map, zero, take}
+use Rattle.std.specs.List.{IsDistinct, AllByRecursion}
+use Rattle.std.proofs.lemmas.Bool.Decides.{nat_tests}
+use Rattle.std.proofs.lemmas.List.Elements.{All-cons, All-head, All-nil, All-tail}
+use Rattle.std.proofs.lemmas.Map.Keys.{IsDistinct-head, IsDistinct-tail}
+use Rattle.std.proofs.lemmas.Map.Made.{Contains-tail}
+use Rattle.uvm_glob.specs.Lists.{first_given}
 
 -- a filter by two tests is one filter after the other
 filter-tested : {A : Type 0} (p : A → Bool) (x : A) (rest known : List A) (b : Bool) → rest ≡ filter p known → (if b && p x then x ∷ rest else rest) ≡ filter p (if b then x ∷ known else known)
@@ -85,3 +90,43 @@ drop-past [] zero le = refl
 drop-past [] (suc n) le = refl
 drop-past (x ∷ xs) zero le = absurd (omega (arith, le))
 drop-past (x ∷ xs) (suc n) le = drop-past xs n (omega (arith, le))
+
+-- one number among distinct ones
+others-none : (n : ℕ) (xs : List ℕ) → AllByRecursion (λ m. nat_eq n m ≡ false) xs → filter (nat_eq n) xs ≡ []
+others-none n [] others = refl
+others-none n (m ∷ xs) others = rw (others.0, others-none n xs others.1) refl
+
+one-tested :
+    (n x : ℕ) (xs : List ℕ) (b : Bool) → nat_eq n x ≡ b → AllByRecursion (λ m. nat_eq x m ≡ false) xs → Contains (x ∷ xs) n → (Contains xs n → filter (nat_eq n) xs ≡ n ∷ [])
+    → (if b then x ∷ filter (nat_eq n) xs else filter (nat_eq n) xs) ≡ n ∷ []
+one-tested n x xs true e others has rest =
+    let same : x ≡ n = grind (arith, nat_tests) in
+    let none : AllByRecursion (λ m. nat_eq n m ≡ false) xs = subst (λ (y : ℕ). AllByRecursion (λ m. nat_eq y m ≡ false) xs) same others in
+    rw (others-none n xs none, same) refl
+one-tested n x xs false e others has rest = rest (Contains-tail x xs n (λ same. grind (arith, nat_tests)) has)
+
+pub filter-one : (n : ℕ) (xs : List ℕ) → IsDistinct nat_eq xs → Contains xs n → filter (nat_eq n) xs ≡ n ∷ []
+filter-one n [] apart has = absurd (omega (arith, has.1))
+filter-one n (x ∷ xs) apart has = one-tested n x xs (nat_eq n x) refl (IsDistinct-head nat_eq x xs apart) has (filter-one n xs (IsDistinct-tail nat_eq x xs apart))
+
+-- where nothing is given first, nothing is given of any
+pub first-none : {A : Type 0} (f : ℕ → Option A) (xs : List ℕ) → first_given (map f xs) ≡ None → All (λ x. f x ≡ None) xs
+first-none f [] none = All-nil (λ x. f x ≡ None)
+first-none {A = A} f (x ∷ xs) none = headed (f x) refl none (first-none f xs)
+  where
+    headed : (given : Option A) → f x ≡ given → first_given (given ∷ map f xs) ≡ None → (first_given (map f xs) ≡ None → All (λ x. f x ≡ None) xs) → All (λ x. f x ≡ None) (x ∷ xs)
+    headed None is none behind = All-cons (λ x. f x ≡ None) x xs is (behind none)
+    headed (Some a) is none behind = cc
+
+-- of those that are kept the first of which something is given is the first of all, where nothing is given of the others
+pub first-kept : {A : Type 0} (f : ℕ → Option A) (among : ℕ → Bool) (order : List ℕ) → ((n : ℕ) → among n ≡ false → f n ≡ None) → first_given (map f (filter among order)) ≡ first_given (map f order)
+first-kept f among [] others = refl
+first-kept {A = A} f among (x ∷ order) others = tested (among x) refl (first-kept f among order others)
+  where
+    behind : (given : Option A) → first_given (map f (filter among order)) ≡ first_given (map f order) → first_given (given ∷ map f (filter among order)) ≡ first_given (given ∷ map f order)
+    behind None rest = rest
+    behind (Some a) rest = refl
+
+    tested : (b : Bool) → among x ≡ b → first_given (map f (filter among order)) ≡ first_given (map f order) → first_given (map f (if b then x ∷ filter among order else filter among order)) ≡ first_given (f x ∷ map f order)
+    tested true is rest = behind (f x) rest
+    tested false is rest = rw (others x is) rest

@@ -1,7 +1,6 @@
 -- Who is told of what is due.
 use Rattle.std.specs.Prelude.{ℕ, suc, Bool, true, is_some, List, [], ◌∷◌, ◌++◌, Option, Some, if◌then◌else◌}
 use Rattle.uvm_object.specs.declared.acts.Who.{Who}
-use Rattle.uvm_object.specs.declared.acts.Call.{Call}
 use Rattle.bench_history.specs.declared.owners.Owner.TheVariants.{Object}
 use Rattle.bench_history.specs.declared.owners.Told.{Told}
 use Rattle.bench_history.specs.Dues.{event_in}

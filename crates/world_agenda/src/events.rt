@@ -1,6 +1,6 @@
 //! The events that are due: calls that entries cause, and the ends of drains.
 
-ghost use Rattle.std.specs.Prelude.{◌≡◌, ◌++◌, ℕ, List, not, filter, OnOk, ◌∷◌, [], true, ◌<◌, ◌≤◌, IsOk, Some};
+ghost use Rattle.std.specs.Prelude.{◌≡◌, ◌++◌, List, not, filter, OnOk, ◌∷◌, [], true, ◌<◌, ◌≤◌, IsOk, Some};
 ghost use Rattle.std.specs.Option.{option_to_list};
 ghost use Rattle.uvm_phase.specs.Dues.{in_order};
 ghost use Rattle.bench_history.specs.Dues.{caused_at, is_of_one, event_in, calls_numbered};

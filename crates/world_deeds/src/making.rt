@@ -127,7 +127,7 @@ fn grow(services: &mut Services, act: &Act) -> NodeId
     services.reporting.newest = None;
     // Nothing passes and nothing is granted anywhere.
     services.unsettled.clear();
-    services.contest.node = None;
+    services.contest.close();
     node
 }
 

@@ -1,7 +1,8 @@
 -- A lock that is granted, and an item.
-use Rattle.std.proofs.Common.{◌≡◌, ℕ, suc, ◌==◌, nat_eq, Bool, true, false, List, ◌∷◌, length, Option, Some, None, IsSome, option_map, option_and_then, refl, ap, sym, ◌∙◌, subst, arith}
+use Rattle.std.proofs.Common.{◌≡◌, ℕ, suc, ◌==◌, nat_eq, Bool, true, false, List, [], ◌∷◌, length, map, Option, Some, None, IsSome, option_map, option_and_then, refl, ap, sym, ◌∙◌, subst, arith}
 use Rattle.std.specs.HashMap.{get}
 use Rattle.std.proofs.lemmas.Bool.Decides.{nat_tests}
+use Rattle.uvm_glob.specs.Lists.{first_given}
 use Rattle.uvm_sequencer.specs.declared.modes.Mode.{Mode}
 use Rattle.uvm_sequencer.specs.Sequencers.{choice_at, granted, locked}
 use Rattle.uvm_object.specs.declared.entries.Grant.{Grant}
@@ -27,25 +28,34 @@ use Rattle.world_sequencers.proofs.Arbited.{arbitrated-granted, arbitrated-locke
 use Rattle.world_sequencers.proofs.Contested.{arbitrating-there, changed-each, learns-else, learns-here}
 use Rattle.world_services.proofs.Known.{itself, locked-known, said, served-known}
 
--- what is found first is found at the sequencer that was changed last
-found-there : {A : Type 0} (at : ℕ → Option A) (contested : Option ℕ) (node : ℕ) (a : A) → option_and_then (λ n. option_map {U = ℕ × A} (λ a. (n, a)) (at n)) contested ≡ Some (node, a) → (contested ≡ Some node) × (at node ≡ Some a)
-found-there at None node a e = cc
-found-there {A} at (Some n) node a e = by (at n) refl e
+-- what is found first is found at one of those that are kept
+found-there : {A : Type 0} (at : ℕ → Option A) (kept : List ℕ) (node : ℕ) (a : A) → first_given (map (λ n. option_map {U = ℕ × A} (λ a. (n, a)) (at n)) kept) ≡ Some (node, a) → at node ≡ Some a
+found-there at [] node a e = cc
+found-there {A} at (n ∷ kept) node a e = by (at n) refl e (found-there at kept node a)
   where
-    by : (found : Option A) → at n ≡ found → option_map {U = ℕ × A} (λ a. (n, a)) found ≡ Some (node, a) → (Some n ≡ Some node) × (at node ≡ Some a)
-    by None is e = cc
-    by (Some other) is e =
+    by : (found : Option A) → at n ≡ found → first_given (option_map {U = ℕ × A} (λ a. (n, a)) found ∷ map (λ n. option_map {U = ℕ × A} (λ a. (n, a)) (at n)) kept) ≡ Some (node, a)
+        → (first_given (map (λ n. option_map {U = ℕ × A} (λ a. (n, a)) (at n)) kept) ≡ Some (node, a) → at node ≡ Some a) → at node ≡ Some a
+    by None is e behind = behind e
+    by (Some other) is e behind =
         let pair : (n, other) ≡ (node, a) = cc in
         let first : n ≡ node = ap (λ (p : ℕ × A). p.0) pair in
         let second : other ≡ a = ap (λ (p : ℕ × A). p.1) pair in
-        (ap (λ (k : ℕ). Some k) first, subst (λ (k : ℕ). at k ≡ Some a) first (is ∙ ap (λ (x : A). Some x) second))
+        subst (λ (k : ℕ). at k ≡ Some a) first (is ∙ ap (λ (x : A). Some x) second)
+
+-- and so this is one of them
+kept-there : {A : Type 0} (at : ℕ → Option A) (among : ℕ → Bool) (node : ℕ) (a : A) → ((n : ℕ) → among n ≡ false → at n ≡ None) → at node ≡ Some a → among node ≡ true
+kept-there at among node a others found = by (among node) refl
+  where
+    by : (b : Bool) → among node ≡ b → among node ≡ true
+    by true is = is
+    by false is = let clash : Some a ≡ None = sym found ∙ others node is in cc
 
 module _ {script : ScriptValue} {history : List Entry} {services : Services} (m : ServicesMatch script history services) where
-  pub led-there : (node id : ℕ) → next_locked history ≡ Some (node, id) → (services.contest.node ≡ Some node) × (lock_in services.sequences.started (get nat_eq services.arbiters node) ≡ Some id)
-  led-there node id e = found-there (λ n. lock_in services.sequences.started (get nat_eq services.arbiters n)) services.contest.node node id (locked-known m ∙ e)
+  pub led-there : (node id : ℕ) → next_locked history ≡ Some (node, id) → lock_in services.sequences.started (get nat_eq services.arbiters node) ≡ Some id
+  led-there node id e = found-there (λ n. lock_in services.sequences.started (get nat_eq services.arbiters n)) services.contest.nodes.items node id (locked-known m ∙ e)
 
-  pub served-there : (node : ℕ) (drawn : Bool) → next_served history ≡ Some (node, drawn) → (services.contest.node ≡ Some node) × (ready_in services.sequences.started (get nat_eq services.arbiters node) ≡ Some drawn)
-  served-there node drawn e = found-there (λ n. ready_in services.sequences.started (get nat_eq services.arbiters n)) services.contest.node node drawn (served-known m ∙ e)
+  pub served-there : (node : ℕ) (drawn : Bool) → next_served history ≡ Some (node, drawn) → ready_in services.sequences.started (get nat_eq services.arbiters node) ≡ Some drawn
+  served-there node drawn e = found-there (λ n. ready_in services.sequences.started (get nat_eq services.arbiters n)) services.contest.nodes.items node drawn (served-known m ∙ e)
 
   -- who is chosen
   pub chosen-known : (node id : ℕ) (word : Option ℕ) → option_and_then (λ a. choice_at services.sequences.started a.sequencer word) (get nat_eq services.arbiters node) ≡ Some id → chosen_at history node word ≡ Some id
@@ -78,18 +88,19 @@ module _ {script : ScriptValue} {history : List Entry} {services : Services} (m 
   same-there node n e = grind (arith, nat_tests)
 
   pub locked-kept : (node id : ℕ) (more : Kept) → next_locked history ≡ Some (node, id) → IsLiving history id node → ChangesAt node (at_sequencer (locked id)) services.arbiters more
-      → (passed : ℕ) (after : Contest) → IsKnown services.sequences.started passed (get nat_eq more node) → after.node ≡ services.contest.node → LearnsAt node passed services.contest after
+      → (passed : ℕ) (after : Contest) → IsKnown services.sequences.started passed (get nat_eq more node) → after.nodes ≡ services.contest.nodes → LearnsAt node passed services.contest after
       → IsArbitrating (suc (length history)) (nodes_of history) (begun_of history) (finished_of history) (ended_of history) (ledger_at (Locked node id ∷ history)) more after
   unfolding is_live
   locked-kept node id more next living changes passed after is-passed still learns =
-      let found = led-there node id next in
+      let found = rw (m.sequencing.started, m.arbitrating.arbiters_are.each node) at (led-there node id next) in
+      let among = kept-there _ m.arbitrating.contested_is.among node id m.arbitrating.contested_is.unlocked found in
       let one = m.arbitrating.arbitrated.each node in
       let l = ledger_at history node in
       let live = live_by (begun_of history) (finished_of history) (ended_of history) in
-      let moded = lock-moded (mode_at history node) node id (rw (m.sequencing.started, m.arbitrating.arbiters_are.each node) at found.1) in
+      let moded = lock-moded (mode_at history node) node id found in
       let here : arbiter_of live (ledger_at (Locked node id ∷ history) node) ≡ option_map (at_sequencer (locked id)) (arbiter_of live (ledger_at history node)) = rw (itself node) (locked-is live (length history) l one.wanted_within id living.lives) in
       arbitrating-there m.arbitrating (finished_of history) (ledger_at (Locked node id ∷ history)) more node (at_sequencer (locked id)) (λ n other. rw other refl)
-      here changes (λ n. every n (node == n) refl moded) found.0 after still (learns-else node passed services.contest after learns)
+      here changes (λ n. every n (node == n) refl moded) among after still (learns-else node passed services.contest after learns)
       (learns-here (starts_in (begun_of history)) node passed services.contest after learns (arbiter_of live (ledger_at (Locked node id ∷ history) node))
       (subst (λ (o : Option ArbiterValue). IsKnown (starts_in (begun_of history)) passed o) (changed-each live live (ledger_at history) (ledger_at (Locked node id ∷ history)) services.arbiters more node (at_sequencer (locked id)) (λ n other. rw other refl) here changes m.arbitrating.arbiters_are node)
       (subst (λ (started : List Start). IsKnown started passed (get nat_eq more node)) m.sequencing.started is-passed)))
@@ -104,14 +115,15 @@ module _ {script : ScriptValue} {history : List Entry} {services : Services} (m 
       → option_and_then (λ a. choice_at services.sequences.started a.sequencer grant.word) (get nat_eq services.arbiters node) ≡ Some grant.id
       → IsArbitrating (suc (length history)) (nodes_of history) (begun_of history) (finished_of history) (ended_of history) (ledger_at (Granted node grant ∷ history)) more services.contest
   granted-kept node drawn grant more next changes passed chosen =
-      let found = served-there node drawn next in
+      let found = rw (m.sequencing.started, m.arbitrating.arbiters_are.each node) at (served-there node drawn next) in
+      let among = kept-there _ m.arbitrating.contested_is.among node drawn m.arbitrating.contested_is.unserved found in
       let one = m.arbitrating.arbitrated.each node in
       let l = ledger_at history node in
       let live = live_by (begun_of history) (finished_of history) (ended_of history) in
-      let moded = ready-moded (mode_at history node) node drawn (rw (m.sequencing.started, m.arbitrating.arbiters_are.each node) at found.1) in
+      let moded = ready-moded (mode_at history node) node drawn found in
       let here : arbiter_of live (ledger_at (Granted node grant ∷ history) node) ≡ option_map (at_sequencer (granted grant.id)) (arbiter_of live (ledger_at history node)) = rw (itself node) (granted-is live (length history) l one.wanted_within grant.id) in
       arbitrating-there m.arbitrating (finished_of history) (ledger_at (Granted node grant ∷ history)) more node (at_sequencer (granted grant.id)) (λ n other. rw other refl)
-      here changes (λ n. every n (node == n) refl moded) found.0 services.contest refl (λ n other. refl)
+      here changes (λ n. every n (node == n) refl moded) among services.contest refl (λ n other. refl)
       (subst (λ (o : Option ArbiterValue). IsKnown (starts_in (begun_of history)) (known_at services.contest node) o) (sym here)
       (chosen-passed passed (known_at services.contest node) grant (arbiter_of live (ledger_at history node)) (rw (m.sequencing.started, m.arbitrating.arbiters_are.each node) at chosen) (m.arbitrating.contested_is.known node)))
     where

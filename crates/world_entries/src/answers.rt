@@ -1,6 +1,6 @@
 //! Answers.
 
-ghost use Rattle.std.specs.Prelude.{◌≡◌, ℕ, List, false, length, Some, None};
+ghost use Rattle.std.specs.Prelude.{◌≡◌, List, false, length, Some, None};
 ghost use Rattle.uvm_object.specs.declared.acts.Act.{Act};
 ghost use Rattle.uvm_object.specs.declared.acts.Call as calls;
 ghost use Rattle.uvm_object.specs.declared.entries.Entry.TheVariants.{Heard};

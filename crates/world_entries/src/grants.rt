@@ -1,6 +1,6 @@
 //! What is granted at sequencers, and what passes at FIFOs.
 
-ghost use Rattle.std.specs.Prelude.{◌≡◌, ℕ, List, OnOk, IfOk, Some, is_some};
+ghost use Rattle.std.specs.Prelude.{◌≡◌, List, OnOk, IfOk, Some, is_some};
 ghost use Rattle.uvm_object.specs.declared.entries.Entry.{Entry};
 ghost use Rattle.uvm_object.specs.declared.entries.Entry.TheVariants.{Granted, Locked, Passed};
 ghost use Rattle.bench_script.specs.Scripts.{ScriptValue};

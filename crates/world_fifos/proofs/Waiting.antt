@@ -1,14 +1,12 @@
 -- Who waits at a FIFO and what is in it, over lists alone.
 use Rattle.std.proofs.Common.{◌≡◌, ℕ, suc, ◌<◌, ◌≤◌, ◌+◌, ◌==◌, nat_eq, Bool, true, false, not, List, [], ◌∷◌, ◌++◌, length, map, filter, drop, slice_get, Some, All, refl, ap, sym, ◌∙◌, subst, arith, if◌then◌else◌}
-use Rattle.std.specs.List.{AllPairs, list_any, IsDistinct, AllByRecursion, Contains}
+use Rattle.std.specs.List.{AllPairs, list_any}
 use Rattle.std.proofs.lemmas.Bool.Decides.{nat_tests}
 use Rattle.std.proofs.lemmas.List.{map-append, drop-drop, drop-append-le}
 use Rattle.std.proofs.lemmas.List.Elements.{All-cons, All-head, All-push, All-weaker, All-filter, filter-append}
 use Rattle.std.proofs.lemmas.List.Folds.{list_any_none}
 use Rattle.std.proofs.lemmas.List.Kept.{AllPairs-filter}
 use Rattle.std.proofs.lemmas.List.Quantifiers.{all_pairs_push}
-use Rattle.std.proofs.lemmas.Map.Keys.{IsDistinct-head, IsDistinct-tail}
-use Rattle.std.proofs.lemmas.Map.Made.{Contains-tail}
 use Rattle.uvm_phase.specs.declared.phases.Phase.{Phase}
 use Rattle.uvm_phase.specs.Phases.{phase_number, same_phase}
 use Rattle.uvm_tlm.specs.declared.items.Item.{Item}
@@ -17,24 +15,6 @@ use Rattle.bench_history.specs.Passing.{Request, asker_of, is_waiting, station_w
 use Rattle.world_fifos.specs.Passings.{AreAsked}
 use Rattle.world_fifos.specs.Stations.{with_putter, with_taker, without_waits}
 use Rattle.world_agenda.proofs.Lists.{filter-twice, one-heard, one-ended, map-filter, filter-all}
-
--- one number among distinct ones
-others-none : (n : ℕ) (xs : List ℕ) → AllByRecursion (λ m. nat_eq n m ≡ false) xs → filter (nat_eq n) xs ≡ []
-others-none n [] others = refl
-others-none n (m ∷ xs) others = rw (others.0, others-none n xs others.1) refl
-
-one-tested :
-    (n x : ℕ) (xs : List ℕ) (b : Bool) → nat_eq n x ≡ b → AllByRecursion (λ m. nat_eq x m ≡ false) xs → Contains (x ∷ xs) n → (Contains xs n → filter (nat_eq n) xs ≡ n ∷ [])
-    → (if b then x ∷ filter (nat_eq n) xs else filter (nat_eq n) xs) ≡ n ∷ []
-one-tested n x xs true e others has rest =
-    let same : x ≡ n = grind (arith, nat_tests) in
-    let none : AllByRecursion (λ m. nat_eq n m ≡ false) xs = subst (λ (y : ℕ). AllByRecursion (λ m. nat_eq y m ≡ false) xs) same others in
-    rw (others-none n xs none, same) refl
-one-tested n x xs false e others has rest = rest (Contains-tail x xs n (λ same. grind (arith, nat_tests)) has)
-
-pub filter-one : (n : ℕ) (xs : List ℕ) → IsDistinct nat_eq xs → Contains xs n → filter (nat_eq n) xs ≡ n ∷ []
-filter-one n [] apart has = absurd (omega (arith, has.1))
-filter-one n (x ∷ xs) apart has = one-tested n x xs (nat_eq n x) refl (IsDistinct-head nat_eq x xs apart) has (filter-one n xs (IsDistinct-tail nat_eq x xs apart))
 
 -- the place of a later entry is none of those that came to pass
 fresh-place : (answered : List ℕ) (count : ℕ) → All (λ place. place < count) answered → list_any (nat_eq count) answered ≡ false

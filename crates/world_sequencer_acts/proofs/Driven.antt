@@ -1,5 +1,5 @@
 -- What drivers do at a sequencer, and what a sequence that finishes leaves there.
-use Rattle.std.proofs.Common.{◌≡◌, ℕ, suc, ◌<◌, ◌==◌, nat_eq, nat_lt, Bool, true, false, not, ◌&&◌, List, [], ◌∷◌, length, slice_get, All, Contains, Option, Some, None, IsSome, IfSome, is_none, is_some, option_map, option_and_then, Ok, Err, refl, ap, sym, ◌∙◌, subst, arith, rules, if◌then◌else◌}
+use Rattle.std.proofs.Common.{◌≡◌, ℕ, suc, ◌<◌, ◌==◌, nat_eq, nat_lt, Bool, true, false, not, ◌&&◌, List, [], ◌∷◌, length, slice_get, All, Option, Some, None, IsSome, IfSome, is_none, is_some, option_map, option_and_then, Ok, Err, refl, ap, sym, ◌∙◌, subst, arith, rules, if◌then◌else◌}
 use Rattle.std.specs.List.{list_any}
 use Rattle.std.specs.Option.{option_map_or}
 use Rattle.std.specs.HashMap.{get}
@@ -47,7 +47,7 @@ use Rattle.bench_history.specs.Upshots.{asked_upshot, driven_at}
 use Rattle.world_sequencers.specs.declared.arbiters.Reached.{Reached}
 use Rattle.world_services.specs.declared.services.Services.{Services}
 use Rattle.world_sequencers.specs.declared.contests.Contest.{Contest}
-use Rattle.world_sequencers.specs.Contests.{LearnsAt}
+use Rattle.world_sequencers.specs.Contests.{LearnsAt, known_at}
 use Rattle.world_sequencers.specs.Arbiters.{ArbiterValue, ChangesAt, Kept, asked_at, asked_in, at_sequencer}
 use Rattle.world_sequencers.specs.Arbitratings.{IsArbitrated, IsArbitrating, Ledger, arbiter_of, arbiter_with, ledger_at, runs_on}
 use Rattle.world_sequencer_acts.specs.Drivings.{if_kept, lapsed_calls, reached_at, reached_in, waiting_outcome}
@@ -58,7 +58,7 @@ use Rattle.world_sequences.proofs.Starters.{phase-known}
 use Rattle.world_services.specs.Attempts.{CanPerform, IsScene, one_done, unreported}
 use Rattle.world_services.specs.Services.{ServicesMatch}
 use Rattle.world_sequencers.proofs.Arbited.{alike-is, arbitrated-driver, arbitrated-more, arbiter-changed, left-is}
-use Rattle.world_sequencers.proofs.Contested.{arbitrating-one, known-none, learns-else, learns-here, none-locked, none-served, sequencer-is}
+use Rattle.world_sequencers.proofs.Contested.{IsPlaced, arbitrating-one, known-none, learns-else, learns-here, none-locked, none-served, sequencer-is}
 use Rattle.world_services.proofs.Later.{acted}
 use Rattle.world_services.proofs.Passages.{closed-same, port-known}
 use Rattle.world_sequencer_acts.proofs.Seated.{item-told, kept-there, placed}
@@ -145,7 +145,7 @@ pub record IsReaching (history : List Entry) (speaker : Who) (name : List ℕ) (
   pub task : in_task (act_phase history) ≡ true
   pub leads : sequencer_below history speaker name ≡ Some node
   pub moded : IsSome (mode_at history node)
-  pub there : Contains (path_order (nodes_of history)) node
+  pub there : IsPlaced (path_order (nodes_of history)) node
 
 moded-by : (history : List Entry) (node : ℕ) (mode : Option Mode) → IsSome (option_map (arbiter_with (live_by (begun_of history) (finished_of history) (ended_of history)) (ledger_at history node)) mode) → IsSome mode
 moded-by history node None some = some
@@ -258,8 +258,9 @@ module _ {script : ScriptValue} {history : List Entry} {act : Act} {place : ℕ}
         asker = if option_map_or (λ other. other == n) (sequencer_below history services.answer.speaker name) false then Some (record { who = services.answer.speaker; name = name; phase = act_phase history }) else driver_asker history n;
       })
       → ChangesAt node (asked_at (record { who = services.answer.speaker; name = name; phase = act_phase history }) way asked.Waits) services.arbiters more
-      → IsArbitrating (suc (length history)) (nodes_of history) (begun_of history) (finished_of history) (ended_of history) (ledger_at (Did services.answer.speaker outcome (Ask name way) ∷ history)) more (record services.contest { node = Some node })
-  asked-kept way outcome more are changes =
+      → (after : Contest) → after.nodes.items ≡ node ∷ [] → ((n : ℕ) → known_at after n ≡ known_at services.contest n)
+      → IsArbitrating (suc (length history)) (nodes_of history) (begun_of history) (finished_of history) (ended_of history) (ledger_at (Did services.answer.speaker outcome (Ask name way) ∷ history)) more after
+  asked-kept way outcome more are changes after is knows =
       let driver : DriverPort = record { who = services.answer.speaker; name = name; phase = act_phase history } in
       let l = ledger_at history node in
       let live = live_by (begun_of history) (finished_of history) (ended_of history) in
@@ -267,27 +268,29 @@ module _ {script : ScriptValue} {history : List Entry} {act : Act} {place : ℕ}
       kept-there s node r.there (ledger_at (Did services.answer.speaker outcome (Ask name way) ∷ history)) more (asked_at driver way asked.Waits) (λ n other. are n ∙ rw (r.leads, other) refl)
       (ap (arbiter_of live) here ∙ arbiter-changed live live l (record l { driver = Waiting way; asker = Some driver }) (asked_at driver way asked.Waits) refl (λ mode. refl))
       (subst (λ (m : Ledger). IsArbitrated (suc (length history)) (length (nodes_of history)) (begun_of history) node m) (sym here) (arbitrated-driver one-there (Waiting way) (Some driver) r.moded)) changes
-      (record services.contest { node = Some node }) refl (λ n other. refl) (λ a passed. record { within = passed.within; blocked = passed.blocked })
+      after is (λ n other. knows n) (λ a passed. record { within = rw (knows node) passed.within; blocked = rw (knows node) passed.blocked })
 
   pub asked-goes :
       (way : How) (more : Kept) → left_of script history ≡ Ask name way ∷ rest_of (left_of script history) → ChangesAt node (asked_at (record { who = services.answer.speaker; name = name; phase = act_phase history }) way asked.Waits) services.arbiters more
-      → ServicesMatch script (Did services.answer.speaker (waiting_outcome way) (Ask name way) ∷ history) (one_done (unreported (record services { arbiters = more; contest = record services.contest { node = Some node } })))
-  asked-goes how.Next more left changes = let m = s.known in let arbitrating = asked-kept how.Next Done more (λ n. refl) changes in search (rules, acted)
-  asked-goes how.Try more left changes = let m = s.known in let arbitrating = asked-kept how.Try (Waits true) more (λ n. refl) changes in search (rules, acted)
-  asked-goes how.Get more left changes = let m = s.known in let arbitrating = asked-kept how.Get Done more (λ n. refl) changes in search (rules, acted)
+      → (after : Contest) → after.nodes.items ≡ node ∷ [] → ((n : ℕ) → known_at after n ≡ known_at services.contest n)
+      → ServicesMatch script (Did services.answer.speaker (waiting_outcome way) (Ask name way) ∷ history) (one_done (unreported (record services { arbiters = more; contest = after })))
+  asked-goes how.Next more left changes after is knows = let m = s.known in let arbitrating = asked-kept how.Next Done more (λ n. refl) changes after is knows in search (rules, acted)
+  asked-goes how.Try more left changes after is knows = let m = s.known in let arbitrating = asked-kept how.Try (Waits true) more (λ n. refl) changes after is knows in search (rules, acted)
+  asked-goes how.Get more left changes after is knows = let m = s.known in let arbitrating = asked-kept how.Get Done more (λ n. refl) changes after is knows in search (rules, acted)
 
   -- or is idle
   pub done-kept :
       (response : Option Item) (more : Kept) → ChangesAt node (at_sequencer with_idle) services.arbiters more
-      → IsArbitrating (suc (length history)) (nodes_of history) (begun_of history) (finished_of history) (ended_of history) (ledger_at (Did services.answer.speaker Done (ItemDone name response) ∷ history)) more (record services.contest { node = Some node })
-  done-kept response more changes =
+      → (after : Contest) → after.nodes.items ≡ node ∷ [] → ((n : ℕ) → known_at after n ≡ known_at services.contest n)
+      → IsArbitrating (suc (length history)) (nodes_of history) (begun_of history) (finished_of history) (ended_of history) (ledger_at (Did services.answer.speaker Done (ItemDone name response) ∷ history)) more after
+  done-kept response more changes after is knows =
       let l = ledger_at history node in
       let live = live_by (begun_of history) (finished_of history) (ended_of history) in
       let here : ledger_at (Did services.answer.speaker Done (ItemDone name response) ∷ history) node ≡ record l { driver = Idle } = rw (r.leads, itself node) refl in
       kept-there s node r.there (ledger_at (Did services.answer.speaker Done (ItemDone name response) ∷ history)) more (at_sequencer with_idle) (λ n other. rw (r.leads, other) refl)
       (ap (arbiter_of live) here ∙ arbiter-changed live live l (record l { driver = Idle }) (at_sequencer with_idle) refl (λ mode. refl))
       (subst (λ (m : Ledger). IsArbitrated (suc (length history)) (length (nodes_of history)) (begun_of history) node m) (sym here) (arbitrated-driver one-there Idle l.asker r.moded)) changes
-      (record services.contest { node = Some node }) refl (λ n other. refl) (λ a passed. record { within = passed.within; blocked = passed.blocked })
+      after is (λ n other. knows n) (λ a passed. record { within = rw (knows node) passed.within; blocked = rw (knows node) passed.blocked })
 
   -- whose item it was hears of it, if it lives, in the phase in which it was started
   pub done-told : (response : Option Item) (id : ℕ) → hand_of (driver_state history node) ≡ Some id → All (IsToldOpen (is_told services.sequences.steps) (ended_of history) (finished_of history)) (told_done (phase_begun history) response node (Some id))
@@ -327,7 +330,7 @@ hand-phase {begun = begun} {beginnings = beginnings} s home id hands = by (numbe
     by (Some b) found e = phase-known begun beginnings id b s.are found
 
 -- a sequence that has finished leaves its sequencer
-module _ {script : ScriptValue} {history : List Entry} {act : Act} {place : ℕ} {services : Services} (s : IsScene script history act place services) (id : ℕ) (b : Beginning) (found : numbered (begun_of history) id ≡ Some b) (lives : lives_by (finished_of history) (ended_of history) id b ≡ true) (moded : IsSome (mode_at history b.start.home)) (there : Contains (path_order (nodes_of history)) b.start.home) where
+module _ {script : ScriptValue} {history : List Entry} {act : Act} {place : ℕ} {services : Services} (s : IsScene script history act place services) (id : ℕ) (b : Beginning) (found : numbered (begun_of history) id ≡ Some b) (lives : lives_by (finished_of history) (ended_of history) id b ≡ true) (moded : IsSome (mode_at history b.start.home)) (there : IsPlaced (path_order (nodes_of history)) b.start.home) where
   abbrev home : ℕ
   home = b.start.home
 
@@ -386,7 +389,7 @@ module _ {script : ScriptValue} {history : List Entry} {act : Act} {place : ℕ}
       (All-weaker (λ (w : Wanted). runs_on (begun_of history) n w.request.seq) (λ (w : Wanted). gone w.request.seq ≡ live w.request.seq) (λ w here. alike-at n apart w.request.seq here) (ledger_at history n).wanted one.wanted_here)
       (All-weaker (runs_on (begun_of history) n) (λ m. gone m ≡ live m) (λ m here. alike-at n apart m here) (ledger_at history n).held one.held_here)
 
-  pub finish-kept : (more : Kept) → ChangesAt b.start.home (at_sequencer (after_leave id)) services.arbiters more → (after : Contest) → after.node ≡ Some b.start.home → LearnsAt b.start.home 0 services.contest after
+  pub finish-kept : (more : Kept) → ChangesAt b.start.home (at_sequencer (after_leave id)) services.arbiters more → (after : Contest) → after.nodes.items ≡ b.start.home ∷ [] → LearnsAt b.start.home 0 services.contest after
       → IsArbitrating (suc (length history)) (nodes_of history) (begun_of history) (who.Sequence id b.start.home ∷ finished_of history) (ended_of history) (ledger_at (Did (who.Sequence id b.start.home) Finished EndStep ∷ history)) more after
   finish-kept more changes after is learns =
       let l = ledger_at history b.start.home in

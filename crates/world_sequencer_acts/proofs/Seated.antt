@@ -1,6 +1,5 @@
 -- What drivers and sequences do at a sequencer.
 use Rattle.std.proofs.Common.{◌≡◌, ℕ, suc, ◌<◌, ◌-◌, ◌==◌, nat_eq, Bool, true, false, not, ◌&&◌, List, [], ◌∷◌, length, All, Contains, Option, Some, None, IsSome, option_map, option_and_then, Result, Ok, Err, IfOk, OnOk, IfSome, refl, ap, sym, ◌∙◌, subst, arith, rules, ◌⊎◌, inl, inr, if◌then◌else◌}
-use Rattle.std.specs.Option.{option_map_or}
 use Rattle.std.specs.HashMap.{get}
 use Rattle.std.specs.declared.alloc.AllocError.{AllocError}
 use Rattle.std.specs.List.{list_any}
@@ -49,12 +48,13 @@ use Rattle.world_sequencers.specs.Contests.{LearnsAt, known_at}
 use Rattle.world_sequencers.specs.Arbiters.{ArbiterValue, ChangesAt, Kept, at_sequencer, grabbed_if, locked_if, requested_if, sent_if, unlocked_if}
 use Rattle.world_sequencers.specs.Arbitratings.{IsArbitrated, IsArbitrating, Ledger, arbiter_of, arbiter_with, ledger_at, runs_on}
 use Rattle.world_agenda.specs.Tellings.{is_told}
-use Rattle.world_sequences.specs.Sequencings.{live_by, lives_by}
+use Rattle.world_sequences.specs.Sequencings.{live_by}
 use Rattle.world_services.specs.Attempts.{IsAttempt, IsRefusing, IsScene, TakesIn}
 use Rattle.world_services.specs.Services.{ServicesMatch}
 use Rattle.world_sequencers.proofs.Arbited.{arbitrated-before, arbitrated-behind, arbitrated-driver, arbitrated-more, arbitrated-unlocked, arbiter-changed, asked-before, asked-behind, unlocked-is}
-use Rattle.world_wiring.proofs.Connected.{permutation-contains, range-contains}
-use Rattle.world_sequencers.proofs.Contested.{arbitrating-one, known-changed, known-none, learns-else, learns-here, none-locked, none-served}
+use Rattle.world_wiring.proofs.Connected.{order-distinct, permutation-contains, range-contains}
+use Rattle.world_agenda.proofs.Lists.{filter-one}
+use Rattle.world_sequencers.proofs.Contested.{IsPlaced, arbitrating-one, known-changed, known-none, learns-else, learns-here, none-locked, none-served}
 use Rattle.world_agenda.proofs.Written.{IsToldOpen}
 use Rattle.world_services.proofs.Known.{itself, said}
 use Rattle.world_services.proofs.Later.{acted}
@@ -74,7 +74,7 @@ pub record IsSeated (history : List Entry) (speaker : Who) (id home : ℕ) : Typ
   pub lives : live_by (begun_of history) (finished_of history) (ended_of history) id ≡ true
   pub here : runs_on (begun_of history) home id
   pub moded : IsSome (mode_at history home)
-  pub there : Contains (path_order (nodes_of history)) home
+  pub there : IsPlaced (path_order (nodes_of history)) home
 
 home-of : (history : List Entry) (home : ℕ) (found : Option Beginning) (id : ℕ) → numbered (begun_of history) id ≡ found → option_map (λ beginning. beginning.start.home) found ≡ Some home → All (λ beginning. IsSome (mode_at history beginning.start.home)) (begun_of history) → IsSome (mode_at history home)
 home-of history home None id is e all = cc
@@ -84,10 +84,11 @@ home-of history home (Some b) id is e all =
 
 module _ {script : ScriptValue} {history : List Entry} {act : Act} {place : ℕ} {services : Services} (s : IsScene script history act place services) where
   -- a sequencer is one of the nodes in path order
-  pub placed : (node : ℕ) → ((nodes : List Node) → AreInPathOrder nodes (path_order nodes)) → IsSome (mode_at history node) → Contains (path_order (nodes_of history)) node
+  pub placed : (node : ℕ) → ((nodes : List Node) → AreInPathOrder nodes (path_order nodes)) → IsSome (mode_at history node) → IsPlaced (path_order (nodes_of history)) node
   placed node order moded =
       let stands = (s.known.arbitrating.arbitrated.each node).stands moded in
-      ordered (nodes_of history) node (order (nodes_of history)) stands.0 stands.1
+      let there = ordered (nodes_of history) node (order (nodes_of history)) stands.0 stands.1 in
+      record { there = there; alone = filter-one node (path_order (nodes_of history)) (order-distinct (nodes_of history) (order (nodes_of history))) there }
 
   pub seated : (id home : ℕ) → (act ≡ opening script → ⊥) → ((nodes : List Node) → AreInPathOrder nodes (path_order nodes)) → sequence_in services.answer.speaker ≡ Some id → home ≡ node_of services.answer.speaker → IsSeated history services.answer.speaker id home
   unfolding is_live
@@ -107,10 +108,10 @@ module _ {script : ScriptValue} {history : List Entry} {act : Act} {place : ℕ}
 
   -- something is done at one sequencer, where nothing was granted
   pub kept-there :
-      (node : ℕ) → Contains (path_order (nodes_of history)) node → (new : ℕ → Ledger) (more : Kept) (change : ArbiterValue → ArbiterValue) → ((n : ℕ) → (node == n) ≡ false → new n ≡ ledger_at history n)
+      (node : ℕ) → IsPlaced (path_order (nodes_of history)) node → (new : ℕ → Ledger) (more : Kept) (change : ArbiterValue → ArbiterValue) → ((n : ℕ) → (node == n) ≡ false → new n ≡ ledger_at history n)
       → arbiter_of (live_by (begun_of history) (finished_of history) (ended_of history)) (new node) ≡ option_map change (arbiter_of (live_by (begun_of history) (finished_of history) (ended_of history)) (ledger_at history node))
       → IsArbitrated (suc (length history)) (length (nodes_of history)) (begun_of history) node (new node) → ChangesAt node change services.arbiters more
-      → (after : Contest) → after.node ≡ Some node → ((n : ℕ) → (node == n) ≡ false → known_at after n ≡ known_at services.contest n)
+      → (after : Contest) → after.nodes.items ≡ node ∷ [] → ((n : ℕ) → (node == n) ≡ false → known_at after n ≡ known_at services.contest n)
       → ((a : ArbiterValue) → IsPassed (starts_in (begun_of history)) a.sequencer (known_at services.contest node) → IsPassed (starts_in (begun_of history)) (change a).sequencer (known_at after node))
       → IsArbitrating (suc (length history)) (nodes_of history) (begun_of history) (finished_of history) (ended_of history) new more after
   kept-there node there new more change elsewhere here one changes after is others keeps =
@@ -132,36 +133,40 @@ module _ {script : ScriptValue} {history : List Entry} {act : Act} {place : ℕ}
     abbrev Goes : Act → Kept → Contest → Type 0
     Goes did more after = IsArbitrating (suc (length history)) (nodes_of history) (begun_of history) (finished_of history) (ended_of history) (ledger_at (Did services.answer.speaker Done did ∷ history)) more after
 
-    abbrev here : Contest
-    here = record services.contest { node = Some home }
+    -- as many are known to be blocked as before
+    still :
+        (change : ArbiterValue → ArbiterValue) (after : Contest) → ((n : ℕ) → known_at after n ≡ known_at services.contest n)
+        → ((a : ArbiterValue) → IsPassed (starts_in (begun_of history)) a.sequencer (known_at services.contest home) → IsPassed (starts_in (begun_of history)) (change a).sequencer (known_at services.contest home))
+        → (a : ArbiterValue) → IsPassed (starts_in (begun_of history)) a.sequencer (known_at services.contest home) → IsPassed (starts_in (begun_of history)) (change a).sequencer (known_at after home)
+    still change after knows keeps a passed = subst (λ (k : ℕ). IsPassed (starts_in (begun_of history)) (change a).sequencer k) (sym (knows home)) (keeps a passed)
 
     -- it is not known any more who is blocked
     anew : (change : ArbiterValue → ArbiterValue) (after : Contest) → LearnsAt home 0 services.contest after → (a : ArbiterValue) → IsPassed (starts_in (begun_of history)) (change a).sequencer (known_at after home)
     anew change after learns a = learns-here (starts_in (begun_of history)) home 0 services.contest after learns (Some (change a)) (known-none (starts_in (begun_of history)) (Some (change a)))
 
     -- a sequence requests, locks or grabs
-    pub request-kept : (priority : Option ℕ) (more : Kept) → ChangesAt home (requested_if None id (request_priority (sequences_of history) id priority)) services.arbiters more → PassedStays → Goes (Request priority) more here
-    request-kept priority more changes stays =
+    pub request-kept : (priority : Option ℕ) (more : Kept) → ChangesAt home (requested_if None id (request_priority (sequences_of history) id priority)) services.arbiters more → PassedStays → (after : Contest) → after.nodes.items ≡ home ∷ [] → ((n : ℕ) → known_at after n ≡ known_at services.contest n) → Goes (Request priority) more after
+    request-kept priority more changes stays after is knows =
         let request = item_request id (request_priority (sequences_of history) id priority) in
         let l = ledger_at history home in
         let live = live_by (begun_of history) (finished_of history) (ended_of history) in
         rw seat.speaker_is
         (kept-there home seat.there (ledger_at (Did (who.Sequence id home) Done (Request priority) ∷ history)) more (at_sequencer (with_item id (request_priority (sequences_of history) id priority))) (λ n is. rw is refl)
         (rw (itself home) (asked-behind live (length history) l one-there.grants_within one-there.locks_within request seat.lives))
-        (rw (itself home) (arbitrated-behind one-there request seat.here seat.moded)) changes here refl (λ n other. refl)
-        (λ a passed. stays.item (starts_in (begun_of history)) a.sequencer (known_at services.contest home) passed id (request_priority (sequences_of history) id priority)))
+        (rw (itself home) (arbitrated-behind one-there request seat.here seat.moded)) changes after is (λ n other. knows n)
+        (still (at_sequencer (with_item id (request_priority (sequences_of history) id priority))) after knows (λ a passed. stays.item (starts_in (begun_of history)) a.sequencer (known_at services.contest home) passed id (request_priority (sequences_of history) id priority))))
 
-    pub lock-kept : (more : Kept) → ChangesAt home (locked_if None id) services.arbiters more → PassedStays → Goes Lock more here
-    lock-kept more changes stays =
+    pub lock-kept : (more : Kept) → ChangesAt home (locked_if None id) services.arbiters more → PassedStays → (after : Contest) → after.nodes.items ≡ home ∷ [] → ((n : ℕ) → known_at after n ≡ known_at services.contest n) → Goes Lock more after
+    lock-kept more changes stays after is knows =
         let l = ledger_at history home in
         let live = live_by (begun_of history) (finished_of history) (ended_of history) in
         rw seat.speaker_is
         (kept-there home seat.there (ledger_at (Did (who.Sequence id home) Done Lock ∷ history)) more (at_sequencer (with_lock id)) (λ n is. rw is refl)
         (rw (itself home) (asked-behind live (length history) l one-there.grants_within one-there.locks_within (lock_request id) seat.lives))
-        (rw (itself home) (arbitrated-behind one-there (lock_request id) seat.here seat.moded)) changes here refl (λ n other. refl)
-        (λ a passed. stays.lock (starts_in (begun_of history)) a.sequencer (known_at services.contest home) passed id))
+        (rw (itself home) (arbitrated-behind one-there (lock_request id) seat.here seat.moded)) changes after is (λ n other. knows n)
+        (still (at_sequencer (with_lock id)) after knows (λ a passed. stays.lock (starts_in (begun_of history)) a.sequencer (known_at services.contest home) passed id)))
 
-    pub grab-kept : (more : Kept) → ChangesAt home (grabbed_if None id) services.arbiters more → (after : Contest) → after.node ≡ Some home → LearnsAt home 0 services.contest after → Goes Grab more after
+    pub grab-kept : (more : Kept) → ChangesAt home (grabbed_if None id) services.arbiters more → (after : Contest) → after.nodes.items ≡ home ∷ [] → LearnsAt home 0 services.contest after → Goes Grab more after
     grab-kept more changes after is learns =
         let l = ledger_at history home in
         let live = live_by (begun_of history) (finished_of history) (ended_of history) in
@@ -172,7 +177,7 @@ module _ {script : ScriptValue} {history : List Entry} {act : Act} {place : ℕ}
         (λ a passed. anew (at_sequencer (with_grab id)) after learns a))
 
     -- it gives a lock back
-    pub unlock-kept : (more : Kept) → ChangesAt home (unlocked_if None id) services.arbiters more → (after : Contest) → after.node ≡ Some home → LearnsAt home 0 services.contest after → Goes Unlock more after
+    pub unlock-kept : (more : Kept) → ChangesAt home (unlocked_if None id) services.arbiters more → (after : Contest) → after.nodes.items ≡ home ∷ [] → LearnsAt home 0 services.contest after → Goes Unlock more after
     unlock-kept more changes after is learns =
         let l = ledger_at history home in
         let live = live_by (begun_of history) (finished_of history) (ended_of history) in
@@ -183,14 +188,14 @@ module _ {script : ScriptValue} {history : List Entry} {act : Act} {place : ℕ}
         (λ a passed. anew (at_sequencer (unlocked id)) after learns a))
 
     -- it sends its item
-    pub send-kept : (item : Item) (way : How) (more : Kept) → grant_of id (ledger_at history home).driver ≡ Some way → ChangesAt home (sent_if (Some way) id) services.arbiters more → Goes (Send item) more here
-    send-kept item way more granted changes =
+    pub send-kept : (item : Item) (way : How) (more : Kept) → grant_of id (ledger_at history home).driver ≡ Some way → ChangesAt home (sent_if (Some way) id) services.arbiters more → (after : Contest) → after.nodes.items ≡ home ∷ [] → ((n : ℕ) → known_at after n ≡ known_at services.contest n) → Goes (Send item) more after
+    send-kept item way more granted changes after is knows =
         let l = ledger_at history home in
         let live = live_by (begun_of history) (finished_of history) (ended_of history) in
         rw seat.speaker_is
         (kept-there home seat.there (ledger_at (Did (who.Sequence id home) Done (Send item) ∷ history)) more (at_sequencer (after_send id way)) (λ n is. rw is refl)
         (rw (itself home, granted) (arbiter-changed live live l (record l { driver = sent id way }) (at_sequencer (after_send id way)) refl (λ mode. refl)))
-        (rw (itself home, granted) (arbitrated-driver one-there (sent id way) l.asker seat.moded)) changes here refl (λ n other. refl) (λ a passed. record { within = passed.within; blocked = passed.blocked }))
+        (rw (itself home, granted) (arbitrated-driver one-there (sent id way) l.asker seat.moded)) changes after is (λ n other. knows n) (still (at_sequencer (after_send id way)) after knows (λ a passed. record { within = passed.within; blocked = passed.blocked })))
 
 -- a request is refused for its priority, or for what the sequencer says
 pub request-out : (priority : Option ℕ) (refusal : Option Fatal) → is_none_at_all priority ≡ true → request_refusal priority refusal ≡ Some OutOfRange
@@ -201,6 +206,11 @@ pub request-in : (priority : Option ℕ) (refusal : Option Fatal) → is_none_at
 unfolding request_refusal
 request-in priority None some = rw some refl
 request-in priority (Some fatal) some = rw some refl
+
+-- an act is done at a sequencer, unless memory is refused
+pub when-done : (result : Result Attempt AllocError) (Q : Attempt → Type 0) {P : Type 0} → IfOk result (λ attempt. attempt ≡ Became Done) → OnOk result P → (P → Q (Became Done)) → IfOk result Q
+when-done (Ok attempt) Q is kept comes = subst Q (sym is) (comes kept)
+when-done (Err fault) Q is kept comes = tt
 
 -- an act is refused, once nothing was done at a sequencer
 pub unchanged : (node : ℕ) (arbiters more : Kept) → ChangesAt node (λ a. a) arbiters more → (n : ℕ) → get nat_eq more n ≡ get nat_eq arbiters n

@@ -23,7 +23,7 @@ use Rattle.world_services.specs.declared.services.Services.{Services}
 use Rattle.world_sequences.specs.Sequencings.{beginning_at}
 use Rattle.world_agenda.specs.Tellings.{is_told, living_numbered}
 use Rattle.world_sequencers.specs.Arbiters.{ArbiterValue, ChangesAt, Kept, at_sequencer}
-use Rattle.world_sequencers.specs.Contests.{LearnsAt}
+use Rattle.world_sequencers.specs.Contests.{LearnsAt, known_at}
 use Rattle.world_wiring.specs.Ports.{port_in}
 use Rattle.uvm_object.specs.declared.acts.Call.TheVariants as call
 use Rattle.world_sequences.specs.declared.beginnings.Beginning as kept
@@ -48,14 +48,16 @@ abbrev pub waiting_outcome : How → Outcome
 waiting_outcome Try = Waits true
 waiting_outcome how = Done
 
--- something was done at a sequencer, and nothing is reported
-abbrev pub contested_at : ℕ → Services → Services
-contested_at home services = record services { contest = record services.contest { node = Some home }; reporting = record services.reporting { newest = None } }
+-- something was done at a sequencer, and nothing is reported: something may be granted there, and nowhere else
+pub record IsContested (home : ℕ) (old new : Services) : Type 0 where
+  pub rest : new ≡ record old { contest = new.contest; reporting = record old.reporting { newest = None } }
+  pub nodes : new.contest.nodes.items ≡ home ∷ []
+  pub knows : (n : ℕ) → known_at new.contest n ≡ known_at old.contest n
 
 -- and of no request there it is known that it is blocked
 pub record IsContestedAnew (home : ℕ) (old new : Services) : Type 0 where
   pub rest : new ≡ record old { contest = new.contest; reporting = record old.reporting { newest = None } }
-  pub node : new.contest.node ≡ Some home
+  pub nodes : new.contest.nodes.items ≡ home ∷ []
   pub learns : LearnsAt home 0 old.contest new.contest
 
 -- the call that tells who started a sequence that it has finished, in the phase in which it was started
@@ -81,5 +83,5 @@ pub record IsFinished (id place : ℕ) (old new : Services) : Type 0 where
       ++ filter (λ event. not (is_of_one (old.answer.speaker ∷ []) event.owner)) caused)
   pub arbiters : ChangesAt (node_of old.answer.speaker) (at_sequencer (after_leave id)) old.arbiters new.arbiters
   pub rest : new ≡ record old { agenda = new.agenda; sequences = finished id old.sequences; answer = record old.answer { noted = true }; arbiters = new.arbiters; contest = new.contest }
-  pub node : new.contest.node ≡ Some (node_of old.answer.speaker)
+  pub nodes : new.contest.nodes.items ≡ node_of old.answer.speaker ∷ []
   pub learns : LearnsAt (node_of old.answer.speaker) 0 old.contest new.contest

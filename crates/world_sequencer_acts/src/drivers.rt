@@ -48,7 +48,7 @@ pub fn ask(
     let (arbiters, sequences) = (&mut services.arbiters, &services.sequences);
     match ask_at(arbiters, sequences, known, &reached, driver, how) {
         Ok(Asked::Waits) => {
-            services.contest.node = Some(reached.sequencer);
+            services.contest.open_at(reached.sequencer)?;
             Ok(waiting(services, how))
         }
         Ok(Asked::Nothing) => {
@@ -97,7 +97,7 @@ pub fn item_done(
     };
     match done_at(&mut services.arbiters, &reached) {
         Ok(id) => {
-            services.contest.node = Some(reached.sequencer);
+            services.contest.open_at(reached.sequencer)?;
             let phase = phase_at(services.beginnings.as_slice(), id);
             let calls = done_calls(alloc, reached.sequencer, id, phase, response)?;
             tell_living(services, place, calls.as_slice())?;

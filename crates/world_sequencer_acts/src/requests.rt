@@ -6,7 +6,7 @@ ghost use Rattle.uvm_object.specs.declared.entries.Outcome.TheVariants.{Done};
 ghost use Rattle.bench_history.specs.Arbitration.{request_priority};
 ghost use Rattle.bench_history.specs.Dues.{told_item, told_sent};
 ghost use Rattle.bench_history.specs.Refusals.{is_none_at_all, is_open_to};
-ghost use Rattle.world_sequencer_acts.specs.Drivings.{IsContestedAnew, contested_at};
+ghost use Rattle.world_sequencer_acts.specs.Drivings.{IsContested, IsContestedAnew};
 ghost use Rattle.world_services.specs.Attempts.{CanPerform, IsAttempt};
 
 use bench_history::{DriverPort, Told};
@@ -46,7 +46,7 @@ pub fn request(
     };
     let priority = request_priority(&services.sequences, id, priority);
     match request_at(&mut services.arbiters, home, id, priority)? {
-        None => Ok(contested(services, home)),
+        None => contested(services, home),
         Some(fatal) => refused(services, alloc, fatal),
     }
 }
@@ -66,7 +66,7 @@ pub fn lock(services: &mut Services, alloc: Global) -> Result<Attempt, AllocErro
         unreachable!()
     };
     match lock_for(&mut services.arbiters, home, id)? {
-        None => Ok(contested(services, home)),
+        None => contested(services, home),
         Some(fatal) => refused(services, alloc, fatal),
     }
 }
@@ -84,7 +84,7 @@ pub fn grab(services: &mut Services, alloc: Global) -> Result<Attempt, AllocErro
         unreachable!()
     };
     match grab_for(&mut services.arbiters, home, id)? {
-        None => Ok(contested_anew(services, home)),
+        None => contested_anew(services, home),
         Some(fatal) => refused(services, alloc, fatal),
     }
 }
@@ -102,7 +102,7 @@ pub fn unlock(services: &mut Services, alloc: Global) -> Result<Attempt, AllocEr
         unreachable!()
     };
     match unlock_at(&mut services.arbiters, home, id) {
-        None => Ok(contested_anew(services, home)),
+        None => contested_anew(services, home),
         Some(fatal) => refused(services, alloc, fatal),
     }
 }
@@ -130,7 +130,7 @@ pub fn send(
             let phase = services.answer.phase;
             let calls = sent_calls(alloc, phase, &performer, driver, item, how)?;
             tell_living(services, place, calls.as_slice())?;
-            Ok(contested(services, home))
+            contested(services, home)
         }
         None => refused(services, alloc, Fatal::NotGranted),
     }
@@ -172,23 +172,23 @@ pub fn push_item(
     Ok(())
 }
 
-// An act is performed at a sequencer, and nothing is reported.
-fn contested(services: &mut Services, home: NodeId) -> Attempt
-    ensures attempt { result ≡ Attempt.Became Done }
-    ensures services { services.new ≡ contested_at home services.old }
+// An act is performed at a sequencer, and nothing is reported. Its error is want of memory.
+fn contested(services: &mut Services, home: NodeId) -> Result<Attempt, AllocError>
+    ensures attempt { IfOk result (λ attempt. attempt ≡ Attempt.Became Done) }
+    ensures services { OnOk result (IsContested home services.old services.new) }
 {
-    services.contest.node = Some(home);
-    done(services)
+    services.contest.open_at(home)?;
+    Ok(done(services))
 }
 
 // So is one after which it is found anew who is blocked there.
-fn contested_anew(services: &mut Services, home: NodeId) -> Attempt
-    ensures attempt { result ≡ Attempt.Became Done }
-    ensures services { IsContestedAnew home services.old services.new }
+fn contested_anew(services: &mut Services, home: NodeId) -> Result<Attempt, AllocError>
+    ensures attempt { IfOk result (λ attempt. attempt ≡ Attempt.Became Done) }
+    ensures services { OnOk result (IsContestedAnew home services.old services.new) }
 {
-    services.contest.node = Some(home);
+    services.contest.open_at(home)?;
     services.contest.learn(home, 0);
-    done(services)
+    Ok(done(services))
 }
 
 // The priority of a request: the one that is given, else its sequence's.

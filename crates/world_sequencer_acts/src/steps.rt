@@ -59,7 +59,7 @@ fn finish(services: &mut Services, alloc: Global, place: usize, id: SeqId) -> Re
     let home = performer.node();
     services.sequences.finish(id);
     services.answer.noted = true;
-    services.contest.node = Some(home);
+    services.contest.open_at(home)?;
     services.contest.learn(home, 0);
     cancel(&mut services.agenda, performer);
     let driver = driver_at(&services.arbiters, home);
@@ -86,11 +86,7 @@ fn calls_left(
 }
 
 // The call that tells who started a sequence that it has finished, in the phase in which it was started.
-fn finished_calls(
-    alloc: Global,
-    services: &Services,
-    id: SeqId,
-) -> Result<Vec<Told>, AllocError>
+fn finished_calls(alloc: Global, services: &Services, id: SeqId) -> Result<Vec<Told>, AllocError>
     ensures { IfOk result (λ calls. calls.items ≡ finished_calls (beginning_at services.now.beginnings.items id) (name_at services.now.sequences.started id) id) }
 {
     let mut calls = Vec::new(alloc);

@@ -9,6 +9,8 @@ use Rattle.std.proofs.lemmas.List.Elements.{All-nil, All-weaker}
 use Rattle.uvm_phase.specs.declared.phases.Phase.{Phase}
 use Rattle.uvm_phase.specs.Phases.{same_phase}
 use Rattle.uvm_tree.specs.Nodes.{Node}
+use Rattle.uvm_tree.specs.Sorted.{path_order}
+use Rattle.world_agenda.proofs.Lists.{filter-none}
 use Rattle.uvm_sequencer.specs.declared.modes.Mode.{Mode}
 use Rattle.uvm_sequences.specs.declared.starts.SeqStep.{SeqStep}
 use Rattle.uvm_sequencer.specs.Choices.{readiness}
@@ -55,22 +57,22 @@ arbitrated-first nodes n = record {
   nothing = λ none. (refl, refl, refl, refl);
 }
 
-pub arbitrating-first : {kept : Kept} {contest : Contest} (nodes : List Node) → kept.entries ≡ [] → contest.node ≡ None → IsArbitrating 0 nodes [] [] [] (ledger_at []) kept contest
+pub arbitrating-first : {kept : Kept} {contest : Contest} (nodes : List Node) → kept.entries ≡ [] → contest.nodes.items ≡ [] → IsArbitrating 0 nodes [] [] [] (ledger_at []) kept contest
 arbitrating-first nodes empty nowhere = record {
   arbiters_are = record { each = λ n. ap (lookup (nat_eq n)) empty };
   arbitrated = record { each = λ n. arbitrated-first (length nodes) n };
-  contested_is = record { unlocked = λ n other. refl; unserved = λ n other. refl; among = λ k e. cc; known = λ n. tt };
+  contested_is = record { among = λ n. false; kept_are = nowhere ∙ sym (filter-none (path_order nodes)); held = λ n e. cc; unlocked = λ n other. refl; unserved = λ n other. refl; known = λ n. tt };
 }
 
 -- where nothing is granted anywhere, nothing is with more nodes
 pub arbitrating-grown :
-    {count : ℕ} {nodes : List Node} {begun : List Beginning} {finished : List Who} {ended : List Phase} {ledger : ℕ → Ledger} {arbiters : Kept} {contest : Contest} (more : List Node) → length nodes ≤ length more
+    {count : ℕ} {nodes : List Node} {begun : List Beginning} {finished : List Who} {ended : List Phase} {ledger : ℕ → Ledger} {arbiters : Kept} {contest after : Contest} (more : List Node) → length nodes ≤ length more → after.nodes.items ≡ [] → ((n : ℕ) → known_at after n ≡ known_at contest n)
     → ((n : ℕ) → lock_in (starts_in begun) (arbiter_of (live_by begun finished ended) (ledger n)) ≡ None) → ((n : ℕ) → ready_in (starts_in begun) (arbiter_of (live_by begun finished ended) (ledger n)) ≡ None)
-    → IsArbitrating count nodes begun finished ended ledger arbiters contest → IsArbitrating (suc count) more begun finished ended ledger arbiters (record contest { node = None })
-arbitrating-grown more le unlocked unserved a = record {
+    → IsArbitrating count nodes begun finished ended ledger arbiters contest → IsArbitrating (suc count) more begun finished ended ledger arbiters after
+arbitrating-grown {begun = begun} {finished} {ended} {ledger} more le nowhere knows unlocked unserved a = record {
   arbiters_are = a.arbiters_are;
   arbitrated = record { each = λ n. arbitrated-grown (a.arbitrated.each n) (length more) le };
-  contested_is = record { unlocked = λ n other. unlocked n; unserved = λ n other. unserved n; among = λ k e. cc; known = a.contested_is.known };
+  contested_is = record { among = λ n. false; kept_are = nowhere ∙ sym (filter-none (path_order more)); held = λ n e. cc; unlocked = λ n other. unlocked n; unserved = λ n other. unserved n; known = λ n. subst (λ (k : ℕ). IsKnown (starts_in begun) k (arbiter_of (live_by begun finished ended) (ledger n))) (sym (knows n)) (a.contested_is.known n) };
 }
 
 -- one of them may be a sequencer
@@ -120,13 +122,13 @@ module _ (history : List Entry) (performer : Who) (name : List ℕ) (adds : What
       {arbiters new : Kept} {contest after : Contest} → 0 < length (nodes_of history) → length (nodes_of grown) ≡ suc (length (nodes_of history)) → AddsArbiter (mode_of adds) (length (nodes_of history)) arbiters new
       → ((n : ℕ) → lock_in (starts_in (begun_of history)) (arbiter_of (live_by (begun_of history) (finished_of history) (ended_of history)) (ledger_at history n)) ≡ None)
       → ((n : ℕ) → ready_in (starts_in (begun_of history)) (arbiter_of (live_by (begun_of history) (finished_of history) (ended_of history)) (ledger_at history n)) ≡ None)
-      → after.node ≡ None → AddsContest (mode_of adds) (length (nodes_of history)) contest after
+      → after.nodes.items ≡ [] → AddsContest (mode_of adds) (length (nodes_of history)) contest after
       → IsArbitrating (length history) (nodes_of history) (begun_of history) (finished_of history) (ended_of history) (ledger_at history) arbiters contest
       → IsArbitrating (length grown) (nodes_of grown) (begun_of history) (finished_of history) (ended_of history) (ledger_at grown) new after
   arbitrating-added {arbiters} {new} {contest} {after} some longer adding unlocked unserved nowhere adds_contest a = record {
     arbiters_are = record { each = λ n. adding n ∙ at n (length (nodes_of history) == n) refl };
     arbitrated = record { each = λ n. every n (length (nodes_of history) == n) refl };
-    contested_is = record { unlocked = λ n other. locks n (length (nodes_of history) == n) refl; unserved = λ n other. serves n (length (nodes_of history) == n) refl; among = λ k e. cc; known = λ n. knows n (length (nodes_of history) == n) refl };
+    contested_is = record { among = λ n. false; kept_are = nowhere ∙ sym (filter-none (path_order (nodes_of grown))); held = λ n e. cc; unlocked = λ n other. locks n (length (nodes_of history) == n) refl; unserved = λ n other. serves n (length (nodes_of history) == n) refl; known = λ n. knows n (length (nodes_of history) == n) refl };
   }
     where
       count : ℕ
@@ -241,6 +243,8 @@ module _ {count : ℕ} {nodes : List Node} {begun : List Beginning} {finished : 
       unlocked = λ n other. ap (lock_in (starts_in (x ∷ begun))) (begun-same n) ∙ locks-still n (ledger n).mode ∙ a.contested_is.unlocked n other;
       unserved = λ n other. ap (ready_in (starts_in (x ∷ begun))) (begun-same n) ∙ ready-still n (ledger n).mode ∙ a.contested_is.unserved n other;
       among = a.contested_is.among;
+      kept_are = a.contested_is.kept_are;
+      held = a.contested_is.held;
       known = λ n. subst (λ (o : Option ArbiterValue). IsKnown (starts_in (x ∷ begun)) (known_at contest n) o) (sym (begun-same n)) (blocked-still n (known_at contest n) (ledger n).mode (a.contested_is.known n));
     };
   }
@@ -298,7 +302,7 @@ module _ (script : ScriptValue) (history : List Entry) (phase : Phase) (run : Li
       (All-weaker (λ (w : Wanted). runs_on (begun_of history) n w.request.seq) (λ w. waits_by (live_by (begun_of history) (finished_of history) (phase ∷ ended_of history)) l.grants l.locks w ≡ false) (λ w runs_here. rw (none-live n w.request.seq runs_here) refl) l.wanted here))
 
   pub arbitrating-ended :
-      (steps : List (Option SeqStep)) → ((n : ℕ) → is_live_at steps n ≡ live_by (begun_of history) (finished_of history) (phase ∷ ended_of history) n) → {arbiters new : Kept} {contest after : Contest} → ChangesEach (at_sequencer (after_phase steps true)) arbiters new → after.node ≡ None → ForgetsAll after
+      (steps : List (Option SeqStep)) → ((n : ℕ) → is_live_at steps n ≡ live_by (begun_of history) (finished_of history) (phase ∷ ended_of history) n) → {arbiters new : Kept} {contest after : Contest} → ChangesEach (at_sequencer (after_phase steps true)) arbiters new → after.nodes.items ≡ [] → ForgetsAll after
       → IsArbitrating (length history) (nodes_of history) (begun_of history) (finished_of history) (ended_of history) (ledger_at history) arbiters contest
       → IsArbitrating (suc (length history)) (nodes_of history) (begun_of history) (finished_of history) (phase ∷ ended_of history) (ledger_at (End phase ∷ history)) new after
   arbitrating-ended steps known {after = after} changes nowhere forgets a = record {
@@ -311,7 +315,9 @@ module _ (script : ScriptValue) (history : List Entry) (phase : Phase) (run : Li
     contested_is = record {
       unlocked = λ n other. locks n (ledger_at history n).mode;
       unserved = λ n other. serves n (ledger_at history n).mode;
-      among = λ k e. cc;
+      among = λ n. false;
+      kept_are = nowhere ∙ sym (filter-none (path_order (nodes_of history)));
+      held = λ n e. cc;
       known = λ n. nothing n (known_at after n) (forgets n);
     };
   }

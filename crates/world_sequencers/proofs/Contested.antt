@@ -1,9 +1,9 @@
 -- The sequencers that a world keeps, and what a log says of them.
-use Rattle.std.proofs.Common.{◌≡◌, ℕ, suc, ◌==◌, nat_eq, Bool, true, false, List, [], ◌∷◌, length, map, Contains, Option, Some, None, option_map, option_and_then, refl, ap, sym, ◌∙◌, subst, arith, if◌then◌else◌}
-use Rattle.std.specs.Option.{ForSome, option_map_or}
+use Rattle.std.proofs.Common.{◌≡◌, ℕ, suc, ◌==◌, nat_eq, Bool, true, false, List, [], ◌∷◌, length, map, filter, Contains, Option, Some, None, option_map, option_and_then, refl, ap, sym, ◌∙◌, subst, arith, if◌then◌else◌}
+use Rattle.std.specs.Option.{option_map_or}
 use Rattle.std.specs.HashMap.{get}
 use Rattle.std.proofs.lemmas.Bool.Decides.{nat_tests}
-use Rattle.std.proofs.lemmas.Map.Made.{Contains-tail}
+use Rattle.std.proofs.lemmas.List.Elements.{All-contains}
 use Rattle.uvm_glob.specs.Lists.{first_given}
 use Rattle.uvm_phase.specs.declared.phases.Phase.{Phase}
 use Rattle.uvm_tree.specs.Nodes.{Node}
@@ -22,7 +22,13 @@ use Rattle.world_sequencers.specs.Arbitratings.{AreArbiters, AreContested, IsArb
 use Rattle.world_sequencers.specs.declared.contests.Contest.{Contest}
 use Rattle.world_sequencers.specs.Contests.{IsKnown, LearnsAt, known_at}
 use Rattle.world_sequences.specs.Sequencings.{live_by}
+use Rattle.world_agenda.proofs.Lists.{first-kept, first-none}
 use Rattle.world_sequencers.proofs.Arbited.{arbitrated-more}
+
+-- a node stands in an order, and once
+pub record IsPlaced (order : List ℕ) (node : ℕ) : Type 0 where
+  pub there : Contains order node
+  pub alone : filter (nat_eq node) order ≡ node ∷ []
 
 -- a log's sequencer is that of its ledger
 module _ (history : List Entry) (n : ℕ) where
@@ -42,55 +48,20 @@ unpaired : {A : Type 0} (n : ℕ) (o : Option A) → option_map {U = ℕ × A} (
 unpaired n None e = refl
 unpaired n (Some a) e = cc
 
--- what is given first where it can be given of one alone
-first-all : {A : Type 0} (f : ℕ → Option A) (order : List ℕ) → ((n : ℕ) → f n ≡ None) → first_given (map f order) ≡ None
-first-all f [] none = refl
-first-all f (x ∷ xs) none = rw (none x) (first-all f xs none)
-
-first-only : {A : Type 0} (f : ℕ → Option A) (m : ℕ) (order : List ℕ) → ((n : ℕ) → (m == n) ≡ false → f n ≡ None) → Contains order m → first_given (map f order) ≡ f m
-first-only {A} f m order others there = by (f m) refl
-  where
-    decided : (n : ℕ) (b : Bool) → (m == n) ≡ b → f m ≡ None → f n ≡ None
-    decided n true is none = let same : m ≡ n = grind (arith, nat_tests) in subst (λ (k : ℕ). f k ≡ None) same none
-    decided n false is none = others n is
-
-    found : (a : A) → f m ≡ Some a → (xs : List ℕ) → Contains xs m → first_given (map f xs) ≡ Some a
-    found a is [] in-xs = absurd (omega (arith, in-xs.1))
-    found a is (x ∷ xs) in-xs = tested (m == x) refl (found a is xs)
-      where
-        tested : (b : Bool) → (m == x) ≡ b → (Contains xs m → first_given (map f xs) ≡ Some a) → first_given (f x ∷ map f xs) ≡ Some a
-        tested true e rest =
-            let same : m ≡ x = grind (arith, nat_tests) in
-            let here : f x ≡ Some a = subst (λ (k : ℕ). f k ≡ Some a) same is in
-            rw here refl
-        tested false e rest = rw (others x e) (rest (Contains-tail x xs m (λ same. grind (arith, nat_tests)) in-xs))
-
-    by : (given : Option A) → f m ≡ given → first_given (map f order) ≡ f m
-    by None is = first-all f order (λ n. decided n (m == n) refl is) ∙ sym is
-    by (Some a) is = found a is order there ∙ sym is
-
-other-number : {A : Type 0} (k n : ℕ) → (k == n) ≡ false → Some k ≡ Some n → A
-other-number k n differs e = let same : k ≡ n = cc in let clash : (k == k) ≡ false = subst (λ (m : ℕ). (k == m) ≡ false) (sym same) differs in let itself : (k == k) ≡ true = grind (arith, nat_tests) in cc
-
 -- of one thing that is looked for at each sequencer
 module _ {A : Type 0} (at : ℕ → Option A) (order : List ℕ) where
   abbrev pub paired : ℕ → Option (ℕ × A)
   paired n = option_map {U = ℕ × A} (λ a. (n, a)) (at n)
 
-  pub only-known : (contested : Option ℕ) → ((n : ℕ) → (contested ≡ Some n → ⊥) → at n ≡ None) → ForSome contested (Contains order) → first_given (map paired order) ≡ option_and_then paired contested
-  only-known None others among = first-all paired order (λ n. rw (others n (λ e. cc)) refl)
-  only-known (Some k) others among = first-only paired k order (λ n differs. rw (others n (λ e. other-number k n differs e)) refl) (among k refl)
+  pub kept-known : (among : ℕ → Bool) {kept : List ℕ} → kept ≡ filter among order → ((n : ℕ) → among n ≡ false → at n ≡ None) → first_given (map paired order) ≡ first_given (map paired kept)
+  kept-known among is others = sym (first-kept paired among order (λ n out. rw (others n out) refl)) ∙ ap (λ (ns : List ℕ). first_given (map paired ns)) (sym is)
 
-  pub none-known : (contested : Option ℕ) → ((n : ℕ) → (contested ≡ Some n → ⊥) → at n ≡ None) → ForSome contested (Contains order) → first_given (map paired order) ≡ None → (n : ℕ) → at n ≡ None
-  none-known None others among none n = others n (λ e. cc)
-  none-known (Some k) others among none n = tested (k == n) refl
+  pub none-known : (among : ℕ → Bool) → ((n : ℕ) → among n ≡ true → Contains order n) → ((n : ℕ) → among n ≡ false → at n ≡ None) → first_given (map paired order) ≡ None → (n : ℕ) → at n ≡ None
+  none-known among held others none n = tested (among n) refl
     where
-      tested : (b : Bool) → (k == n) ≡ b → at n ≡ None
-      tested true is =
-          let same : k ≡ n = grind (arith, nat_tests) in
-          let here : at k ≡ None = unpaired k (at k) (sym (only-known (Some k) others among) ∙ none) in
-          subst (λ (m : ℕ). at m ≡ None) same here
-      tested false is = others n (λ e. other-number k n is e)
+      tested : (b : Bool) → among n ≡ b → at n ≡ None
+      tested true is = unpaired n (at n) (All-contains (λ n. paired n ≡ None) order n (first-none paired order none) (held n is))
+      tested false is = others n is
 
 -- the lock that leads, and the driver that is served, by what is kept
 module _ (history : List Entry) where
@@ -113,21 +84,21 @@ module _ (history : List Entry) where
       at n = ap (option_and_then (ready_at (sequences_of history))) (sequencer-is history n) ∙ and-then-map (λ (a : ArbiterValue). a.sequencer) (ready_at (sequences_of history)) (arbiter_of (live_by (begun_of history) (finished_of history) (ended_of history)) (ledger_at history n))
 
   module _ {contest : Contest} (c : AreContested (starts_in (begun_of history)) (live_by (begun_of history) (finished_of history) (ended_of history)) (ledger_at history) (path_order (nodes_of history)) contest) where
-    pub locked-first : next_locked history ≡ option_and_then (paired locks (path_order (nodes_of history))) contest.node
+    pub locked-first : next_locked history ≡ first_given (map (paired locks (path_order (nodes_of history))) contest.nodes.items)
     unfolding next_locked
-    locked-first = ap (λ (f : ℕ → Option (ℕ × ℕ)). first_given (map f (path_order (nodes_of history)))) locking-is ∙ only-known locks (path_order (nodes_of history)) contest.node c.unlocked c.among
+    locked-first = ap (λ (f : ℕ → Option (ℕ × ℕ)). first_given (map f (path_order (nodes_of history)))) locking-is ∙ kept-known locks (path_order (nodes_of history)) c.among c.kept_are c.unlocked
 
-    pub served-first : next_served history ≡ option_and_then (paired serves (path_order (nodes_of history))) contest.node
+    pub served-first : next_served history ≡ first_given (map (paired serves (path_order (nodes_of history))) contest.nodes.items)
     unfolding next_served
-    served-first = ap (λ (f : ℕ → Option (ℕ × Bool)). first_given (map f (path_order (nodes_of history)))) serving-is ∙ only-known serves (path_order (nodes_of history)) contest.node c.unserved c.among
+    served-first = ap (λ (f : ℕ → Option (ℕ × Bool)). first_given (map f (path_order (nodes_of history)))) serving-is ∙ kept-known serves (path_order (nodes_of history)) c.among c.kept_are c.unserved
 
     pub none-locked : next_locked history ≡ None → (n : ℕ) → locks n ≡ None
     unfolding next_locked
-    none-locked none = none-known locks (path_order (nodes_of history)) contest.node c.unlocked c.among (sym (ap (λ (f : ℕ → Option (ℕ × ℕ)). first_given (map f (path_order (nodes_of history)))) locking-is) ∙ none)
+    none-locked none = none-known locks (path_order (nodes_of history)) c.among c.held c.unlocked (sym (ap (λ (f : ℕ → Option (ℕ × ℕ)). first_given (map f (path_order (nodes_of history)))) locking-is) ∙ none)
 
     pub none-served : next_served history ≡ None → (n : ℕ) → serves n ≡ None
     unfolding next_served
-    none-served none = none-known serves (path_order (nodes_of history)) contest.node c.unserved c.among (sym (ap (λ (f : ℕ → Option (ℕ × Bool)). first_given (map f (path_order (nodes_of history)))) serving-is) ∙ none)
+    none-served none = none-known serves (path_order (nodes_of history)) c.among c.held c.unserved (sym (ap (λ (f : ℕ → Option (ℕ × Bool)). first_given (map f (path_order (nodes_of history)))) serving-is) ∙ none)
 
 -- it is known of none; of so many, if that is kept; and of those of which it was known, if they still are
 pub known-none : (started : List Start) (arbiter : Option ArbiterValue) → IsKnown started 0 arbiter
@@ -194,49 +165,50 @@ module _ {count : ℕ} {nodes : List Node} {begun : List Beginning} {finished : 
   pub arbitrating-one :
       (home : ℕ) (change : ArbiterValue → ArbiterValue) → ((n : ℕ) → (home == n) ≡ false → arbiter_of (live_by begun gone ended) (new n) ≡ arbiter_of (live_by begun finished ended) (old n))
       → arbiter_of (live_by begun gone ended) (new home) ≡ option_map change (arbiter_of (live_by begun finished ended) (old home)) → ChangesAt home change kept more
-      → ((n : ℕ) → IsArbitrated (suc count) (length nodes) begun n (new n)) → Contains (path_order nodes) home
+      → ((n : ℕ) → IsArbitrated (suc count) (length nodes) begun n (new n)) → IsPlaced (path_order nodes) home
       → ((n : ℕ) → lock_in (starts_in begun) (arbiter_of (live_by begun finished ended) (old n)) ≡ None) → ((n : ℕ) → ready_in (starts_in begun) (arbiter_of (live_by begun finished ended) (old n)) ≡ None)
-      → (after : Contest) → after.node ≡ Some home → ((n : ℕ) → (home == n) ≡ false → known_at after n ≡ known_at contest n) → IsKnown (starts_in begun) (known_at after home) (arbiter_of (live_by begun gone ended) (new home))
+      → (after : Contest) → after.nodes.items ≡ home ∷ [] → ((n : ℕ) → (home == n) ≡ false → known_at after n ≡ known_at contest n) → IsKnown (starts_in begun) (known_at after home) (arbiter_of (live_by begun gone ended) (new home))
       → IsArbitrating (suc count) nodes begun gone ended new more after
   arbitrating-one home change elsewhere here changes each there unlocked unserved after is others known = record {
     arbiters_are = record { each = changed-each (live_by begun finished ended) (live_by begun gone ended) old new kept more home change elsewhere here changes a.arbiters_are };
     arbitrated = record { each = each };
     contested_is = record {
-      unlocked = λ n other. ap (lock_in (starts_in begun)) (elsewhere n (apart n other)) ∙ unlocked n;
-      unserved = λ n other. ap (ready_in (starts_in begun)) (elsewhere n (apart n other)) ∙ unserved n;
-      among = λ k e. (let same : home ≡ k = cc in subst (Contains (path_order nodes)) same there);
+      among = nat_eq home;
+      kept_are = is ∙ sym there.alone;
+      held = λ n at. (let same : home ≡ n = grind (arith, nat_tests) in subst (Contains (path_order nodes)) same there.there);
+      unlocked = λ n other. ap (lock_in (starts_in begun)) (elsewhere n other) ∙ unlocked n;
+      unserved = λ n other. ap (ready_in (starts_in begun)) (elsewhere n other) ∙ unserved n;
       known = λ n. known-each home elsewhere after others known n;
     };
   }
-    where
-      apart : (n : ℕ) → (after.node ≡ Some n → ⊥) → (home == n) ≡ false
-      apart n other = tested (home == n) refl
-        where
-          tested : (b : Bool) → (home == n) ≡ b → (home == n) ≡ false
-          tested true at = let same : home ≡ n = grind (arith, nat_tests) in absurd (other (is ∙ ap (λ (k : ℕ). Some k) same))
-          tested false at = at
 
-  -- and where it was so at one, it may still be so there
+  -- and where it may be so at some, one of which this is, it may still be so there
   pub arbitrating-there :
       (home : ℕ) (change : ArbiterValue → ArbiterValue) → ((n : ℕ) → (home == n) ≡ false → arbiter_of (live_by begun gone ended) (new n) ≡ arbiter_of (live_by begun finished ended) (old n))
       → arbiter_of (live_by begun gone ended) (new home) ≡ option_map change (arbiter_of (live_by begun finished ended) (old home)) → ChangesAt home change kept more
-      → ((n : ℕ) → IsArbitrated (suc count) (length nodes) begun n (new n)) → contest.node ≡ Some home
-      → (after : Contest) → after.node ≡ contest.node → ((n : ℕ) → (home == n) ≡ false → known_at after n ≡ known_at contest n) → IsKnown (starts_in begun) (known_at after home) (arbiter_of (live_by begun gone ended) (new home))
+      → ((n : ℕ) → IsArbitrated (suc count) (length nodes) begun n (new n)) → a.contested_is.among home ≡ true
+      → (after : Contest) → after.nodes ≡ contest.nodes → ((n : ℕ) → (home == n) ≡ false → known_at after n ≡ known_at contest n) → IsKnown (starts_in begun) (known_at after home) (arbiter_of (live_by begun gone ended) (new home))
       → IsArbitrating (suc count) nodes begun gone ended new more after
   arbitrating-there home change elsewhere here changes each is after still others known = record {
     arbiters_are = record { each = changed-each (live_by begun finished ended) (live_by begun gone ended) old new kept more home change elsewhere here changes a.arbiters_are };
     arbitrated = record { each = each };
     contested_is = record {
-      unlocked = λ n other. ap (lock_in (starts_in begun)) (elsewhere n (apart n (λ e. other (still ∙ e)))) ∙ a.contested_is.unlocked n (λ e. other (still ∙ e));
-      unserved = λ n other. ap (ready_in (starts_in begun)) (elsewhere n (apart n (λ e. other (still ∙ e)))) ∙ a.contested_is.unserved n (λ e. other (still ∙ e));
-      among = λ k e. a.contested_is.among k (sym still ∙ e);
+      among = a.contested_is.among;
+      kept_are = rw still a.contested_is.kept_are;
+      held = a.contested_is.held;
+      unlocked = λ n other. ap (lock_in (starts_in begun)) (elsewhere n (apart n other)) ∙ a.contested_is.unlocked n other;
+      unserved = λ n other. ap (ready_in (starts_in begun)) (elsewhere n (apart n other)) ∙ a.contested_is.unserved n other;
       known = λ n. known-each home elsewhere after others known n;
     };
   }
     where
-      apart : (n : ℕ) → (contest.node ≡ Some n → ⊥) → (home == n) ≡ false
+      apart : (n : ℕ) → a.contested_is.among n ≡ false → (home == n) ≡ false
       apart n other = tested (home == n) refl
         where
           tested : (b : Bool) → (home == n) ≡ b → (home == n) ≡ false
-          tested true is' = let same : home ≡ n = grind (arith, nat_tests) in absurd (other (is ∙ ap (λ (k : ℕ). Some k) same))
-          tested false is' = is'
+          tested false at = at
+          tested true at =
+              let same : home ≡ n = grind (arith, nat_tests) in
+              let here : a.contested_is.among n ≡ true = subst (λ (k : ℕ). a.contested_is.among k ≡ true) same is in
+              let clash : true ≡ false = sym here ∙ other in
+              cc

@@ -1,6 +1,5 @@
 -- That what a world keeps of sequencers is what the log says.
-use Rattle.std.specs.Prelude.{◌≡◌, ◌<◌, ℕ, Bool, nat_eq, List, [], length, map, filter, All, Contains, Option, Some, None, IsSome, option_map}
-use Rattle.std.specs.Option.{ForSome}
+use Rattle.std.specs.Prelude.{◌≡◌, ◌<◌, ℕ, Bool, true, false, nat_eq, List, [], length, map, filter, All, Contains, Option, Some, None, IsSome, option_map}
 use Rattle.std.specs.HashMap.{get}
 use Rattle.uvm_phase.specs.declared.phases.Phase.{Phase}
 use Rattle.uvm_tree.specs.Nodes.{Node}
@@ -74,12 +73,14 @@ pub record IsArbitrated (count nodes : ℕ) (begun : List Beginning) (node : ℕ
 pub record AreArbitrated (count nodes : ℕ) (begun : List Beginning) (ledger : ℕ → Ledger) : Type 0 where
   pub each : (n : ℕ) → IsArbitrated count nodes begun n (ledger n)
 
--- the sequencer that was changed last is one of all nodes: at no other does a lock lead, or can a driver be served; and of each it is known of so many
--- requests that they are blocked
+-- the sequencers at which something may be granted are kept in path order: at no other does a lock lead, or can a driver be served; and of each it is known of so
+-- many requests that they are blocked
 pub record AreContested (started : List Start) (live : ℕ → Bool) (ledger : ℕ → Ledger) (order : List ℕ) (contest : Contest) : Type 0 where
-  pub unlocked : (n : ℕ) → (contest.node ≡ Some n → ⊥) → lock_in started (arbiter_of live (ledger n)) ≡ None
-  pub unserved : (n : ℕ) → (contest.node ≡ Some n → ⊥) → ready_in started (arbiter_of live (ledger n)) ≡ None
-  pub among : ForSome contest.node (Contains order)
+  pub among : ℕ → Bool
+  pub kept_are : contest.nodes.items ≡ filter among order
+  pub held : (n : ℕ) → among n ≡ true → Contains order n
+  pub unlocked : (n : ℕ) → among n ≡ false → lock_in started (arbiter_of live (ledger n)) ≡ None
+  pub unserved : (n : ℕ) → among n ≡ false → ready_in started (arbiter_of live (ledger n)) ≡ None
   pub known : (n : ℕ) → IsKnown started (known_at contest n) (arbiter_of live (ledger n))
 
 -- all that is kept of sequencers is what the log says

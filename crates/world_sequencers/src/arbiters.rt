@@ -1,9 +1,10 @@
 //! Sequencers with who drives them (IEEE 1800.2-2020, Clause 15).
 
-ghost use Rattle.std.specs.Prelude.{◌≡◌, true, nat_eq, length, Some, None, OnOk, OnErr, IfOk, IfErr, option_and_then, ◌<◌, IsSome, is_some};
+ghost use Rattle.std.specs.Prelude.{◌≡◌, true, nat_eq, length, map, Some, None, OnOk, OnErr, IfOk, IfErr, option_and_then, ◌<◌, IsSome, is_some};
 ghost use Rattle.std.specs.HashMap.{get};
 ghost use Rattle.std.specs.Option.{option_map_or};
 ghost use Rattle.uvm_glob.specs.Faults.{unless};
+ghost use Rattle.uvm_glob.specs.Lists.{first_given};
 ghost use Rattle.uvm_sequencer.specs.Drivers.{grant_of, hand_of, is_try};
 ghost use Rattle.uvm_sequencer.specs.Sequencers.{after_leave, after_phase, answer, candidates_at, choice_at, granted, lock_at, locked, ready_at, with_idle};
 ghost use Rattle.bench_history.specs.Refusals.{ask_refusal, done_refusal, item_refusal, lock_refusal, unlock_refusal};
@@ -220,19 +221,23 @@ fn lock_at(arbiters: &Arbiters, sequences: &Sequences, known: usize, node: NodeI
     arbiter.sequencer.leading_lock_behind(sequences, known)
 }
 
-/// Answers whose lock leads at the sequencer that was changed last, if one does there. It looks at no request of which it is known
-/// that its sequence is blocked.
+/// Answers whose lock leads, of the sequencers at which something may be granted, and at which of them first; none where no lock leads.
+/// It looks at no request of which it is known that its sequence is blocked.
 pub fn first_locked(
     arbiters: &Arbiters,
     sequences: &Sequences,
     contest: &Contest,
 ) -> Option<(NodeId, SeqId)>
     requires { AreKnown sequences.now.started arbiters.now contest.now }
-    ensures { result ≡ option_and_then (locked_in sequences.now.started arbiters.now) contest.now.node }
+    ensures { result ≡ first_given (map (locked_in sequences.now.started arbiters.now) contest.now.nodes.items) }
 {
-    let node = contest.node?;
-    let id = lock_at(arbiters, sequences, contest.known(node), node)?;
-    Some((node, id))
+    let nodes = contest.nodes.as_slice();
+    for node in nodes {
+        if let Some(id) = lock_at(arbiters, sequences, contest.known(*node), *node) {
+            return Some((*node, id));
+        }
+    }
+    None
 }
 
 // Whether the driver at a node can be served, and a word decides then, where it is known of so many requests that they are blocked.
@@ -244,19 +249,23 @@ fn ready_at(arbiters: &Arbiters, sequences: &Sequences, known: usize, node: Node
     arbiter.sequencer.ready_behind(sequences, known)
 }
 
-/// Answers whether the driver of the sequencer that was changed last can be served, and whether a word decides then. It looks at no
-/// request of which it is known that its sequence is blocked.
+/// Answers at which sequencer first, of those at which something may be granted, the driver can be served, and whether a word decides
+/// then; none where no driver can. It looks at no request of which it is known that its sequence is blocked.
 pub fn first_served(
     arbiters: &Arbiters,
     sequences: &Sequences,
     contest: &Contest,
 ) -> Option<(NodeId, bool)>
     requires { AreKnown sequences.now.started arbiters.now contest.now }
-    ensures { result ≡ option_and_then (served_in sequences.now.started arbiters.now) contest.now.node }
+    ensures { result ≡ first_given (map (served_in sequences.now.started arbiters.now) contest.now.nodes.items) }
 {
-    let node = contest.node?;
-    let drawn = ready_at(arbiters, sequences, contest.known(node), node)?;
-    Some((node, drawn))
+    let nodes = contest.nodes.as_slice();
+    for node in nodes {
+        if let Some(drawn) = ready_at(arbiters, sequences, contest.known(*node), *node) {
+            return Some((*node, drawn));
+        }
+    }
+    None
 }
 
 /// Answers how many requests stand at a node in front of the first of a sequence that is not blocked, where it is known of so many that

@@ -1,6 +1,6 @@
 //! Where something may be granted.
 
-ghost use Rattle.std.specs.Prelude.{◌≡◌, ℕ, Some, None, OnOk};
+ghost use Rattle.std.specs.Prelude.{◌≡◌, ◌∷◌, ℕ, [], OnOk};
 ghost use Rattle.world_sequencers.specs.Arbiters.{mode_of};
 ghost use Rattle.world_sequencers.specs.Contests.{AddsContest, ForgetsAll, LearnsAt, known_at};
 
@@ -9,12 +9,13 @@ use std::collections::HashMap;
 use uvm_object::What;
 use uvm_tree::NodeId;
 
-/// Where something may be granted (IEEE 1800.2-2020, Clause 15): at the sequencer that was changed last; and for how many requests
-/// at the front of each queue it is known that their sequences are blocked, so that nobody looks at those again.
+/// Where something may be granted (IEEE 1800.2-2020, Clause 15): at the sequencers that were changed since nothing could be granted
+/// anywhere; and for how many requests at the front of each queue it is known that their sequences are blocked, so that nobody looks at
+/// those again.
 #[derive(Drop)]
 pub struct Contest {
-    /// The sequencer that was changed last; none where nothing can be granted anywhere.
-    pub node: Option<NodeId>,
+    /// The sequencers at which something may be granted, in path order.
+    pub nodes: Vec<NodeId>,
     /// For each sequencer for how many requests at the front of its queue it is known.
     pub passed: HashMap<NodeId, usize>,
 }
@@ -22,11 +23,11 @@ pub struct Contest {
 impl Contest {
     /// Nothing can be granted, and there is no sequencer. Takes no memory.
     pub fn new(alloc: Global) -> Contest
-        ensures node { result.node ≡ None }
+        ensures nodes { result.nodes.items ≡ [] }
         ensures known { (n : ℕ) → known_at result n ≡ 0 }
     {
         Contest {
-            node: None,
+            nodes: Vec::new(alloc),
             passed: HashMap::new(alloc),
         }
     }
@@ -43,10 +44,10 @@ impl Contest {
 
     /// Keeps that a node was added, which may be a sequencer, and that nothing can be granted. Its error is want of memory.
     pub fn add(&mut self, node: NodeId, what: What) -> Result<(), AllocError>
-        ensures node { OnOk result (self.new.node ≡ None) }
+        ensures nodes { OnOk result (self.new.nodes.items ≡ []) }
         ensures added { OnOk result (AddsContest (mode_of what) node self.old self.new) }
     {
-        self.node = None;
+        self.nodes.clear();
         let What::Sequencer { .. } = what else {
             return Ok(());
         };
@@ -56,9 +57,27 @@ impl Contest {
         }
     }
 
+    /// Keeps that something may be granted at one sequencer, and at no other. Its error is want of memory.
+    pub fn open_at(&mut self, node: NodeId) -> Result<(), AllocError>
+        ensures nodes { OnOk result (self.new.nodes.items ≡ node ∷ []) }
+        ensures rest { OnOk result (self.new ≡ record self.old { nodes = self.new.nodes }) }
+    {
+        self.nodes.clear();
+        self.nodes.push(node)?;
+        Ok(())
+    }
+
+    /// Keeps that nothing can be granted anywhere. Takes no memory.
+    pub fn close(&mut self)
+        ensures nodes { self.new.nodes.items ≡ [] }
+        ensures rest { self.new ≡ record self.old { nodes = self.new.nodes } }
+    {
+        self.nodes.clear();
+    }
+
     /// Keeps for how many requests at the front of the queue of a sequencer it is known. Takes no memory.
     pub fn learn(&mut self, node: NodeId, known: usize)
-        ensures node { self.new.node ≡ self.old.node }
+        ensures nodes { self.new.nodes ≡ self.old.nodes }
         ensures known { LearnsAt node known self.old self.new }
     {
         if let Some(passed) = self.passed.get_mut(&node) {
@@ -68,10 +87,10 @@ impl Contest {
 
     /// Keeps that it is known for none, as at the end of a phase, and that nothing can be granted. Takes no memory.
     pub fn forget(&mut self)
-        ensures node { self.new.node ≡ None }
+        ensures nodes { self.new.nodes.items ≡ [] }
         ensures known { ForgetsAll self.new }
     {
-        self.node = None;
+        self.nodes.clear();
         self.passed.retain(|_, passed| {
             *passed = 0;
             true

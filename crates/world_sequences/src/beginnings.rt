@@ -1,6 +1,6 @@
 //! The sequences that were started, by whom, and what each step of theirs is (IEEE 1800.2-2020, Clause 14).
 
-ghost use Rattle.std.specs.Prelude.{◌≡◌, [], IfOk, None, ◌∷◌, ◌++◌, ◌+◌, ◌<◌, ℕ, Some, false, IfErr, IsOk, IsSome, OnOk, length, vec_len, vec_capacity};
+ghost use Rattle.std.specs.Prelude.{◌≡◌, [], IfOk, None, ◌∷◌, ◌++◌, ◌+◌, ◌<◌, Some, false, IfErr, IsOk, IsSome, OnOk, length, vec_len, vec_capacity};
 ghost use Rattle.std.specs.Option.{ForSome, option_copied};
 ghost use Rattle.uvm_glob.specs.Paths.{path_fault};
 ghost use Rattle.uvm_sequences.specs.declared.starts.SeqStep.TheVariants.{PreStart};

@@ -1,8 +1,9 @@
 -- What the services know of sequencers is what the log says.
-use Rattle.std.proofs.Common.{◌≡◌, ℕ, ◌==◌, nat_eq, Bool, true, List, length, Option, Some, None, option_map, option_and_then, refl, ap, sym, subst, ◌∙◌, arith}
+use Rattle.std.proofs.Common.{◌≡◌, ℕ, ◌==◌, nat_eq, Bool, true, List, length, map, Option, Some, None, option_map, option_and_then, refl, ap, sym, subst, ◌∙◌, arith}
 use Rattle.std.specs.Option.{option_map_or}
 use Rattle.std.specs.HashMap.{get}
 use Rattle.std.proofs.lemmas.Bool.Decides.{nat_tests}
+use Rattle.uvm_glob.specs.Lists.{first_given}
 use Rattle.uvm_tlm.specs.Fifos.{waiting_count}
 use Rattle.uvm_object.specs.declared.entries.Entry.{Entry}
 use Rattle.bench_script.specs.Scripts.{ScriptValue}
@@ -26,14 +27,14 @@ pub itself : (n : ℕ) → (n == n) ≡ true
 itself n = grind (arith, nat_tests)
 
 module _ {script : ScriptValue} {history : List Entry} {services : Services} (m : ServicesMatch script history services) where
-  pub locked-known : option_and_then (locked_in services.sequences.started services.arbiters) services.contest.node ≡ next_locked history
+  pub locked-known : first_given (map (locked_in services.sequences.started services.arbiters) services.contest.nodes.items) ≡ next_locked history
   locked-known =
-      ap (λ (f : ℕ → Option (ℕ × ℕ)). option_and_then f services.contest.node) (λ i n. option_map {U = ℕ × ℕ} (λ id. (n, id)) (lock_in (m.sequencing.started i) (m.arbitrating.arbiters_are.each n i)))
+      ap (λ (f : ℕ → Option (ℕ × ℕ)). first_given (map f services.contest.nodes.items)) (λ i n. option_map {U = ℕ × ℕ} (λ id. (n, id)) (lock_in (m.sequencing.started i) (m.arbitrating.arbiters_are.each n i)))
       ∙ sym (locked-first history m.arbitrating.contested_is)
 
-  pub served-known : option_and_then (served_in services.sequences.started services.arbiters) services.contest.node ≡ next_served history
+  pub served-known : first_given (map (served_in services.sequences.started services.arbiters) services.contest.nodes.items) ≡ next_served history
   served-known =
-      ap (λ (f : ℕ → Option (ℕ × Bool)). option_and_then f services.contest.node) (λ i n. option_map {U = ℕ × Bool} (λ drawn. (n, drawn)) (ready_in (m.sequencing.started i) (m.arbitrating.arbiters_are.each n i)))
+      ap (λ (f : ℕ → Option (ℕ × Bool)). first_given (map f services.contest.nodes.items)) (λ i n. option_map {U = ℕ × Bool} (λ drawn. (n, drawn)) (ready_in (m.sequencing.started i) (m.arbitrating.arbiters_are.each n i)))
       ∙ sym (served-first history m.arbitrating.contested_is)
 
   -- who is blocked is known
@@ -71,7 +72,7 @@ module _ {script : ScriptValue} {history : List Entry} {services : Services} (m 
 
 -- more of it may be known
 pub known-better :
-    {script : ScriptValue} {history : List Entry} {services : Services} (after : Contest) → after.node ≡ services.contest.node → AreKnown services.sequences.started services.arbiters after
+    {script : ScriptValue} {history : List Entry} {services : Services} (after : Contest) → after.nodes ≡ services.contest.nodes → AreKnown services.sequences.started services.arbiters after
     → ServicesMatch script history services → ServicesMatch script history (record services { contest = after })
 known-better {history = history} {services} after same known m =
     let c = m.arbitrating.contested_is in
@@ -79,9 +80,11 @@ known-better {history = history} {services} after same known m =
       arbiters_are = m.arbitrating.arbiters_are;
       arbitrated = m.arbitrating.arbitrated;
       contested_is = record {
-        unlocked = λ n other. c.unlocked n (λ e. other (same ∙ e));
-        unserved = λ n other. c.unserved n (λ e. other (same ∙ e));
-        among = λ k e. c.among k (sym same ∙ e);
+        among = c.among;
+        kept_are = rw same c.kept_are;
+        held = c.held;
+        unlocked = c.unlocked;
+        unserved = c.unserved;
         known = λ n.
             subst (λ (started : List Start). IsKnown started (known_at after n) (arbiter_of (live_by (begun_of history) (finished_of history) (ended_of history)) (ledger_at history n))) m.sequencing.started
             (subst (λ (o : Option ArbiterValue). IsKnown services.sequences.started (known_at after n) o) (m.arbitrating.arbiters_are.each n) (known n));

@@ -1,11 +1,11 @@
 -- What goes through FIFOs, with one more entry.
-use Rattle.std.proofs.Common.{◌≡◌, ℕ, suc, ◌<◌, ◌==◌, nat_eq, Bool, true, false, not, ◌&&◌, List, [], ◌∷◌, ◌++◌, length, map, filter, drop, slice_get, Option, Some, None, is_some, option_map, option_and_then, unwrap_or, All, Contains, inl, refl, ap, sym, ◌∙◌, subst, arith, length-append, if◌then◌else◌}
+use Rattle.std.proofs.Common.{◌≡◌, ℕ, suc, ◌<◌, ◌==◌, nat_eq, Bool, true, false, not, ◌&&◌, List, [], ◌∷◌, ◌++◌, length, map, drop, slice_get, Option, Some, None, is_some, option_map, option_and_then, unwrap_or, All, Contains, inl, refl, ap, sym, ◌∙◌, subst, arith, length-append, if◌then◌else◌}
 use Rattle.std.specs.List.{IsDistinct}
 use Rattle.std.specs.Option.{option_or}
 use Rattle.std.specs.Map.{lookup}
 use Rattle.std.proofs.Math.Seq.{drop-nil}
 use Rattle.std.proofs.lemmas.Bool.Decides.{nat_tests}
-use Rattle.std.proofs.lemmas.List.Elements.{All-nil, All-cons, All-head, All-tail, All-contains}
+use Rattle.std.proofs.lemmas.List.Elements.{All-nil, All-head, All-tail, All-contains}
 use Rattle.uvm_glob.specs.Faults.{fault_if}
 use Rattle.uvm_glob.specs.Lists.{first_given}
 use Rattle.uvm_phase.specs.declared.phases.Phase.{Phase}
@@ -36,8 +36,8 @@ use Rattle.world_services.specs.Services.{ServicesMatch}
 use Rattle.world_fifos.specs.Stations.{ChangesAt, ChangesEach, Kept, after_passage, passing_in, without_waits}
 use Rattle.world_wiring.proofs.Connected.{closed-is}
 use Rattle.world_fifos.proofs.Passed.{HasPassed, blocked, fewer-blocked, phase-ended, changed_if, has-passed, passing-is, state}
-use Rattle.world_fifos.proofs.Waiting.{asked-later, asked-more, filter-one, station-ended}
-use Rattle.world_agenda.proofs.Lists.{filter-none}
+use Rattle.world_fifos.proofs.Waiting.{asked-later, asked-more, station-ended}
+use Rattle.world_agenda.proofs.Lists.{filter-none, filter-one, first-kept, first-none}
 use Rattle.uvm_tlm.specs.declared.ends.End as ends
 
 -- a wiring that is closed is the one in which ports are looked at
@@ -130,15 +130,6 @@ module _ {count : ℕ} {size : Option ℕ} {entered : List Item} {left : ℕ} {p
   node-taken false there = node-later p
   node-taken true there = record { few = (let lt = there refl in omega (arith, lt)); are_puts = asked-later p.are_puts; are_takes = asked-later p.are_takes; no_item = p.no_item; no_put = p.no_put; no_take = p.no_take }
 
--- where nothing is given first, nothing is given of any
-pub first-none : {A : Type 0} (f : ℕ → Option A) (xs : List ℕ) → first_given (map f xs) ≡ None → All (λ x. f x ≡ None) xs
-first-none f [] none = All-nil (λ x. f x ≡ None)
-first-none {A = A} f (x ∷ xs) none = headed (f x) refl none (first-none f xs)
-  where
-    headed : (given : Option A) → f x ≡ given → first_given (given ∷ map f xs) ≡ None → (first_given (map f xs) ≡ None → All (λ x. f x ≡ None) xs) → All (λ x. f x ≡ None) (x ∷ xs)
-    headed None is none behind = All-cons (λ x. f x ≡ None) x xs is (behind none)
-    headed (Some a) is none behind = cc
-
 -- where nothing passes next, nothing passes anywhere
 pub settled-all : (history : List Entry) {kept : List ℕ} → AreUnsettled (passing_at history) (path_order (nodes_of history)) kept → next_passed history ≡ None → (n : ℕ) → passing_at history n ≡ None
 unfolding next_passed
@@ -147,19 +138,6 @@ settled-all history u none n = tested (u.among n) refl
     tested : (b : Bool) → u.among n ≡ b → passing_at history n ≡ None
     tested true is = All-contains (λ n. passing_at history n ≡ None) (path_order (nodes_of history)) n (first-none (passing_at history) (path_order (nodes_of history)) none) (u.held n is)
     tested false is = u.others n is
-
--- of those that are kept the first at which something passes is the first of all
-first-kept : {A : Type 0} (f : ℕ → Option A) (among : ℕ → Bool) (order : List ℕ) → ((n : ℕ) → among n ≡ false → f n ≡ None) → first_given (map f (filter among order)) ≡ first_given (map f order)
-first-kept f among [] others = refl
-first-kept {A = A} f among (x ∷ order) others = tested (among x) refl (first-kept f among order others)
-  where
-    behind : (given : Option A) → first_given (map f (filter among order)) ≡ first_given (map f order) → first_given (given ∷ map f (filter among order)) ≡ first_given (given ∷ map f order)
-    behind None rest = rest
-    behind (Some a) rest = refl
-
-    tested : (b : Bool) → among x ≡ b → first_given (map f (filter among order)) ≡ first_given (map f order) → first_given (map f (if b then x ∷ filter among order else filter among order)) ≡ first_given (f x ∷ map f order)
-    tested true is rest = behind (f x) rest
-    tested false is rest = rw (others x is) rest
 
 pub next-found : {passing : ℕ → Option (ℕ × Passage)} {order kept : List ℕ} → AreUnsettled passing order kept → first_given (map passing kept) ≡ first_given (map passing order)
 next-found {passing} {order} u = rw u.kept_are (first-kept passing u.among order u.others)

@@ -32,6 +32,7 @@ use Rattle.world_fifos.specs.Passings.{AreStations, ArePassed, AreUnsettled}
 use Rattle.uvm_tree.specs.Sorted.{path_order}
 use Rattle.bench_history.specs.Sequences.{begun_of, finished_of}
 use Rattle.world_sequences.specs.Sequencings.{IsSequencing, enders_of}
+use Rattle.world_sequencers.specs.Contests.{AreKnown}
 use Rattle.world_sequencers.specs.Arbitratings.{IsArbitrating, ledger_at}
 use Rattle.bench_history.specs.Ports.{fifo_size}
 use Rattle.bench_history.specs.Passing.{answered_at, is_no_put, is_put, items_entered, items_left, passing_at, puts_asked, station_at, takes_asked}
@@ -98,3 +99,9 @@ pub record ServicesMatch (script : ScriptValue) (history : List Entry) (services
   pub agenda : IsAgenda (caused_of history) (heard_of history) (ended_of history) (finished_of history) (length history) services.agenda.dues
   pub events : AreEvents (objections_of history) (due_events history)
   pub test_refused : services.test_refused ≡ list_any refuses_test history
+
+-- more requests are passed over, each of which is blocked, and nothing else has changed
+pub record HasPassed (old new : Services) : Type 0 where
+  pub rest : new ≡ record old { contest = new.contest }
+  pub nodes : new.contest.nodes ≡ old.contest.nodes
+  pub known : AreKnown old.sequences.started old.arbiters new.contest

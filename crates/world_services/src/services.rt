@@ -8,7 +8,7 @@ ghost use Rattle.bench_history.specs.History.{overrides_of};
 ghost use Rattle.bench_history.specs.Reports.{script_commands};
 ghost use Rattle.world_reports.specs.Reportings.{IsReporting};
 ghost use Rattle.world_sequencers.specs.Contests.{AreKnown};
-ghost use Rattle.world_services.specs.Services.{IsFactory, IsSettings, ServicesMatch};
+ghost use Rattle.world_services.specs.Services.{HasPassed, IsFactory, IsSettings, ServicesMatch};
 
 use crate::settings::given_settings;
 use crate::turns::Turns;
@@ -130,15 +130,24 @@ impl Services {
         }
     }
 
-    /// Passes over the blocked requests at the sequencer that was changed last, so that nobody looks at them again while they are blocked
-    /// (IEEE 1800.2-2020, Clause 15). Takes no memory; the time is that of a look at those that were not passed over before.
+    /// Passes over the blocked requests at the sequencers at which something may be granted, so that nobody looks at them again while they
+    /// are blocked (IEEE 1800.2-2020, Clause 15). Takes no memory; the time is that of a look at those that were not passed over before.
     pub fn pass_blocked(&mut self)
         requires { AreKnown self.old.sequences.started self.old.arbiters self.old.contest }
-        ensures rest { self.new ≡ record self.old { contest = self.new.contest } }
-        ensures node { self.new.contest.node ≡ self.old.contest.node }
-        ensures known { AreKnown self.old.sequences.started self.old.arbiters self.new.contest }
+        ensures { HasPassed self.old self.new }
     {
-        if let Some(node) = self.contest.node {
+        for place in 0..self.contest.nodes.len() {
+            self.pass_at(place);
+        }
+    }
+
+    // Passes over those at the sequencer that stands at a place of these.
+    fn pass_at(&mut self, place: usize)
+        requires { AreKnown self.old.sequences.started self.old.arbiters self.old.contest }
+        ensures { HasPassed self.old self.new }
+    {
+        if let Some(node) = self.contest.nodes.get(place) {
+            let node = *node;
             let known = self.contest.known(node);
             let passed = passed_at(&self.arbiters, &self.sequences, known, node);
             self.contest.learn(node, passed);

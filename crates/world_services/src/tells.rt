@@ -1,6 +1,6 @@
 //! Calls that the services have due, and the drains that begin and end with them.
 
-ghost use Rattle.std.specs.Prelude.{◌≡◌, ◌++◌, ℕ, List, not, filter, OnOk, [], ◌∷◌, Some, ◌<◌, ◌≤◌, IsOk};
+ghost use Rattle.std.specs.Prelude.{◌≡◌, ◌++◌, List, not, filter, OnOk, [], ◌∷◌, Some, ◌<◌, ◌≤◌, IsOk};
 ghost use Rattle.std.specs.List.{flat_map};
 ghost use Rattle.std.specs.Option.{option_to_list};
 ghost use Rattle.uvm_phase.specs.Dues.{in_order};
@@ -102,11 +102,7 @@ pub fn tell_to(
 
 /// Makes calls due at once, each in its phase, but for those to sequences that live no longer. The place of the entry is their cause,
 /// and they are numbered in their order. Its error is want of memory.
-pub fn tell_living(
-    services: &mut Services,
-    place: usize,
-    calls: &[Told],
-) -> Result<(), AllocError>
+pub fn tell_living(services: &mut Services, place: usize, calls: &[Told]) -> Result<(), AllocError>
     ensures dues { OnOk result ((caused : List Event) → services.old.agenda.dues ≡ in_order caused →
         services.new.agenda.dues ≡ in_order (living_numbered (is_told services.old.sequences.steps) services.old.time place 0 calls.now ++ caused)) }
     ensures rest { services.new ≡ record services.old { agenda = services.new.agenda } }

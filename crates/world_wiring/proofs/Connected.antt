@@ -163,10 +163,14 @@ all-contained xs = λ k d within. (k, within, get_or_default xs k _ _ within)
 pub permutation-contains : {A : Type 0} (xs ys : List A) (x : A) → IsPermutation xs ys → Contains xs x → Contains ys x
 permutation-contains xs ys x same in-xs = All-contains (Contains ys) xs x (All-permutation (Contains ys) ys xs (IsPermutation-sym xs ys same) (all-contained ys)) in-xs
 
+-- each node stands in the path order once
+pub order-distinct : (nodes : List Node) → AreInPathOrder nodes (path_order nodes) → IsDistinct nat_eq (path_order nodes)
+order-distinct nodes order = IsDistinct-IsPermutation nat_eq nat_eq-flips (numbers_of nodes) (path_order nodes) order.whole (distinct-range 1 (length nodes - 1))
+
 -- the path order of all nodes is one of those that can be connected
 pub ends-ordered : {nodes : List Node} {wiring kept : WiringValue} → AreInPathOrder nodes (path_order nodes) → IsConnecting nodes wiring kept → IsPathOrder (path_order nodes) kept.ends
 ends-ordered {nodes} {wiring} {kept} order c = record {
-  distinct = IsDistinct-IsPermutation nat_eq nat_eq-flips (numbers_of nodes) (path_order nodes) order.whole (distinct-range 1 (length nodes - 1));
+  distinct = order-distinct nodes order;
   whole = rw c.ends (All-weaker (IsAtNode (length nodes)) (λ e. Contains (path_order nodes) e.0) (λ e w. permutation-contains (numbers_of nodes) (path_order nodes) e.0 order.whole (range-contains 1 (length nodes - 1) e.0 w.0 (let h = w.1 in omega arith))) wiring.ends c.within);
 }
 

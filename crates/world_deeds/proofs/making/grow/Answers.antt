@@ -1,4 +1,4 @@
-use Rattle.std.proofs.Common.{◌≡◌, ◌<◌, arith, [], ◌∷◌, ◌++◌, length, refl, sym, ◌∙◌, rules}
+use Rattle.std.proofs.Common.{◌≡◌, ◌<◌, arith, [], ◌∷◌, ◌++◌, length, ap, refl, sym, ◌∙◌, rules}
 use Rattle.uvm_tree.specs.declared.nodes.NodeKind.TheVariants.{Component}
 use Rattle.uvm_tree.specs.Nodes.{child}
 use Rattle.uvm_object.specs.Acts.{node_of}
@@ -15,6 +15,8 @@ use Rattle.world_services.proofs.Waiting.{turns-made}
 use Rattle.uvm_tree.specs.Sorted.{path_order}
 use Rattle.bench_history.specs.Passing.{passing_at}
 use Rattle.world_fifos.specs.Passings.{AreUnsettled}
+use Rattle.world_sequencers.specs.declared.contests.Contest.{Contest}
+use Rattle.world_sequencers.specs.Contests.{known_at}
 use Rattle.world_sequencers.proofs.Arbiting.{arbitrating-grown}
 use Rattle.world_sequencers.proofs.Contested.{none-locked, none-served}
 use Rattle.world_services.proofs.Passages.{settled-all, unsettled-none}
@@ -40,6 +42,6 @@ returns-clause-kept c = λ type_name place. record {
       let connecting = connecting-grown made open_ m.connecting in
       let objections = objecting-more c.add.new.self speaker c.nodes_grow.ensures below m.objections longer is in
       let unsettled : AreUnsettled (passing_at history) (path_order (nodes_of history ++ made ∷ [])) c.clear.new.self.items = rw c.clear.ensures.items (unsettled-none (path_order (nodes_of history ++ made ∷ [])) (settled-all history m.unsettled s.settled.unpassed)) in
-      let arbitrating = arbitrating-grown (nodes_of history ++ made ∷ []) (omega (arith, longer)) (none-locked history m.arbitrating.contested_is s.settled.unlocked) (none-served history m.arbitrating.contested_is s.settled.unserved) m.arbitrating in
+      let arbitrating = arbitrating-grown {after = c.close.new.self} (nodes_of history ++ made ∷ []) (omega (arith, longer)) c.close.ensures.nodes (λ n. ap (λ (one : Contest). known_at one n) c.close.ensures.rest) (none-locked history m.arbitrating.contested_is s.settled.unlocked) (none-served history m.arbitrating.contested_is s.settled.unserved) m.arbitrating in
       search (rules, acted);
 }

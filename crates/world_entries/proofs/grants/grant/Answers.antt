@@ -19,7 +19,7 @@ pub choose_at-id-requires-clause-ready : goal.choose_at-id-requires-clause-ready
 choose_at-id-requires-clause-ready c =
     let due = c.requires in
     let serving = c.grants_go_in_order.ensures due.script due.history c.args.sequencer (is_some c.args.word) _ due.coming.next in
-    (served-there due.known c.args.sequencer (is_some c.args.word) serving.served).1
+    served-there due.known c.args.sequencer (is_some c.args.word) serving.served
 
 pub returns-clause-chosen : goal.returns-clause-chosen
 returns-clause-chosen c = λ script before m. chosen-known m c.args.sequencer c.choose_at-id.result c.args.word c.choose_at-id.ensures.value

@@ -22,7 +22,7 @@ pub settle_at-requires-clause-leads : goal.settle_at-requires-clause-leads
 settle_at-requires-clause-leads c =
     let due = c.requires in
     let next = c.locks_go_in_order.ensures due.script due.history c.args.sequencer c.args.id due.coming.next in
-    rw c.in_ok-tell_to.ensures.rest (led-there due.known c.args.sequencer c.args.id next).1
+    rw c.in_ok-tell_to.ensures.rest (led-there due.known c.args.sequencer c.args.id next)
 
 pub returns : goal.returns
 returns c = λ script before coming m.
@@ -38,5 +38,5 @@ returns c = λ script before coming m.
     let events = events-told (objections_of before) (is_open (heard_of before) (ended_of before) (finished_of before)) (phase_begun before id) (now_of before) (caused_at (length before)) (Sequence id c.args.sequencer) call (caused_of before) m.events in
     let agenda = agenda-event (Object (Sequence id c.args.sequencer)) (Some call) (now_of before) (phase_begun before id) (caused_of before) (heard_of before) (ended_of before) (finished_of before) _ _ _ unended (there-open before (Sequence id c.args.sequencer) living) m.agenda dues in
     let changes = rw told.rest at c.settle_at.ensures in
-    let arbitrating = locked-kept m c.args.sequencer id c.settle_at.new.arbiters next living changes c.passed_at-passed.result c.learn.new.self (rw told.rest at c.passed_at-passed.ensures) (rw told.rest at c.learn.ensures.node) (rw told.rest at c.learn.ensures.known) in
+    let arbitrating = locked-kept m c.args.sequencer id c.settle_at.new.arbiters next living changes c.passed_at-passed.result c.learn.new.self (rw told.rest at c.passed_at-passed.ensures) (rw told.rest at c.learn.ensures.nodes) (rw told.rest at c.learn.ensures.known) in
     rw told.rest (search (rules, later))

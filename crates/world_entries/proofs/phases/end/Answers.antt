@@ -49,5 +49,5 @@ returns-clause-goes_on c = λ place script before coming m.
     let stations = stations-ended before phase {new = c.end_waits.new.stations} c.end_waits.ensures m.stations in
     let unsettled = unsettled-ended before phase m.unsettled in
     let sequencing : IsSequencing (begun_of before) (finished_of before) (phase ∷ ended_of before) (enders_of before) c.finish_all.new.sequences c.args.services.now.beginnings.items = sequencing-ended phase c.finish_all.new.sequences (rw (c.as_slice.ensures.value, left) at c.finish_all.ensures) m.sequencing in
-    let arbitrating = arbitrating-ended script before phase c.living_run.ensures coming.each (c.running_phases_end.ensures script before phase coming.next) c.finish_all.new.sequences.steps sequencing.living {new = c.end_phase.new.arbiters} {after = c.forget.new.self} c.end_phase.ensures c.forget.ensures.node c.forget.ensures.known m.arbitrating in
+    let arbitrating = arbitrating-ended script before phase c.living_run.ensures coming.each (c.running_phases_end.ensures script before phase coming.next) c.finish_all.new.sequences.steps sequencing.living {new = c.end_phase.new.arbiters} {after = c.forget.new.self} c.end_phase.ensures c.forget.ensures.nodes c.forget.ensures.known m.arbitrating in
     search (rules, later)

@@ -1,4 +1,4 @@
-use Rattle.std.proofs.Common.{length, filter, sym, refl, rules, Some, None}
+use Rattle.std.proofs.Common.{length, filter, sym, ap, refl, rules, Some, None}
 use Rattle.uvm_object.specs.declared.acts.Act.TheVariants.{Ask}
 use Rattle.uvm_object.specs.declared.acts.Call.TheVariants as call
 use Rattle.bench_history.specs.declared.owners.Owner.TheVariants.{Object}
@@ -6,6 +6,8 @@ use Rattle.bench_history.specs.Sequences.{finished_of}
 use Rattle.bench_history.specs.Dues.{caused_at, caused_of, heard_of, is_open}
 use Rattle.bench_history.specs.History.{act_phase, ended_of, now_of}
 use Rattle.bench_history.specs.Objections.{objections_of}
+use Rattle.world_sequencers.specs.declared.contests.Contest.{Contest}
+use Rattle.world_sequencers.specs.Contests.{known_at}
 use Rattle.world_sequencers.specs.Arbiters.{ChangesAt, asked_at}
 use Rattle.world_agenda.proofs.Drained.{events-told}
 use Rattle.world_services.proofs.Opened.{scene-open}
@@ -20,8 +22,8 @@ returns-in-Err c =
     let why = c.in-Err.ensures in
     refused-here _ _ _ (Ask c.args.name.now c.args.how) c.in-Err.fatal c.args.place c.refused.ensures.attempt c.refused.ensures.services (λ script history m. ask-unreached script history _ c.args.name.now c.args.how c.in-Err.fatal (λ refusal. driving-refuses m c.requires c.args.name.now c.in-Err.fatal refusal (why refusal)))
 
-pub returns-in-Ok-Waits : goal.returns-in-Ok-Waits
-returns-in-Ok-Waits c =
+pub returns-in_ok-open_at-in-Ok-Waits : goal.returns-in_ok-open_at-in-Ok-Waits
+returns-in_ok-open_at-in-Ok-Waits c =
     let name = c.args.name.now in
     let how = c.args.how in
     let reached = c.in-Ok.reached in
@@ -29,6 +31,7 @@ returns-in-Ok-Waits c =
     let asks : ChangesAt reached.sequencer (asked_at (record { who = c.args.services.now.answer.speaker; name = name; phase = c.args.services.now.answer.phase }) how c.in-Ok-Waits.field-0) c.args.services.now.arbiters c.ask_at.new.arbiters = c.in-Ok-Waits.ensures.after in
     let value = rw c.in-Ok-Waits.field-0-is at c.in-Ok-Waits.ensures.value in
     let after = rw c.in-Ok-Waits.field-0-is at asks in
+    let opened = c.in_ok-open_at-in-Ok-Waits.ensures in
     rw (c.waiting.ensures.attempt, c.waiting.ensures.services) (record {
       comes = λ script history s.
           let r = reaching name reached s c.requires c.path_order_is_in_order.ensures found in
@@ -37,7 +40,7 @@ returns-in-Ok-Waits c =
         same_answer = refl;
         with_entry = λ script history s.
             let r = reaching name reached s c.requires c.path_order_is_in_order.ensures found in
-            asked-goes s name reached.sequencer r how c.ask_at.new.arbiters s.left (rw s.known.answer.phase at after);
+            asked-goes s name reached.sequencer r how c.ask_at.new.arbiters s.left (rw s.known.answer.phase at after) c.open_at.new.self opened.nodes (λ n. ap (λ (one : Contest). known_at one n) opened.rest);
       };
     })
 

@@ -9,6 +9,8 @@ use Rattle.bench_history.specs.Sequences.{finished_of}
 use Rattle.bench_history.specs.Dues.{calls_told, caused_of, heard_of, is_open, told_in}
 use Rattle.bench_history.specs.History.{ended_of, now_of}
 use Rattle.bench_history.specs.Objections.{objections_of}
+use Rattle.world_sequencers.specs.declared.contests.Contest.{Contest}
+use Rattle.world_sequencers.specs.Contests.{known_at}
 use Rattle.world_agenda.specs.Tellings.{is_told}
 use Rattle.world_services.proofs.Later.{acted, refused-here}
 use Rattle.world_sequencer_acts.proofs.Seated.{refused-still, unchanged}
@@ -31,6 +33,7 @@ returns-in_ok-tell_living-in-Ok-done_at c =
     let id = c.in-Ok-done_at.id in
     let found = c.in-Ok.ensures in
     let told = c.in_ok-tell_living-in-Ok-done_at.ensures in
+    let opened = c.in_ok-open_at-in-Ok-done_at.ensures in
     rw (c.done.ensures.attempt, c.done.ensures.services, told.rest) (record {
       comes = λ script history s.
           let r = reaching name reached s c.requires c.path_order_is_in_order.ensures found in
@@ -42,7 +45,7 @@ returns-in_ok-tell_living-in-Ok-done_at c =
             let left = s.left in
             let r = reaching name reached s c.requires c.path_order_is_in_order.ensures found in
             let hand = hand-known script history speaker name reached.sequencer r _ (m.arbitrating.arbiters_are.each reached.sequencer) found.2 id c.in-Ok-done_at.ensures.ok in
-            let arbitrating = done-kept s name reached.sequencer r response c.done_at.new.arbiters c.in-Ok-done_at.ensures.after in
+            let arbitrating = done-kept s name reached.sequencer r response c.done_at.new.arbiters c.in-Ok-done_at.ensures.after c.open_at.new.self opened.nodes (λ n. ap (λ (one : Contest). known_at one n) opened.rest) in
             let phase = (rw c.as_slice.ensures.value at c.phase_at-phase.ensures) ∙ hand-phase m.sequencing reached.sequencer id (s.driving.hands reached.sequencer id hand) in
             let is = done-calls s name reached.sequencer r response id hand in
             let calls : c.as_slice-in-Ok-done_at.result.now ≡ calls_told history speaker Done (ItemDone name response) = c.as_slice-in-Ok-done_at.ensures.value ∙ c.in_ok-calls-in-Ok-done_at.ensures ∙ ap (λ (phase : Option Phase). told_in phase (Sequence id reached.sequencer) (call.ItemDone response) ∷ []) phase ∙ sym is in

@@ -5,7 +5,7 @@ use Rattle.bench_history.specs.Upshots.{home_sequencer, id_in}
 use Rattle.bench_history.specs.Sequences.{sequence_in}
 use Rattle.uvm_object.specs.declared.fatals.Fatal.TheVariants.{OutOfRange}
 use Rattle.world_services.proofs.Later.{acted, refused-attempt}
-use Rattle.world_sequencer_acts.proofs.Seated.{request-kept, refused-all, request-in, request-out, seated, unchanged}
+use Rattle.world_sequencer_acts.proofs.Seated.{request-kept, refused-all, request-in, request-out, seated, unchanged, when-done}
 use Rattle.world_services.proofs.Known.{said}
 use Rattle.world_sequencer_acts.proofs.requests.request.Goals as goal
 
@@ -19,7 +19,7 @@ returns-in-None c =
     let given : is_none_at_all c.args.priority ≡ false = sym c.is_none_at_all.ensures ∙ c.if-is_none_at_all.false in
     let value = rw c.in-None.is at c.in_ok-request_at.ensures.value in
     let after = rw c.in-None.is at c.in_ok-request_at.ensures.after in
-    λ place. rw (c.contested.ensures.attempt, c.contested.ensures.services) (record {
+    when-done c.contested.result _ c.contested.ensures.attempt c.contested.ensures.services (λ did place. rw did.rest (record {
       comes = λ script history s.
           let seat = seated s id home (λ opens. cc) c.path_order_is_in_order.ensures is c.node-home.ensures in
           let none : option_and_then (item_refusal (id_in speaker)) (home_sequencer history speaker) ≡ None = rw seat.speaker_is (sym (said s.known home (item_refusal id)) ∙ sym value) in
@@ -32,10 +32,10 @@ returns-in-None c =
             let left = s.left in
             let seat = seated s id home (λ opens. cc) c.path_order_is_in_order.ensures is c.node-home.ensures in
             let asked = rw (c.request_priority-priority.ensures.value, m.sequencing.started) at after in
-            let arbitrating = request-kept s id home seat c.args.priority c.request_at.new.arbiters asked c.passed_stays.ensures in
+            let arbitrating = request-kept s id home seat c.args.priority c.request_at.new.arbiters asked c.passed_stays.ensures c.contested.new.services.contest did.nodes did.knows in
             search (rules, acted);
       };
-    })
+    }))
 
 pub returns-in-Some-2 : goal.returns-in-Some-2
 returns-in-Some-2 c =

@@ -10,9 +10,11 @@ use Rattle.bench_history.specs.Objections.{objections_of}
 use Rattle.bench_history.specs.Refusals.{send_refusal}
 use Rattle.bench_history.specs.Sequences.{finished_of, sequence_in}
 use Rattle.bench_history.specs.Upshots.{home_sequencer, id_in}
+use Rattle.world_services.specs.declared.services.Services.{Services}
+use Rattle.world_sequencers.specs.Contests.{known_at}
 use Rattle.world_agenda.specs.Tellings.{is_told}
 use Rattle.world_services.proofs.Later.{acted}
-use Rattle.world_sequencer_acts.proofs.Seated.{driver-known, granted-known, refused-still, seated, send-allowed, send-kept, send-refused, sends-told, sent-calls, unchanged}
+use Rattle.world_sequencer_acts.proofs.Seated.{driver-known, granted-known, refused-still, seated, send-allowed, send-kept, send-refused, sends-told, sent-calls, unchanged, when-done}
 use Rattle.world_services.proofs.Opened.{scene-open}
 use Rattle.world_agenda.proofs.Written.{agenda-living, events-calls}
 use Rattle.world_sequencer_acts.proofs.requests.send.Goals as goal
@@ -43,7 +45,7 @@ returns-in_ok-tell_living-in-Some-send_at c =
     let value = rw c.in-Some-send_at.is at c.send_at.ensures.value in
     let after = rw c.in-Some-send_at.is at c.send_at.ensures.after in
     let told = c.in_ok-tell_living-in-Some-send_at.ensures in
-    rw (c.contested.ensures.attempt, c.contested.ensures.services, told.rest) (record {
+    when-done c.contested.result _ c.contested.ensures.attempt c.contested.ensures.services (λ did. rw (did.rest, told.rest) (record {
       comes = λ script history s.
           let seat = seated s id home (λ opens. cc) c.path_order_is_in_order.ensures is c.node-home.ensures in
           let allows : option_and_then (send_refusal (id_in speaker)) (home_sequencer history speaker) ≡ None = rw seat.speaker_is (send-allowed s.known id home way (sym value)) in
@@ -55,7 +57,7 @@ returns-in_ok-tell_living-in-Some-send_at c =
             let left = s.left in
             let seat = seated s id home (λ opens. cc) c.path_order_is_in_order.ensures is c.node-home.ensures in
             let granted = granted-known m id home way (sym value) in
-            let arbitrating = send-kept s id home seat item way c.send_at.new.arbiters granted after in
+            let arbitrating = send-kept s id home seat item way c.send_at.new.arbiters granted after c.contested.new.services.contest did.nodes (λ n. did.knows n ∙ ap (λ (one : Services). known_at one.contest n) told.rest) in
             let calls : c.as_slice.result.now ≡ calls_told history speaker Done (Send item) = c.as_slice.ensures.value ∙ c.in_ok-calls-in-Some-send_at.ensures ∙ ap (λ (phase : Option Phase). told_sent phase speaker c.driver_at-driver.result item (Some way)) m.answer.phase ∙ ap (λ (driver : Option DriverPort). told_sent (act_phase history) speaker driver item (Some way)) (c.driver_at-driver.ensures ∙ driver-known m id home seat.moded) ∙ sym (sent-calls history speaker id home item way seat.speaker_is granted) in
             let told_living = rw (← sent-calls history speaker id home item way seat.speaker_is granted) at (sends-told s id home seat item way granted (scene-open s (λ opens. cc))) in
             let dues = rw (m.time, ← s.place_is, calls) at (told.dues (filter (is_open (heard_of history) (ended_of history) (finished_of history)) (caused_of history)) m.agenda.are) in
@@ -63,4 +65,4 @@ returns-in_ok-tell_living-in-Some-send_at c =
             let agenda = agenda-living (is_told services.sequences.steps) (heard_of history) (ended_of history) (finished_of history) (now_of history) (calls_told history speaker Done (Send item)) (caused_of history) (length history) _ _ told_living m.agenda dues in
             search (rules, acted);
       };
-    })
+    }))

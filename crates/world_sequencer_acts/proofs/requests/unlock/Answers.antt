@@ -4,7 +4,7 @@ use Rattle.bench_history.specs.Refusals.{unlock_refusal}
 use Rattle.bench_history.specs.Upshots.{home_sequencer, id_in}
 use Rattle.bench_history.specs.Sequences.{sequence_in}
 use Rattle.world_services.proofs.Later.{acted}
-use Rattle.world_sequencer_acts.proofs.Seated.{unlock-kept, refused-all, seated, unchanged}
+use Rattle.world_sequencer_acts.proofs.Seated.{unlock-kept, refused-all, seated, unchanged, when-done}
 use Rattle.world_services.proofs.Known.{said}
 use Rattle.world_sequencer_acts.proofs.requests.unlock.Goals as goal
 
@@ -17,7 +17,7 @@ returns-in-None c =
     let is : sequence_in speaker ≡ Some id = sym c.sequence_in.ensures ∙ c.in-Some.is in
     let value = rw c.in-None.is at c.unlock_at.ensures.value in
     let after = rw c.in-None.is at c.unlock_at.ensures.after in
-    λ place. rw (c.contested_anew.ensures.attempt, c.contested_anew.ensures.services.rest) (record {
+    when-done c.contested_anew.result _ c.contested_anew.ensures.attempt c.contested_anew.ensures.services (λ did place. rw did.rest (record {
       comes = λ script history s.
           let seat = seated s id home (λ opens. cc) c.path_order_is_in_order.ensures is c.node-home.ensures in
           let allows : option_and_then (unlock_refusal (id_in speaker)) (home_sequencer history speaker) ≡ None = rw seat.speaker_is (sym (said s.known home (unlock_refusal id)) ∙ sym value) in
@@ -28,10 +28,10 @@ returns-in-None c =
             let m = s.known in
             let left = s.left in
             let seat = seated s id home (λ opens. cc) c.path_order_is_in_order.ensures is c.node-home.ensures in
-            let arbitrating = unlock-kept s id home seat c.unlock_at.new.arbiters after c.contested_anew.new.services.contest c.contested_anew.ensures.services.node c.contested_anew.ensures.services.learns in
+            let arbitrating = unlock-kept s id home seat c.unlock_at.new.arbiters after c.contested_anew.new.services.contest did.nodes did.learns in
             search (rules, acted);
       };
-    })
+    }))
 
 pub returns-in-Some-unlock_at : goal.returns-in-Some-unlock_at
 returns-in-Some-unlock_at c =

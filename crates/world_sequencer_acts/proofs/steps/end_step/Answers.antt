@@ -1,4 +1,4 @@
-use Rattle.std.proofs.Common.{◌≡◌, ◌∷◌, ℕ, suc, nat_eq, IsSome, ap, length, filter, Some, None, option_and_then, refl, sym, ◌∙◌, rules}
+use Rattle.std.proofs.Common.{◌≡◌, ◌∷◌, suc, nat_eq, IsSome, ap, length, filter, Some, None, option_and_then, refl, sym, ◌∙◌, rules}
 use Rattle.std.specs.HashMap.{get}
 use Rattle.uvm_sequences.specs.Sequences.{finished, step_after, step_at}
 use Rattle.uvm_object.specs.Acts.{node_of}
@@ -80,7 +80,7 @@ returns-in_ok-finish-in-None c =
             let lapse = lapsed_calls (get nat_eq services.arbiters b.beginning.start.home) id in
             let h = rw (← b.performer_is) at (has-finished m c.steps_change_alone.ensures id b.beginning b.found b.lives lapse (lapsed-known s id b.beginning b.found b.lives moded there) c.finish.new.services.agenda.dues (lapsed-told s id b.beginning b.found b.lives moded there (who.Sequence id b.beginning.start.home ∷ finished_of history) (finished id services.sequences).steps) dues) in
             let left_there = rw home at fin.arbiters in
-            let arbitrating = rw (← b.performer_is) at (finish-kept s id b.beginning b.found b.lives moded there c.finish.new.services.arbiters left_there c.finish.new.services.contest (fin.node ∙ ap (λ (n : ℕ). Some n) home) (rw home at fin.learns)) in
+            let arbitrating = rw (← b.performer_is) at (finish-kept s id b.beginning b.found b.lives moded there c.finish.new.services.arbiters left_there c.finish.new.services.contest (rw home at fin.nodes) (rw home at fin.learns)) in
             let agenda = h.agenda in
             let events = h.events in
             let sequencing = rw (← b.performer_is) at (sequencing-finished m.sequencing c.steps_change_alone.ensures id b.beginning b.found b.lives) in

@@ -1,4 +1,4 @@
-use Rattle.std.proofs.Common.{◌≡◌, ◌++◌, ◌∷◌, [], ℕ, Option, Some, None, not, filter, nat_eq, option_and_then, Result, Ok, Err, OnOk, ap, refl, subst, ◌∙◌}
+use Rattle.std.proofs.Common.{◌≡◌, ◌++◌, ◌∷◌, [], ℕ, Option, Some, None, not, filter, nat_eq, option_and_then, Result, Ok, Err, OnOk, refl, subst, ◌∙◌}
 use Rattle.std.specs.HashMap.{get}
 use Rattle.uvm_phase.specs.Dues.{in_order}
 use Rattle.uvm_sequences.specs.Sequences.{SequencesValue, name_at}
@@ -25,7 +25,7 @@ returns c =
     let id = c.args.id in
     let node = c.node-home.result in
     let lapse : lapsed_item c.leave_at-lapses.result c.driver_at-driver.result ≡ lapsed_calls (get nat_eq services.arbiters node) id =
-        rw (c.leave_at-lapses.ensures.value, c.driver_at-driver.ensures) (lapse-known id (get nat_eq services.arbiters node)) in
+    rw (c.leave_at-lapses.ensures.value, c.driver_at-driver.ensures) (lapse-known id (get nat_eq services.arbiters node)) in
     let calls = c.as_slice.ensures.value ∙ c.in_ok-calls.ensures in
     let home = c.node-home.ensures in
     on-ok c.tell_living.result (λ told. record {
@@ -35,6 +35,6 @@ returns c =
           (rw (calls, lapse, home) at (told (filter (λ event. not (is_of_one (services.answer.speaker ∷ []) event.owner)) caused) (c.cancel.ensures caused are)));
       arbiters = rw c.tell_living.ensures.rest (rw home at c.leave_at-lapses.ensures.after);
       rest = rw (c.tell_living.ensures.rest, c.finish.ensures) refl;
-      node = rw c.tell_living.ensures.rest (c.learn.ensures.node ∙ ap (λ (n : ℕ). Some n) home);
-      learns = rw (c.tell_living.ensures.rest, ← home) c.learn.ensures.known;
+      nodes = rw c.tell_living.ensures.rest (rw (c.learn.ensures.nodes, ← home) c.in_ok-open_at.ensures.nodes);
+      learns = rw (c.tell_living.ensures.rest, ← home) (rw c.in_ok-open_at.ensures.rest at c.learn.ensures.known);
     }) c.tell_living.ensures.dues

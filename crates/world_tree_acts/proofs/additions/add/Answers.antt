@@ -64,7 +64,7 @@ returns c = λ place. rw (c.done.ensures.attempt, c.done.ensures.services) (reco
         let unsettled = kept.unsettled_are in
         let adding = rw (c.in_ok-node.ensures.id, m.tree) at c.in_ok-add_arbiter.ensures in
         let contested = rw (c.in_ok-node.ensures.id, m.tree) at c.in_ok-add-2.ensures.added in
-        let arbitrating = arbitrating-added history c.args.services.now.answer.speaker c.args.name c.args.what {new = c.add_arbiter.new.arbiters} some longer adding (none-locked history m.arbitrating.contested_is s.settled.unlocked) (none-served history m.arbitrating.contested_is s.settled.unserved) c.in_ok-add-2.ensures.node contested m.arbitrating in
+        let arbitrating = arbitrating-added history c.args.services.now.answer.speaker c.args.name c.args.what {new = c.add_arbiter.new.arbiters} some longer adding (none-locked history m.arbitrating.contested_is s.settled.unlocked) (none-served history m.arbitrating.contested_is s.settled.unserved) c.in_ok-add-2.ensures.nodes contested m.arbitrating in
         search (rules, acted);
   };
 })

@@ -21,8 +21,8 @@ carry_out-requires-clause-can c =
     let each = c.self.invariant.1.legal.each in
     let phases = c.acts_are_in_phase.ensures c.self.inside.script before c.args.deed each (act-next c.self.inside.script before c.args.deed r.next) r.left in
     let closed : in_task c.self.inside.services.answer.phase ≡ true → is_closed wiring ≡ true = λ task.
-        let acts = rw m.answer.phase at task in
-        m.closed_past.is (c.tasks_follow_connect.ensures c.self.inside.script before each (goes-still before phases.runs acts) acts) in
+    let acts = rw m.answer.phase at task in
+    m.closed_past.is (c.tasks_follow_connect.ensures c.self.inside.script before each (goes-still before phases.runs acts) acts) in
     record {
       speaks = rw (m.tree, m.answer.speaker) m.speaks;
       numbered = rw (m.objections.are, m.tree) m.objections.numbered;

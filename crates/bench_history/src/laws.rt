@@ -90,7 +90,7 @@ pub fn passages_go_in_order()
     ensures { PassagesGoInOrder }
 {}
 
-/// It was asked for in a phase that has not ended.
+/// What comes to pass at a FIFO was asked for in a phase that has not ended.
 #[tactic(auto, using(crate::proofs::Performed::passages_are_in_phase))]
 pub fn passages_are_in_phase()
     ensures { PassagesAreInPhase }

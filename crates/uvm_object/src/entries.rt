@@ -53,7 +53,8 @@ pub enum Reason {
     Timeout,
 }
 
-/// Why a call, or the end of a drain, was due, and the phase to which it belongs: that of the act which caused it, or of what the act was for.
+/// Why a call, or the end of a drain, was due, and the phase to which it belongs: that of the act which caused it, or that of the ask, the
+/// put or the sequence for which the act was performed.
 #[derive(Clone, Copy, PartialEq, Eq)]
 pub struct Origin {
     /// Why it was due.

@@ -157,7 +157,8 @@ fn sent_calls(
     Ok(calls)
 }
 
-/// Adds the call that tells a driver of an item, or of none, in the phase in which it asked, where there is a driver. Its error is want of memory.
+/// Adds the call that tells a driver of an item, or of none, in the phase in which it asked, where there is a driver. Its error is want
+/// of memory.
 pub fn push_item(
     calls: &mut Vec<Told>,
     driver: Option<DriverPort>,

@@ -132,12 +132,12 @@ fn happening(due: &Due<Owner, Option<Call>>) -> Choice
     }
 }
 
-// The phase ends, or time passes while an objection stands in run.
+// The phase ends, or time passes while its objection stands.
 fn ending(world: &World, phase: Phase) -> Mark
     requires { world.now.sound ≡ true }
-    ensures { entry_of result ≡ (if is_task phase && stands (objections_of world.now.history) then time_passes world.now.script.time_limit (first_due world.now.history) else End phase) }
+    ensures { entry_of result ≡ (if is_task phase && stands (objections_of phase world.now.history) then time_passes world.now.script.time_limit (first_due world.now.history) else End phase) }
 {
-    if phase.is_task() && world.objection_stands() {
+    if world.objection_stands(phase) {
         time_passes(world)
     } else {
         Mark::End(phase)

@@ -11,6 +11,8 @@ ghost use Rattle.uvm_config.specs.Answers.{config_answer};
 ghost use Rattle.bench_history.specs.Configuration.{settings_of};
 ghost use Rattle.bench_history.specs.Objections.{objections_of};
 ghost use Rattle.uvm_objection.specs.Totals.{total};
+ghost use Rattle.uvm_phase.specs.Phases.{is_task};
+ghost use Rattle.uvm_phase.specs.declared.phases.Phase.TheVariants.{Run};
 ghost use Rattle.bench_history.specs.Arbitration.{waiters_at};
 ghost use Rattle.bench_history.specs.Reports.{report_commands};
 ghost use Rattle.uvm_report.specs.Changes.{Gives};
@@ -279,15 +281,23 @@ impl Core {
         self.world.config(path, field)
     }
 
-    /// The count of objections that stands at a node and below it, with what is held back below it (10.5). 0 where there is no
-    /// such node, and once memory was refused.
+    /// The count of objections to the end of run that stands at a node and below it, with what is held back below it (10.5). 0 where
+    /// there is no such node, and once memory was refused.
     pub fn total(&self, node: NodeId) -> u64
-        ensures { result ≡ (if is_sound self.now.health && nat_lt node (length (nodes_of self.now.history)) then total (objections_of self.now.history) node else 0) }
+        ensures { result ≡ (if is_sound self.now.health && nat_lt node (length (nodes_of self.now.history)) then total (objections_of Run self.now.history) node else 0) }
+    {
+        self.total_in(Phase::Run, node)
+    }
+
+    /// The count of objections to the end of a phase that stands at a node and below it, with what is held back below it (10.5). 0 for a
+    /// phase that takes no time, where there is no such node, and once memory was refused. Takes no memory.
+    pub fn total_in(&self, phase: Phase, node: NodeId) -> u64
+        ensures { result ≡ (if is_sound self.now.health && is_task phase && nat_lt node (length (nodes_of self.now.history)) then total (objections_of phase self.now.history) node else 0) }
     {
         if !self.is_sound() {
             return 0;
         }
-        self.world.total(node)
+        self.world.total_in(phase, node)
     }
 
     /// How many puts, takes and peeks wait at a FIFO (Clause 12), or item requests and locks at a sequencer (Clause 15). 0 at every

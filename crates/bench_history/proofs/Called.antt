@@ -37,7 +37,6 @@ use Rattle.bench_history.specs.Sequences.{Beginning, begun_of, sequences_of, is_
 use Rattle.uvm_object.specs.declared.entries.Origin.{Origin}
 use Rattle.bench_script.specs.Scripts.{ScriptValue}
 use Rattle.bench_history.specs.declared.owners.Owner.{Owner}
-use Rattle.bench_history.specs.Objections.{objections_of}
 use Rattle.bench_history.specs.History.{stage_of, now_of, nodes_of, components_of, left_of, rest_of, speaker_of, opening, act_phase, ended_of, phase_heard}
 use Rattle.bench_history.specs.Passing.{puts_asked, takes_asked, put_in, take_in}
 use Rattle.uvm_tlm.specs.declared.ends.PortKind.TheVariants as through
@@ -79,7 +78,7 @@ module _ (keeps : OrderKeepsAll Owner (Option Call)) (excludes : LockExcludes) w
             (numbered-owners (entry ∷ before) (now_of before) (length before) 0 (calls_told before performer outcome act) (told-owners script before performer outcome act known next on who))
             (All-append (IsCallTo (entry ∷ before)) (calls_from outcome act performer phase (now_of before) (length before)) _
             (due-owner (entry ∷ before) (told_by outcome act) performer phase (due_after (now_of before) act) (caused_at (length before)) (expected-unless script before performer outcome act next on known.acting (unless-opening (λ act. told_by outcome act ≡ None) script act (opening-tells script outcome) who)))
-            (moved-call (entry ∷ before) (moves_drains outcome act) phase (caused_at (length before)) (objections_of before) (objections_of (entry ∷ before)) (caused_of before) (owners-more script before entry next on known)));
+            (moved-call (entry ∷ before) (moves_drains outcome act) phase entry before (caused_of before) (owners-more script before entry next on known)));
         acting = acting-more script before entry (act_phase before) next on known.acting;
         going = going-did script before performer outcome act known.going;
         starters = begun-starters script before performer outcome act known next on who;
@@ -199,7 +198,7 @@ module _ (keeps : OrderKeepsAll Owner (Option Call)) (excludes : LockExcludes) w
   known-more script before (Did performer outcome act) known next on = known-did script before performer outcome act known next on
   known-more script before (Passed fifo passage) known next on = known-passed script before fifo passage known next on
   known-more script before (Drained node origin) known next on = record {
-    owners = with-drains-call (Drained node origin ∷ before) (Some origin.phase) (caused_at (length before)) (objections_of before) (objections_of (Drained node origin ∷ before)) (caused_of before) (owners-more script before (Drained node origin) next on known);
+    owners = with-drains-call (Drained node origin ∷ before) (Some origin.phase) (Drained node origin) before (caused_of before) (owners-more script before (Drained node origin) next on known);
     acting = acting-more script before (Drained node origin) (act_phase before) next on known.acting;
     going = known.going;
     starters = starters-more script before (Drained node origin) next on known;

@@ -5,7 +5,6 @@ use Rattle.std.proofs.lemmas.List.Elements.{All-nil, All-cons, All-head, All-tai
 use Rattle.uvm_phase.specs.declared.phases.Phase.{Phase}
 use Rattle.uvm_phase.specs.declared.agendas.Cause.{Cause}
 use Rattle.uvm_objection.specs.declared.objections.Due as drain
-use Rattle.uvm_objection.specs.Nodes as objection
 use Rattle.uvm_objection.specs.Totals.{drains_begun, drains_ended}
 use Rattle.uvm_objection.specs.Laws.{BegunDrainsAreHeld, NodesGrow, PlacesStay, SettledGoByTotals}
 use Rattle.uvm_object.specs.declared.acts.Who.{Who}
@@ -24,7 +23,7 @@ use Rattle.bench_history.specs.Owners.{Event, is_drain_of}
 use Rattle.bench_history.specs.History.{act_phase, now_of}
 use Rattle.bench_history.specs.Sequences.{phase_begun}
 use Rattle.bench_history.specs.Objections.{objections_of}
-use Rattle.bench_history.specs.Dues.{calls_from, calls_numbered, calls_told, caused_at, caused_of, drain_from, due_after, due_from, event_in, events_from, moves_drains, told_by, told_of, with_drains, with_drains_of, with_events_from}
+use Rattle.bench_history.specs.Dues.{calls_from, calls_numbered, calls_told, caused_at, caused_of, drain_from, due_after, due_from, event_in, events_from, moves_drains, told_by, told_of, with_drains_of, with_events_from}
 use Rattle.bench_history.specs.Next.{next_of, IsLegal}
 use Rattle.bench_history.specs.LegalLogs.{IsAtCause, IsCaused, call_time}
 use Rattle.bench_history.proofs.Grown.{plain-next}
@@ -42,13 +41,16 @@ module _ (P : Event → Type 0) where
   all-right [] ys all = all
   all-right (x ∷ xs) ys all = all-right xs ys (All-tail P x (xs ++ ys) all)
 
-  both-drains : (phase : Option Phase) (cause : Cause) (earlier nodes : List objection.Node) (caused : List Event) → All P (with_drains phase cause earlier nodes []) → All P caused → All P (with_drains phase cause earlier nodes caused)
-  both-drains phase cause earlier nodes caused new old =
-      let begun = flat_map (drain_from phase cause) (drains_begun earlier nodes) in
-      All-append P begun _ (all-left begun [] new) (All-filter (λ (event : Event). not (is_drain_of (drains_ended earlier nodes) event.owner)) P caused old)
+  both-drains : (phase : Option Phase) (entry : Entry) (before : List Entry) (caused : List Event) → All P (with_drains_of phase entry before []) → All P caused → All P (with_drains_of phase entry before caused)
+  both-drains None entry before caused new old = old
+  both-drains (Some phase) entry before caused new old =
+      let earlier = objections_of phase before in
+      let nodes = objections_of phase (entry ∷ before) in
+      let begun = flat_map (drain_from phase (caused_at (length before))) (drains_begun earlier nodes) in
+      All-append P begun _ (all-left begun [] new) (All-filter (λ (event : Event). not (is_drain_of phase (drains_ended earlier nodes) event.owner)) P caused old)
 
   both-moved : (moves : Bool) (phase : Option Phase) (entry : Entry) (before : List Entry) (caused : List Event) → All P (if moves then with_drains_of phase entry before [] else []) → All P caused → All P (if moves then with_drains_of phase entry before caused else caused)
-  both-moved true phase entry before caused new old = both-drains phase (caused_at (length before)) (objections_of before) (objections_of (entry ∷ before)) caused new old
+  both-moved true phase entry before caused new old = both-drains phase entry before caused new old
   both-moved false phase entry before caused new old = old
 
   both-all : (entry : Entry) (before : List Entry) (caused : List Event) → All P (events_from entry before) → All P caused → All P (with_events_from entry before caused)
@@ -66,7 +68,7 @@ module _ (P : Event → Type 0) where
   both-all (Granted node grant) before caused new old =
       let told = due_from (Some call.Grant) (who.Sequence grant.id node) (phase_begun before grant.id) (now_of before) (caused_at (length before)) in
       All-append P told caused (all-left told [] new) old
-  both-all (Drained node origin) before caused new old = both-drains (Some origin.phase) (caused_at (length before)) (objections_of before) (objections_of (Drained node origin ∷ before)) caused new old
+  both-all (Drained node origin) before caused new old = both-drains (Some origin.phase) (Drained node origin) before caused new old
   both-all entry before caused new old = old
 
 -- what an entry causes has its place
@@ -85,14 +87,15 @@ numbered-placed : (time place number : ℕ) (calls : List Told) → All (IsPlace
 numbered-placed time place number [] = All-nil (IsPlaced place)
 numbered-placed time place number (told ∷ calls) = All-append (IsPlaced place) (calls_numbered time place (suc number) calls) _ (numbered-placed time place (suc number) calls) (event-placed told.phase time place number (Object told.who) (Some told.call))
 
-begun-placed : (phase : Option Phase) (place : ℕ) (begun : List drain.Due) → All (IsPlaced place) (flat_map (drain_from phase (caused_at place)) begun)
+begun-placed : (phase : Phase) (place : ℕ) (begun : List drain.Due) → All (IsPlaced place) (flat_map (drain_from phase (caused_at place)) begun)
 begun-placed phase place [] = All-nil (IsPlaced place)
-begun-placed phase place (one ∷ begun) = All-append (IsPlaced place) (drain_from phase (caused_at place) one) _ (event-placed phase one.at place 0 (Drain one.node) None) (begun-placed phase place begun)
+begun-placed phase place (one ∷ begun) = All-append (IsPlaced place) (drain_from phase (caused_at place) one) _ (event-placed (Some phase) one.at place 0 (Drain one.node phase) None) (begun-placed phase place begun)
 
 drains-placed : (phase : Option Phase) (entry : Entry) (before : List Entry) → All (IsPlaced (length before)) (with_drains_of phase entry before [])
-drains-placed phase entry before =
-    let begun = flat_map (drain_from phase (caused_at (length before))) (drains_begun (objections_of before) (objections_of (entry ∷ before))) in
-    All-append (IsPlaced (length before)) begun [] (begun-placed phase (length before) (drains_begun (objections_of before) (objections_of (entry ∷ before)))) (All-nil (IsPlaced (length before)))
+drains-placed None entry before = All-nil (IsPlaced (length before))
+drains-placed (Some phase) entry before =
+    let begun = flat_map (drain_from phase (caused_at (length before))) (drains_begun (objections_of phase before) (objections_of phase (entry ∷ before))) in
+    All-append (IsPlaced (length before)) begun [] (begun-placed phase (length before) (drains_begun (objections_of phase before) (objections_of phase (entry ∷ before)))) (All-nil (IsPlaced (length before)))
 
 moved-placed : (moves : Bool) (phase : Option Phase) (entry : Entry) (before : List Entry) → All (IsPlaced (length before)) (if moves then with_drains_of phase entry before [] else [])
 moved-placed true phase entry before = drains-placed phase entry before

@@ -40,10 +40,10 @@ use Rattle.uvm_object.specs.declared.entries.Origin.{Origin}
 use Rattle.bench_script.specs.Scripts.{ScriptValue}
 use Rattle.bench_history.specs.declared.needs.Need as declared
 use Rattle.uvm_objection.specs.declared.objections.Due as drain
-use Rattle.uvm_objection.specs.Nodes as objection
 use Rattle.uvm_objection.specs.Totals.{drains_begun, drains_ended}
 use Rattle.bench_history.specs.declared.owners.Owner.{Owner}
 use Rattle.bench_history.specs.declared.owners.Owner.TheVariants.{Object, Drain}
+use Rattle.bench_history.specs.Objections.{objections_of}
 use Rattle.bench_history.specs.Owners.{Event, who_of, is_drain_of}
 use Rattle.bench_history.specs.History.{stage_of, now_of, nodes_of, components_of, left_of, left_after, rest_of, speaker_of, phase_order, called_of, had_call, next_call, opening, ended_of, act_phase, phase_heard, running}
 use Rattle.bench_history.specs.Wires.{wiring_of, closed_wiring}
@@ -51,7 +51,7 @@ use Rattle.bench_history.specs.Ports.{is_imp_at, imps_below, outlets_below}
 use Rattle.bench_history.specs.Passing.{puts_asked, takes_asked, put_in, take_in, Request}
 use Rattle.uvm_tlm.specs.declared.items.Item.{Item}
 use Rattle.bench_history.specs.declared.owners.Told.{Told}
-use Rattle.bench_history.specs.Dues.{event_in, told_by, told_step, step_call, finished_by, calls_told, calls_numbered, due_from, drain_from, with_drains, caused_of, heard_of, is_open, due_events, first_due, due_at, due_now, lapsed_by, done_by, told_in, written_to}
+use Rattle.bench_history.specs.Dues.{event_in, told_by, told_step, step_call, finished_by, calls_told, calls_numbered, due_from, drain_from, with_drains_of, caused_at, caused_of, heard_of, is_open, due_events, first_due, due_at, due_now, lapsed_by, done_by, told_in, written_to}
 use Rattle.bench_history.specs.Cases.{Next, Exactly, Answer, Need, Nothing, Grant, chosen_at}
 use Rattle.bench_history.specs.Next.{next_of, Allows, IsNext}
 use Rattle.bench_history.specs.Laws.{HasGrown, HasMade, IsComponent, IsThere, ComponentsAreNodes}
@@ -369,7 +369,7 @@ open-speaker : (history : List Entry) (time : ℕ) (cause : Cause) (phase : Phas
 open-speaker history time cause phase (Object (Node node)) notice has is =
     let parts = and-parts _ (not (list_any (same_phase phase) (ended_of history))) true is in
     (has.0, going-on history phase has.1 (not-true (list_any (same_phase phase) (ended_of history)) parts.0))
-open-speaker history time cause phase (Drain node) notice has is =
+open-speaker history time cause phase (Drain node of) notice has is =
     let parts = and-parts _ (not (list_any (same_phase phase) (ended_of history))) true is in
     (has.0, going-on history phase has.1 (not-true (list_any (same_phase phase) (ended_of history)) parts.0))
 open-speaker history time cause phase (Object (Sequence id home)) notice s is =
@@ -436,21 +436,24 @@ due-owner history (Some call) performer phase time cause (inl none) = cc
 due-owner history (Some call) performer phase time cause (inr has) = one-owner history phase time cause (Object performer) (Some call) has
 
 -- and drains call nobody
-drains-call : (history : List Entry) (phase : Option Phase) (cause : Cause) (begun : List drain.Due) → All (IsCallTo history) (flat_map (drain_from phase cause) begun)
+drains-call : (history : List Entry) (phase : Phase) (cause : Cause) (begun : List drain.Due) → All (IsCallTo history) (flat_map (drain_from phase cause) begun)
 drains-call history phase cause [] = All-nil _
 drains-call history phase cause (first ∷ begun) =
-    All-append (IsCallTo history) (drain_from phase cause first) (flat_map (drain_from phase cause) begun) (one-owner history phase first.at cause (Drain first.node) None (λ p runs. tt)) (drains-call history phase cause begun)
+    All-append (IsCallTo history) (drain_from phase cause first) (flat_map (drain_from phase cause) begun) (one-owner history (Some phase) first.at cause (Drain first.node phase) None (λ p runs. tt)) (drains-call history phase cause begun)
 
-pub with-drains-call : (history : List Entry) (phase : Option Phase) (cause : Cause) (earlier nodes : List objection.Node) (caused : List Event) → All (IsCallTo history) caused → All (IsCallTo history) (with_drains phase cause earlier nodes caused)
-with-drains-call history phase cause earlier nodes caused owners =
-    All-append (IsCallTo history) (flat_map (drain_from phase cause) (drains_begun earlier nodes)) (filter (λ event. not (is_drain_of (drains_ended earlier nodes) event.owner)) caused) (drains-call history phase cause (drains_begun earlier nodes))
-    (All-filter (λ event. not (is_drain_of (drains_ended earlier nodes) event.owner)) (IsCallTo history) caused owners)
+pub with-drains-call : (history : List Entry) (phase : Option Phase) (entry : Entry) (before : List Entry) (caused : List Event) → All (IsCallTo history) caused → All (IsCallTo history) (with_drains_of phase entry before caused)
+with-drains-call history None entry before caused owners = owners
+with-drains-call history (Some phase) entry before caused owners =
+    let earlier = objections_of phase before in
+    let nodes = objections_of phase (entry ∷ before) in
+    All-append (IsCallTo history) (flat_map (drain_from phase (caused_at (length before))) (drains_begun earlier nodes)) (filter (λ event. not (is_drain_of phase (drains_ended earlier nodes) event.owner)) caused) (drains-call history phase (caused_at (length before)) (drains_begun earlier nodes))
+    (All-filter (λ event. not (is_drain_of phase (drains_ended earlier nodes) event.owner)) (IsCallTo history) caused owners)
 
 pub moved-call :
-    (history : List Entry) (moves : Bool) (phase : Option Phase) (cause : Cause) (earlier nodes : List objection.Node) (caused : List Event) → All (IsCallTo history) caused
-    → All (IsCallTo history) (if moves then with_drains phase cause earlier nodes caused else caused)
-moved-call history true phase cause earlier nodes caused owners = with-drains-call history phase cause earlier nodes caused owners
-moved-call history false phase cause earlier nodes caused owners = owners
+    (history : List Entry) (moves : Bool) (phase : Option Phase) (entry : Entry) (before : List Entry) (caused : List Event) → All (IsCallTo history) caused
+    → All (IsCallTo history) (if moves then with_drains_of phase entry before caused else caused)
+moved-call history true phase entry before caused owners = with-drains-call history phase entry before caused owners
+moved-call history false phase entry before caused owners = owners
 
 -- the opening of the run is a creation, which causes no call
 pub opening-tells : (script : ScriptValue) (outcome : Outcome) → told_by outcome (opening script) ≡ None

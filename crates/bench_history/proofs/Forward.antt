@@ -32,11 +32,12 @@ use Rattle.bench_history.specs.Owners.{Event, is_drain_of}
 use Rattle.bench_history.specs.History.{act_phase, ended_in, ended_of, now_of}
 use Rattle.bench_history.specs.Sequences.{finished_in, finished_of, phase_begun}
 use Rattle.bench_history.specs.Objections.{objections_of}
-use Rattle.bench_history.specs.Dues.{calls_from, calls_numbered, calls_told, caused_at, caused_of, drain_from, due_after, due_events, due_from, event_in, heard_in, heard_of, is_of_one, is_open, moves_drains, told_by, told_of, with_drains}
+use Rattle.bench_history.specs.Dues.{calls_from, calls_numbered, calls_told, caused_at, caused_of, drain_from, due_after, due_events, due_from, event_in, heard_in, heard_of, is_of_one, is_open, moves_drains, told_by, told_of, with_drains, with_drains_of}
 use Rattle.bench_history.specs.Next.{IsNext, EachIsNext}
 use Rattle.bench_history.specs.LegalLogs.{OnTime}
 use Rattle.bench_history.proofs.Caused.{calls_on_time}
 use Rattle.bench_history.proofs.Olders.{older-each}
+use Rattle.bench_history.proofs.Living.{same-itself}
 use Rattle.bench_history.proofs.Quiet.{objections-are}
 use Rattle.bench_history.proofs.Timed.{time-next}
 use Rattle.bench_history.proofs.Timely.{IsChanged, begun-ahead, drains_on_time, dropped-is, first-of-all, order-all, passes-over, raised-is, released-is, wakes_on_time}
@@ -55,7 +56,7 @@ none-more p xs ys e = by (list_any p xs) (list_any p ys) (ap not (sym (list_any-
 none-of : (more finished : List Who) (owner : Owner) → not (is_of_one (more ++ finished) owner) ≡ true → not (is_of_one finished owner) ≡ true
 none-of more finished (Object (who.Sequence id home)) e = none-more (same_who (who.Sequence id home)) more finished e
 none-of more finished (Object (who.Node node)) e = refl
-none-of more finished (Drain node) e = refl
+none-of more finished (Drain node phase) e = refl
 
 all-three : (a b c d e f : Bool) → (a ≡ true → d ≡ true) → (b ≡ true → e ≡ true) → (c ≡ true → f ≡ true) → (a && b && c) ≡ true → (d && e && f) ≡ true
 all-three true true true d e f one two three is = let x = one refl in let y = two refl in let z = three refl in rw (x, y, z) refl
@@ -98,10 +99,10 @@ later-than : (now : ℕ) (act : Act) → now ≤ due_after now act
 later-than now (Wait ticks tag) = omega arith
 later-than now act = omega arith
 
-drains-ahead : (history : List Entry) (now : ℕ) (phase : Option Phase) (cause : Cause) (begun : List drain.Due) → All (λ (one : drain.Due). now ≤ one.at) begun → All (IsAhead now) (flat_map (drain_from phase cause) begun)
+drains-ahead : (history : List Entry) (now : ℕ) (phase : Phase) (cause : Cause) (begun : List drain.Due) → All (λ (one : drain.Due). now ≤ one.at) begun → All (IsAhead now) (flat_map (drain_from phase cause) begun)
 drains-ahead history now phase cause [] all = All-nil (IsAhead now)
 drains-ahead history now phase cause (first ∷ begun) all =
-    All-append (IsAhead now) (drain_from phase cause first) (flat_map (drain_from phase cause) begun) (event-ahead now phase first.at cause (Drain first.node) None (All-head (λ (one : drain.Due). now ≤ one.at) first begun all))
+    All-append (IsAhead now) (drain_from phase cause first) (flat_map (drain_from phase cause) begun) (event-ahead now (Some phase) first.at cause (Drain first.node phase) None (All-head (λ (one : drain.Due). now ≤ one.at) first begun all))
     (drains-ahead history now phase cause begun (All-tail (λ (one : drain.Due). now ≤ one.at) first begun all))
 
 one-ahead : (entry : Entry) (before : List Entry) (phase : Option Phase) (told : Call) (hearer : Who) → now_of (entry ∷ before) ≡ now_of before → All (IsOpenAhead before) (caused_of before)
@@ -120,24 +121,38 @@ unfiltered P p (event ∷ events) all = tested (p event) refl all (unfiltered P 
 
 module _ (goes : SettledGoByTotals) (held_are : BegunDrainsAreHeld) where
   with-ahead :
-      (phase : Option Phase) (entry : Entry) (before : List Entry) (changed : List objection.Node) → now_of (entry ∷ before) ≡ now_of before → IsChanged (objections_of before) changed → objections_of (entry ∷ before) ≡ settled (now_of before) (total (objections_of before)) changed
-      → AreNodes (objections_of (entry ∷ before)) → All (IsOpenAhead before) (caused_of before)
-      → All (IsOpenAhead (entry ∷ before)) (with_drains phase (caused_at (length before)) (objections_of before) (objections_of (entry ∷ before)) (caused_of before))
+      (phase : Phase) (entry : Entry) (before : List Entry) (changed : List objection.Node) → now_of (entry ∷ before) ≡ now_of before → IsChanged (objections_of phase before) changed → objections_of phase (entry ∷ before) ≡ settled (now_of before) (total (objections_of phase before)) changed
+      → AreNodes (objections_of phase (entry ∷ before)) → All (IsOpenAhead before) (caused_of before)
+      → All (IsOpenAhead (entry ∷ before)) (with_drains phase (caused_at (length before)) (objections_of phase before) (objections_of phase (entry ∷ before)) (caused_of before))
   with-ahead phase entry before changed same by is are all =
-      let earlier = objections_of before in
-      let after = objections_of (entry ∷ before) in
+      let earlier = objections_of phase before in
+      let after = objections_of phase (entry ∷ before) in
       All-append (IsOpenAhead (entry ∷ before)) (flat_map (drain_from phase (caused_at (length before))) (drains_begun earlier after)) _
-      (new-ahead (entry ∷ before) _ (rw same (drains-ahead before (now_of before) phase (caused_at (length before)) (drains_begun earlier after) (begun-ahead goes held_are entry before changed by is are))))
-      (All-filter (λ (event : Event). not (is_drain_of (drains_ended earlier after) event.owner)) (IsOpenAhead (entry ∷ before)) (caused_of before) (old-ahead entry before (caused_of before) same all))
+      (new-ahead (entry ∷ before) _ (rw same (drains-ahead before (now_of before) phase (caused_at (length before)) (drains_begun earlier after) (begun-ahead goes held_are phase entry before changed by is are))))
+      (All-filter (λ (event : Event). not (is_drain_of phase (drains_ended earlier after) event.owner)) (IsOpenAhead (entry ∷ before)) (caused_of before) (old-ahead entry before (caused_of before) same all))
 
   moved-ahead :
-      (before : List Entry) (performer : Who) (outcome : Outcome) (act : Act) → AreNodes (objections_of (Did performer outcome act ∷ before)) → All (IsOpenAhead before) (caused_of before)
-      → All (IsOpenAhead (Did performer outcome act ∷ before)) (if moves_drains outcome act then with_drains (act_phase before) (caused_at (length before)) (objections_of before) (objections_of (Did performer outcome act ∷ before)) (caused_of before) else caused_of before)
-  moved-ahead before performer Done (RaiseObjection count) are all = with-ahead (act_phase before) (Did performer Done (RaiseObjection count)) before (raised (node_of performer) count (objections_of before)) refl (raised-is (node_of performer) count (objections_of before)) refl are all
-  moved-ahead before performer Done (DropObjection count) are all = with-ahead (act_phase before) (Did performer Done (DropObjection count)) before (dropped (node_of performer) count (objections_of before)) refl (dropped-is (node_of performer) count (objections_of before)) refl are all
+      (before : List Entry) (performer : Who) (outcome : Outcome) (act : Act) → ((phase : Phase) → AreNodes (objections_of phase (Did performer outcome act ∷ before))) → All (IsOpenAhead before) (caused_of before)
+      → All (IsOpenAhead (Did performer outcome act ∷ before)) (if moves_drains outcome act then with_drains_of (act_phase before) (Did performer outcome act) before (caused_of before) else caused_of before)
+  moved-ahead before performer Done (RaiseObjection count) are all = by (act_phase before) refl
+    where
+      entry : Entry
+      entry = Did performer Done (RaiseObjection count)
+
+      by : (phase : Option Phase) → act_phase before ≡ phase → All (IsOpenAhead (entry ∷ before)) (with_drains_of phase entry before (caused_of before))
+      by None is = old-ahead entry before (caused_of before) refl all
+      by (Some phase) is = with-ahead phase entry before (raised (node_of performer) count (objections_of phase before)) refl (raised-is (node_of performer) count (objections_of phase before)) (rw (is, same-itself phase) refl) (are phase) all
+  moved-ahead before performer Done (DropObjection count) are all = by (act_phase before) refl
+    where
+      entry : Entry
+      entry = Did performer Done (DropObjection count)
+
+      by : (phase : Option Phase) → act_phase before ≡ phase → All (IsOpenAhead (entry ∷ before)) (with_drains_of phase entry before (caused_of before))
+      by None is = old-ahead entry before (caused_of before) refl all
+      by (Some phase) is = with-ahead phase entry before (dropped (node_of performer) count (objections_of phase before)) refl (dropped-is (node_of performer) count (objections_of phase before)) (rw (is, same-itself phase) refl) (are phase) all
   moved-ahead before performer outcome act are all = old-ahead (Did performer outcome act) before (caused_of before) refl all
 
-  ahead-more : (script : ScriptValue) (before : List Entry) (entry : Entry) → IsNext script before entry → AreNodes (objections_of (entry ∷ before)) → All (IsOpenAhead before) (caused_of before) → All (IsOpenAhead (entry ∷ before)) (caused_of (entry ∷ before))
+  ahead-more : (script : ScriptValue) (before : List Entry) (entry : Entry) → IsNext script before entry → ((phase : Phase) → AreNodes (objections_of phase (entry ∷ before))) → All (IsOpenAhead before) (caused_of before) → All (IsOpenAhead (entry ∷ before)) (caused_of (entry ∷ before))
   ahead-more script before (Did performer outcome act) next are all =
       let entry = Did performer outcome act in
       All-append (IsOpenAhead (entry ∷ before)) (calls_numbered (now_of before) (length before) 0 (calls_told before performer outcome act)) _
@@ -148,13 +163,13 @@ module _ (goes : SettledGoByTotals) (held_are : BegunDrainsAreHeld) where
   ahead-more script before (Passed fifo passage) next are all = one-ahead (Passed fifo passage) before (Some passage.phase) (told_of passage.kind passage) passage.who refl all
   ahead-more script before (Locked node id) next are all = one-ahead (Locked node id) before (phase_begun before id) call.Held (who.Sequence id node) refl all
   ahead-more script before (Granted node grant) next are all = one-ahead (Granted node grant) before (phase_begun before grant.id) call.Grant (who.Sequence grant.id node) refl all
-  ahead-more script before (Drained node origin) next are all = with-ahead (Some origin.phase) (Drained node origin) before (released node (objections_of before)) refl (released-is node (objections_of before)) refl are all
+  ahead-more script before (Drained node origin) next are all = with-ahead origin.phase (Drained node origin) before (released node (objections_of origin.phase before)) refl (released-is node (objections_of origin.phase before)) (rw (same-itself origin.phase) refl) (are origin.phase) all
   ahead-more script before (Time time) next are all = unfiltered (λ event. time ≤ event.time) (open_at before) (caused_of before) (passes-over script before time (time-next script before time next))
   ahead-more script before entry next are all = old-ahead entry before (caused_of before) refl all
 
   ahead-of : PlacesStay → NodesGrow → (script : ScriptValue) (history : List Entry) → EachIsNext script history → All (IsOpenAhead history) (caused_of history)
   ahead-of stay grow script [] each = All-nil _
-  ahead-of stay grow script (entry ∷ before) each = ahead-more script before entry each.0 (objections-are stay grow script (entry ∷ before) each).are_nodes (ahead-of stay grow script before each.1)
+  ahead-of stay grow script (entry ∷ before) each = ahead-more script before entry each.0 (λ phase. (objections-are stay grow phase script (entry ∷ before) each).are_nodes) (ahead-of stay grow script before each.1)
 
   opened : (P : Event → Type 0) (p : Event → Bool) (events : List Event) → All (λ event. p event ≡ true → P event) events → All P (filter p events)
   opened P p [] all = All-nil P

@@ -45,7 +45,7 @@ pub record IsPassing (script : ScriptValue) (history : List Entry) (time : ℕ) 
 -- the phase that runs is at its end: it takes no time, or no objection stands
 pub record IsEnding (history : List Entry) (phase : Phase) : Type 0 where
   pub runs : stage_of history ≡ During phase
-  pub quiet : is_task phase && stands (objections_of history) ≡ false
+  pub quiet : is_task phase && stands (objections_of phase history) ≡ false
 
 -- what the machine writes by itself, outside a phase's course: neither a mark, nor an answer, nor an act. Time passes to what is due, what
 -- passes is next to pass, and a drain that ends is due
@@ -109,15 +109,15 @@ case-time script history next None is e = ByOwn (Note Stall 0) tt e
 case-time script history next (Some event) is e = case-limit script history next event (nat_lt script.time_limit event.time) is refl e
 
 -- where no port is unsound
-case-ended : (script : ScriptValue) (history : List Entry) (next : Next) (phase : Phase) (standing : Bool) → stage_of history ≡ During phase → is_task phase && stands (objections_of history) ≡ standing → next ≡ Exactly (if standing then time_passes script.time_limit (first_due history) else End phase) → Case script history next
+case-ended : (script : ScriptValue) (history : List Entry) (next : Next) (phase : Phase) (standing : Bool) → stage_of history ≡ During phase → is_task phase && stands (objections_of phase history) ≡ standing → next ≡ Exactly (if standing then time_passes script.time_limit (first_due history) else End phase) → Case script history next
 case-ended script history next phase true runs is e = case-time script history next (first_due history) refl e
 case-ended script history next phase false runs is e = ByEnd phase (record { runs = runs; quiet = is }) e
 
 -- where each component had its call
 case-check : (script : ScriptValue) (history : List Entry) (next : Next) (phase : Phase) (connects : Bool) (port : Option (ℕ × Fatal)) → stage_of history ≡ During phase → next ≡ first_next ((if connects then option_map (λ port. Exactly (Note port.1 port.0)) port else None) ∷ phase_end script history (Some phase) ∷ phase_begin (phase_to_begin (stage_of history)) ∷ finish ∷ []) → Case script history next
 case-check script history next phase true (Some port) runs e = ByOwn (Note port.1 port.0) tt e
-case-check script history next phase true None runs e = case-ended script history next phase (is_task phase && stands (objections_of history)) runs refl e
-case-check script history next phase false port runs e = case-ended script history next phase (is_task phase && stands (objections_of history)) runs refl e
+case-check script history next phase true None runs e = case-ended script history next phase (is_task phase && stands (objections_of phase history)) runs refl e
+case-check script history next phase false port runs e = case-ended script history next phase (is_task phase && stands (objections_of phase history)) runs refl e
 
 case-turn : (script : ScriptValue) (history : List Entry) (next : Next) (phase : Phase) (turn : Option ℕ) → stage_of history ≡ During phase → next_call phase history ≡ turn → next ≡ first_next (option_map (λ node. Answer (who.Node node) (call.Phase phase) None) turn ∷ port_check history (Some phase) ∷ phase_end script history (Some phase) ∷ phase_begin (phase_to_begin (stage_of history)) ∷ finish ∷ []) → Case script history next
 case-turn script history next phase (Some node) runs is e = ByTurn phase node runs is e

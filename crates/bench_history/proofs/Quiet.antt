@@ -1,5 +1,5 @@
 -- Where a phase ends that takes time, nothing is raised and nothing held back.
-use Rattle.std.proofs.Common.{◌≡◌, ◌<◌, ◌+◌, ℕ, zero, suc, nat_lt, Bool, true, false, ◌||◌, ◌==◌, List, [], ◌∷◌, ◌++◌, length, filter, find, sum_by, Option, Some, None, refl, sym, ap, subst, ◌∙◌, arith, length-append, if◌then◌else◌}
+use Rattle.std.proofs.Common.{◌≡◌, ◌<◌, ◌+◌, ℕ, zero, suc, nat_lt, Bool, true, false, not, ◌||◌, ◌==◌, List, [], ◌∷◌, ◌++◌, length, filter, find, sum_by, Option, Some, None, refl, sym, ap, subst, ◌∙◌, arith, length-append, if◌then◌else◌}
 use Rattle.std.specs.List.{All, Contains, list_any}
 use Rattle.std.specs.Option.{option_map_or}
 use Rattle.std.proofs.lemmas.Bool.Decides.{nat_tests}
@@ -8,6 +8,7 @@ use Rattle.std.proofs.lemmas.List.Sums.{sum_by-cons}
 use Rattle.std.proofs.lemmas.List.Folds.{list_any-append}
 use Rattle.std.proofs.lemmas.Option.{slice_get_within}
 use Rattle.uvm_phase.specs.declared.phases.Phase.{Phase}
+use Rattle.uvm_phase.specs.Phases.{same_phase}
 use Rattle.uvm_tree.specs.Nodes as tree
 use Rattle.uvm_tree.specs.declared.nodes.NodeKind.TheVariants as kind
 use Rattle.uvm_tree.specs.Nodes.{add_fault, child, node_at}
@@ -24,9 +25,9 @@ use Rattle.uvm_object.specs.declared.entries.Outcome.TheVariants.{Done, Made}
 use Rattle.uvm_object.specs.declared.entries.Entry.{Entry}
 use Rattle.uvm_object.specs.declared.entries.Entry.TheVariants.{Did, Drained, End}
 use Rattle.bench_script.specs.Scripts.{ScriptValue}
-use Rattle.bench_history.specs.History.{created_name, kind_of, nodes_of, now_of}
-use Rattle.bench_history.specs.Objections.{objections_of, stands}
-use Rattle.bench_history.specs.Refusals.{child_refusal}
+use Rattle.bench_history.specs.History.{act_phase, created_name, kind_of, nodes_of, now_of}
+use Rattle.bench_history.specs.Objections.{is_of_phase, objections_of, stands}
+use Rattle.bench_history.specs.Refusals.{child_refusal, in_task}
 use Rattle.bench_history.specs.Cases.{Next, Exactly}
 use Rattle.bench_history.specs.Next.{next_of, IsNext, EachIsNext}
 use Rattle.bench_history.specs.LegalLogs.{IsQuiet, QuietEnd}
@@ -100,36 +101,42 @@ module _ (stay : PlacesStay) (grow : NodesGrow) where
   grown : (nodes : List tree.Node) (one : tree.Node) (objections : List Node) → AreObjections objections (suc (length nodes)) → AreObjections objections (length (nodes ++ one ∷ []))
   grown nodes one objections was = rw (more-nodes nodes one) was
 
-  objections-did : (script : ScriptValue) (before : List Entry) (performer : Who) (outcome : Outcome) (act : Act) → IsNext script before (Did performer outcome act) → AreObjections (objections_of before) (length (nodes_of before))
-      → AreObjections (objections_of (Did performer outcome act ∷ before)) (length (nodes_of (Did performer outcome act ∷ before)))
-  objections-did script before performer (Made type_name) act next was =
+  -- whether it has changed or not
+  either : (changed : Bool) {others nodes : List Node} {count : ℕ} → AreObjections others count → AreObjections nodes count → AreObjections (if changed then others else nodes) count
+  either true new old = new
+  either false new old = old
+
+  objections-did :
+      (phase : Phase) (script : ScriptValue) (before : List Entry) (performer : Who) (outcome : Outcome) (act : Act) → IsNext script before (Did performer outcome act) → AreObjections (objections_of phase before) (length (nodes_of before))
+      → AreObjections (objections_of phase (Did performer outcome act ∷ before)) (length (nodes_of (Did performer outcome act ∷ before)))
+  objections-did phase script before performer (Made type_name) act next was =
       let low = parent-known (nodes_of before) (node_of performer) (created_name act) (made-free script before performer type_name act (next_of script before) refl next) in
-      grown (nodes_of before) (child (nodes_of before) (node_of performer) (created_name act) kind.Component) _ (added (objections_of before) (length (nodes_of before)) (node_of performer) low was)
-  objections-did script before performer Done (Add name what) next was =
+      grown (nodes_of before) (child (nodes_of before) (node_of performer) (created_name act) kind.Component) _ (added (objections_of phase before) (length (nodes_of before)) (node_of performer) low was)
+  objections-did phase script before performer Done (Add name what) next was =
       let low = parent-known (nodes_of before) (node_of performer) name (added-next script before performer name what next) in
-      grown (nodes_of before) (child (nodes_of before) (node_of performer) name (kind_of what)) _ (added (objections_of before) (length (nodes_of before)) (node_of performer) low was)
-  objections-did script before performer Done (RaiseObjection count) next was =
-      settled-kept (now_of before) _ (objections_of before) (raised (node_of performer) count (objections_of before)) (stay.raised (node_of performer) count (objections_of before)) ((grow.1 (objections_of before) was.are_nodes).raised (now_of before) (node_of performer) count).nodes was
-  objections-did script before performer Done (DropObjection count) next was =
-      settled-kept (now_of before) _ (objections_of before) (dropped (node_of performer) count (objections_of before)) (stay.dropped (node_of performer) count (objections_of before)) ((grow.1 (objections_of before) was.are_nodes).dropped (now_of before) (node_of performer) count).nodes was
-  objections-did script before performer Done (SetDrain ticks) next was =
-      let same = stay.with_drain (node_of performer) ticks (objections_of before) in
-      kept (objections_of before) (with_drain (node_of performer) ticks (objections_of before)) _ same (same-length (objections_of before) _ same) ((grow.1 (objections_of before) was.are_nodes).with_drain (node_of performer) ticks).nodes was
-  objections-did script before performer outcome act next was = was
+      grown (nodes_of before) (child (nodes_of before) (node_of performer) name (kind_of what)) _ (added (objections_of phase before) (length (nodes_of before)) (node_of performer) low was)
+  objections-did phase script before performer Done (RaiseObjection count) next was =
+      either (is_of_phase phase (act_phase before)) (settled-kept (now_of before) _ (objections_of phase before) (raised (node_of performer) count (objections_of phase before)) (stay.raised (node_of performer) count (objections_of phase before)) ((grow.1 (objections_of phase before) was.are_nodes).raised (now_of before) (node_of performer) count).nodes was) was
+  objections-did phase script before performer Done (DropObjection count) next was =
+      either (is_of_phase phase (act_phase before)) (settled-kept (now_of before) _ (objections_of phase before) (dropped (node_of performer) count (objections_of phase before)) (stay.dropped (node_of performer) count (objections_of phase before)) ((grow.1 (objections_of phase before) was.are_nodes).dropped (now_of before) (node_of performer) count).nodes was) was
+  objections-did phase script before performer Done (SetDrain ticks) next was =
+      let same = stay.with_drain (node_of performer) ticks (objections_of phase before) in
+      either (is_of_phase phase (act_phase before) || not (in_task (act_phase before))) (kept (objections_of phase before) (with_drain (node_of performer) ticks (objections_of phase before)) _ same (same-length (objections_of phase before) _ same) ((grow.1 (objections_of phase before) was.are_nodes).with_drain (node_of performer) ticks).nodes was) was
+  objections-did phase script before performer outcome act next was = was
 
-  objections-more : (script : ScriptValue) (before : List Entry) (entry : Entry) → IsNext script before entry → AreObjections (objections_of before) (length (nodes_of before)) → AreObjections (objections_of (entry ∷ before)) (length (nodes_of (entry ∷ before)))
-  objections-more script before (Did performer outcome act) next was = objections-did script before performer outcome act next was
-  objections-more script before (Drained node cause) next was =
-      settled-kept (now_of before) _ (objections_of before) (released node (objections_of before)) (stay.released node (objections_of before)) ((grow.1 (objections_of before) was.are_nodes).released (now_of before) node).nodes was
-  objections-more script before entry next was = was
+  objections-more : (phase : Phase) (script : ScriptValue) (before : List Entry) (entry : Entry) → IsNext script before entry → AreObjections (objections_of phase before) (length (nodes_of before)) → AreObjections (objections_of phase (entry ∷ before)) (length (nodes_of (entry ∷ before)))
+  objections-more phase script before (Did performer outcome act) next was = objections-did phase script before performer outcome act next was
+  objections-more phase script before (Drained node origin) next was =
+      either (same_phase origin.phase phase) (settled-kept (now_of before) _ (objections_of phase before) (released node (objections_of phase before)) (stay.released node (objections_of phase before)) ((grow.1 (objections_of phase before) was.are_nodes).released (now_of before) node).nodes was) was
+  objections-more phase script before entry next was = was
 
-  pub objections-are : (script : ScriptValue) (history : List Entry) → EachIsNext script history → AreObjections (objections_of history) (length (nodes_of history))
-  objections-are script [] each = record { are_nodes = grow.0; all = refl; known = λ n. one n (0 == n) refl }
+  pub objections-are : (phase : Phase) (script : ScriptValue) (history : List Entry) → EachIsNext script history → AreObjections (objections_of phase history) (length (nodes_of history))
+  objections-are phase script [] each = record { are_nodes = grow.0; all = refl; known = λ n. one n (0 == n) refl }
     where
       one : (n : ℕ) (b : Bool) → (0 == n) ≡ b → is_known n (top ∷ []) ≡ nat_lt n 1
       one n true e = rw e (sym (grind (arith, nat_tests, e)))
       one n false e = rw e (sym (grind (arith, nat_tests, e)))
-  objections-are script (entry ∷ before) each = objections-more script before entry each.0 (objections-are script before each.1)
+  objections-are phase script (entry ∷ before) each = objections-more phase script before entry each.0 (objections-are phase script before each.1)
 
 -- a sum of none is one of nothings
 sum-none : {X : Type 0} (f : X → ℕ) (p : X → Bool) (xs : List X) → sum_by f (filter p xs) ≡ 0 → All (λ x. p x ≡ true → f x ≡ 0) xs
@@ -271,6 +278,6 @@ pub quiet_end : PlacesStay → NodesGrow → TotalIsSum → QuietEnd
 quiet_end stay grow sums script later before phase node legal takes =
     let each = older-each script later (End phase ∷ before) legal.each in
     let ending = ending-case script before phase (next_of script before) (end-alone phase (next_of script before) each.0) (case-of script before) in
-    let quiet : stands (objections_of before) ≡ false = rw takes at ending.quiet in
-    let none : standing (objections_of before) ≡ 0 = grind (arith, nat_tests, quiet) in
-    quiet-at sums (objections_of before) (objections-are stay grow script before each.1).are_nodes none node
+    let quiet : stands (objections_of phase before) ≡ false = rw takes at ending.quiet in
+    let none : standing (objections_of phase before) ≡ 0 = grind (arith, nat_tests, quiet) in
+    quiet-at sums (objections_of phase before) (objections-are stay grow phase script before each.1).are_nodes none node

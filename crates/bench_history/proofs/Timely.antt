@@ -33,7 +33,7 @@ use Rattle.bench_history.specs.Owners.{Event, is_drain_of, who_of}
 use Rattle.bench_history.specs.History.{act_phase, ended_of, now_of}
 use Rattle.bench_history.specs.Sequences.{finished_of, phase_begun}
 use Rattle.bench_history.specs.Objections.{objections_of}
-use Rattle.bench_history.specs.Dues.{told_by, told_of, calls_told, calls_numbered, due_after, due_from, due_events, calls_from, moves_drains, caused_at, caused_of, drain_from, event_in, with_drains, first_due, heard_of, is_open}
+use Rattle.bench_history.specs.Dues.{told_by, told_of, calls_told, calls_numbered, due_after, due_from, due_events, calls_from, moves_drains, caused_at, caused_of, drain_from, event_in, with_drains, with_drains_of, first_due, heard_of, is_open}
 use Rattle.bench_history.specs.Cases.{Next, Exactly, Answer, Need, Grant, Nothing}
 use Rattle.bench_history.specs.Next.{next_of, Allows, EachIsNext, IsLegal}
 use Rattle.bench_history.specs.LegalLogs.{IsWakeTime, IsAtCause, IsDrainTime, call_time}
@@ -42,6 +42,7 @@ use Rattle.bench_history.proofs.Grown.{IsPlain, IsPlainNext, plain-next}
 use Rattle.bench_history.proofs.Inversion.{IsPassing}
 use Rattle.bench_history.proofs.Olders.{older-each}
 use Rattle.bench_history.proofs.Performed.{due_calls_go_in_order, drains_go_in_order}
+use Rattle.bench_history.proofs.Living.{same-itself}
 use Rattle.bench_history.proofs.Quiet.{objections-are}
 use Rattle.bench_history.proofs.Waking.{IsWoken, woken-of}
 
@@ -55,7 +56,7 @@ pub record IsCallTime (history : List Entry) (cause : Cause) (time : ℕ) : Type
 -- an event is due at the time that its cause gave it
 abbrev IsTimedBy : List Entry → Phase → Cause → ℕ → Owner → Option Call → Type 0
 IsTimedBy history phase cause time owner (Some call) = IsCallTime history cause time
-IsTimedBy history phase cause time (Drain node) None = IsDrainTime history phase node cause time
+IsTimedBy history phase cause time (Drain node of) None = IsDrainTime history phase node cause time
 IsTimedBy history phase cause time (Object who) None = ⊥
 
 abbrev IsTimed : List Entry → Event → Type 0
@@ -67,7 +68,7 @@ at-later new history cause entry before at = record { later = new ∷ at.later; 
 
 timed-later : (new : Entry) (history : List Entry) (phase : Phase) (cause : Cause) (time : ℕ) (owner : Owner) (notice : Option Call) → IsTimedBy history phase cause time owner notice → IsTimedBy (new ∷ history) phase cause time owner notice
 timed-later new history phase cause time owner (Some call) t = record { entry = t.entry; before = t.before; at = at-later new history cause t.entry t.before t.at; time_is = t.time_is }
-timed-later new history phase cause time (Drain node) None t = record { entry = t.entry; before = t.before; at = at-later new history cause t.entry t.before t.at; none_held = t.none_held; holds = t.holds; time_is = t.time_is }
+timed-later new history phase cause time (Drain node of) None t = record { entry = t.entry; before = t.before; at = at-later new history cause t.entry t.before t.at; none_held = t.none_held; holds = t.holds; time_is = t.time_is }
 timed-later new history phase cause time (Object who) None t = absurd t
 
 all-later : (new : Entry) (history : List Entry) (events : List Event) → All (IsTimed history) events → All (IsTimed (new ∷ history)) events
@@ -183,69 +184,83 @@ module _ (goes : SettledGoByTotals) (held_are : BegunDrainsAreHeld) where
       tested true false is rest = rest
       tested false holds is rest = rest
 
-  abbrev IsBegun : Entry → List Entry → drain.Due → Type 0
-  IsBegun entry before begun = (phase : Phase) → IsDrainTime (entry ∷ before) phase begun.node (caused_at (length before)) begun.at
+  abbrev IsBegun : Phase → Entry → List Entry → drain.Due → Type 0
+  IsBegun phase entry before begun = IsDrainTime (entry ∷ before) phase begun.node (caused_at (length before)) begun.at
 
   begun-at :
-      (entry : Entry) (before : List Entry) (changed : List objection.Node) → IsChanged (objections_of before) changed → objections_of (entry ∷ before) ≡ settled (now_of before) (total (objections_of before)) changed
-      → (begun : drain.Due) → IsHeldUntilDue (objections_of (entry ∷ before)) begun → held_of begun.node (objections_of before) ≡ 0 → begun.at ≡ now_of before + drain_of begun.node (objections_of before)
-  begun-at entry before changed by is begun h none =
-      let g = goes (now_of before) (total (objections_of before)) changed begun.node in
+      (phase : Phase) (entry : Entry) (before : List Entry) (changed : List objection.Node) → IsChanged (objections_of phase before) changed → objections_of phase (entry ∷ before) ≡ settled (now_of before) (total (objections_of phase before)) changed
+      → (begun : drain.Due) → IsHeldUntilDue (objections_of phase (entry ∷ before)) begun → held_of begun.node (objections_of phase before) ≡ 0 → begun.at ≡ now_of before + drain_of begun.node (objections_of phase before)
+  begun-at phase entry before changed by is begun h none =
+      let g = goes (now_of before) (total (objections_of phase before)) changed begun.node in
       let held_is = rw is at h.held in
       let due_is = rw is at h.due in
       let holds = rw g.held at held_is in
-      let due = begins-due (now_of before) (total (objections_of before) begun.node) (total (settled (now_of before) (total (objections_of before)) changed) begun.node) (drain_of begun.node changed) (due_of begun.node changed) (held_of begun.node changed) (by.none begun.node none) holds in
+      let due = begins-due (now_of before) (total (objections_of phase before) begun.node) (total (settled (now_of before) (total (objections_of phase before)) changed) begun.node) (drain_of begun.node changed) (due_of begun.node changed) (held_of begun.node changed) (by.none begun.node none) holds in
       sym due_is ∙ g.due ∙ due ∙ ap (λ (n : ℕ). now_of before + n) (by.drains begun.node)
 
   begun-each :
-      (entry : Entry) (before : List Entry) (P : drain.Due → Type 0) → ((begun : drain.Due) → IsHeldUntilDue (objections_of (entry ∷ before)) begun → held_of begun.node (objections_of before) ≡ 0 → P begun)
-      → AreNodes (objections_of (entry ∷ before)) → All P (drains_begun (objections_of before) (objections_of (entry ∷ before)))
-  begun-each entry before P one are =
-      both-hold (IsHeldUntilDue (objections_of (entry ∷ before))) (λ (begun : drain.Due). held_of begun.node (objections_of before) ≡ 0) P (drains_begun (objections_of before) (objections_of (entry ∷ before)))
-      one (held_are (objections_of before) (objections_of (entry ∷ before)) are) (begun-none (objections_of before) (objections_of (entry ∷ before)))
+      (phase : Phase) (entry : Entry) (before : List Entry) (P : drain.Due → Type 0) → ((begun : drain.Due) → IsHeldUntilDue (objections_of phase (entry ∷ before)) begun → held_of begun.node (objections_of phase before) ≡ 0 → P begun)
+      → AreNodes (objections_of phase (entry ∷ before)) → All P (drains_begun (objections_of phase before) (objections_of phase (entry ∷ before)))
+  begun-each phase entry before P one are =
+      both-hold (IsHeldUntilDue (objections_of phase (entry ∷ before))) (λ (begun : drain.Due). held_of begun.node (objections_of phase before) ≡ 0) P (drains_begun (objections_of phase before) (objections_of phase (entry ∷ before)))
+      one (held_are (objections_of phase before) (objections_of phase (entry ∷ before)) are) (begun-none (objections_of phase before) (objections_of phase (entry ∷ before)))
 
   begun-timed :
-      (entry : Entry) (before : List Entry) (changed : List objection.Node) → IsChanged (objections_of before) changed → objections_of (entry ∷ before) ≡ settled (now_of before) (total (objections_of before)) changed
-      → AreNodes (objections_of (entry ∷ before)) → All (IsBegun entry before) (drains_begun (objections_of before) (objections_of (entry ∷ before)))
-  begun-timed entry before changed by is are =
-      begun-each entry before (IsBegun entry before)
-      (λ begun h none phase. record { entry = entry; before = before; at = at-newest entry before 0; none_held = none; holds = h.held; time_is = begun-at entry before changed by is begun h none }) are
+      (phase : Phase) (entry : Entry) (before : List Entry) (changed : List objection.Node) → IsChanged (objections_of phase before) changed → objections_of phase (entry ∷ before) ≡ settled (now_of before) (total (objections_of phase before)) changed
+      → AreNodes (objections_of phase (entry ∷ before)) → All (IsBegun phase entry before) (drains_begun (objections_of phase before) (objections_of phase (entry ∷ before)))
+  begun-timed phase entry before changed by is are =
+      begun-each phase entry before (IsBegun phase entry before)
+      (λ begun h none. record { entry = entry; before = before; at = at-newest entry before 0; none_held = none; holds = h.held; time_is = begun-at phase entry before changed by is begun h none }) are
 
   -- so it is due no earlier than now
   pub begun-ahead :
-      (entry : Entry) (before : List Entry) (changed : List objection.Node) → IsChanged (objections_of before) changed → objections_of (entry ∷ before) ≡ settled (now_of before) (total (objections_of before)) changed
-      → AreNodes (objections_of (entry ∷ before)) → All (λ (begun : drain.Due). now_of before ≤ begun.at) (drains_begun (objections_of before) (objections_of (entry ∷ before)))
-  begun-ahead entry before changed by is are =
-      begun-each entry before (λ (begun : drain.Due). now_of before ≤ begun.at) (λ begun h none. let at = begun-at entry before changed by is begun h none in omega (arith, at)) are
+      (phase : Phase) (entry : Entry) (before : List Entry) (changed : List objection.Node) → IsChanged (objections_of phase before) changed → objections_of phase (entry ∷ before) ≡ settled (now_of before) (total (objections_of phase before)) changed
+      → AreNodes (objections_of phase (entry ∷ before)) → All (λ (begun : drain.Due). now_of before ≤ begun.at) (drains_begun (objections_of phase before) (objections_of phase (entry ∷ before)))
+  begun-ahead phase entry before changed by is are =
+      begun-each phase entry before (λ (begun : drain.Due). now_of before ≤ begun.at) (λ begun h none. let at = begun-at phase entry before changed by is begun h none in omega (arith, at)) are
 
-  abbrev IsDrainedBy : List Entry → Cause → drain.Due → Type 0
-  IsDrainedBy history cause begun = (one : Phase) → IsDrainTime history one begun.node cause begun.at
+  abbrev IsDrainedBy : Phase → List Entry → Cause → drain.Due → Type 0
+  IsDrainedBy phase history cause begun = IsDrainTime history phase begun.node cause begun.at
 
-  drains-timed : (history : List Entry) (phase : Option Phase) (cause : Cause) (begun : List drain.Due) → All (IsDrainedBy history cause) begun → All (IsTimed history) (flat_map (drain_from phase cause) begun)
+  drains-timed : (history : List Entry) (phase : Phase) (cause : Cause) (begun : List drain.Due) → All (IsDrainedBy phase history cause) begun → All (IsTimed history) (flat_map (drain_from phase cause) begun)
   drains-timed history phase cause [] all = All-nil _
   drains-timed history phase cause (first ∷ begun) all =
-      All-append (IsTimed history) (drain_from phase cause first) (flat_map (drain_from phase cause) begun) (event-timed history phase first.at cause (Drain first.node) None (All-head (IsDrainedBy history cause) first begun all))
-      (drains-timed history phase cause begun (All-tail (IsDrainedBy history cause) first begun all))
+      All-append (IsTimed history) (drain_from phase cause first) (flat_map (drain_from phase cause) begun) (All-cons (IsTimed history) _ [] (All-head (IsDrainedBy phase history cause) first begun all) (All-nil (IsTimed history)))
+      (drains-timed history phase cause begun (All-tail (IsDrainedBy phase history cause) first begun all))
 
   with-timed :
-      (phase : Option Phase) (entry : Entry) (before : List Entry) (changed : List objection.Node) → IsChanged (objections_of before) changed → objections_of (entry ∷ before) ≡ settled (now_of before) (total (objections_of before)) changed → AreNodes (objections_of (entry ∷ before))
-      → All (IsTimed before) (caused_of before) → All (IsTimed (entry ∷ before)) (with_drains phase (caused_at (length before)) (objections_of before) (objections_of (entry ∷ before)) (caused_of before))
+      (phase : Phase) (entry : Entry) (before : List Entry) (changed : List objection.Node) → IsChanged (objections_of phase before) changed → objections_of phase (entry ∷ before) ≡ settled (now_of before) (total (objections_of phase before)) changed → AreNodes (objections_of phase (entry ∷ before))
+      → All (IsTimed before) (caused_of before) → All (IsTimed (entry ∷ before)) (with_drains phase (caused_at (length before)) (objections_of phase before) (objections_of phase (entry ∷ before)) (caused_of before))
   with-timed phase entry before changed by is are all =
-      let earlier = objections_of before in
-      let after = objections_of (entry ∷ before) in
+      let earlier = objections_of phase before in
+      let after = objections_of phase (entry ∷ before) in
       All-append (IsTimed (entry ∷ before)) (flat_map (drain_from phase (caused_at (length before))) (drains_begun earlier after)) _
-      (drains-timed (entry ∷ before) phase (caused_at (length before)) (drains_begun earlier after) (begun-timed entry before changed by is are))
-      (All-filter (λ (event : Event). not (is_drain_of (drains_ended earlier after) event.owner)) (IsTimed (entry ∷ before)) (caused_of before) (all-later entry before (caused_of before) all))
+      (drains-timed (entry ∷ before) phase (caused_at (length before)) (drains_begun earlier after) (begun-timed phase entry before changed by is are))
+      (All-filter (λ (event : Event). not (is_drain_of phase (drains_ended earlier after) event.owner)) (IsTimed (entry ∷ before)) (caused_of before) (all-later entry before (caused_of before) all))
 
   moved-timed :
-      (before : List Entry) (performer : Who) (outcome : Outcome) (act : Act) → AreNodes (objections_of (Did performer outcome act ∷ before)) → All (IsTimed before) (caused_of before)
-      → All (IsTimed (Did performer outcome act ∷ before)) (if moves_drains outcome act then with_drains (act_phase before) (caused_at (length before)) (objections_of before) (objections_of (Did performer outcome act ∷ before)) (caused_of before) else caused_of before)
-  moved-timed before performer Done (RaiseObjection count) are all = with-timed (act_phase before) (Did performer Done (RaiseObjection count)) before (raised (node_of performer) count (objections_of before)) (raised-is (node_of performer) count (objections_of before)) refl are all
-  moved-timed before performer Done (DropObjection count) are all = with-timed (act_phase before) (Did performer Done (DropObjection count)) before (dropped (node_of performer) count (objections_of before)) (dropped-is (node_of performer) count (objections_of before)) refl are all
+      (before : List Entry) (performer : Who) (outcome : Outcome) (act : Act) → ((phase : Phase) → AreNodes (objections_of phase (Did performer outcome act ∷ before))) → All (IsTimed before) (caused_of before)
+      → All (IsTimed (Did performer outcome act ∷ before)) (if moves_drains outcome act then with_drains_of (act_phase before) (Did performer outcome act) before (caused_of before) else caused_of before)
+  moved-timed before performer Done (RaiseObjection count) are all = by (act_phase before) refl
+    where
+      entry : Entry
+      entry = Did performer Done (RaiseObjection count)
+
+      by : (phase : Option Phase) → act_phase before ≡ phase → All (IsTimed (entry ∷ before)) (with_drains_of phase entry before (caused_of before))
+      by None is = all-later entry before (caused_of before) all
+      by (Some phase) is = with-timed phase entry before (raised (node_of performer) count (objections_of phase before)) (raised-is (node_of performer) count (objections_of phase before)) (rw (is, same-itself phase) refl) (are phase) all
+  moved-timed before performer Done (DropObjection count) are all = by (act_phase before) refl
+    where
+      entry : Entry
+      entry = Did performer Done (DropObjection count)
+
+      by : (phase : Option Phase) → act_phase before ≡ phase → All (IsTimed (entry ∷ before)) (with_drains_of phase entry before (caused_of before))
+      by None is = all-later entry before (caused_of before) all
+      by (Some phase) is = with-timed phase entry before (dropped (node_of performer) count (objections_of phase before)) (dropped-is (node_of performer) count (objections_of phase before)) (rw (is, same-itself phase) refl) (are phase) all
   moved-timed before performer outcome act are all = all-later (Did performer outcome act) before (caused_of before) all
 
   -- each entry keeps it so
-  timed-more : (entry : Entry) (before : List Entry) → AreNodes (objections_of (entry ∷ before)) → All (IsTimed before) (caused_of before) → All (IsTimed (entry ∷ before)) (caused_of (entry ∷ before))
+  timed-more : (entry : Entry) (before : List Entry) → ((phase : Phase) → AreNodes (objections_of phase (entry ∷ before))) → All (IsTimed before) (caused_of before) → All (IsTimed (entry ∷ before)) (caused_of (entry ∷ before))
   timed-more (Did performer outcome act) before are all =
       All-append (IsTimed (Did performer outcome act ∷ before)) (calls_numbered (now_of before) (length before) 0 (calls_told before performer outcome act)) _ (told-timed before performer outcome act)
       (All-append (IsTimed (Did performer outcome act ∷ before)) (calls_from outcome act performer (act_phase before) (now_of before) (length before)) _ (from-timed before performer outcome act) (moved-timed before performer outcome act are all))
@@ -258,12 +273,12 @@ module _ (goes : SettledGoByTotals) (held_are : BegunDrainsAreHeld) where
   timed-more (Granted node grant) before are all =
       All-append (IsTimed (Granted node grant ∷ before)) (due_from (Some call.Grant) (who.Sequence grant.id node) (phase_begun before grant.id) (now_of before) (caused_at (length before))) (caused_of before)
       (due-timed (Granted node grant ∷ before) (Some call.Grant) (who.Sequence grant.id node) (phase_begun before grant.id) (now_of before) (caused_at (length before)) (λ call e. call-newest (Granted node grant) before 0 (now_of before) refl)) (all-later (Granted node grant) before (caused_of before) all)
-  timed-more (Drained node origin) before are all = with-timed (Some origin.phase) (Drained node origin) before (released node (objections_of before)) (released-is node (objections_of before)) refl are all
+  timed-more (Drained node origin) before are all = with-timed origin.phase (Drained node origin) before (released node (objections_of origin.phase before)) (released-is node (objections_of origin.phase before)) (rw (same-itself origin.phase) refl) (are origin.phase) all
   timed-more entry before are all = all-later entry before (caused_of before) all
 
   timed-of : PlacesStay → NodesGrow → (script : ScriptValue) (history : List Entry) → EachIsNext script history → All (IsTimed history) (caused_of history)
   timed-of stay grow script [] each = All-nil _
-  timed-of stay grow script (entry ∷ before) each = timed-more entry before (objections-are stay grow script (entry ∷ before) each).are_nodes (timed-of stay grow script before each.1)
+  timed-of stay grow script (entry ∷ before) each = timed-more entry before (λ phase. (objections-are stay grow phase script (entry ∷ before) each).are_nodes) (timed-of stay grow script before each.1)
 
 -- the first that is due is due no later than any
 before-or-at : (a b : ℕ) (less same : Bool) (rest : Bool) → nat_lt a b ≡ less → (a == b) ≡ same → (less || (same && rest)) ≡ true → a ≤ b
@@ -356,7 +371,7 @@ drain-timed history node cause time event owner t owner_is notice at now stands 
   where
     by : (one : Owner) → IsTimedBy history event.phase event.cause event.time one None → node_of (who_of one) ≡ node → IsDrainTime history event.phase node cause time
     by (Object who) t stands = absurd t
-    by (Drain other) t stands = rw (← at, ← now, ← stands) t
+    by (Drain other of) t stands = rw (← at, ← now, ← stands) t
 
 -- each call with a cause is heard at its time
 pub call-times :

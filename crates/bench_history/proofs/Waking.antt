@@ -5,7 +5,6 @@ use Rattle.std.proofs.lemmas.List.Elements.{All-nil, All-cons, All-append, All-f
 use Rattle.uvm_phase.specs.declared.phases.Phase.{Phase}
 use Rattle.uvm_phase.specs.declared.agendas.Cause.{Cause}
 use Rattle.uvm_objection.specs.declared.objections.Due as drain
-use Rattle.uvm_objection.specs.Nodes as objection
 use Rattle.uvm_objection.specs.Totals.{drains_begun, drains_ended}
 use Rattle.uvm_sequences.specs.declared.starts.SeqStep.{SeqStep}
 use Rattle.uvm_sequences.specs.declared.starts.SeqStep.TheVariants.{PreStart, Body, PostStart}
@@ -40,7 +39,7 @@ use Rattle.bench_history.specs.Objections.{objections_of}
 use Rattle.bench_history.specs.Ports.{imps_below}
 use Rattle.bench_history.specs.Sequences.{Beginning, begun_of, next_step, phase_begun, sequence_in}
 use Rattle.bench_history.specs.Arbitration.{driver_asker, driver_state, sequencer_below}
-use Rattle.bench_history.specs.Dues.{calls_from, calls_numbered, calls_told, caused_at, caused_of, done_by, drain_from, due_from, event_in, finished_by, moves_drains, told_done, told_finished, told_in, told_item, told_of, told_sent, told_step, with_drains, written_to}
+use Rattle.bench_history.specs.Dues.{calls_from, calls_numbered, calls_told, caused_at, caused_of, done_by, drain_from, due_from, event_in, finished_by, moves_drains, told_done, told_finished, told_in, told_item, told_of, told_sent, told_step, with_drains_of, written_to}
 use Rattle.bench_history.specs.LegalLogs.{IsWakeTime}
 
 -- a call is one after a wait
@@ -169,19 +168,22 @@ from-woken before performer (Waits true) act = All-nil _
 from-woken before performer (Waits false) act = All-nil _
 from-woken before performer outcome act = All-nil _
 
-drains-plain : (phase : Option Phase) (cause : Cause) (begun : List drain.Due) → All IsPlainEvent (flat_map (drain_from phase cause) begun)
+drains-plain : (phase : Phase) (cause : Cause) (begun : List drain.Due) → All IsPlainEvent (flat_map (drain_from phase cause) begun)
 drains-plain phase cause [] = All-nil IsPlainEvent
-drains-plain phase cause (first ∷ begun) = All-append IsPlainEvent (drain_from phase cause first) (flat_map (drain_from phase cause) begun) (event-plain phase first.at cause (Drain first.node) None refl) (drains-plain phase cause begun)
+drains-plain phase cause (first ∷ begun) = All-append IsPlainEvent (drain_from phase cause first) (flat_map (drain_from phase cause) begun) (event-plain (Some phase) first.at cause (Drain first.node phase) None refl) (drains-plain phase cause begun)
 
-with-woken : (phase : Option Phase) (entry : Entry) (before : List Entry) (nodes : List objection.Node) → All (IsWoken before) (caused_of before) → All (IsWoken (entry ∷ before)) (with_drains phase (caused_at (length before)) (objections_of before) nodes (caused_of before))
-with-woken phase entry before nodes all =
-    All-append (IsWoken (entry ∷ before)) (flat_map (drain_from phase (caused_at (length before))) (drains_begun (objections_of before) nodes)) _
-    (all-plain (entry ∷ before) _ (drains-plain phase (caused_at (length before)) (drains_begun (objections_of before) nodes)))
-    (All-filter (λ (event : Event). not (is_drain_of (drains_ended (objections_of before) nodes) event.owner)) (IsWoken (entry ∷ before)) (caused_of before) (all-later entry before (caused_of before) all))
+with-woken : (phase : Option Phase) (entry : Entry) (before : List Entry) → All (IsWoken before) (caused_of before) → All (IsWoken (entry ∷ before)) (with_drains_of phase entry before (caused_of before))
+with-woken None entry before all = all-later entry before (caused_of before) all
+with-woken (Some phase) entry before all =
+    let earlier = objections_of phase before in
+    let nodes = objections_of phase (entry ∷ before) in
+    All-append (IsWoken (entry ∷ before)) (flat_map (drain_from phase (caused_at (length before))) (drains_begun earlier nodes)) _
+    (all-plain (entry ∷ before) _ (drains-plain phase (caused_at (length before)) (drains_begun earlier nodes)))
+    (All-filter (λ (event : Event). not (is_drain_of phase (drains_ended earlier nodes) event.owner)) (IsWoken (entry ∷ before)) (caused_of before) (all-later entry before (caused_of before) all))
 
-moved-woken : (phase : Option Phase) (entry : Entry) (before : List Entry) (nodes : List objection.Node) (moves : Bool) → All (IsWoken before) (caused_of before) → All (IsWoken (entry ∷ before)) (if moves then with_drains phase (caused_at (length before)) (objections_of before) nodes (caused_of before) else caused_of before)
-moved-woken phase entry before nodes true all = with-woken phase entry before nodes all
-moved-woken phase entry before nodes false all = all-later entry before (caused_of before) all
+moved-woken : (phase : Option Phase) (entry : Entry) (before : List Entry) (moves : Bool) → All (IsWoken before) (caused_of before) → All (IsWoken (entry ∷ before)) (if moves then with_drains_of phase entry before (caused_of before) else caused_of before)
+moved-woken phase entry before true all = with-woken phase entry before all
+moved-woken phase entry before false all = all-later entry before (caused_of before) all
 
 passed-plain : (kind : MoveKind) (passage : Passage) → is_wake (told_of kind passage) ≡ false
 passed-plain move.Put passage = refl
@@ -198,11 +200,11 @@ woken-more (Did performer outcome act) before all =
     let entry = Did performer outcome act in
     All-append (IsWoken (entry ∷ before)) (calls_numbered (now_of before) (length before) 0 (calls_told before performer outcome act)) _
     (all-plain (entry ∷ before) _ (numbered-plain (now_of before) (length before) 0 (calls_told before performer outcome act) (told-plain before performer outcome act)))
-    (All-append (IsWoken (entry ∷ before)) (calls_from outcome act performer (act_phase before) (now_of before) (length before)) _ (from-woken before performer outcome act) (moved-woken (act_phase before) entry before (objections_of (entry ∷ before)) (moves_drains outcome act) all))
+    (All-append (IsWoken (entry ∷ before)) (calls_from outcome act performer (act_phase before) (now_of before) (length before)) _ (from-woken before performer outcome act) (moved-woken (act_phase before) entry before (moves_drains outcome act) all))
 woken-more (Passed fifo passage) before all = one-woken (Passed fifo passage) before (Some passage.phase) (told_of passage.kind passage) passage.who (passed-plain passage.kind passage) all
 woken-more (Locked node id) before all = one-woken (Locked node id) before (phase_begun before id) call.Held (who.Sequence id node) refl all
 woken-more (Granted node grant) before all = one-woken (Granted node grant) before (phase_begun before grant.id) call.Grant (who.Sequence grant.id node) refl all
-woken-more (Drained node origin) before all = with-woken (Some origin.phase) (Drained node origin) before (objections_of (Drained node origin ∷ before)) all
+woken-more (Drained node origin) before all = with-woken (Some origin.phase) (Drained node origin) before all
 woken-more entry before all = all-later entry before (caused_of before) all
 
 pub woken-of : (history : List Entry) → All (IsWoken history) (caused_of history)

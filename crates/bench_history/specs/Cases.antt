@@ -129,7 +129,7 @@ time_passes limit (Some event) = if nat_lt limit event.time then Note Timeout 0 
 -- the phase that runs ends: each component had its call. In run time passes while an objection stands
 abbrev pub phase_end : ScriptValue → List Entry → Option Phase → Option Next
 phase_end script history None = None
-phase_end script history (Some phase) = Some (Exactly (if is_task phase && stands (objections_of history) then time_passes script.time_limit (first_due history) else End phase))
+phase_end script history (Some phase) = Some (Exactly (if is_task phase && stands (objections_of phase history) then time_passes script.time_limit (first_due history) else End phase))
 
 -- a phase begins: the first, or the one after that which has ended
 abbrev pub phase_to_begin : Stage → Option Phase

@@ -151,18 +151,19 @@ told_of move.Put passage = call.Stored passage.port
 told_of move.Take passage = call.Taken passage.port passage.item
 told_of move.Peek passage = call.Peeked passage.port passage.item
 
--- the end of a drain is due at its time
-abbrev pub drain_from : Option Phase → Cause → drain.Due → List Event
-drain_from phase cause begun = event_in phase begun.at cause (Drain begun.node) None
+-- the end of a drain is due at its time, in the phase of its objection
+abbrev pub drain_from : Phase → Cause → drain.Due → List Event
+drain_from phase cause begun = event_in (Some phase) begun.at cause (Drain begun.node phase) None
 
--- what was caused, once what is held back has changed: the drains that ended are out, and the ends of those that began are due
-abbrev pub with_drains : Option Phase → Cause → List Node → List Node → List Event → List Event
+-- what was caused, once what is held back has changed in the objection of a phase: its drains that ended are out, and the ends of those that began are due
+abbrev pub with_drains : Phase → Cause → List Node → List Node → List Event → List Event
 with_drains phase cause earlier nodes caused =
-    flat_map (drain_from phase cause) (drains_begun earlier nodes) ++ filter (λ event. not (is_drain_of (drains_ended earlier nodes) event.owner)) caused
+    flat_map (drain_from phase cause) (drains_begun earlier nodes) ++ filter (λ event. not (is_drain_of phase (drains_ended earlier nodes) event.owner)) caused
 
--- an entry has changed it, in a phase
+-- an entry has changed it, if it is of a phase
 abbrev pub with_drains_of : Option Phase → Entry → List Entry → List Event → List Event
-with_drains_of phase entry before caused = with_drains phase (caused_at (length before)) (objections_of before) (objections_of (entry ∷ before)) caused
+with_drains_of None entry before caused = caused
+with_drains_of (Some phase) entry before caused = with_drains phase (caused_at (length before)) (objections_of phase before) (objections_of phase (entry ∷ before)) caused
 
 -- whether an act may have: a raise or a drop, and no other
 abbrev pub moves_drains : Outcome → Act → Bool

@@ -129,11 +129,6 @@ pub record StrictPriority : Type 0 where
   pub fifo : (script : ScriptValue) (later before : List Entry) (node : ℕ) (grant : entries.Grant) → IsLegal script (later ++ Granted node grant ∷ before) → mode_at before node ≡ Some StrictFifo → HasFirstOfGreatest before node grant.id
   pub random : (script : ScriptValue) (later before : List Entry) (node : ℕ) (grant : entries.Grant) → IsLegal script (later ++ Granted node grant ∷ before) → mode_at before node ≡ Some StrictRandom → HasDrawnOfGreatest before node grant
 
--- the objection of a phase that takes time: at each node what is raised there, and what is held back there until its drain time is over. One phase takes time,
--- so there is one objection
-abbrev pub objections_in : Phase → List Entry → List objection.Node
-objections_in phase history = objections_of history
-
 -- at a node nothing is raised, neither there nor below it, and nothing is held back
 pub record IsQuiet (objections : List objection.Node) (node : ℕ) : Type 0 where
   pub raised : source_of node objections ≡ 0
@@ -142,7 +137,7 @@ pub record IsQuiet (objections : List objection.Node) (node : ℕ) : Type 0 wher
 
 -- where a phase ends that takes time, each node is quiet
 abbrev pub QuietEnd : Type 0
-QuietEnd = (script : ScriptValue) (later before : List Entry) (phase : Phase) (node : ℕ) → IsLegal script (later ++ End phase ∷ before) → is_task phase ≡ true → IsQuiet (objections_in phase before) node
+QuietEnd = (script : ScriptValue) (later before : List Entry) (phase : Phase) (node : ℕ) → IsLegal script (later ++ End phase ∷ before) → is_task phase ≡ true → IsQuiet (objections_of phase before) node
 
 -- the entry that a cause names: the one at its place, which is the number of entries before it
 pub record IsAtCause (history : List Entry) (cause : Cause) (entry : Entry) (before : List Entry) : Type 0 where
@@ -180,9 +175,9 @@ pub record IsDrainTime (history : List Entry) (phase : Phase) (node : ℕ) (caus
   pub entry : Entry
   pub before : List Entry
   pub at : IsAtCause history cause entry before
-  pub none_held : held_of node (objections_in phase before) ≡ 0
-  pub holds : 0 < held_of node (objections_in phase (entry ∷ before))
-  pub time_is : time ≡ now_of before + drain_of node (objections_in phase before)
+  pub none_held : held_of node (objections_of phase before) ≡ 0
+  pub holds : 0 < held_of node (objections_of phase (entry ∷ before))
+  pub time_is : time ≡ now_of before + drain_of node (objections_of phase before)
 
 -- a call with a cause that is heard, and a drain that ends, does so at exactly the time that its cause gave it; and time passes over nothing that is due, and never
 -- goes back. (What is due when its phase or its sequence ends is never heard, and no longer due.)

@@ -1,5 +1,8 @@
 -- What a log says of objections (IEEE 1800.2-2020, 10.5).
-use Rattle.std.specs.Prelude.{ℕ, Bool, nat_lt, List, [], ◌∷◌, ◌++◌, length}
+use Rattle.std.specs.Prelude.{ℕ, Bool, false, not, ◌||◌, nat_lt, List, [], ◌∷◌, ◌++◌, length, Option, Some, None, if◌then◌else◌}
+use Rattle.std.specs.Option.{option_map_or}
+use Rattle.uvm_phase.specs.declared.phases.Phase.{Phase}
+use Rattle.uvm_phase.specs.Phases.{same_phase}
 use Rattle.uvm_objection.specs.Nodes as objection
 use Rattle.uvm_objection.specs.Nodes.{top, new_node, raised, dropped, released, with_drain}
 use Rattle.uvm_objection.specs.Totals.{total, settled, standing}
@@ -11,23 +14,35 @@ use Rattle.uvm_object.specs.declared.entries.Outcome.{Outcome}
 use Rattle.uvm_object.specs.declared.entries.Outcome.TheVariants.{Done, Made}
 use Rattle.uvm_object.specs.declared.entries.Entry.{Entry}
 use Rattle.uvm_object.specs.declared.entries.Entry.TheVariants.{Did, Drained}
-use Rattle.bench_history.specs.History.{now_of}
+use Rattle.bench_history.specs.History.{act_phase, now_of}
+use Rattle.bench_history.specs.Refusals.{in_task}
 
--- the nodes with what is raised at each, once an act was performed
-abbrev pub objections_after : ℕ → List objection.Node → Who → Outcome → Act → List objection.Node
-objections_after time nodes performer (Made type_name) act = nodes ++ new_node (length nodes) (node_of performer) ∷ []
-objections_after time nodes performer Done (Add name what) = nodes ++ new_node (length nodes) (node_of performer) ∷ []
-objections_after time nodes performer Done (RaiseObjection count) = settled time (total nodes) (raised (node_of performer) count nodes)
-objections_after time nodes performer Done (DropObjection count) = settled time (total nodes) (dropped (node_of performer) count nodes)
-objections_after time nodes performer Done (SetDrain ticks) = with_drain (node_of performer) ticks nodes
-objections_after time nodes performer outcome act = nodes
+-- an act belongs to a phase
+abbrev pub is_of_phase : Phase → Option Phase → Bool
+is_of_phase phase None = false
+is_of_phase phase (Some other) = same_phase other phase
 
--- at each node of the tree what was raised less what was dropped, its drain time, and what is held back there until its drain ends
-abbrev pub objections_of : List Entry → List objection.Node
-objections_of [] = top ∷ []
-objections_of (Did performer outcome act ∷ before) = objections_after (now_of before) (objections_of before) performer outcome act
-objections_of (Drained node cause ∷ before) = settled (now_of before) (total (objections_of before)) (released node (objections_of before))
-objections_of (entry ∷ before) = objections_of before
+-- the nodes of the objection of a phase, with what is raised at each, once an act was performed, of that phase or not. A drain time that is set outside a phase
+-- that takes time is shared by all
+abbrev pub objections_after : ℕ → Bool → Bool → List objection.Node → Who → Outcome → Act → List objection.Node
+objections_after time own shared nodes performer (Made type_name) act = nodes ++ new_node (length nodes) (node_of performer) ∷ []
+objections_after time own shared nodes performer Done (Add name what) = nodes ++ new_node (length nodes) (node_of performer) ∷ []
+objections_after time own shared nodes performer Done (RaiseObjection count) = if own then settled time (total nodes) (raised (node_of performer) count nodes) else nodes
+objections_after time own shared nodes performer Done (DropObjection count) = if own then settled time (total nodes) (dropped (node_of performer) count nodes) else nodes
+objections_after time own shared nodes performer Done (SetDrain ticks) = if own || shared then with_drain (node_of performer) ticks nodes else nodes
+objections_after time own shared nodes performer outcome act = nodes
+
+-- the objection of a phase that takes time (Clause 9, 10.5): at each node of the tree what was raised there less what was dropped, its drain time, and what is held
+-- back there until its drain ends
+abbrev pub objections_of : Phase → List Entry → List objection.Node
+objections_of phase [] = top ∷ []
+objections_of phase (Did performer outcome act ∷ before) = objections_after (now_of before) (is_of_phase phase (act_phase before)) (not (in_task (act_phase before))) (objections_of phase before) performer outcome act
+objections_of phase (Drained node origin ∷ before) = if same_phase origin.phase phase then settled (now_of before) (total (objections_of phase before)) (released node (objections_of phase before)) else objections_of phase before
+objections_of phase (entry ∷ before) = objections_of phase before
+
+-- that of the phase of the act that is performed next; none where it belongs to none
+abbrev pub objection_now : List Entry → List objection.Node
+objection_now history = option_map_or (λ phase. objections_of phase history) (act_phase history) []
 
 -- an objection stands
 abbrev pub stands : List objection.Node → Bool

@@ -27,7 +27,7 @@ use Rattle.bench_script.specs.Scripts.{ScriptValue}
 use Rattle.bench_history.specs.declared.needs.Need.{Need}
 use Rattle.bench_history.specs.History.{act_phase, nodes_of, overrides_of, is_built, type_name_or}
 use Rattle.bench_history.specs.Configuration.{settings_of}
-use Rattle.bench_history.specs.Objections.{objections_of}
+use Rattle.bench_history.specs.Objections.{objection_now}
 use Rattle.bench_history.specs.Wires.{end_below, wiring_of, is_past_connect}
 use Rattle.bench_history.specs.Sequences.{home_asked, next_step, sequence_in, sequence_path, sequences_of}
 use Rattle.bench_history.specs.Arbitration.{sequencer_at, sequencer_below}
@@ -141,7 +141,7 @@ open_upshot script history performer (Verbosity which level) = Does
 open_upshot script history performer (Actions which actions) = Does
 open_upshot script history performer (Severity from id to) = Does
 open_upshot script history performer (RaiseObjection count) = unless_refused (raise_refusal (act_phase history)) Does
-open_upshot script history performer (DropObjection count) = unless_refused (drop_refusal (act_phase history) (source_of (node_of performer) (objections_of history)) count) Does
+open_upshot script history performer (DropObjection count) = unless_refused (drop_refusal (act_phase history) (source_of (node_of performer) (objection_now history)) count) Does
 open_upshot script history performer (SetDrain ticks) = unless_refused (drain_refusal ticks) Does
 open_upshot script history performer (Wait ticks tag) = unless_refused (wait_refusal (act_phase history) ticks) Does
 

@@ -12,8 +12,8 @@ use uvm_tree::NodeId;
 pub enum Owner {
     /// Who is to be called.
     Object(Who),
-    /// The node whose drain is to end (IEEE 1800.2-2020, 10.5).
-    Drain(NodeId),
+    /// The node whose drain is to end, and the phase to whose objection it belongs (IEEE 1800.2-2020, 10.5).
+    Drain(NodeId, Phase),
 }
 
 impl Owner {
@@ -23,7 +23,7 @@ impl Owner {
     {
         match self {
             Owner::Object(who) => *who,
-            Owner::Drain(node) => Who::Node(*node),
+            Owner::Drain(node, _) => Who::Node(*node),
         }
     }
 }

@@ -6,7 +6,7 @@ ghost use Rattle.bench_core.specs.declared.cores.Health.TheVariants.{Good};
 use crate::endings::{Ended, ended};
 use crate::objects::{Idle, Mute, Spinner};
 use crate::plays::{write_break, write_run};
-use crate::views::{begins, write_waits};
+use crate::views::{begins, write_counts};
 use bench_core::CoreFault;
 use bench_kernel::Kernel;
 use bench_script::{Script, read_document, read_table};
@@ -15,6 +15,7 @@ use std::alloc::{AllocError, Global};
 use toml::Table;
 use uvm_glob::Name;
 use uvm_object::UvmObject;
+use uvm_phase::Phase;
 use watched_runs::end;
 
 /// A kernel that has not begun, and what is looked at in it.
@@ -25,6 +26,15 @@ pub(crate) struct Scene<'a> {
     pub(crate) look: Look<'a>,
 }
 
+/// What is counted at a node.
+#[derive(Clone, Copy)]
+pub(crate) enum Count {
+    /// How many wait there.
+    Waiting,
+    /// What is raised there and below to the end of a phase.
+    Raised(Phase),
+}
+
 /// What is looked at in a kernel.
 #[derive(Clone, Copy)]
 pub(crate) enum Look<'a> {
@@ -33,8 +43,8 @@ pub(crate) enum Look<'a> {
     Run(&'a [u8], &'a [u8], &'a str),
     /// The text of what is told where its run breaks off, and what is given back then.
     Break(&'a str),
-    /// How many wait at a path, a digit for each time that it changes in the run.
-    Waits(&'a [u8], &'a str),
+    /// What is counted at a path, a digit for each time that it changes in the run.
+    Counts(Count, &'a [u8], &'a str),
     /// What is told before the first entry, and when the test begins to build.
     Begin,
     /// How its run ends, traced or not, over a writer that takes so many writes.
@@ -151,7 +161,10 @@ fn is_right<O: UvmObject, F: Fn(&Name) -> Result<Option<O>, AllocError>>(
             (write_run(kernel, declined, until, make, &mut text), shown)
         }
         Look::Break(shown) => (write_break(kernel, make, &mut text), shown),
-        Look::Waits(path, shown) => (write_waits(alloc, kernel, path, make, &mut text), shown),
+        Look::Counts(count, path, shown) => (
+            write_counts(alloc, kernel, count, path, make, &mut text),
+            shown,
+        ),
         Look::Begin => return begins(alloc, kernel, make),
         Look::End(trace, writes, how) => return ended(alloc, kernel, trace, make, writes) == how,
         Look::Nothing => return false,

@@ -1,6 +1,6 @@
 //! What a machine tells while it runs.
 
-use crate::benches::{Look, shows};
+use crate::benches::{Count, Look, shows};
 use crate::plays::{push, supply};
 use bench_core::Core;
 use bench_kernel::{Kernel, Step};
@@ -45,21 +45,27 @@ fn waits_at_a_fifo_are_counted_until_the_phase_ends(rt: HostRuntime) {
         shows(
             rt.alloc(),
             MEMORY,
-            Look::Waits(b"uvm_test_top.reqf", "121010")
+            Look::Counts(Count::Waiting, b"uvm_test_top.reqf", "121010")
         )
     );
     assert!(rt;
         shows(
             rt.alloc(),
             MEMORY,
-            Look::Waits(b"uvm_test_top.rspf", "1210")
+            Look::Counts(Count::Waiting, b"uvm_test_top.rspf", "1210")
         )
     );
 }
 
 #[test]
 fn nobody_waits_where_no_fifo_stands(rt: HostRuntime) {
-    assert!(rt; shows(rt.alloc(), MEMORY, Look::Waits(b"uvm_test_top.req", "")));
+    assert!(rt;
+        shows(
+            rt.alloc(),
+            MEMORY,
+            Look::Counts(Count::Waiting, b"uvm_test_top.req", "")
+        )
+    );
 }
 
 // Three sequences send one item each. All three wait before the driver asks, and each grant ends a wait.
@@ -85,15 +91,35 @@ fn waits_at_a_sequencer_are_counted(rt: HostRuntime) {
         shows(
             rt.alloc(),
             PRIORITIES,
-            Look::Waits(b"uvm_test_top.sqr", "123210")
+            Look::Counts(Count::Waiting, b"uvm_test_top.sqr", "123210")
         )
     );
 }
 
-/// Runs to the end, and writes how many wait at a path each time that it changes.
-pub(crate) fn write_waits<O: UvmObject, F: Fn(&Name) -> Result<Option<O>, AllocError>>(
+#[test]
+fn what_is_raised_is_counted_in_its_phase_alone(rt: HostRuntime) {
+    let top = b"uvm_test_top";
+    assert!(rt;
+        shows(
+            rt.alloc(),
+            PRIORITIES,
+            Look::Counts(Count::Raised(Phase::Run), top, "3210")
+        )
+    );
+    assert!(rt;
+        shows(
+            rt.alloc(),
+            PRIORITIES,
+            Look::Counts(Count::Raised(Phase::Main), top, "")
+        )
+    );
+}
+
+/// Runs to the end, and writes what is counted at a path each time that it changes.
+pub(crate) fn write_counts<O: UvmObject, F: Fn(&Name) -> Result<Option<O>, AllocError>>(
     alloc: Global,
     kernel: &mut Kernel<O>,
+    count: Count,
     path: &[u8],
     make: &F,
     digits: &mut Vec<u8>,
@@ -110,7 +136,7 @@ pub(crate) fn write_waits<O: UvmObject, F: Fn(&Name) -> Result<Option<O>, AllocE
                 None
             };
         }
-        let digit = waiting_at(kernel.core(), &path);
+        let digit = digit_at(kernel.core(), count, &path);
         if digit != last {
             push(digits, digit)?;
             last = digit;
@@ -134,12 +160,22 @@ fn goes_on<O: UvmObject, F: Fn(&Name) -> Result<Option<O>, AllocError>>(
     }
 }
 
-// How many wait at a path, as a digit.
-fn waiting_at(core: &Core, path: &Path) -> &'static [u8] {
-    let count = match core.find(path) {
-        Some(node) => core.waiting(node),
-        None => 0,
-    };
+// What is counted at a path, as a digit.
+fn digit_at(core: &Core, count: Count, path: &Path) -> &'static [u8] {
+    match core.find(path) {
+        Some(node) => digit_of(count_at(core, count, node)),
+        None => b"0",
+    }
+}
+
+fn count_at(core: &Core, count: Count, node: NodeId) -> u64 {
+    match count {
+        Count::Waiting => core.waiting(node) as u64,
+        Count::Raised(phase) => core.total_in(phase, node),
+    }
+}
+
+fn digit_of(count: u64) -> &'static [u8] {
     match count {
         0 => b"0",
         1 => b"1",

@@ -22,6 +22,7 @@ use Rattle.world_sequences.specs.Sequencings.{home_for}
 use Rattle.world_services.specs.Services.{ServicesMatch}
 use Rattle.bench_world.specs.Worlds.{IsReady, made_who}
 use Rattle.world_services.proofs.Acting.{unrefused}
+use Rattle.world_services.proofs.Settling.{each-numbered}
 use Rattle.world_sequencer_acts.proofs.Finished.{there-begun}
 use Rattle.world_sequences.proofs.Numbered.{numbered-map}
 use Rattle.uvm_object.specs.declared.acts.Who.TheVariants as who
@@ -56,7 +57,7 @@ module _ {script : ScriptValue} {log : LogValue} {services : Services} (waiting 
           building = m.built ∙ w.building;
           tree_spare = ready.has_room.tree_spare there;
           speaks = rw (m.tree, m.answer.speaker) m.speaks;
-          numbered = rw (m.objections.are, m.tree) m.objections.numbered;
+          numbered = rw m.tree (each-numbered m.objections);
           objection_spare = ready.has_room.objection_spare;
           turns = ready.has_room.turns;
         };

@@ -15,10 +15,10 @@ use Rattle.bench_history.specs.Laws.{DriversAreThere, IsSettled, PerformersAreTh
 use Rattle.bench_history.specs.Dues.{caused_of, heard_of}
 use Rattle.bench_history.specs.Sequences.{finished_of}
 use Rattle.uvm_object.specs.declared.acts.Who.{Who}
-use Rattle.world_agenda.proofs.Objected.{objecting-same}
 use Rattle.world_deeds.specs.declared.making.Waiting.{Waiting}
 use Rattle.world_services.specs.declared.services.Services.{Services}
 use Rattle.world_services.specs.Services.{ServicesMatch}
+use Rattle.world_services.proofs.Settling.{objectings-same}
 use Rattle.world_services.proofs.Waiting.{turns-same}
 use Rattle.world_agenda.specs.Agendas.{IsAgenda}
 use Rattle.world_services.specs.Attempts.{IsScene}
@@ -35,13 +35,13 @@ use Rattle.bench_history.specs.declared.needs.Need as needs
 same-match : {script : ScriptValue} {old new : Services} (log : LogValue) → GiveTheSame old new → ServicesMatch script log.entries old → ServicesMatch script log.entries new
 same-match {script} {old} {new} log same m =
     let history = log.entries in
-    let objections = objecting-same new.objection same.objections m.objections in
+    let objections = objectings-same new.objections same.objections m.objections in
     let reporting = same.reporting _ _ m.reporting in
     let tree = same.nodes ∙ m.tree in
     let turns = turns-same same.turns m.turns in
     let sequencing = sequencing-same new.sequences new.beginnings.items same.sequences same.beginnings m.sequencing in
     let agenda : IsAgenda (caused_of history) (heard_of history) (ended_of history) (finished_of history) (length history) new.agenda.dues = rw same.dues m.agenda in
-    let match : ServicesMatch script history (record old { tree = new.tree; objection = new.objection; turns = new.turns; sequences = new.sequences; beginnings = new.beginnings; agenda = new.agenda; reporting = new.reporting }) = search (rules, tree, turns, objections, sequencing, agenda, reporting) in
+    let match : ServicesMatch script history (record old { tree = new.tree; objections = new.objections; turns = new.turns; sequences = new.sequences; beginnings = new.beginnings; agenda = new.agenda; reporting = new.reporting }) = search (rules, tree, turns, objections, sequencing, agenda, reporting) in
     subst (ServicesMatch script history) (sym same.rest) match
 
 need-comes :

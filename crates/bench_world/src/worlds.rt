@@ -1,6 +1,6 @@
 //! The world.
 
-ghost use Rattle.std.specs.Prelude.{◌≡◌, ℕ, [], IfOk, true, IsSome, None, length, nat_le, nat_lt, if◌then◌else◌};
+ghost use Rattle.std.specs.Prelude.{◌≡◌, ◌&&◌, ℕ, [], IfOk, true, IsSome, None, length, nat_le, nat_lt, if◌then◌else◌};
 ghost use Rattle.bench_history.specs.Limits.{log_limit};
 ghost use Rattle.bench_history.specs.History.{opening, stage_of, running, now_of, nodes_of, overrides_of};
 ghost use Rattle.bench_history.specs.Objections.{objections_of, stands};
@@ -10,6 +10,8 @@ ghost use Rattle.uvm_report.specs.Commands.{is_exit_asked};
 ghost use Rattle.uvm_report.specs.Changes.{Gives};
 ghost use Rattle.std.specs.Option.{option_copied};
 ghost use Rattle.uvm_phase.specs.Dues.{in_order};
+ghost use Rattle.uvm_phase.specs.Phases.{is_task};
+ghost use Rattle.world_objections.specs.Phased.{nodes_in};
 ghost use Rattle.bench_history.specs.Wires.{is_past_connect, wiring_of};
 ghost use Rattle.uvm_tlm.specs.Wirings.{is_closed};
 ghost use Rattle.world_wiring.specs.Connectings.{IsConnecting};
@@ -33,7 +35,6 @@ use uvm_config::Settings;
 use uvm_factory::Factory;
 use uvm_glob::{Name, Path};
 use uvm_object::{Call, Deed, Log, Passage, Who};
-use uvm_objection::Objection;
 use uvm_phase::{Agenda, Due, Phase};
 use uvm_report::{Fate, Reports};
 use uvm_sequences::{SeqId, Sequences};
@@ -41,6 +42,7 @@ use uvm_tlm::Wiring;
 use uvm_tree::{NodeId, Tree};
 use world_deeds::making::{Waiting, opening};
 use world_fifos::stations::{first_passing, waiting_at};
+use world_objections::objections::Objections;
 use world_sequencers::arbiters::{first_locked, first_served, requests_at};
 use world_services::services::Services;
 
@@ -235,12 +237,12 @@ impl World {
         &self.services.agenda
     }
 
-    /// The objections: what is raised at each node, and held back there (10.5). For a sound world.
-    pub fn objection(&self) -> &Objection
+    /// The objections of the phases that take time: what is raised at each node, and held back there (10.5). For a sound world.
+    pub fn objections(&self) -> &Objections
         requires { self.now.sound ≡ true }
-        ensures { result.now.nodes ≡ objections_of self.now.history }
+        ensures { (phase : Phase) → is_task phase ≡ true → nodes_in result.now phase ≡ objections_of phase self.now.history }
     {
-        &self.services.objection
+        &self.services.objections
     }
 
     /// The wiring: what can be connected, and the connections; once it is closed, in the path order of all nodes (Clause 12). It
@@ -295,25 +297,25 @@ impl World {
         }
     }
 
-    /// What is raised at a node and below it, with what is held back below it (10.5); 0 where there is no such node. For a sound
-    /// world.
-    pub fn total(&self, node: NodeId) -> u64
+    /// What is raised at a node and below it in the objection of a phase, with what is held back below it (10.5); 0 for a phase that
+    /// takes no time, and where there is no such node. For a sound world.
+    pub fn total_in(&self, phase: Phase, node: NodeId) -> u64
         requires { self.now.sound ≡ true }
-        ensures { result ≡ (if nat_lt node (length (nodes_of self.now.history)) then total (objections_of self.now.history) node else 0) }
+        ensures { result ≡ (if is_task phase && nat_lt node (length (nodes_of self.now.history)) then total (objections_of phase self.now.history) node else 0) }
     {
-        if self.services.tree.path(node).is_none() {
+        if !phase.is_task() || self.services.tree.path(node).is_none() {
             return 0;
         }
-        self.services.objection.total(node)
+        self.services.objections.total(phase, node)
     }
 
-    /// Whether an objection stands: something is raised at the top or below, or held back (10.5). For a sound world.
-    pub fn objection_stands(&self) -> bool
+    /// Whether the objection of a phase stands: the phase takes time, and something is raised at the top or below, or held back (10.5).
+    /// For a sound world.
+    pub fn objection_stands(&self, phase: Phase) -> bool
         requires { self.now.sound ≡ true }
-        ensures { result ≡ stands (objections_of self.now.history) }
+        ensures { result ≡ (is_task phase && stands (objections_of phase self.now.history)) }
     {
-        let objection = &self.services.objection;
-        objection.total(NodeId::TOP) > 0 || objection.held(NodeId::TOP) > 0
+        phase.is_task() && self.services.objections.stands(phase)
     }
 
     /// The sequences that were started, and the step at which each is that lives (Clause 14). For a sound world.

@@ -5,7 +5,7 @@ ghost use Rattle.uvm_phase.specs.Phases.{phase_number, phase_after, is_top_down,
 
 /// A phase (IEEE 1800.2-2020, Clause 9): the nine common phases in the order in which they run, and behind them the twelve run-time
 /// phases, which run one after another beside `Run`. `Run` and the run-time phases take simulated time.
-#[derive(Clone, Copy, PartialEq, Eq)]
+#[derive(Clone, Copy, PartialEq, Eq, Hash)]
 pub enum Phase {
     /// Components are made and configured.
     Build,

@@ -1,15 +1,15 @@
 -- Drains that begin and end, with the events that are due.
-use Rattle.std.proofs.Common.{◌≡◌, ℕ, zero, suc, ◌+◌, ◌-◌, ◌<◌, Bool, true, false, not, ◌&&◌, ◌||◌, ◌==◌, nat_lt, List, [], ◌∷◌, ◌++◌, map, filter, find, Option, Some, None, All, refl, ap, ◌∙◌, sym, arith, if◌then◌else◌}
+use Rattle.std.proofs.Common.{◌≡◌, ℕ, zero, suc, ◌+◌, ◌-◌, ◌<◌, Bool, true, false, not, ◌&&◌, ◌||◌, ◌==◌, nat_lt, List, [], ◌∷◌, ◌++◌, map, filter, find, slice_get, subst, Option, Some, None, All, refl, ap, ◌∙◌, sym, arith, if◌then◌else◌}
 use Rattle.std.specs.List.{list_any, flat_map}
 use Rattle.std.specs.Option.{option_map_or, option_to_list}
 use Rattle.std.proofs.lemmas.Bool.Decides.{nat_tests}
-use Rattle.std.proofs.lemmas.List.{append-nil}
 use Rattle.std.proofs.lemmas.List.Elements.{All-nil, All-cons, All-head, All-tail, All-filter}
 use Rattle.std.proofs.lemmas.List.Kept.{AllPairs-filter}
 use Rattle.std.proofs.lemmas.List.Sorted.{All-permutation}
 use Rattle.uvm_phase.specs.declared.phases.Phase.{Phase}
 use Rattle.uvm_phase.specs.declared.agendas.Cause.{Cause}
-use Rattle.uvm_phase.specs.Phases.{same_phase}
+use Rattle.uvm_phase.specs.declared.phases.Phase.TheVariants.{Build, Connect, EndOfElaboration, StartOfSimulation, Run, Extract, Check, Report, Final, PreReset, Reset, PostReset, PreConfigure, Configure, PostConfigure, PreMain, Main, PostMain, PreShutdown, Shutdown, PostShutdown}
+use Rattle.uvm_phase.specs.Phases.{is_task, phase_number, phases, same_phase}
 use Rattle.uvm_phase.specs.Dues.{same_cause, in_order}
 use Rattle.uvm_phase.specs.Laws.{OrderKeepsAll}
 use Rattle.uvm_objection.specs.Nodes.{Node, is_known, drain_of, held_of, due_of, changed_at, new_node, raised, dropped, released, with_drain}
@@ -25,8 +25,8 @@ use Rattle.uvm_object.specs.Acts.{node_of}
 use Rattle.bench_history.specs.Owners.{Event, is_drain_of, who_of}
 use Rattle.bench_history.specs.History.{now_of}
 use Rattle.bench_history.specs.Dues.{event_in, caused_at, drain_from, with_drains, is_of_one, is_open, due_events}
-use Rattle.bench_history.specs.Laws.{HasNotEnded, IsDrainDue}
-use Rattle.world_agenda.specs.Objectings.{IsEvent, AreEvents}
+use Rattle.bench_history.specs.Laws.{IsDrainDue}
+use Rattle.world_agenda.specs.Objectings.{AreEvents, IsDrainEvent, IsEvent}
 use Rattle.world_agenda.specs.Agendas.{IsAgenda}
 use Rattle.world_agenda.proofs.Lists.{filter-twice, first-holds, one-heard-of, one-ended-of}
 use Rattle.world_agenda.proofs.Told.{open-finished, agenda-later, agenda-event}
@@ -55,16 +55,14 @@ agenda-without caused heard ended finished count dues p a = record {
 
 -- and the end of a drain that began is due
 agenda-moved :
-    (phase : Option Phase) (began : Option drain.Due) (caused : List Event) (heard : List Cause) (ended : List Phase) (finished : List Who) (count : ℕ) (dues more : List Event) (p : Event → Bool)
-    → HasNotEnded ended phase → IsAgenda caused heard ended finished count dues
+    (phase : Phase) (began : Option drain.Due) (caused : List Event) (heard : List Cause) (ended : List Phase) (finished : List Who) (count : ℕ) (dues more : List Event) (p : Event → Bool)
+    → list_any (same_phase phase) ended ≡ false → IsAgenda caused heard ended finished count dues
     → more ≡ in_order (flat_map (drain_from phase (caused_at count)) (option_to_list began) ++ filter p (filter (is_open heard ended finished) caused))
     → IsAgenda (flat_map (drain_from phase (caused_at count)) (option_to_list began) ++ filter p caused) heard ended finished (suc count) more
 agenda-moved phase None caused heard ended finished count dues more p unended a is = rw is (agenda-later (agenda-without caused heard ended finished count dues p a))
 agenda-moved phase (Some begun) caused heard ended finished count dues more p unended a is =
-    let event : List Event = event_in phase begun.at (caused_at count) (Drain begun.node) None in
-    rw (append-nil event)
-    (agenda-event (Drain begun.node) None begun.at phase (filter p caused) heard ended finished count _ more unended refl (agenda-without caused heard ended finished count dues p a)
-    (rw (append-nil event, filter-order p (is_open heard ended finished) caused) at is))
+    agenda-event (Drain begun.node phase) None begun.at (Some phase) (filter p caused) heard ended finished count _ more unended refl (agenda-without caused heard ended finished count dues p a)
+    (rw (filter-order p (is_open heard ended finished) caused) at is)
 
 -- one more, if it passes a test
 filter-more : {A : Type 0} (P : A → Type 0) (p : A → Bool) (x : A) (xs : List A) → P x → All P (filter p xs) → All P (filter p (x ∷ xs))
@@ -85,69 +83,68 @@ filter-weaker P Q p (x ∷ xs) weaker all = tested (p x) refl (filter-weaker P Q
 
 -- somebody is to be called
 pub events-told :
-    (nodes : List Node) (awaited : Event → Bool) (phase : Option Phase) (time : ℕ) (cause : Cause) (who : Who) (call : Call) (caused : List Event)
+    (nodes : Phase → List Node) (awaited : Event → Bool) (phase : Option Phase) (time : ℕ) (cause : Cause) (who : Who) (call : Call) (caused : List Event)
     → AreEvents nodes (filter awaited caused) → AreEvents nodes (filter awaited (event_in phase time cause (Object who) (Some call) ++ caused))
 events-told nodes awaited None time cause who call caused all = all
-events-told nodes awaited (Some phase) time cause who call caused all = filter-more (λ event. IsEvent nodes event.owner event.notice event.time) awaited _ caused tt all
+events-told nodes awaited (Some phase) time cause who call caused all = filter-more (λ event. IsEvent nodes event.phase event.owner event.notice event.time) awaited _ caused tt all
 
 -- a drain has begun
 events-begun :
-    (nodes : List Node) (awaited : Event → Bool) (phase : Option Phase) (cause : Cause) (began : Option drain.Due) (caused : List Event)
-    → All (IsHeldUntilDue nodes) (option_to_list began) → AreEvents nodes (filter awaited caused)
+    (nodes : Phase → List Node) (awaited : Event → Bool) (phase : Phase) (cause : Cause) (began : Option drain.Due) (caused : List Event)
+    → is_task phase ≡ true → All (IsHeldUntilDue (nodes phase)) (option_to_list began) → AreEvents nodes (filter awaited caused)
     → AreEvents nodes (filter awaited (flat_map (drain_from phase cause) (option_to_list began) ++ caused))
-events-begun nodes awaited phase cause None caused held all = all
-events-begun nodes awaited None cause (Some begun) caused held all = all
-events-begun nodes awaited (Some phase) cause (Some begun) caused held all =
-    filter-more (λ event. IsEvent nodes event.owner event.notice event.time) awaited _ caused (All-head (IsHeldUntilDue nodes) begun [] held) all
+events-begun nodes awaited phase cause None caused task held all = all
+events-begun nodes awaited phase cause (Some begun) caused task held all =
+    filter-more (λ event. IsEvent nodes event.phase event.owner event.notice event.time) awaited _ caused (record { of_is = refl; task = task; held = All-head (IsHeldUntilDue (nodes phase)) begun [] held }) all
 
 -- fewer events are awaited
-events-fewer : (nodes : List Node) (awaited fewer both : Event → Bool) (caused : List Event) → ((event : Event) → both event ≡ (awaited event && fewer event)) → AreEvents nodes (filter awaited caused) → AreEvents nodes (filter both caused)
+events-fewer : (nodes : Phase → List Node) (awaited fewer both : Event → Bool) (caused : List Event) → ((event : Event) → both event ≡ (awaited event && fewer event)) → AreEvents nodes (filter awaited caused) → AreEvents nodes (filter both caused)
 events-fewer nodes awaited fewer both caused same all =
-    rw (filter-twice fewer awaited both same caused) (All-filter fewer (λ event. IsEvent nodes event.owner event.notice event.time) (filter awaited caused) all)
+    rw (filter-twice fewer awaited both same caused) (All-filter fewer (λ event. IsEvent nodes event.phase event.owner event.notice event.time) (filter awaited caused) all)
 
 pub events-heard :
-    (cause : Cause) (nodes : List Node) (caused : List Event) (heard : List Cause) (ended : List Phase) (finished : List Who) → AreEvents nodes (filter (is_open heard ended finished) caused)
+    (cause : Cause) (nodes : Phase → List Node) (caused : List Event) (heard : List Cause) (ended : List Phase) (finished : List Who) → AreEvents nodes (filter (is_open heard ended finished) caused)
     → AreEvents nodes (filter (is_open (cause ∷ heard) ended finished) caused)
 events-heard cause nodes caused heard ended finished all =
     events-fewer nodes (is_open heard ended finished) (λ event. not (same_cause event.cause cause)) (is_open (cause ∷ heard) ended finished) caused
     (λ event. one-heard-of (same_cause event.cause cause) (list_any (same_cause event.cause) heard) (not (list_any (same_phase event.phase) ended)) (not (is_of_one finished event.owner))) all
 
 pub events-ended :
-    (phase : Phase) (nodes : List Node) (caused : List Event) (heard : List Cause) (ended : List Phase) (finished : List Who) → AreEvents nodes (filter (is_open heard ended finished) caused)
+    (phase : Phase) (nodes : Phase → List Node) (caused : List Event) (heard : List Cause) (ended : List Phase) (finished : List Who) → AreEvents nodes (filter (is_open heard ended finished) caused)
     → AreEvents nodes (filter (is_open heard (phase ∷ ended) finished) caused)
 events-ended phase nodes caused heard ended finished all =
     events-fewer nodes (is_open heard ended finished) (λ event. not (same_phase event.phase phase)) (is_open heard (phase ∷ ended) finished) caused
     (λ event. one-ended-of (not (list_any (same_cause event.cause) heard)) (same_phase event.phase phase) (list_any (same_phase event.phase) ended) (not (is_of_one finished event.owner))) all
 
 pub events-finished :
-    (who : Who) (nodes : List Node) (caused : List Event) (heard : List Cause) (ended : List Phase) (finished : List Who) → AreEvents nodes (filter (is_open heard ended finished) caused)
+    (who : Who) (nodes : Phase → List Node) (caused : List Event) (heard : List Cause) (ended : List Phase) (finished : List Who) → AreEvents nodes (filter (is_open heard ended finished) caused)
     → AreEvents nodes (filter (is_open heard ended (who ∷ finished)) caused)
 events-finished who nodes caused heard ended finished all =
     events-fewer nodes (is_open heard ended finished) (λ event. not (is_of_one (who ∷ []) event.owner)) (is_open heard ended (who ∷ finished)) caused (open-finished who heard ended finished) all
 
 -- at other nodes, but for the drains that have ended
 events-at :
-    (nodes others : List Node) (awaited kept : Event → Bool) (caused : List Event)
-    → ((event : Event) → kept event ≡ true → IsEvent nodes event.owner event.notice event.time → IsEvent others event.owner event.notice event.time)
+    (nodes others : Phase → List Node) (awaited kept : Event → Bool) (caused : List Event)
+    → ((event : Event) → kept event ≡ true → IsEvent nodes event.phase event.owner event.notice event.time → IsEvent others event.phase event.owner event.notice event.time)
     → AreEvents nodes (filter awaited caused) → AreEvents others (filter awaited (filter kept caused))
 events-at nodes others awaited kept caused stays all =
-    rw (filter-order awaited kept caused) (filter-weaker (λ event. IsEvent nodes event.owner event.notice event.time) (λ event. IsEvent others event.owner event.notice event.time) kept (filter awaited caused) stays all)
+    rw (filter-order awaited kept caused) (filter-weaker (λ event. IsEvent nodes event.phase event.owner event.notice event.time) (λ event. IsEvent others event.phase event.owner event.notice event.time) kept (filter awaited caused) stays all)
 
 -- at other nodes, all of them
 pub events-all :
-    (nodes others : List Node) (events : List Event) → ((node : ℕ) (time : ℕ) → IsHeldUntilDue nodes (record { node = node; at = time }) → IsHeldUntilDue others (record { node = node; at = time }))
+    (nodes others : Phase → List Node) (events : List Event) → ((phase : Phase) (node : ℕ) (time : ℕ) → IsHeldUntilDue (nodes phase) (record { node = node; at = time }) → IsHeldUntilDue (others phase) (record { node = node; at = time }))
     → AreEvents nodes events → AreEvents others events
 events-all nodes others [] stays all = All-nil _
 events-all nodes others (event ∷ events) stays all =
-    All-cons (λ event. IsEvent others event.owner event.notice event.time) event events
-    (one event.owner event.notice event.time (All-head (λ event. IsEvent nodes event.owner event.notice event.time) event events all))
-    (events-all nodes others events stays (All-tail (λ event. IsEvent nodes event.owner event.notice event.time) event events all))
+    All-cons (λ event. IsEvent others event.phase event.owner event.notice event.time) event events
+    (one event.phase event.owner event.notice event.time (All-head (λ event. IsEvent nodes event.phase event.owner event.notice event.time) event events all))
+    (events-all nodes others events stays (All-tail (λ event. IsEvent nodes event.phase event.owner event.notice event.time) event events all))
   where
-    one : (owner : Owner) (notice : Option Call) (time : ℕ) → IsEvent nodes owner notice time → IsEvent others owner notice time
-    one (Object who) (Some call) time is = tt
-    one (Object who) None time is = is
-    one (Drain node) None time is = stays node time is
-    one (Drain node) (Some call) time is = is
+    one : (phase : Phase) (owner : Owner) (notice : Option Call) (time : ℕ) → IsEvent nodes phase owner notice time → IsEvent others phase owner notice time
+    one phase (Object who) (Some call) time is = tt
+    one phase (Object who) None time is = is
+    one phase (Drain node of) None time is = record { of_is = is.of_is; task = is.task; held = stays phase node time is.held }
+    one phase (Drain node of) (Some call) time is = is
 
 -- a number of a node, where the nodes are changed one by one
 at-changed :
@@ -247,36 +244,80 @@ held-settled time k at nodes changed others settles stay are same is keeps goes 
     still : 0 < held_of k others
     still = held-unless-ended (λ node. held_of node nodes) k others held.held (stay.known k nodes others same ∙ known-held k nodes held.held) goes
 
--- what the drains that began and ended make of what is due
-pub record HasMoved (nodes others : List Node) (phase : Option Phase) (caused : List Event) (heard : List Cause) (ended : List Phase) (finished : List Who) (count : ℕ) (more : List Event) : Type 0 where
-  pub agenda : IsAgenda (with_drains phase (caused_at count) nodes others caused) heard ended finished (suc count) more
-  pub events : AreEvents others (filter (is_open heard ended finished) (with_drains phase (caused_at count) nodes others caused))
+-- a phase is known by its number
+phase-known : (phase : Phase) → slice_get phases (phase_number phase) ≡ Some phase
+phase-known Build = refl
+phase-known Connect = refl
+phase-known EndOfElaboration = refl
+phase-known StartOfSimulation = refl
+phase-known Run = refl
+phase-known Extract = refl
+phase-known Check = refl
+phase-known Report = refl
+phase-known Final = refl
+phase-known PreReset = refl
+phase-known Reset = refl
+phase-known PostReset = refl
+phase-known PreConfigure = refl
+phase-known Configure = refl
+phase-known PostConfigure = refl
+phase-known PreMain = refl
+phase-known Main = refl
+phase-known PostMain = refl
+phase-known PreShutdown = refl
+phase-known Shutdown = refl
+phase-known PostShutdown = refl
+
+pub same-phase : (a b : Phase) → same_phase a b ≡ true → a ≡ b
+same-phase a b e =
+    let number : phase_number a ≡ phase_number b = grind (arith, nat_tests) in
+    let found : Some a ≡ Some b = sym (phase-known a) ∙ ap (slice_get phases) number ∙ phase-known b in
+    cc
+
+-- what the drains of the objection of a phase that began and ended make of what is due
+pub record HasMoved (nodes others : Phase → List Node) (phase : Phase) (caused : List Event) (heard : List Cause) (ended : List Phase) (finished : List Who) (count : ℕ) (more : List Event) : Type 0 where
+  pub agenda : IsAgenda (with_drains phase (caused_at count) (nodes phase) (others phase) caused) heard ended finished (suc count) more
+  pub events : AreEvents others (filter (is_open heard ended finished) (with_drains phase (caused_at count) (nodes phase) (others phase) caused))
 
 pub moved :
-    (time : ℕ) (nodes changed others : List Node) (phase : Option Phase) (began : Option drain.Due) (ends : Option ℕ)
+    (time : ℕ) (nodes others : Phase → List Node) (changed : List Node) (phase : Phase) (began : Option drain.Due) (ends : Option ℕ)
     (caused : List Event) (heard : List Cause) (ended : List Phase) (finished : List Who) (count : ℕ) (dues more : List Event)
-    → SettledGoByTotals → PlacesStay → AreNodes nodes → places others ≡ places nodes → others ≡ settled time (total nodes) changed → ((k : ℕ) → list_any (λ other. other == k) (option_to_list ends) ≡ false → due_of k changed ≡ due_of k nodes)
-    → drains_begun nodes others ≡ option_to_list began → drains_ended nodes others ≡ option_to_list ends → All (IsHeldUntilDue others) (option_to_list began)
-    → HasNotEnded ended phase → IsAgenda caused heard ended finished count dues → AreEvents nodes (filter (is_open heard ended finished) caused)
-    → more ≡ in_order (flat_map (drain_from phase (caused_at count)) (option_to_list began) ++ filter (λ event. not (is_drain_of (option_to_list ends) event.owner)) (filter (is_open heard ended finished) caused))
+    → SettledGoByTotals → PlacesStay → AreNodes (nodes phase) → places (others phase) ≡ places (nodes phase) → others phase ≡ settled time (total (nodes phase)) changed → ((other : Phase) → same_phase other phase ≡ false → others other ≡ nodes other)
+    → ((k : ℕ) → list_any (λ other. other == k) (option_to_list ends) ≡ false → due_of k changed ≡ due_of k (nodes phase))
+    → drains_begun (nodes phase) (others phase) ≡ option_to_list began → drains_ended (nodes phase) (others phase) ≡ option_to_list ends → is_task phase ≡ true → All (IsHeldUntilDue (others phase)) (option_to_list began)
+    → list_any (same_phase phase) ended ≡ false → IsAgenda caused heard ended finished count dues → AreEvents nodes (filter (is_open heard ended finished) caused)
+    → more ≡ in_order (flat_map (drain_from phase (caused_at count)) (option_to_list began) ++ filter (λ event. not (is_drain_of phase (option_to_list ends) event.owner)) (filter (is_open heard ended finished) caused))
     → HasMoved nodes others phase caused heard ended finished count more
-moved time nodes changed others phase began ends caused heard ended finished count dues more settles stay are same is keeps begun over held unended a events due =
-    let kept : Event → Bool = λ event. not (is_drain_of (option_to_list ends) event.owner) in
+moved time nodes others changed phase began ends caused heard ended finished count dues more settles stay are same is elsewhere keeps begun over task held unended a events due =
+    let kept : Event → Bool = λ event. not (is_drain_of phase (option_to_list ends) event.owner) in
     record {
       agenda = rw (begun, over) (agenda-moved phase began caused heard ended finished count dues more kept unended a due);
-      events = rw (begun, over) (events-begun others (is_open heard ended finished) phase (caused_at count) began (filter kept caused) held
-          (events-at nodes others (is_open heard ended finished) kept caused (λ event. one event.owner event.notice event.time) events));
+      events = rw (begun, over) (events-begun others (is_open heard ended finished) phase (caused_at count) began (filter kept caused) task held
+          (events-at nodes others (is_open heard ended finished) kept caused (λ event. one event.phase event.owner event.notice event.time) events));
     }
   where
-    one : (owner : Owner) (notice : Option Call) (at : ℕ) → not (is_drain_of (option_to_list ends) owner) ≡ true → IsEvent nodes owner notice at → IsEvent others owner notice at
-    one (Object who) (Some call) at goes holds = tt
-    one (Object who) None at goes holds = holds
-    one (Drain node) None at goes holds = held-settled time node at nodes changed others settles stay are same is (keeps node (not-true _ goes)) (rw over (not-true _ goes)) holds
-      where
-        not-true : (b : Bool) → not b ≡ true → b ≡ false
-        not-true true e = cc
-        not-true false e = refl
-    one (Drain node) (Some call) at goes holds = holds
+    not-true : (b : Bool) → not b ≡ true → b ≡ false
+    not-true true e = cc
+    not-true false e = refl
+
+    of-node :
+        (node at : ℕ) (in_it : Phase) (here : Bool) → same_phase in_it phase ≡ here → not (here && list_any (λ other. other == node) (option_to_list ends)) ≡ true → IsHeldUntilDue (nodes in_it) (record { node = node; at = at })
+        → IsHeldUntilDue (others in_it) (record { node = node; at = at })
+    of-node node at in_it true here goes holds =
+        let one : in_it ≡ phase = same-phase in_it phase here in
+        subst (λ (p : Phase). IsHeldUntilDue (others p) (record { node = node; at = at })) (sym one)
+        (held-settled time node at (nodes phase) changed (others phase) settles stay are same is (keeps node (not-true _ goes)) (rw over (not-true _ goes)) (subst (λ (p : Phase). IsHeldUntilDue (nodes p) (record { node = node; at = at })) one holds))
+    of-node node at in_it false here goes holds = subst (λ (ns : List Node). IsHeldUntilDue ns (record { node = node; at = at })) (sym (elsewhere in_it here)) holds
+
+    one : (in_it : Phase) (owner : Owner) (notice : Option Call) (at : ℕ) → not (is_drain_of phase (option_to_list ends) owner) ≡ true → IsEvent nodes in_it owner notice at → IsEvent others in_it owner notice at
+    one in_it (Object who) (Some call) at goes holds = tt
+    one in_it (Object who) None at goes holds = holds
+    one in_it (Drain node of) None at goes holds = record {
+      of_is = holds.of_is;
+      task = holds.task;
+      held = of-node node at in_it (same_phase in_it phase) refl (subst (λ (p : Phase). not (same_phase p phase && list_any (λ other. other == node) (option_to_list ends)) ≡ true) holds.of_is goes) holds.held;
+    }
+    one in_it (Drain node of) (Some call) at goes holds = holds
 
 -- a number of a node stays with one more node
 at-front : (f : Node → ℕ) (k : ℕ) (nodes more : List Node) → is_known k nodes ≡ true → option_map_or f (find (λ e. e.node == k) (nodes ++ more)) 0 ≡ option_map_or f (find (λ e. e.node == k) nodes) 0
@@ -320,28 +361,32 @@ held-with-drain node ticks k at nodes held = record {
 }
 
 -- where no drain has ended all events stay
-pub none-ended : (caused : List Event) → filter (λ event. not (is_drain_of [] event.owner)) caused ≡ caused
-none-ended [] = refl
-none-ended (event ∷ caused) = rw (none event.owner, none-ended caused) refl
+pub none-ended : (phase : Phase) (caused : List Event) → filter (λ event. not (is_drain_of phase [] event.owner)) caused ≡ caused
+none-ended phase [] = refl
+none-ended phase (event ∷ caused) = rw (none event.owner, none-ended phase caused) refl
   where
-    none : (owner : Owner) → is_drain_of [] owner ≡ false
-    none (Object who) = refl
-    none (Drain node) = refl
+    and-false : (b : Bool) → b && false ≡ false
+    and-false true = refl
+    and-false false = refl
 
--- the node whose drain is due holds something until now
+    none : (owner : Owner) → is_drain_of phase [] owner ≡ false
+    none (Object who) = refl
+    none (Drain node of) = and-false (same_phase of phase)
+
+-- the drain that is due is of a phase that takes time, and its node holds something until now, in the objection of that phase
 pub due-is-held :
-    (nodes : List Node) (history : List Entry) (node : ℕ) (origin : Origin) → OrderKeepsAll Owner (Option Call) → AreEvents nodes (due_events history) → IsDrainDue history node origin
-    → IsHeldUntilDue nodes (record { node = node; at = now_of history })
+    (nodes : Phase → List Node) (history : List Entry) (node : ℕ) (origin : Origin) → OrderKeepsAll Owner (Option Call) → AreEvents nodes (due_events history) → IsDrainDue history node origin
+    → IsDrainEvent nodes origin.phase origin.phase node (now_of history)
 due-is-held nodes history node origin keeps all drained =
     let due = drained.due in
-    let P : Event → Type 0 = λ event. IsEvent nodes event.owner event.notice event.time in
+    let P : Event → Type 0 = λ event. IsEvent nodes event.phase event.owner event.notice event.time in
     let ordered : All P (in_order (due_events history)) = All-permutation P (due_events history) (in_order (due_events history)) (keeps (due_events history)) all in
-    drain due.event.owner due.event.notice due.event.time (rw due.hearer_is drained.stands) due.notice_is due.time (first-holds P (in_order (due_events history)) due.event ordered due.first)
+    drain due.event.phase due.event.owner due.event.notice due.event.time (ap (λ (one : Origin). one.phase) due.origin_is) (rw due.hearer_is drained.stands) due.notice_is due.time (first-holds P (in_order (due_events history)) due.event ordered due.first)
   where
     drain :
-        (owner : Owner) (notice : Option Call) (time : ℕ) → node_of (who_of owner) ≡ node → notice ≡ None → time ≡ now_of history → IsEvent nodes owner notice time
-        → IsHeldUntilDue nodes (record { node = node; at = now_of history })
-    drain (Object who) (Some call) time same none now is = cc
-    drain (Object who) None time same none now is = absurd is
-    drain (Drain other) None time same none now is = rw (← same, ← now) is
-    drain (Drain other) (Some call) time same none now is = absurd is
+        (phase : Phase) (owner : Owner) (notice : Option Call) (time : ℕ) → phase ≡ origin.phase → node_of (who_of owner) ≡ node → notice ≡ None → time ≡ now_of history → IsEvent nodes phase owner notice time
+        → IsDrainEvent nodes origin.phase origin.phase node (now_of history)
+    drain phase (Object who) (Some call) time in_it same none now is = cc
+    drain phase (Object who) None time in_it same none now is = absurd is
+    drain phase (Drain other of) None time in_it same none now is = rw (← in_it, ← same, ← now) (record { of_is = refl; task = is.task; held = is.held })
+    drain phase (Drain other of) (Some call) time in_it same none now is = absurd is

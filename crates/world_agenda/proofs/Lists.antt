@@ -1,5 +1,5 @@
 -- Filters and parts of lists.
-use Rattle.std.proofs.Common.{◌≡◌, ℕ, nat_eq, Contains, Option, None, suc, Bool, true, false, not, ◌&&◌, ◌||◌, List, [], ◌∷◌, ◌++◌, drop, filter, slice_get, Some, All, refl, ap, subst, arith, if◌then◌else◌, ◌≤◌, ◌+◌, length, map, zero, take}
+use Rattle.std.proofs.Common.{◌≡◌, ℕ, nat_eq, Contains, Option, None, suc, Bool, true, false, not, ◌&&◌, ◌||◌, List, [], ◌∷◌, ◌++◌, drop, filter, slice_get, Some, All, refl, ap, subst, arith, if◌then◌else◌, ◌≤◌, length, map, zero, take}
 use Rattle.std.specs.List.{IsDistinct, AllByRecursion}
 use Rattle.std.proofs.lemmas.Bool.Decides.{nat_tests}
 use Rattle.std.proofs.lemmas.List.Elements.{All-cons, All-head, All-nil, All-tail}

@@ -2,13 +2,13 @@
 use Rattle.std.proofs.Common.{◌≡◌, ◌≤◌, ◌<◌, ◌||◌, ◌==◌, ℕ, suc, zero, Bool, true, false, nat_lt, List, [], ◌∷◌, ◌++◌, length, refl, ap, sym, ◌∙◌, arith, length-append}
 use Rattle.std.proofs.lemmas.Bool.Decides.{nat_tests}
 use Rattle.std.proofs.lemmas.List.{length-map}
-use Rattle.uvm_objection.specs.Nodes.{ObjectionValue, is_known, top, new_node}
+use Rattle.uvm_objection.specs.Nodes.{is_known, top, new_node}
 use Rattle.uvm_objection.specs.Laws.{places, AreNodes, PlacesStay, NodesGrow, GrowsBy}
 use Rattle.world_agenda.specs.Objectings.{AreNumbered, IsObjecting}
 use Rattle.uvm_objection.specs.Nodes as objection
 
 -- the top alone
-pub objecting-first : (kept : ObjectionValue) → AreNodes (top ∷ []) → kept.nodes ≡ top ∷ [] → IsObjecting (top ∷ []) 1 0 kept
+pub objecting-first : (kept : List objection.Node) → AreNodes (top ∷ []) → kept ≡ top ∷ [] → IsObjecting (top ∷ []) 1 0 kept
 objecting-first kept nodes is = record { are = is; numbered = numbered; count_is = refl; are_nodes = nodes; few = omega arith }
   where
     numbered : AreNumbered (top ∷ []) 1
@@ -16,7 +16,7 @@ objecting-first kept nodes is = record { are = is; numbered = numbered; count_is
     numbered (suc node) = grind (arith, nat_tests)
 
 -- one more entry that changes none
-pub objecting-later : {nodes : List objection.Node} {count entries : ℕ} {kept : ObjectionValue} → IsObjecting nodes count entries kept → IsObjecting nodes count (suc entries) kept
+pub objecting-later : {nodes : List objection.Node} {count entries : ℕ} {kept : List objection.Node} → IsObjecting nodes count entries kept → IsObjecting nodes count (suc entries) kept
 objecting-later o = record { are = o.are; numbered = o.numbered; count_is = o.count_is; are_nodes = o.are_nodes; few = omega (arith, o.few) }
 
 known-more : (nodes : List objection.Node) (node other parent : ℕ) → is_known node (nodes ++ new_node other parent ∷ []) ≡ (is_known node nodes || (other == node))
@@ -36,8 +36,8 @@ below-more node count = grind (arith, nat_tests)
 
 -- one more node
 pub objecting-more :
-    {nodes : List objection.Node} {count entries more : ℕ} {old : ObjectionValue} (new : ObjectionValue) (parent : ℕ) → NodesGrow → parent < count → IsObjecting nodes count entries old → more ≡ suc count
-    → new.nodes ≡ nodes ++ new_node count parent ∷ []
+    {nodes : List objection.Node} {count entries more : ℕ} {old : List objection.Node} (new : List objection.Node) (parent : ℕ) → NodesGrow → parent < count → IsObjecting nodes count entries old → more ≡ suc count
+    → new ≡ nodes ++ new_node count parent ∷ []
     → IsObjecting (nodes ++ new_node (length nodes) parent ∷ []) more (suc entries) new
 objecting-more {nodes} {count} new parent grow below o is added =
     let unknown : is_known count nodes ≡ false = o.numbered count ∙ grind (arith, nat_tests) in
@@ -53,8 +53,8 @@ objecting-more {nodes} {count} new parent grow below o is added =
 
 -- more is raised at a node, or some is dropped: the nodes stand where they stood
 pub objecting-changed :
-    {nodes : List objection.Node} {count entries : ℕ} {old : ObjectionValue} (new : ObjectionValue) (others : List objection.Node) → PlacesStay → places others ≡ places nodes
-    → IsObjecting nodes count entries old → new.nodes ≡ others → (raised : ℕ) → raised ≤ 65535 → GrowsBy raised nodes others → IsObjecting others count (suc entries) new
+    {nodes : List objection.Node} {count entries : ℕ} {old : List objection.Node} (new : List objection.Node) (others : List objection.Node) → PlacesStay → places others ≡ places nodes
+    → IsObjecting nodes count entries old → new ≡ others → (raised : ℕ) → raised ≤ 65535 → GrowsBy raised nodes others → IsObjecting others count (suc entries) new
 objecting-changed {nodes} new others stay same o is raised low grown = record {
   are = is;
   numbered = λ node. stay.known node nodes others same ∙ o.numbered node;
@@ -64,9 +64,5 @@ objecting-changed {nodes} new others stay same o is raised low grown = record {
 }
 
 -- what has the same nodes is as good
-pub objecting-same : {nodes : List objection.Node} {count entries : ℕ} {old : ObjectionValue} (new : ObjectionValue) → new.nodes ≡ old.nodes → IsObjecting nodes count entries old → IsObjecting nodes count entries new
+pub objecting-same : {nodes : List objection.Node} {count entries : ℕ} {old : List objection.Node} (new : List objection.Node) → new ≡ old → IsObjecting nodes count entries old → IsObjecting nodes count entries new
 objecting-same new same o = record { are = same ∙ o.are; numbered = o.numbered; count_is = o.count_is; are_nodes = o.are_nodes; few = o.few }
-
--- the same nodes, with as much room
-pub same-objection : (old new : ObjectionValue) → new.nodes ≡ old.nodes → new.spare ≡ old.spare → new ≡ old
-same-objection old new nodes spare = ap (λ (n : List objection.Node). record { nodes = n; spare = new.spare }) nodes ∙ ap (λ (s : ℕ). record { nodes = old.nodes; spare = s }) spare

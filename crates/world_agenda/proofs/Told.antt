@@ -30,7 +30,7 @@ of-either who finished (Object (Sequence id home)) = more (same_who (Sequence id
     more : (a b : Bool) → (a || b) ≡ ((a || false) || b)
     more true b = refl
     more false b = refl
-of-either who finished (Drain node) = refl
+of-either who finished (Drain node phase) = refl
 
 -- one more sequence has finished
 pub open-finished : (who : Who) (heard : List Cause) (ended : List Phase) (finished : List Who) (event : Event) → is_open heard ended (who ∷ finished) event ≡ (is_open heard ended finished event && not (is_of_one (who ∷ []) event.owner))

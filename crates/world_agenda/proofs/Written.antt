@@ -175,7 +175,7 @@ written-open phase nodes item ended finished (imp ∷ imps) unended = added (und
     added (Some under) all = All-cons (IsOpenCall ended finished) _ (filter_map (written_to phase nodes item) imps) (unended, refl) all
 
 pub events-calls :
-    (nodes : List objection.Node) (awaited : Event → Bool) (time place number : ℕ) (calls : List Told) (caused : List Event) → AreEvents nodes (filter awaited caused)
+    (nodes : Phase → List objection.Node) (awaited : Event → Bool) (time place number : ℕ) (calls : List Told) (caused : List Event) → AreEvents nodes (filter awaited caused)
     → AreEvents nodes (filter awaited (calls_numbered time place number calls ++ caused))
 events-calls nodes awaited time place number [] caused all = all
 events-calls nodes awaited time place number (told ∷ calls) caused all =

@@ -7,8 +7,6 @@ use Rattle.bench_history.specs.Dues.{event_in}
 use Rattle.bench_history.specs.Owners.{Event}
 use Rattle.uvm_sequences.specs.declared.starts.SeqStep.{SeqStep}
 use Rattle.uvm_sequences.specs.Sequences.{step_at}
-use Rattle.uvm_tree.specs.Nodes.{Node}
-use Rattle.uvm_object.specs.declared.acts.Call.TheVariants as call
 use Rattle.uvm_object.specs.declared.acts.Who.TheVariants as who
 
 -- calls are due, numbered in their order, but for those of sequences that live no longer

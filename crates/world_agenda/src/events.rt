@@ -18,14 +18,15 @@ use uvm_phase::{Agenda, Cause, Phase, laws as agendas};
 use uvm_sequences::Sequences;
 use uvm_tree::NodeId;
 
-/// Takes the end of a drain out of what is due, where a drain has ended: the node is the one that held something back.
-pub fn end_drain(agenda: &mut Agenda<Owner, Option<Call>>, ended: Option<NodeId>)
+/// Takes the end of a drain out of what is due, where a drain has ended: the node is the one that held something back, and the phase that
+/// of the objection.
+pub fn end_drain(agenda: &mut Agenda<Owner, Option<Call>>, phase: Phase, ended: Option<NodeId>)
     ensures { (caused : List Event) → agenda.old.dues ≡ in_order caused →
-        agenda.new.dues ≡ in_order (filter (λ event. not (is_drain_of (option_to_list ended) event.owner)) caused) }
+        agenda.new.dues ≡ in_order (filter (λ event. not (is_drain_of phase (option_to_list ended) event.owner)) caused) }
 {
     agendas::order_keeps_filters::<Owner, Option<Call>>();
     if let Some(node) = ended {
-        agenda.cancel(&Owner::Drain(node));
+        agenda.cancel(&Owner::Drain(node, phase));
     }
 }
 

@@ -120,7 +120,7 @@ fn grow(services: &mut Services, act: &Act) -> NodeId
     let Ok(node) = add_child(&mut services.tree, parent, name, NodeKind::Component) else {
         unreachable!()
     };
-    let Ok(()) = services.objection.add(node, parent) else {
+    let Ok(()) = services.objections.add(node, parent) else {
         unreachable!()
     };
     services.turns.make(&services.tree, node);

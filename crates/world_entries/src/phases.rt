@@ -92,8 +92,8 @@ pub fn pass_time(services: &mut Services, time: u64)
     services.time = time;
 }
 
-/// Keeps that the drain of a node ends: what was held back is passed up (IEEE 1800.2-2020, 10.5). What begins
-/// with that belongs to the phase of the drain. Its error is want of memory.
+/// Keeps that the drain of a node ends, of the objection of the phase of its origin: what was held back is passed up (IEEE 1800.2-2020,
+/// 10.5). What begins with that belongs to the same phase. Its error is want of memory.
 pub fn end_drain(
     services: &mut Services,
     place: usize,
@@ -111,8 +111,9 @@ pub fn end_drain(
     objections::settled_go_by_totals();
     objections::begun_drains_are_held();
     laws::wiring_stays();
-    let began = services.objection.drained(node);
-    move_drains(services, Some(origin.phase), place, began, Some(node))?;
+    let phase = origin.phase;
+    let began = services.objections.drained(phase, node);
+    move_drains(services, phase, place, began, Some(node))?;
     services.reporting.newest = None;
     Ok(())
 }

@@ -71,7 +71,7 @@ scene-begun {script} {history} {act} {services = services} id s other is = by s.
 -- what is due once it has finished
 pub record HasFinished (history : List Entry) (performer : Who) (more : List Event) : Type 0 where
   pub agenda : IsAgenda (caused_of (Did performer Finished EndStep ∷ history)) (heard_of history) (ended_of history) (performer ∷ finished_of history) (suc (length history)) more
-  pub events : AreEvents (objections_of history) (due_events (Did performer Finished EndStep ∷ history))
+  pub events : AreEvents (λ phase. objections_of phase history) (due_events (Did performer Finished EndStep ∷ history))
 
 module _
     {script : ScriptValue} {history : List Entry} {services : Services} (m : ServicesMatch script history services) (alone : StepsChangeAlone) (id : ℕ) (beginning : Beginning) (found : numbered (begun_of history) id ≡ Some beginning) (lives : lives_by (finished_of history) (ended_of history) id beginning ≡ true)
@@ -91,8 +91,8 @@ module _
       → HasFinished history (who.Sequence id beginning.start.home) more
   has-finished more lapsed is = record {
     agenda = agenda-living (is_told (service.finished id services.sequences).steps) (heard_of history) (ended_of history) (who.Sequence id beginning.start.home ∷ finished_of history) (now_of history) (calls_told history (who.Sequence id beginning.start.home) Finished EndStep) (caused_of history) (length history) _ more told left (rw (calls-known, ← twice) at is);
-    events = events-calls (objections_of history) (is_open (heard_of history) (ended_of history) (who.Sequence id beginning.start.home ∷ finished_of history)) (now_of history) (length history) 0 (calls_told history (who.Sequence id beginning.start.home) Finished EndStep) (caused_of history)
-        (events-finished (who.Sequence id beginning.start.home) (objections_of history) (caused_of history) (heard_of history) (ended_of history) (finished_of history) m.events);
+    events = events-calls (λ phase. objections_of phase history) (is_open (heard_of history) (ended_of history) (who.Sequence id beginning.start.home ∷ finished_of history)) (now_of history) (length history) 0 (calls_told history (who.Sequence id beginning.start.home) Finished EndStep) (caused_of history)
+        (events-finished (who.Sequence id beginning.start.home) (λ phase. objections_of phase history) (caused_of history) (heard_of history) (ended_of history) (finished_of history) m.events);
   }
     where
       told : All (IsToldOpen (is_told (service.finished id services.sequences).steps) (ended_of history) (who.Sequence id beginning.start.home ∷ finished_of history)) (calls_told history (who.Sequence id beginning.start.home) Finished EndStep)

@@ -21,17 +21,17 @@ use Rattle.world_services.specs.Attempts.{ComesBy, TakesIn, IsScene, IsTried, Is
 use Rattle.world_services.specs.Services.{ServicesMatch}
 use Rattle.world_services.proofs.Answered.{answer-later, answer-next, answer-noted}
 use Rattle.world_reports.proofs.Reported.{quiet}
-use Rattle.world_agenda.proofs.Objected.{objecting-later}
 use Rattle.world_wiring.proofs.Connected.{closing-later, closing-next}
 use Rattle.world_sequencers.proofs.Contested.{arbitrating-later}
 use Rattle.world_services.proofs.Passages.{passed-later}
+use Rattle.world_services.proofs.Settling.{objectings-later}
 use Rattle.world_agenda.proofs.Told.{agenda-later}
 
 -- what every entry leaves, but for what it changes
-pub ruleset later = (answer-later, answer-noted, agenda-later, quiet, objecting-later, closing-later, passed-later, arbitrating-later)
+pub ruleset later = (answer-later, answer-noted, agenda-later, quiet, objectings-later, closing-later, passed-later, arbitrating-later)
 
 -- what an act leaves, but for what it changes
-pub ruleset acted = (answer-next, agenda-later, quiet, objecting-later, closing-next, passed-later, arbitrating-later)
+pub ruleset acted = (answer-next, agenda-later, quiet, objectings-later, closing-next, passed-later, arbitrating-later)
 
 -- an act is to be performed
 pub scene-of :

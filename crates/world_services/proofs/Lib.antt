@@ -9,5 +9,6 @@ pub mod Later
 pub mod Opened
 pub mod Overriding
 pub mod Passages
+pub mod Settling
 pub mod Waiting
 pub mod Walking

@@ -15,6 +15,8 @@ use Rattle.world_services.specs.declared.attempts.Attempt.TheVariants.{Became, N
 use Rattle.world_services.specs.declared.services.Services.{Services}
 use Rattle.bench_history.specs.History.{opening, left_of, rest_of, speaker_of}
 use Rattle.world_reports.specs.Reportings.{CanReport, IsReported}
+use Rattle.uvm_phase.specs.declared.phases.Phase.{Phase}
+use Rattle.world_objections.specs.Phased.{nodes_in}
 use Rattle.world_agenda.specs.Objectings.{AreNumbered}
 use Rattle.uvm_objection.specs.Totals.{total}
 use Rattle.uvm_tlm.specs.Wirings.{end_at, is_closed, late_fault}
@@ -32,9 +34,9 @@ use Rattle.bench_history.specs.declared.needs.Need as needs
 -- goes through a closed one; and it is known who is blocked
 pub record CanPerform (services : Services) : Type 0 where
   pub speaks : node_of services.answer.speaker < length services.tree.nodes
-  pub numbered : AreNumbered services.objection.nodes (length services.tree.nodes)
+  pub numbered : (phase : Phase) → AreNumbered (nodes_in services.objections phase) (length services.tree.nodes)
   pub report : CanReport services.reporting
-  pub few : total services.objection.nodes 0 + 65535 ≤ 10 ^ 18
+  pub few : (phase : Phase) → total (nodes_in services.objections phase) 0 + 65535 ≤ 10 ^ 18
   pub time : services.time ≤ 10 ^ 18
   pub building : services.built ≡ false → late_fault services.wiring ≡ None
   pub connectable : services.past_connect ≡ false → late_fault services.wiring ≡ None

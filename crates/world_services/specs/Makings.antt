@@ -12,6 +12,8 @@ use Rattle.bench_history.specs.History.{created_name}
 use Rattle.bench_history.specs.Refusals.{child_refusal, in_task, is_none_at_all}
 use Rattle.bench_history.specs.Laws.{IsCreation}
 use Rattle.world_services.specs.declared.services.Services.{Services}
+use Rattle.uvm_phase.specs.declared.phases.Phase.{Phase}
+use Rattle.world_objections.specs.Phased.{nodes_in, spare_in}
 use Rattle.world_agenda.specs.Objectings.{AreNumbered}
 use Rattle.world_sequences.specs.Sequencings.{IsStart, priority_given, home_for}
 use Rattle.uvm_object.specs.declared.acts.Who.TheVariants as who
@@ -35,8 +37,8 @@ pub record CanGrow (act : Act) (services : Services) : Type 0 where
   pub building : services.built ≡ false
   pub tree_spare : services.tree.spare ≡ Some (node_of services.answer.speaker)
   pub speaks : node_of services.answer.speaker < length services.tree.nodes
-  pub numbered : AreNumbered services.objection.nodes (length services.tree.nodes)
-  pub objection_spare : 0 < services.objection.spare
+  pub numbered : (phase : Phase) → AreNumbered (nodes_in services.objections phase) (length services.tree.nodes)
+  pub objection_spare : (phase : Phase) → 0 < spare_in services.objections phase
   pub turns : vec_len services.turns.late < vec_capacity services.turns.late
 
 -- the one or the other

@@ -9,6 +9,9 @@ use Rattle.uvm_factory.specs.Overrides.{type_step}
 use Rattle.uvm_factory.specs.Observed.{Kept, types_of, step_at}
 use Rattle.uvm_config.specs.Answers.{Setting, strongest_answer}
 use Rattle.uvm_phase.specs.declared.phases.Phase.{Phase}
+use Rattle.uvm_phase.specs.Phases.{is_task}
+use Rattle.uvm_objection.specs.Nodes.{ObjectionValue}
+use Rattle.world_objections.specs.Phased.{nodes_in}
 use Rattle.uvm_object.specs.Acts.{node_of}
 use Rattle.uvm_object.specs.declared.acts.Who.{Who}
 use Rattle.uvm_object.specs.declared.acts.Act.{Act}
@@ -38,6 +41,7 @@ use Rattle.bench_history.specs.Ports.{fifo_size}
 use Rattle.bench_history.specs.Passing.{answered_at, is_no_put, is_put, items_entered, items_left, passing_at, puts_asked, station_at, takes_asked}
 use Rattle.world_agenda.specs.Agendas.{IsAgenda}
 use Rattle.uvm_config.specs.Observed as config
+use Rattle.uvm_objection.specs.Nodes as objection
 
 -- the factory has the types, and gives what the overrides give
 pub record IsFactory (types : Types) (overrides : List Override) (kept : Kept) : Type 0 where
@@ -73,6 +77,10 @@ pub record IsSettings (settings : List Setting) (kept : config.Kept) : Type 0 wh
   pub answers : (path : List (List ℕ)) (asked : List ℕ) → config.answer_at kept path asked ≡ strongest_answer settings (path_text path) asked
   pub count : config.accepted kept ≡ length settings
 
+-- in each phase that takes time, what is raised at the nodes of a tree is what is kept of that phase
+pub record AreObjecting (nodes : Phase → List objection.Node) (count entries : ℕ) (objections : List ObjectionValue) : Type 0 where
+  pub each : (phase : Phase) → is_task phase ≡ true → IsObjecting (nodes phase) count entries (nodes_in objections phase)
+
 -- each thing that is kept is what the history says
 pub record ServicesMatch (script : ScriptValue) (history : List Entry) (services : Services) : Type 0 where
   pub stage : services.stage ≡ stage_of history
@@ -88,7 +96,7 @@ pub record ServicesMatch (script : ScriptValue) (history : List Entry) (services
   pub unsettled : AreUnsettled (passing_at history) (path_order (nodes_of history)) services.unsettled.items
   pub arbitrating : IsArbitrating (length history) (nodes_of history) (begun_of history) (finished_of history) (ended_of history) (ledger_at history) services.arbiters services.contest
   pub sequencing : IsSequencing (begun_of history) (finished_of history) (ended_of history) (enders_of history) services.sequences services.beginnings.items
-  pub objections : IsObjecting (objections_of history) (length (nodes_of history)) (length history) services.objection
+  pub objections : AreObjecting (λ phase. objections_of phase history) (length (nodes_of history)) (length history) services.objections
   pub factory : IsFactory script.types (overrides_of script history) services.factory
   pub turns : AreTurns (stage_of history) (nodes_of history) (components_of history) (called_of history) services.turns
   pub answer : IsLastAnswer (opening script) history (left_of script history) (speaker_of history) (act_phase history) services.answer
@@ -97,7 +105,7 @@ pub record ServicesMatch (script : ScriptValue) (history : List Entry) (services
   pub reporting : IsReporting (report_commands script history) (newest_fate script history) services.reporting
   pub settings : IsSettings (settings_of script history) services.settings
   pub agenda : IsAgenda (caused_of history) (heard_of history) (ended_of history) (finished_of history) (length history) services.agenda.dues
-  pub events : AreEvents (objections_of history) (due_events history)
+  pub events : AreEvents (λ phase. objections_of phase history) (due_events history)
   pub test_refused : services.test_refused ≡ list_any refuses_test history
 
 -- more requests are passed over, each of which is blocked, and nothing else has changed

@@ -1,11 +1,13 @@
 //! What a world keeps beside its log.
 
-ghost use Rattle.std.specs.Prelude.{◌≡◌, [], IfOk, None};
+ghost use Rattle.std.specs.Prelude.{◌≡◌, ◌∷◌, [], IfOk, None};
 ghost use Rattle.bench_script.specs.Factories.{IsFactoryOf};
 ghost use Rattle.bench_script.specs.Scripts.{ScriptValue};
 ghost use Rattle.bench_history.specs.Configuration.{settings_of};
 ghost use Rattle.bench_history.specs.History.{overrides_of};
 ghost use Rattle.bench_history.specs.Reports.{script_commands};
+ghost use Rattle.uvm_objection.specs.Nodes.{top};
+ghost use Rattle.world_objections.specs.Phased.{nodes_in};
 ghost use Rattle.world_reports.specs.Reportings.{IsReporting};
 ghost use Rattle.world_sequencers.specs.Contests.{AreKnown};
 ghost use Rattle.world_services.specs.Services.{HasPassed, IsFactory, IsSettings, ServicesMatch};
@@ -18,12 +20,13 @@ use std::alloc::{AllocError, Global};
 use uvm_config::Settings;
 use uvm_factory::Factory;
 use uvm_object::{Call, Who};
-use uvm_objection::{Objection, laws as objections};
+use uvm_objection::laws as objections;
 use uvm_phase::{Agenda, Phase};
 use uvm_sequences::Sequences;
 use uvm_tlm::Wiring;
 use uvm_tree::{NodeId, Tree};
 use world_fifos::stations::Stations;
+use world_objections::objections::Objections;
 use world_reports::reporting::{Reporting, given_reporting};
 use world_sequencers::arbiters::{Arbiters, passed_at};
 use world_sequencers::contests::Contest;
@@ -53,7 +56,8 @@ pub struct Services {
     /// The present time in ticks.
     pub time: u64,
     pub tree: Tree,
-    pub objection: Objection,
+    /// Of the phases that take time, one for each.
+    pub objections: Objections,
     pub wiring: Wiring,
     pub stations: Stations,
     /// Some nodes in path order, all FIFOs among them at which something may pass.
@@ -85,7 +89,8 @@ impl Services {
     {
         let settings = given_settings(alloc, script.settings())?;
         let reporting = given_reporting(alloc, script)?;
-        Ok(Services::new(alloc, factory, settings, reporting))
+        let objections = Objections::new(alloc)?;
+        Ok(Services::new(alloc, factory, settings, reporting, objections))
     }
 
     /// Makes what is kept before the first entry. Takes no memory.
@@ -94,7 +99,9 @@ impl Services {
         factory: Factory,
         settings: Settings,
         reporting: Reporting,
+        objections: Objections,
     ) -> Services
+        requires { (phase : Phase) → nodes_in objections phase ≡ top ∷ [] }
         ensures { (script : ScriptValue) → IsFactory script.types (overrides_of script []) factory → IsSettings (settings_of script []) settings
             → IsReporting (script_commands script) None reporting → ServicesMatch script [] result }
     {
@@ -103,7 +110,7 @@ impl Services {
             stage: Stage::Before,
             time: 0,
             tree: Tree::new(alloc),
-            objection: Objection::new(alloc),
+            objections,
             wiring: Wiring::new(alloc),
             stations: Stations::new(alloc),
             unsettled: Vec::new(alloc),

@@ -20,25 +20,32 @@ use uvm_tlm::MoveKind;
 use uvm_tree::NodeId;
 use world_agenda::events::{add_event, caused_at, end_drain, tell_each};
 
-/// Makes the end of a drain due that began in a phase, and takes that of one that ended out of what is due. The place of the entry is
-/// the cause. Its error is want of memory.
+/// Makes the end of a drain due that began in the objection of a phase, and takes that of one that ended there out of what is due. The place
+/// of the entry is the cause. Its error is want of memory.
 pub fn move_drains(
     services: &mut Services,
-    phase: Option<Phase>,
+    phase: Phase,
     place: usize,
     began: Option<Due>,
     ended: Option<NodeId>,
 ) -> Result<(), AllocError>
     ensures dues { OnOk result ((caused : List Event) → services.old.agenda.dues ≡ in_order caused →
-        services.new.agenda.dues ≡ in_order (flat_map (drain_from phase (caused_at place)) (option_to_list began) ++ filter (λ event. not (is_drain_of (option_to_list ended) event.owner)) caused)) }
+        services.new.agenda.dues ≡ in_order (flat_map (drain_from phase (caused_at place)) (option_to_list began) ++ filter (λ event. not (is_drain_of phase (option_to_list ended) event.owner)) caused)) }
     ensures rest { services.new ≡ record services.old { agenda = services.new.agenda } }
 {
-    end_drain(&mut services.agenda, ended);
+    end_drain(&mut services.agenda, phase, ended);
     if let Some(drain) = began {
-        let owner = Owner::Drain(drain.node);
+        let owner = Owner::Drain(drain.node, phase);
         prove!(owner.who() == Who::Node(drain.node));
         let cause = caused_at(place);
-        add_event(&mut services.agenda, phase, drain.at, cause, owner, None)?;
+        add_event(
+            &mut services.agenda,
+            Some(phase),
+            drain.at,
+            cause,
+            owner,
+            None,
+        )?;
     }
     Ok(())
 }

@@ -36,7 +36,7 @@ pub fn add(
     objections::nodes_grow();
     let parent = services.answer.speaker.node();
     let node = add_child(&mut services.tree, parent, name, kind_of(what))?;
-    services.objection.add(node, parent)?;
+    services.objections.add(node, parent)?;
     add_end(&mut services.wiring, node, what)?;
     add_station(&mut services.stations, alloc, node, what)?;
     add_arbiter(&mut services.arbiters, alloc, node, what)?;

@@ -1,20 +1,26 @@
 //! The acts on objections (IEEE 1800.2-2020, 10.5).
 
-ghost use Rattle.std.specs.Prelude.{◌≡◌, ◌++◌, ℕ, IfOk};
+ghost use Rattle.std.specs.Prelude.{◌≡◌, ◌≤◌, ◌^◌, ◌||◌, ℕ, true, not, IsTrue, IfOk, Some, if◌then◌else◌};
 ghost use Rattle.uvm_object.specs.declared.acts.Act.TheVariants.{RaiseObjection, DropObjection, SetDrain};
+ghost use Rattle.uvm_phase.specs.Phases.{is_task};
+ghost use Rattle.uvm_objection.specs.Nodes.{is_known, with_drain};
+ghost use Rattle.bench_history.specs.Objections.{is_of_phase};
 ghost use Rattle.bench_history.specs.Refusals.{in_task};
+ghost use Rattle.world_objections.specs.Phased.{nodes_in};
 ghost use Rattle.world_services.specs.Attempts.{CanPerform, IsAttempt};
 
 use std::alloc::{AllocError, Global};
 use uvm_object::Fatal;
 use uvm_objection::laws;
+use uvm_phase::Phase;
+use uvm_tree::NodeId;
 use world_agenda::events::MAX_TICKS;
-use world_agenda::stages::in_task;
+use world_objections::objections::Objections;
 use world_services::attempts::{Attempt, done, refused};
 use world_services::services::Services;
 use world_services::tells::move_drains;
 
-/// Raises an objection at the speaker's node, or refuses it. Its error is want of memory.
+/// Raises an objection at the speaker's node to the end of the phase of the act, or refuses it. Its error is want of memory.
 pub fn raise(
     services: &mut Services,
     alloc: Global,
@@ -24,20 +30,36 @@ pub fn raise(
     requires { CanPerform services.old }
     ensures { IfOk result (λ attempt. IsAttempt (RaiseObjection count) attempt place services.old services.new) }
 {
-    if !in_task(services.answer.phase) {
-        return refused(services, alloc, Fatal::OutsideTask);
+    match services.answer.phase {
+        Some(phase) if phase.is_task() => raise_in(services, phase, place, count),
+        _ => refused(services, alloc, Fatal::OutsideTask),
     }
+}
+
+// Raises it, where the phase takes time.
+fn raise_in(
+    services: &mut Services,
+    phase: Phase,
+    place: usize,
+    count: u16,
+) -> Result<Attempt, AllocError>
+    requires can { CanPerform services.old }
+    requires phase { services.old.answer.phase ≡ Some phase }
+    requires task { is_task phase ≡ true }
+    ensures { IfOk result (λ attempt. IsAttempt (RaiseObjection count) attempt place services.old services.new) }
+{
     // The nodes stand where they stood, and raises alone let the total of the top grow. What goes on to be held stays due when it was.
     laws::places_stay();
     laws::nodes_grow();
     laws::settled_go_by_totals();
-    let (node, phase) = (services.answer.speaker.node(), services.answer.phase);
-    let ended = services.objection.raise(node, count);
+    laws::begun_drains_are_held();
+    let node = services.answer.speaker.node();
+    let ended = services.objections.raise(phase, node, count);
     move_drains(services, phase, place, None, ended)?;
     Ok(done(services))
 }
 
-/// Drops what was raised at the speaker's node, or refuses it. Its error is want of memory.
+/// Drops what was raised at the speaker's node in the phase of the act, or refuses it. Its error is want of memory.
 pub fn drop(
     services: &mut Services,
     alloc: Global,
@@ -47,15 +69,31 @@ pub fn drop(
     requires { CanPerform services.old }
     ensures { IfOk result (λ attempt. IsAttempt (DropObjection count) attempt place services.old services.new) }
 {
-    if !in_task(services.answer.phase) {
-        return refused(services, alloc, Fatal::OutsideTask);
+    match services.answer.phase {
+        Some(phase) if phase.is_task() => drop_in(services, alloc, phase, place, count),
+        _ => refused(services, alloc, Fatal::OutsideTask),
     }
+}
+
+// Drops it, where the phase takes time.
+fn drop_in(
+    services: &mut Services,
+    alloc: Global,
+    phase: Phase,
+    place: usize,
+    count: u16,
+) -> Result<Attempt, AllocError>
+    requires can { CanPerform services.old }
+    requires phase { services.old.answer.phase ≡ Some phase }
+    requires task { is_task phase ≡ true }
+    ensures { IfOk result (λ attempt. IsAttempt (DropObjection count) attempt place services.old services.new) }
+{
     laws::places_stay();
     laws::nodes_grow();
     laws::settled_go_by_totals();
     laws::begun_drains_are_held();
-    let (node, phase) = (services.answer.speaker.node(), services.answer.phase);
-    match services.objection.drop(node, count, services.time) {
+    let node = services.answer.speaker.node();
+    match services.objections.drop(phase, node, count, services.time) {
         Ok(began) => {
             move_drains(services, phase, place, began, None)?;
             Ok(done(services))
@@ -64,7 +102,8 @@ pub fn drop(
     }
 }
 
-/// Sets the drain time of the speaker's node, in ticks, or refuses it. Its error is want of memory.
+/// Sets the drain time of the speaker's node, in ticks, or refuses it: for the objection of the phase of the act, where that takes time,
+/// and else for those of all phases that do. Its error is want of memory.
 #[tactic(auto, unfolding(bench_history::specs::Refusals::drain_refusal))]
 pub fn set_drain(services: &mut Services, alloc: Global, ticks: u64) -> Result<Attempt, AllocError>
     requires { CanPerform services.old }
@@ -75,7 +114,20 @@ pub fn set_drain(services: &mut Services, alloc: Global, ticks: u64) -> Result<A
     }
     laws::places_stay();
     laws::nodes_grow();
-    let node = services.answer.speaker.node();
-    services.objection.set_drain(node, ticks);
+    let (node, phase) = (services.answer.speaker.node(), services.answer.phase);
+    set_drain_in(&mut services.objections, phase, node, ticks);
     Ok(done(services))
+}
+
+// Sets it for the objection of a phase, where that takes time, and else for each.
+fn set_drain_in(objections: &mut Objections, phase: Option<Phase>, node: NodeId, ticks: u64)
+    requires known { (one : Phase) → IsTrue (is_known node (nodes_in objections.old one)) }
+    requires limit { ticks ≤ 10 ^ 15 }
+    ensures { (one : Phase) → is_task one ≡ true → nodes_in objections.new one ≡
+        (if is_of_phase one phase || not (in_task phase) then with_drain node ticks (nodes_in objections.old one) else nodes_in objections.old one) }
+{
+    match phase {
+        Some(phase) if phase.is_task() => objections.set_drain(phase, node, ticks),
+        _ => objections.set_each_drain(node, ticks),
+    }
 }

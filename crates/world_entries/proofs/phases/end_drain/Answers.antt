@@ -1,17 +1,16 @@
-use Rattle.std.proofs.Common.{◌≡◌, ◌≤◌, All, Some, filter, length, refl, ◌∙◌, arith, rules}
-use Rattle.std.specs.Option.{option_to_list}
+use Rattle.std.proofs.Common.{◌≡◌, ◌≤◌, Some, filter, refl, ◌∙◌, arith, rules}
 use Rattle.uvm_object.specs.declared.entries.Entry.TheVariants.{Drained}
-use Rattle.uvm_objection.specs.Laws.{IsHeldUntilDue}
 use Rattle.uvm_objection.specs.Nodes.{released}
 use Rattle.uvm_objection.specs.Totals.{total, settled}
 use Rattle.bench_history.specs.Sequences.{finished_of}
 use Rattle.bench_history.specs.Dues.{caused_of, heard_of, is_open}
 use Rattle.bench_history.specs.History.{now_of, ended_of}
 use Rattle.bench_history.specs.Objections.{objections_of}
-use Rattle.world_agenda.proofs.Drained.{moved, due-released, due-is-held, known-held}
-use Rattle.world_agenda.proofs.Objected.{objecting-changed}
+use Rattle.world_objections.specs.Phased.{nodes_in}
+use Rattle.world_agenda.proofs.Drained.{due-released, due-is-held, known-held}
 use Rattle.world_services.proofs.Opened.{drain-unended}
 use Rattle.world_services.proofs.Later.{later}
+use Rattle.world_services.proofs.Settling.{drain-changes, settling}
 use Rattle.world_entries.proofs.phases.end_drain.Goals as goal
 
 pub drained-began-requires-clause-known : goal.drained-began-requires-clause-known
@@ -19,47 +18,50 @@ drained-began-requires-clause-known c =
     let due = c.requires in
     let origin = c.args.origin in
     let m = due.known in
-    let held = due-is-held (objections_of due.history) due.history c.args.node origin c.order_keeps_all.ensures m.events (c.drains_go_in_order.ensures due.script due.history c.args.node origin due.coming.next) in
-    rw m.objections.are (known-held c.args.node (objections_of due.history) held.held)
+    let held = due-is-held (λ phase. objections_of phase due.history) due.history c.args.node origin c.order_keeps_all.ensures m.events (c.drains_go_in_order.ensures due.script due.history c.args.node origin due.coming.next) in
+    rw (m.objections.each origin.phase held.task).are (known-held c.args.node (objections_of origin.phase due.history) held.held.held)
 
 pub drained-began-requires-clause-held : goal.drained-began-requires-clause-held
 drained-began-requires-clause-held c =
     let due = c.requires in
     let origin = c.args.origin in
     let m = due.known in
-    let held = due-is-held (objections_of due.history) due.history c.args.node origin c.order_keeps_all.ensures m.events (c.drains_go_in_order.ensures due.script due.history c.args.node origin due.coming.next) in
-    rw m.objections.are held.held
+    let held = due-is-held (λ phase. objections_of phase due.history) due.history c.args.node origin c.order_keeps_all.ensures m.events (c.drains_go_in_order.ensures due.script due.history c.args.node origin due.coming.next) in
+    rw (m.objections.each origin.phase held.task).are held.held.held
 
 pub drained-began-requires-clause-limit : goal.drained-began-requires-clause-limit
 drained-began-requires-clause-limit c =
     let due = c.requires in
     let origin = c.args.origin in
     let m = due.known in
-    let held = due-is-held (objections_of due.history) due.history c.args.node origin c.order_keeps_all.ensures m.events (c.drains_go_in_order.ensures due.script due.history c.args.node origin due.coming.next) in
-    rw (m.objections.are, held.due, ← m.time) m.early
+    let held = due-is-held (λ phase. objections_of phase due.history) due.history c.args.node origin c.order_keeps_all.ensures m.events (c.drains_go_in_order.ensures due.script due.history c.args.node origin due.coming.next) in
+    rw ((m.objections.each origin.phase held.task).are, held.held.due, ← m.time) m.early
 
 pub returns : goal.returns
 returns c = λ script before coming m.
     let origin = c.args.origin in
+    let phase = origin.phase in
     let stays = c.wiring_stays.ensures script before (Drained c.args.node origin) (rw coming.next refl) in
     let due = c.in_ok-move_drains.ensures in
-    let nodes = objections_of before in
-    let held = due-is-held nodes before c.args.node origin c.order_keeps_all.ensures m.events (c.drains_go_in_order.ensures script before c.args.node origin coming.next) in
+    let nodes = objections_of phase before in
+    let held = due-is-held (λ p. objections_of p before) before c.args.node origin c.order_keeps_all.ensures m.events (c.drains_go_in_order.ensures script before c.args.node origin coming.next) in
+    let was = m.objections.each phase held.task in
+    let are = was.are in
     let changed = released c.args.node nodes in
     let others = settled (now_of before) (total nodes) changed in
     let stay = c.places_stay.ensures in
     let same = stay.settled (now_of before) (total nodes) changed ∙ stay.released c.args.node nodes in
-    let is : c.drained-began.new.self.nodes ≡ others = rw (m.objections.are, held.due) at c.drained-began.ensures.nodes in
-    let begun = rw (is, m.objections.are) at c.drained-began.ensures.began in
-    let over = rw (is, m.objections.are) at c.drained-began.ensures.ended in
-    let grown = (c.nodes_grow.ensures.1 nodes m.objections.are_nodes).released (now_of before) c.args.node in
+    let is : nodes_in c.drained-began.new.self phase ≡ others = rw (are, held.held.due) at c.drained-began.ensures.nodes in
+    let begun = rw (is, are) at c.drained-began.ensures.began in
+    let over = rw (is, are) at c.drained-began.ensures.ended in
+    let grown = (c.nodes_grow.ensures.1 nodes was.are_nodes).released (now_of before) c.args.node in
     let low : 0 ≤ 65535 = omega arith in
-    let objections = objecting-changed c.drained-began.new.self others stay same m.objections is 0 low grown in
     let unended = drain-unended before c.args.node origin c.order_keeps_all.ensures (c.drains_go_in_order.ensures script before c.args.node origin coming.next) in
     let dues = rw (← coming.place_is) at (due.dues (filter (is_open (heard_of before) (ended_of before) (finished_of before)) (caused_of before)) m.agenda.are) in
-    let begun_held : All (IsHeldUntilDue others) (option_to_list c.drained-began.result) = rw (← begun) (c.begun_drains_are_held.ensures nodes others grown.nodes) in
-    let drains = moved (now_of before) nodes changed others (Some origin.phase) c.drained-began.result (Some c.args.node) (caused_of before) (heard_of before) (ended_of before) (finished_of before) (length before) _ _
-    c.settled_go_by_totals.ensures stay m.objections.are_nodes same refl (due-released c.args.node nodes) begun over begun_held unended m.agenda m.events dues in
+    let drains = settling (Drained c.args.node origin) phase (Some phase) changed c.drained-began.result (Some c.args.node) c.drained-began.new.self _ 0
+    c.settled_go_by_totals.ensures stay c.begun_drains_are_held.ensures m refl held.task (drain-changes before c.args.node origin) same is c.drained-began.ensures.others low grown
+    (due-released c.args.node nodes) begun over unended dues in
     let agenda = drains.agenda in
     let events = drains.events in
+    let objections = drains.objecting in
     rw due.rest (search (rules, later))

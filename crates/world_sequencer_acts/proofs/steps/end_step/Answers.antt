@@ -48,7 +48,7 @@ returns-in_ok-tell-in-Some-step c =
             let left = s.left in
             let next : next_step history speaker ≡ Some step = sym (next-known m speaker id is) ∙ steps in
             let dues = rw (m.answer.phase, m.time, ← s.place_is, c.step_call.ensures) at (told.dues (filter (is_open (heard_of history) (ended_of history) (finished_of history)) (caused_of history)) m.agenda.are) in
-            let events : AreEvents (objections_of history) (due_events (Did speaker Done EndStep ∷ history)) = rw next (events-told (objections_of history) (is_open (heard_of history) (ended_of history) (finished_of history)) (act_phase history) (now_of history) (caused_at (length history)) speaker (step_call step) (caused_of history) m.events) in
+            let events : AreEvents (λ phase. objections_of phase history) (due_events (Did speaker Done EndStep ∷ history)) = rw next (events-told (λ phase. objections_of phase history) (is_open (heard_of history) (ended_of history) (finished_of history)) (act_phase history) (now_of history) (caused_at (length history)) speaker (step_call step) (caused_of history) m.events) in
             let agenda : IsAgenda (caused_of (Did speaker Done EndStep ∷ history)) (heard_of history) (ended_of history) (finished_of history) (suc (length history)) c.tell.new.services.agenda.dues = rw next (agenda-event (Object speaker) (Some (step_call step)) (now_of history) (act_phase history) (caused_of history) (heard_of history) (ended_of history) (finished_of history) (length history) _ _ s.in_phase.unended (scene-open s (λ opens. cc)) m.agenda dues) in
             let sequencing = sequencing-step m.sequencing c.steps_change_alone.ensures speaker id step is steps in
             search (rules, acted);

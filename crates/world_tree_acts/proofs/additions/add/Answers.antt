@@ -1,8 +1,10 @@
-use Rattle.std.proofs.Common.{◌≡◌, ◌<◌, [], ◌∷◌, ◌++◌, length, arith, Some, None, sym, ◌∙◌, refl, rules}
+use Rattle.std.proofs.Common.{◌≡◌, ◌<◌, [], List, ◌∷◌, ◌++◌, length, arith, Some, None, sym, ◌∙◌, refl, rules}
 use Rattle.uvm_tree.specs.Nodes.{child}
 use Rattle.uvm_object.specs.Acts.{node_of}
 use Rattle.uvm_object.specs.declared.acts.Act.TheVariants.{Add}
+use Rattle.uvm_phase.specs.declared.phases.Phase.{Phase}
 use Rattle.uvm_objection.specs.Nodes.{new_node}
+use Rattle.uvm_objection.specs.Nodes as objection
 use Rattle.bench_history.specs.History.{nodes_of, kind_of, is_built, speaker_of}
 use Rattle.bench_history.specs.Dues.{due_events}
 use Rattle.bench_history.specs.Objections.{objections_of}
@@ -10,7 +12,7 @@ use Rattle.world_agenda.proofs.Drained.{events-all, held-more}
 use Rattle.bench_history.specs.Refusals.{addition_refusal}
 use Rattle.world_services.proofs.Answered.{length-snoc}
 use Rattle.world_services.proofs.Waiting.{turns-more}
-use Rattle.world_agenda.proofs.Objected.{objecting-more}
+use Rattle.world_services.proofs.Settling.{objectings-more}
 use Rattle.world_wiring.proofs.Connected.{connecting-more, closing-next}
 use Rattle.world_wiring.specs.Connectings.{IsClosedPast, IsClosing}
 use Rattle.std.specs.List.{list_any}
@@ -47,14 +49,15 @@ returns c = λ place. rw (c.done.ensures.attempt, c.done.ensures.services) (reco
         let longer = length-snoc (nodes_of history) added in
         let speaks : node_of (speaker_of history) < length (nodes_of history ++ added ∷ []) = omega (arith, m.speaks, longer) in
         let below : speaker < length (nodes_of history) = rw m.answer.speaker m.speaks in
-        let is : c.add.new.self.nodes ≡ objections_of history ++ new_node (length (nodes_of history)) speaker ∷ [] = rw (c.node-parent.ensures, c.in_ok-node.ensures.id, m.tree, m.objections.are) at c.in_ok-add.ensures.ok in
-        let events = events-all (objections_of history) (objections_of history ++ new_node (length (objections_of history)) speaker ∷ []) (due_events history) (λ node at. held-more (length (objections_of history)) speaker node at (objections_of history)) m.events in
+        let is = λ (phase : Phase). rw (c.node-parent.ensures, c.in_ok-node.ensures.id, m.tree) at (c.in_ok-add.ensures.ok phase) in
+        let grown : Phase → List objection.Node = λ phase. objections_of phase history ++ new_node (length (objections_of phase history)) speaker ∷ [] in
+        let events = events-all (λ phase. objections_of phase history) grown (due_events history) (λ phase node at. held-more (length (objections_of phase history)) speaker node at (objections_of phase history)) m.events in
         let open_ = c.requires.building c.in_default.ensures.building in
         let some : 0 < length (nodes_of history) = omega (arith, m.speaks) in
         let wired = rw (c.in_ok-node.ensures.id, m.tree) at c.in_ok-add_end.ensures in
         let connecting = connecting-more c.add_end.new.wiring added (end_of c.args.what) open_ some m.connecting wired in
         let closing : IsClosing script (Did c.args.services.now.answer.speaker Done (Add c.args.name c.args.what) ∷ history) (is_closed c.add_end.new.wiring) = rw wired (closing-next left m.closing) in
-        let objections = objecting-more c.add.new.self speaker c.nodes_grow.ensures below m.objections longer is in
+        let objections = objectings-more c.add.new.self speaker c.nodes_grow.ensures below m.objections longer is in
         let closed_past : IsClosedPast (list_any ends_connect history) (is_closed c.add_end.new.wiring) = rw wired m.closed_past in
         let unused : fifo_size (wiring_of history) (length (nodes_of history)) ≡ None = rw (← m.tree, ← m.connecting.ends, c.requires.unused) refl in
         let adds = rw (c.in_ok-node.ensures.id, m.tree) at c.in_ok-add_station.ensures in

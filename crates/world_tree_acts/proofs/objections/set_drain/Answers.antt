@@ -1,16 +1,17 @@
-use Rattle.std.proofs.Common.{◌≡◌, ◌≤◌, nat_lt, true, false, refl, arith, rules}
+use Rattle.std.proofs.Common.{◌≡◌, ◌||◌, nat_lt, Bool, true, false, not, List, refl, arith, rules}
 use Rattle.std.proofs.lemmas.Bool.Decides.{nat_tests}
 use Rattle.uvm_object.specs.declared.acts.Act.TheVariants.{SetDrain}
 use Rattle.uvm_object.specs.declared.fatals.Fatal.TheVariants.{OutOfRange}
+use Rattle.uvm_phase.specs.declared.phases.Phase.{Phase}
 use Rattle.uvm_object.specs.Acts.{node_of}
-use Rattle.uvm_objection.specs.Nodes.{with_drain}
+use Rattle.uvm_objection.specs.Nodes.{Node}
 use Rattle.bench_history.specs.Dues.{due_events}
+use Rattle.bench_history.specs.History.{act_phase}
+use Rattle.bench_history.specs.Objections.{is_of_phase, objections_of}
 use Rattle.bench_history.specs.Limits.{most_ticks}
-use Rattle.bench_history.specs.Objections.{objections_of}
-use Rattle.bench_history.specs.Refusals.{drain_refusal}
+use Rattle.bench_history.specs.Refusals.{drain_refusal, in_task}
 use Rattle.world_services.proofs.Later.{acted, refused-attempt}
-use Rattle.world_agenda.proofs.Drained.{events-all, held-with-drain}
-use Rattle.world_agenda.proofs.Objected.{objecting-changed}
+use Rattle.world_tree_acts.proofs.Raising.{drained-events, drained-objections}
 use Rattle.world_tree_acts.proofs.objections.set_drain.Goals as goal
 
 pub returns-then-ticks-gt-MAX_TICKS : goal.returns-then-ticks-gt-MAX_TICKS
@@ -30,15 +31,12 @@ returns c = λ place. rw (c.done.ensures.attempt, c.done.ensures.services) (reco
     with_entry = λ script history s.
         let m = s.known in
         let left = s.left in
-        let nodes = objections_of history in
         let speaker = node_of c.args.services.now.answer.speaker in
-        let others = with_drain speaker c.args.ticks nodes in
-        let stay = c.places_stay.ensures in
-        let is : c.set_drain.new.self.nodes ≡ others = rw (c.node-node.ensures, m.objections.are) at c.set_drain.ensures.nodes in
-        let grown = (c.nodes_grow.ensures.1 nodes m.objections.are_nodes).with_drain speaker c.args.ticks in
-        let low : 0 ≤ 65535 = omega arith in
-        let objections = objecting-changed c.set_drain.new.self others stay (stay.with_drain speaker c.args.ticks nodes) m.objections is 0 low grown in
-        let events = events-all nodes others (due_events history) (λ node at. held-with-drain speaker c.args.ticks node at nodes) m.events in
+        let nodes : Phase → List Node = λ phase. objections_of phase history in
+        let is_set : Phase → Bool = λ phase. is_of_phase phase (act_phase history) || not (in_task (act_phase history)) in
+        let is = rw (c.node-node.ensures, m.answer.phase) at c.set_drain_in.ensures in
+        let objections = drained-objections speaker c.args.ticks nodes is_set c.set_drain_in.new.objections c.places_stay.ensures c.nodes_grow.ensures m.objections is in
+        let events = drained-events speaker c.args.ticks nodes is_set (due_events history) m.events in
         search (rules, acted);
   };
 })

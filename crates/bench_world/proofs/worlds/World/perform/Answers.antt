@@ -5,6 +5,7 @@ use Rattle.bench_world.proofs.Going.{act-next, goes-still, performed}
 use Rattle.world_services.proofs.Answered.{answer-open}
 use Rattle.world_services.proofs.Known.{known-there}
 use Rattle.world_services.proofs.Later.{scene-of}
+use Rattle.world_services.proofs.Settling.{each-few, each-numbered}
 use Rattle.bench_world.proofs.Waits.{acted-enters, acted-needs, waits}
 use Rattle.world_wiring.proofs.Connected.{building-open, connectable-open, unused}
 use Rattle.bench_world.proofs.worlds.World.perform.Goals as goal
@@ -25,9 +26,9 @@ carry_out-requires-clause-can c =
     m.closed_past.is (c.tasks_follow_connect.ensures c.self.inside.script before each (goes-still before phases.runs acts) acts) in
     record {
       speaks = rw (m.tree, m.answer.speaker) m.speaks;
-      numbered = rw (m.objections.are, m.tree) m.objections.numbered;
+      numbered = rw m.tree (each-numbered m.objections);
       report = search rules;
-      few = search rules;
+      few = λ phase. let raised = each-few m.objections phase in search (rules, raised);
       time = m.early;
       building = building;
       connectable = connectable;

@@ -5,6 +5,7 @@ use Rattle.bench_history.specs.Owners.{Event}
 use Rattle.bench_history.specs.Passing.{passing_at}
 use Rattle.world_fifos.specs.Passings.{AreUnsettled}
 use Rattle.world_sequencers.proofs.Arbiting.{arbitrating-first}
+use Rattle.world_objections.specs.Phased.{nodes_in}
 use Rattle.world_agenda.specs.Agendas.{IsAgenda}
 use Rattle.world_agenda.proofs.Objected.{objecting-first}
 use Rattle.world_services.proofs.Passages.{passed-first, stations-first, unsettled-none}
@@ -25,30 +26,30 @@ agenda-first dues none = record {
 pub returns : goal.returns
 returns c = λ script factory settings reporting.
     let unsettled : AreUnsettled (passing_at []) (path_order (nodes_of [])) [] = unsettled-none (path_order (nodes_of [])) (λ n. refl) in
-    let sequencing : IsSequencing [] [] [] [] c.new-8.result [] = sequencing-first c.new-8.ensures.started c.new-8.ensures.steps in
+    let sequencing : IsSequencing [] [] [] [] c.new-7.result [] = sequencing-first c.new-7.ensures.started c.new-7.ensures.steps in
     record {
       stage = refl;
       time = refl;
       early = omega arith;
       tree = search rules;
       past_connect = refl;
-      connecting = rw c.new-3.ensures (search rules);
-      closing = rw c.new-3.ensures (search rules);
+      connecting = rw c.new-2.ensures (search rules);
+      closing = rw c.new-2.ensures (search rules);
       closed_past = record { is = λ e. cc };
-      stations = stations-first c.new-4.ensures.empty;
+      stations = stations-first c.new-3.ensures.empty;
       passed = passed-first;
       unsettled = search (rules, unsettled);
-      arbitrating = arbitrating-first (nodes_of []) c.new-6.ensures.empty c.new-7.ensures.nodes;
+      arbitrating = arbitrating-first (nodes_of []) c.new-5.ensures.empty c.new-6.ensures.nodes;
       sequencing = search (rules, sequencing);
-      objections = objecting-first c.new-2.result c.nodes_grow.ensures.0 c.new-2.ensures;
+      objections = record { each = λ phase task. objecting-first (nodes_in c.args.objections phase) c.nodes_grow.ensures.0 (c.requires phase) };
       factory = factory;
-      turns = turns-none c.new-11.ensures.last c.new-11.ensures.late;
+      turns = turns-none c.new-10.ensures.last c.new-10.ensures.late;
       answer = search rules;
       speaks = omega arith;
       built = refl;
       reporting = reporting;
       settings = settings;
-      agenda = agenda-first c.new-10.result.dues c.new-10.ensures;
+      agenda = agenda-first c.new-9.result.dues c.new-9.ensures;
       events = search rules;
       test_refused = refl;
     }

@@ -1,0 +1,6 @@
+use Rattle.world_objections.specs.Phased.{HaveRoom}
+use Rattle.world_objections.proofs.objections.Objections.reserve.Given as goal
+
+-- each before this place has room
+abbrev pub invariant-loop-place : goal.invariant-loop-place
+invariant-loop-place l = HaveRoom l.place l.initial.self l.self

@@ -1,0 +1,44 @@
+-- The objections of the phases that take time, one for each.
+use Rattle.std.specs.Prelude.{◌≡◌, ◌-◌, ◌==◌, ◌<◌, ◌≤◌, ℕ, false, List, [], slice_get}
+use Rattle.std.specs.Option.{option_map_or}
+use Rattle.uvm_phase.specs.declared.phases.Phase.{Phase}
+use Rattle.uvm_phase.specs.Phases.{phase_number}
+use Rattle.uvm_objection.specs.Nodes.{ObjectionValue}
+use Rattle.uvm_objection.specs.Nodes as objection
+
+-- the nodes of the one at a place, and for how many more there is room
+abbrev pub nodes_at : List ObjectionValue → ℕ → List objection.Node
+nodes_at objections place = option_map_or (λ one. one.nodes) (slice_get objections place) []
+
+abbrev pub spare_at : List ObjectionValue → ℕ → ℕ
+spare_at objections place = option_map_or (λ one. one.spare) (slice_get objections place) 0
+
+-- where that of a phase stands: run's first, and those of the run-time phases behind it, in their order
+abbrev pub place_in : Phase → ℕ
+place_in phase = phase_number phase - 8
+
+-- its nodes, and for how many more there is room
+abbrev pub nodes_in : List ObjectionValue → Phase → List objection.Node
+nodes_in objections phase = nodes_at objections (place_in phase)
+
+abbrev pub spare_in : List ObjectionValue → Phase → ℕ
+spare_in objections phase = spare_at objections (place_in phase)
+
+-- the objection of one phase changes, and no other
+abbrev pub OthersStay : Phase → List ObjectionValue → List ObjectionValue → Type 0
+OthersStay phase old new = (other : Phase) → (place_in phase == place_in other) ≡ false → nodes_in new other ≡ nodes_in old other
+
+-- the one at a place changes, and no other
+abbrev pub OthersStayAt : ℕ → List ObjectionValue → List ObjectionValue → Type 0
+OthersStayAt place old new = (other : ℕ) → (place == other) ≡ false → slice_get new other ≡ slice_get old other
+
+-- each before a place has changed, and from there on each is as it was
+pub record HaveChanged (change : List objection.Node → List objection.Node) (place : ℕ) (old new : List ObjectionValue) : Type 0 where
+  pub done : (other : ℕ) → other < place → nodes_at new other ≡ change (nodes_at old other)
+  pub rest : (other : ℕ) → place ≤ other → slice_get new other ≡ slice_get old other
+
+-- each before a place has room, no room was given up, and nothing else has changed
+pub record HaveRoom (place : ℕ) (old new : List ObjectionValue) : Type 0 where
+  pub nodes : (other : ℕ) → nodes_at new other ≡ nodes_at old other
+  pub spare : (other : ℕ) → other < place → 0 < spare_at new other
+  pub kept : (other : ℕ) → spare_at old other ≤ spare_at new other

@@ -1,0 +1,68 @@
+-- What a raise, a drop and a drain time make of the objections.
+use Rattle.std.proofs.Common.{◌≡◌, ◌≤◌, ℕ, suc, Bool, true, false, not, List, ◌∷◌, Option, Some, refl, ap, ◌∙◌, arith, if◌then◌else◌}
+use Rattle.uvm_phase.specs.declared.phases.Phase.{Phase}
+use Rattle.uvm_phase.specs.Phases.{is_task, same_phase}
+use Rattle.uvm_objection.specs.Nodes.{Node, ObjectionValue, dropped, raised, with_drain}
+use Rattle.uvm_objection.specs.Laws.{IsHeldUntilDue, NodesGrow, PlacesStay}
+use Rattle.uvm_objection.specs.Totals.{settled, total}
+use Rattle.uvm_object.specs.Acts.{node_of}
+use Rattle.uvm_object.specs.declared.acts.Who.{Who}
+use Rattle.uvm_object.specs.declared.acts.Act.{Act}
+use Rattle.uvm_object.specs.declared.acts.Act.TheVariants.{DropObjection, RaiseObjection}
+use Rattle.uvm_object.specs.declared.entries.Entry.{Entry}
+use Rattle.uvm_object.specs.declared.entries.Entry.TheVariants.{Did}
+use Rattle.uvm_object.specs.declared.entries.Outcome.TheVariants.{Done}
+use Rattle.bench_history.specs.History.{act_phase, now_of}
+use Rattle.bench_history.specs.Objections.{is_of_phase, objections_after, objections_of}
+use Rattle.bench_history.specs.Owners.{Event}
+use Rattle.bench_history.specs.Refusals.{in_task}
+use Rattle.world_objections.specs.Phased.{nodes_in}
+use Rattle.world_agenda.specs.Objectings.{AreEvents, IsObjecting}
+use Rattle.world_agenda.proofs.Drained.{events-all, held-with-drain}
+use Rattle.world_agenda.proofs.Objected.{objecting-changed, objecting-later, objecting-same}
+use Rattle.world_services.specs.Services.{AreObjecting}
+use Rattle.world_services.proofs.Settling.{ChangesOne, itself}
+
+-- where the act is of a phase
+module _ (history : List Entry) (phase : Phase) (performer : Who) (acts : act_phase history ≡ Some phase) where
+  after : (other : Phase) (act : Act) → objections_of other (Did performer Done act ∷ history) ≡ objections_after (now_of history) (same_phase phase other) (not (is_task phase)) (objections_of other history) performer Done act
+  after other act = ap (λ (acting : Option Phase). objections_after (now_of history) (is_of_phase other acting) (not (in_task acting)) (objections_of other history) performer Done act) acts
+
+  pub raise-changes : (count : ℕ) → ChangesOne history (Did performer Done (RaiseObjection count)) phase (settled (now_of history) (total (objections_of phase history)) (raised (node_of performer) count (objections_of phase history)))
+  raise-changes count = record {
+    one = rw (after phase (RaiseObjection count), itself phase) refl;
+    rest = λ other apart. rw (after other (RaiseObjection count), apart) refl;
+  }
+
+  pub drop-changes : (count : ℕ) → ChangesOne history (Did performer Done (DropObjection count)) phase (settled (now_of history) (total (objections_of phase history)) (dropped (node_of performer) count (objections_of phase history)))
+  drop-changes count = record {
+    one = rw (after phase (DropObjection count), itself phase) refl;
+    rest = λ other apart. rw (after other (DropObjection count), apart) refl;
+  }
+
+-- a drain time is set in the objection of some phases
+module _ (node ticks : ℕ) (nodes : Phase → List Node) (is_set : Phase → Bool) where
+  drained : Phase → List Node
+  drained phase = if is_set phase then with_drain node ticks (nodes phase) else nodes phase
+
+  pub drained-events : (events : List Event) → AreEvents nodes events → AreEvents (λ phase. if is_set phase then with_drain node ticks (nodes phase) else nodes phase) events
+  unfolding drained
+  drained-events events all = events-all nodes drained events (λ phase k at. tested phase k at (is_set phase)) all
+    where
+      tested : (phase : Phase) (k at : ℕ) (t : Bool) → IsHeldUntilDue (nodes phase) (record { node = k; at = at }) → IsHeldUntilDue (if t then with_drain node ticks (nodes phase) else nodes phase) (record { node = k; at = at })
+      tested phase k at true held = held-with-drain node ticks k at (nodes phase) held
+      tested phase k at false held = held
+
+  pub drained-objections :
+      {count entries : ℕ} {old : List ObjectionValue} (new : List ObjectionValue) → PlacesStay → NodesGrow → AreObjecting nodes count entries old
+      → ((phase : Phase) → is_task phase ≡ true → nodes_in new phase ≡ (if is_set phase then with_drain node ticks (nodes_in old phase) else nodes_in old phase))
+      → AreObjecting (λ phase. if is_set phase then with_drain node ticks (nodes phase) else nodes phase) count (suc entries) new
+  drained-objections {count} {entries} {old} new stay grow o is = record { each = λ phase task. tested phase (is_set phase) (o.each phase task) (is phase task) }
+    where
+      tested :
+          (phase : Phase) (t : Bool) → IsObjecting (nodes phase) count entries (nodes_in old phase) → nodes_in new phase ≡ (if t then with_drain node ticks (nodes_in old phase) else nodes_in old phase)
+          → IsObjecting (if t then with_drain node ticks (nodes phase) else nodes phase) count (suc entries) (nodes_in new phase)
+      tested phase true was is =
+          let low : 0 ≤ 65535 = omega arith in
+          objecting-changed (nodes_in new phase) (with_drain node ticks (nodes phase)) stay (stay.with_drain node ticks (nodes phase)) was (is ∙ ap (λ (ns : List Node). with_drain node ticks ns) was.are) 0 low ((grow.1 (nodes phase) was.are_nodes).with_drain node ticks)
+      tested phase false was is = objecting-later (objecting-same (nodes_in new phase) is was)

@@ -1,0 +1,78 @@
+use Rattle.std.proofs.Common.{◌≡◌, ◌≤◌, nat_lt, true, false, List, Some, None, refl, sym, subst, ◌∙◌, arith, rules, filter}
+use Rattle.std.specs.Result.{OnOk}
+use Rattle.std.proofs.lemmas.Bool.Decides.{nat_tests}
+use Rattle.uvm_object.specs.declared.acts.Act.TheVariants.{DropObjection}
+use Rattle.uvm_object.specs.declared.entries.Entry.TheVariants.{Did}
+use Rattle.uvm_object.specs.declared.entries.Outcome.TheVariants.{Done}
+use Rattle.uvm_object.specs.declared.fatals.Fatal.TheVariants.{ObjectionBelowZero}
+use Rattle.uvm_object.specs.Acts.{node_of}
+use Rattle.uvm_objection.specs.Nodes.{ObjectionValue, dropped, source_of}
+use Rattle.uvm_objection.specs.Totals.{total, settled}
+use Rattle.bench_history.specs.Sequences.{finished_of}
+use Rattle.bench_history.specs.Dues.{caused_of, heard_of, is_open}
+use Rattle.bench_history.specs.History.{act_phase, now_of, ended_of}
+use Rattle.bench_history.specs.Objections.{objections_of}
+use Rattle.bench_history.specs.Refusals.{drop_refusal}
+use Rattle.world_objections.specs.Phased.{nodes_in}
+use Rattle.world_agenda.proofs.Drained.{due-dropped}
+use Rattle.world_services.specs.Attempts.{IsRefusing}
+use Rattle.world_services.proofs.Later.{acted, refused-here}
+use Rattle.world_services.proofs.Settling.{settling}
+use Rattle.world_tree_acts.proofs.Raising.{drop-changes}
+use Rattle.world_tree_acts.proofs.objections.drop_in.Goals as goal
+
+pub returns-in-Err : goal.returns-in-Err
+unfolding drop_refusal
+returns-in-Err c =
+    let Refusing : List ObjectionValue → Type 0 = λ o. OnOk c.refused.result (IsRefusing ObjectionBelowZero (record c.args.services.now { objections = o }) c.refused.new.services) in
+    refused-here _ _ _ (DropObjection c.args.count) ObjectionBelowZero c.args.place c.refused.ensures.attempt (subst Refusing c.in-Err.ensures.unchanged c.refused.ensures.services) (λ script history m.
+    let phase = c.args.phase in
+    let acts : act_phase history ≡ Some phase = sym m.answer.phase ∙ c.requires.phase in
+    let speaker = node_of c.args.services.now.answer.speaker in
+    let source = source_of speaker (objections_of phase history) in
+    let below = rw (c.node-node.ensures, (m.objections.each phase c.requires.task).are) at c.in-Err.ensures.err in
+    let test : nat_lt source c.args.count ≡ true = grind (arith, nat_tests, below) in
+    rw (acts, c.requires.task, test) refl)
+
+pub returns-in_ok-move_drains-in-Ok : goal.returns-in_ok-move_drains-in-Ok
+unfolding drop_refusal
+returns-in_ok-move_drains-in-Ok c =
+    let due = c.in_ok-move_drains-in-Ok.ensures in
+    let phase = c.args.phase in
+    let speaker = node_of c.args.services.now.answer.speaker in
+    rw (c.done.ensures.attempt, c.done.ensures.services, due.rest) (record {
+      comes = λ script history s.
+          let m = s.known in
+          let acts : act_phase history ≡ Some phase = sym m.answer.phase ∙ c.requires.phase in
+          let source = source_of speaker (objections_of phase history) in
+          let enough = rw (c.node-node.ensures, (m.objections.each phase c.requires.task).are) at c.in-Ok.ensures.ok in
+          let test : nat_lt source c.args.count ≡ false = grind (arith, nat_tests, enough) in
+          rw (acts, c.requires.task, test) refl;
+      kept = record {
+        same_answer = refl;
+        with_entry = λ script history s.
+            let m = s.known in
+            let left = s.left in
+            let acts : act_phase history ≡ Some phase = sym m.answer.phase ∙ c.requires.phase in
+            let nodes = objections_of phase history in
+            let changed = dropped speaker c.args.count nodes in
+            let others = settled (now_of history) (total nodes) changed in
+            let stay = c.places_stay.ensures in
+            let same = stay.settled (now_of history) (total nodes) changed ∙ stay.dropped speaker c.args.count nodes in
+            let are = (m.objections.each phase c.requires.task).are in
+            let is : nodes_in c.drop.new.self phase ≡ others = rw (c.node-node.ensures, are, m.time) at c.in-Ok.ensures.nodes in
+            let begun = rw (is, are) at c.in-Ok.ensures.began in
+            let over = rw (is, are) at c.in-Ok.ensures.ended in
+            let grown = (c.nodes_grow.ensures.1 nodes (m.objections.each phase c.requires.task).are_nodes).dropped (now_of history) speaker c.args.count in
+            let low : 0 ≤ 65535 = omega arith in
+            let dues = rw (← s.place_is) at (due.dues (filter (is_open (heard_of history) (ended_of history) (finished_of history)) (caused_of history)) m.agenda.are) in
+            let unended = rw acts at s.in_phase.unended in
+            let drains = settling (Did c.args.services.now.answer.speaker Done (DropObjection c.args.count)) phase (act_phase history) changed c.in-Ok.began None c.drop.new.self _ 0
+            c.settled_go_by_totals.ensures stay c.begun_drains_are_held.ensures m acts c.requires.task (drop-changes history phase c.args.services.now.answer.speaker acts c.args.count) same is c.drop.ensures.others low grown
+            (λ k still. due-dropped speaker c.args.count nodes k) begun over unended dues in
+            let agenda = drains.agenda in
+            let events = drains.events in
+            let objections = drains.objecting in
+            search (rules, acted);
+      };
+    })

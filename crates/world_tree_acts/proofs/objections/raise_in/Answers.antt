@@ -1,0 +1,57 @@
+use Rattle.std.proofs.Common.{◌≡◌, ◌≤◌, true, Some, None, refl, sym, ◌∙◌, arith, rules, filter}
+use Rattle.uvm_object.specs.declared.acts.Act.TheVariants.{RaiseObjection}
+use Rattle.uvm_object.specs.declared.entries.Entry.TheVariants.{Did}
+use Rattle.uvm_object.specs.declared.entries.Outcome.TheVariants.{Done}
+use Rattle.uvm_object.specs.Acts.{node_of}
+use Rattle.uvm_objection.specs.Nodes.{raised}
+use Rattle.uvm_objection.specs.Totals.{total, settled}
+use Rattle.bench_history.specs.Sequences.{finished_of}
+use Rattle.bench_history.specs.Dues.{caused_of, heard_of, is_open}
+use Rattle.bench_history.specs.History.{act_phase, now_of, ended_of}
+use Rattle.bench_history.specs.Objections.{objections_of}
+use Rattle.bench_history.specs.Refusals.{in_task, raise_refusal}
+use Rattle.world_objections.specs.Phased.{nodes_in}
+use Rattle.world_agenda.proofs.Drained.{due-raised}
+use Rattle.world_services.proofs.Later.{acted}
+use Rattle.world_services.proofs.Settling.{settling}
+use Rattle.world_tree_acts.proofs.Raising.{raise-changes}
+use Rattle.world_tree_acts.proofs.objections.raise_in.Goals as goal
+
+pub returns : goal.returns
+unfolding raise_refusal
+returns c =
+    let due = c.in_ok-move_drains.ensures in
+    let phase = c.args.phase in
+    let speaker = node_of c.args.services.now.answer.speaker in
+    rw (c.done.ensures.attempt, c.done.ensures.services, due.rest) (record {
+      comes = λ script history s.
+          let within : in_task (act_phase history) ≡ true = rw (← s.known.answer.phase, c.requires.phase) c.requires.task in
+          rw within refl;
+      kept = record {
+        same_answer = refl;
+        with_entry = λ script history s.
+            let m = s.known in
+            let left = s.left in
+            let acts : act_phase history ≡ Some phase = sym m.answer.phase ∙ c.requires.phase in
+            let nodes = objections_of phase history in
+            let changed = raised speaker c.args.count nodes in
+            let others = settled (now_of history) (total nodes) changed in
+            let stay = c.places_stay.ensures in
+            let same = stay.settled (now_of history) (total nodes) changed ∙ stay.raised speaker c.args.count nodes in
+            let are = (m.objections.each phase c.requires.task).are in
+            let is : nodes_in c.raise-ended.new.self phase ≡ others = rw (c.node-node.ensures, are) at (c.raise-ended.ensures.nodes (now_of history)) in
+            let begun = rw (is, are) at c.raise-ended.ensures.began in
+            let over = rw (is, are) at c.raise-ended.ensures.ended in
+            let grown = (c.nodes_grow.ensures.1 nodes (m.objections.each phase c.requires.task).are_nodes).raised (now_of history) speaker c.args.count in
+            let low : c.args.count ≤ 65535 = omega arith in
+            let dues = due.dues (filter (is_open (heard_of history) (ended_of history) (finished_of history)) (caused_of history)) m.agenda.are in
+            let unended = rw acts at s.in_phase.unended in
+            let drains = settling (Did c.args.services.now.answer.speaker Done (RaiseObjection c.args.count)) phase (act_phase history) changed None c.raise-ended.result c.raise-ended.new.self _ c.args.count
+            c.settled_go_by_totals.ensures stay c.begun_drains_are_held.ensures m acts c.requires.task (raise-changes history phase c.args.services.now.answer.speaker acts c.args.count) same is c.raise-ended.ensures.others low grown
+            (λ k still. due-raised speaker c.args.count nodes k) begun over unended dues in
+            let agenda = drains.agenda in
+            let events = drains.events in
+            let objections = drains.objecting in
+            search (rules, acted);
+      };
+    })

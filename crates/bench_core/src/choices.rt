@@ -11,6 +11,7 @@ ghost use Rattle.bench_history.specs.Next.{first_next, next_of};
 ghost use Rattle.bench_core.specs.Choices.{IsChoice, entry_of};
 
 use bench_history::{Owner, Stage};
+use bench_views::{lent, told, upcoming};
 use bench_world::World;
 use std::alloc::AllocError;
 use uvm_object::{Call, Fatal, Origin, Passage, Reason, Who};
@@ -61,36 +62,36 @@ pub(crate) fn choose(world: &mut World) -> Result<Choice, AllocError>
     ensures choice { IfOk result (IsChoice (next_of world.old.script world.old.history)) }
     ensures unchanged { world.new ≡ world.old }
 {
-    let stage = world.stage();
+    let stage = told::stage(world);
     if let Stage::Ended = stage {
         return Ok(Choice::Nothing);
     }
-    if let Some(reason) = world.reason() {
+    if let Some(reason) = told::reason(world) {
         return Ok(Choice::Enter(Mark::Over(reason)));
     }
-    if let Some((sequencer, id)) = world.next_locked() {
+    if let Some((sequencer, id)) = upcoming::next_locked(world) {
         return Ok(Choice::Enter(Mark::Locked(sequencer, id)));
     }
-    if let Some((sequencer, drawn)) = world.next_served() {
+    if let Some((sequencer, drawn)) = upcoming::next_served(world) {
         return Ok(Choice::Grant(sequencer, drawn));
     }
-    if let Some((fifo, passage)) = world.next_passed() {
+    if let Some((fifo, passage)) = upcoming::next_passed(world) {
         return Ok(Choice::Pass(fifo, passage));
     }
-    match world.acts_left() {
+    match told::acts_left(world) {
         0 => {}
         count if count > World::MAX_ACTS => {
-            let node = world.speaker().node();
+            let node = told::speaker(world).node();
             return Ok(Choice::Enter(Mark::Note(Fatal::TooManyActs, node)));
         }
         _ => return Ok(Choice::Act),
     }
-    if let Some(due) = world.due_now() {
+    if let Some(due) = upcoming::due_now(world) {
         return Ok(happening(due));
     }
     Ok(match stage {
         Stage::Before => Choice::Enter(Mark::Begin(Phase::Build)),
-        Stage::During(phase) => match world.next_call(phase) {
+        Stage::During(phase) => match upcoming::next_call(world, phase) {
             Some(node) => Choice::Ask(Who::Node(node), Call::Phase(phase), None),
             None => Choice::Enter(done(world, phase)?),
         },
@@ -137,7 +138,7 @@ fn ending(world: &World, phase: Phase) -> Mark
     requires { world.now.sound ≡ true }
     ensures { entry_of result ≡ (if is_task phase && stands (objections_of phase world.now.history) then time_passes world.now.script.time_limit (first_due world.now.history) else End phase) }
 {
-    if world.objection_stands(phase) {
+    if told::objection_stands(world, phase) {
         time_passes(world)
     } else {
         Mark::End(phase)
@@ -150,7 +151,7 @@ fn time_passes(world: &World) -> Mark
     ensures { entry_of result ≡ time_passes world.now.script.time_limit (first_due world.now.history) }
 {
     let limit = world.script().time_limit();
-    match world.agenda().first() {
+    match lent::agenda(world).first() {
         None => Mark::Note(Fatal::Stall, NodeId::TOP),
         Some(due) if due.time > limit => Mark::Note(Fatal::Timeout, NodeId::TOP),
         Some(due) => Mark::Time(due.time),

@@ -28,6 +28,7 @@ use crate::choices::{Choice, Mark, choose};
 use crate::faults::CoreFault;
 use bench_history::{Need, laws};
 use bench_script::Script;
+use bench_views::{lent, report_lines, told};
 use bench_world::World;
 use rand_core::Rng;
 use std::alloc::{AllocError, Global};
@@ -223,7 +224,7 @@ impl Core {
         if !self.is_sound() {
             return 0;
         }
-        self.world.now()
+        told::now(&self.world)
     }
 
     /// The phase that runs, if one does (Clause 9). None once memory was refused.
@@ -233,7 +234,7 @@ impl Core {
         if !self.is_sound() {
             return None;
         }
-        self.world.phase()
+        told::phase(&self.world)
     }
 
     /// The log. It is legal at every moment.
@@ -258,7 +259,7 @@ impl Core {
         if !self.is_sound() {
             return None;
         }
-        self.world.tree().path(node)
+        lent::tree(&self.world).path(node)
     }
 
     /// The node at a path, the top at its own. None once memory was refused.
@@ -268,7 +269,7 @@ impl Core {
         if !self.is_sound() {
             return None;
         }
-        self.world.tree().find(path)
+        lent::tree(&self.world).find(path)
     }
 
     /// The value that a field has at a path, if it has one (IEEE 1800.2-2020, Annex C). None once memory was refused.
@@ -278,7 +279,7 @@ impl Core {
         if !self.is_sound() {
             return None;
         }
-        self.world.config(path, field)
+        told::config(&self.world, path, field)
     }
 
     /// The count of objections to the end of run that stands at a node and below it, with what is held back below it (10.5). 0 where
@@ -297,7 +298,7 @@ impl Core {
         if !self.is_sound() {
             return 0;
         }
-        self.world.total_in(phase, node)
+        told::total_in(&self.world, phase, node)
     }
 
     /// How many puts, takes and peeks wait at a FIFO (Clause 12), or item requests and locks at a sequencer (Clause 15). 0 at every
@@ -308,7 +309,7 @@ impl Core {
         if !self.is_sound() {
             return 0;
         }
-        self.world.waiting(node)
+        told::waiting(&self.world, node)
     }
 
     /// The report server (Clause 6). None once memory was refused.
@@ -319,7 +320,7 @@ impl Core {
         if !self.is_sound() {
             return None;
         }
-        Some(self.world.reports())
+        Some(lent::reports(&self.world))
     }
 
     /// Appends the text of the newest entry: its line, where `trace` asks for it and there is one, and the line of its report,
@@ -336,7 +337,7 @@ impl Core {
         }
         let before = out.len();
         self.push_last_line(trace, out)?;
-        let pushed = self.world.push_report(out);
+        let pushed = report_lines::push_report(&self.world, out);
         // The line is taken back where that of its report has no memory.
         if pushed.is_err() {
             out.truncate(before);
@@ -354,7 +355,12 @@ impl Core {
     {
         match self.world.log().last() {
             Some(entry) if trace => {
-                line_of(entry, self.world.tree(), self.world.sequences(), text)
+                line_of(
+                    entry,
+                    lent::tree(&self.world),
+                    lent::sequences(&self.world),
+                    text,
+                )
             }
             _ => Ok(()),
         }

@@ -5,6 +5,7 @@ ghost use Rattle.bench_world.specs.Worlds.{IsMaking};
 
 use bench_history::Stage;
 use bench_script::{Script, read};
+use bench_views::{lent, refusals, told, upcoming};
 use bench_world::World;
 use std::alloc::Global;
 use uvm_glob::Name;
@@ -52,14 +53,14 @@ fn is_new(world: &World) -> bool
     world.sound()
         && world.log().is_empty()
         && !world.is_full()
-        && world.stage() == Stage::Before
-        && world.phase().is_none()
-        && world.reason().is_none()
-        && !world.exit_asked()
-        && world.newest_fate().is_none()
-        && world.speaker().node() == NodeId::TOP
-        && world.acts_left() == 1
-        && world.next_call(Phase::Build).is_none()
+        && told::stage(world) == Stage::Before
+        && told::phase(world).is_none()
+        && told::reason(world).is_none()
+        && !told::exit_asked(world)
+        && told::newest_fate(world).is_none()
+        && told::speaker(world).node() == NodeId::TOP
+        && told::acts_left(world) == 1
+        && upcoming::next_call(world, Phase::Build).is_none()
 }
 
 // Whether the factory has the type of the test, and the other services begin with nothing.
@@ -67,7 +68,7 @@ fn lends_services(world: &World) -> bool
     requires { world.now.sound ≡ true }
 {
     match Name::new(b"t") {
-        Ok(test) => world.factory().find(&test).is_some() && begins_with_nothing(world),
+        Ok(test) => lent::factory(world).find(&test).is_some() && begins_with_nothing(world),
         Err(_) => false,
     }
 }
@@ -75,9 +76,9 @@ fn lends_services(world: &World) -> bool
 fn begins_with_nothing(world: &World) -> bool
     requires { world.now.sound ≡ true }
 {
-    !world.settings().is_full()
-        && world.agenda().first().is_none()
-        && world.reports().quit_count() == 0
+    !lent::settings(world).is_full()
+        && lent::agenda(world).first().is_none()
+        && lent::reports(world).quit_count() == 0
 }
 
 // Whether the test is to be created next.
@@ -109,8 +110,8 @@ fn is_refused(world: &World, act: &Act, why: Option<Fatal>) -> bool
     requires sound { world.now.sound ≡ true }
     requires makes { IsMaking act.now }
 {
-    let top = world.speaker();
-    world.refusal(&top, act) == Ok(why)
+    let top = told::speaker(world);
+    refusals::refusal(world, &top, act) == Ok(why)
 }
 
 // The creation of the test, with a type.

@@ -1,9 +1,8 @@
 //! The entries of a log that are no act's: one call for each kind.
 
-ghost use Rattle.std.specs.Prelude.{◌≡◌, ◌∷◌, ◌<◌, true, OnOk, OnErr, None, Some};
+ghost use Rattle.std.specs.Prelude.{◌≡◌, ◌<◌, true, OnOk, OnErr, None, Some};
 ghost use Rattle.uvm_object.specs.declared.entries.Entry.TheVariants.{Begin, End, Time, Heard, Locked, Passed, Drained, Note, Over};
-ghost use Rattle.bench_history.specs.History.{next_call};
-ghost use Rattle.bench_history.specs.Reports.{noted_end, reason_of};
+ghost use Rattle.bench_history.specs.Reports.{noted_end};
 ghost use Rattle.bench_history.specs.Cases.{Exactly, Answer};
 ghost use Rattle.bench_world.specs.Worlds.{IsGranted, MayEnter, MayGrant, world_after, broken};
 
@@ -11,14 +10,13 @@ use crate::worlds::World;
 use bench_history::laws;
 use std::alloc::AllocError;
 use uvm_object::{
-    Acts, Call, Entry, Fatal, Grant, Log, LoggedGrant, LoggedPassage, Origin, Passage, Reason, Who,
+    Acts, Call, Entry, Fatal, Grant, LoggedGrant, LoggedPassage, Origin, Passage, Reason, Who,
 };
 use uvm_phase::Phase;
 use uvm_sequences::SeqId;
-use uvm_tree::{NodeId, laws as trees};
-use world_deeds::logs::{noted_end, push};
+use uvm_tree::NodeId;
+use world_deeds::logs::push;
 use world_entries::{answers, grants, phases};
-use world_services::turns::direction_of;
 
 impl World {
     /// A phase begins (IEEE 1800.2-2020, Clause 9). The world is sound, its log is not full, and this entry is next. The error is
@@ -218,41 +216,5 @@ impl World {
         phases::finish(&mut self.services);
         self.sound = true;
         Ok(())
-    }
-
-    /// Why the run is given up, if it is. For a sound world.
-    pub fn reason(&self) -> Option<Reason>
-        requires { self.now.sound ≡ true }
-        ensures { result ≡ reason_of self.now.script self.now.history }
-    {
-        let noted = match self.log.last() {
-            Some(entry) => noted_end(entry),
-            None => None,
-        };
-        if noted.is_some() {
-            noted
-        } else if self.services.test_refused {
-            Some(Reason::NoTest)
-        } else if self.services.reporting.exit_asked {
-            Some(Reason::Exit)
-        } else {
-            None
-        }
-    }
-
-    /// The node whose turn it is in a phase (Clause 9): of the components that had no call since a phase began, the least in the
-    /// order of the phase. For a sound world.
-    #[tactic(auto, unfolding(bench_history::specs::History::next_call))]
-    pub fn next_call(&self, phase: Phase) -> Option<NodeId>
-        requires { self.now.sound ≡ true }
-        ensures { result ≡ next_call phase self.now.history }
-    {
-        // It is the first of the components that wait, which are all nodes of this kind.
-        laws::components_by_kind();
-        trees::nodes_are_ordered();
-        trees::least_is_least();
-        trees::one_is_least();
-        let services = &self.services;
-        services.turns.first(&services.tree, direction_of(phase))
     }
 }

@@ -4,7 +4,6 @@
 mod deeds;
 mod entries;
 mod making;
-mod report_lines;
 mod unsound_ports;
 mod worlds;
 

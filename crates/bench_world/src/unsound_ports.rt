@@ -1,6 +1,6 @@
 //! The next unsound port that a world reports (IEEE 1800.2-2020, Clause 12).
 
-ghost use Rattle.std.specs.Prelude.{◌≡◌, ℕ, [], true, IfOk};
+ghost use Rattle.std.specs.Prelude.{◌≡◌, true, IfOk};
 ghost use Rattle.bench_history.specs.Laws.{is_at_check};
 ghost use Rattle.bench_history.specs.Wires.{next_unsound};
 

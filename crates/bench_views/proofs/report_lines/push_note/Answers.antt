@@ -1,4 +1,4 @@
-use Rattle.bench_world.proofs.worlds.World.push_note.Goals as goal
+use Rattle.bench_views.proofs.report_lines.push_note.Goals as goal
 
 pub returns-clause-ok : goal.returns-clause-ok
 returns-clause-ok c = rw (c.site.ensures.severity, c.site.ensures.time, c.site.ensures.nodes) at c.push_note.ensures.ok

@@ -1,4 +1,4 @@
-use Rattle.bench_world.proofs.worlds.World.push_deed.Goals as goal
+use Rattle.bench_views.proofs.report_lines.push_deed.Goals as goal
 
 pub returns-clause-ok : goal.returns-clause-ok
 returns-clause-ok c = rw (c.site.ensures.severity, c.site.ensures.time, c.site.ensures.nodes, c.site.ensures.sequences) at c.push_deed.ensures.ok

@@ -8,19 +8,18 @@ use Rattle.bench_history.specs.Upshots.{refusal_in, starting_upshot}
 use Rattle.world_services.specs.Creations.{IsUnmade, starting_in}
 use Rattle.world_sequencer_acts.proofs.Begun.{starting-known}
 use Rattle.world_services.proofs.Creating.{unstarted-why}
-use Rattle.bench_world.proofs.worlds.World.unstarted.Goals as goal
+use Rattle.bench_views.proofs.refusals.unstarted.Goals as goal
 
 pub returns : goal.returns
 returns c =
-    let sound = rw (← c.self.view_is) at c.requires.sound in
-    let m = c.self.invariant.1.services_match sound in
-    let services = c.self.inside.services in
-    let script = c.self.inside.script in
-    let history = c.self.inside.log.entries in
+    let m = c.services-services.ensures in
+    let services = c.services-services.result.now in
+    let script = c.args.world.now.script in
+    let history = c.args.world.now.history in
     let start = c.in-Start in
     let count = length (sequences_of history) in
     let result = c.what_is_started.result in
     let P : Starting → Type 0 = λ starting. IsUnmade (Start start.type_name start.name start.on start.priority) (refusal_in (starting_upshot count starting)) (result_err result) in
-    rw (← c.self.view_is, start.is, c.err.ensures.value)
+    rw (start.is, c.err.ensures.value)
     (subst P (sym (starting-known m c.args.performer.now start.type_name start.name start.on start.priority))
     (unstarted-why script.types (overrides_of script history) m.factory (λ types overrides. starting_in types overrides services c.args.performer.now start.type_name start.name start.on start.priority) count start.type_name start.name start.on start.priority result c.what_is_started.ensures.ok c.what_is_started.ensures.err))

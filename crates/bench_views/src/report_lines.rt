@@ -1,0 +1,100 @@
+//! The line of the report of the newest entry.
+
+ghost use Rattle.std.specs.Prelude.{◌≡◌, ◌≢◌, ◌++◌, [], true, Some, OnOk, OnErr, option_and_then};
+ghost use Rattle.uvm_report.specs.Fates.{displayed_as};
+ghost use Rattle.uvm_report.specs.Lines.{report_line};
+ghost use Rattle.uvm_tree.specs.Nodes.{path_at};
+ghost use Rattle.uvm_object.specs.Acts.{node_of};
+ghost use Rattle.uvm_object.specs.Fatals.{fatal_report};
+ghost use Rattle.uvm_sources.specs.Sources.{shown_path, source_text};
+ghost use Rattle.bench_history.specs.History.{nodes_of, now_of};
+ghost use Rattle.bench_history.specs.Reports.{deed_command, line_under, newest_fate, report_text};
+ghost use Rattle.bench_history.specs.Sequences.{sequences_of};
+
+use crate::lent::{sequences, tree};
+use crate::told::{newest_fate, now};
+use bench_world::World;
+use std::alloc::AllocError;
+use uvm_object::{Act, Entry, Fatal, Outcome, Who};
+use uvm_report::Severity;
+use uvm_tree::NodeId;
+use world_reports::report_lines::ReportSite;
+
+/// Appends the line of the report of the newest entry, with its newline, where it has a report that is displayed (IEEE
+/// 1800.2-2020, Clause 6). Where memory is refused nothing is appended; it is not where there is nothing to be appended. For
+/// a sound world.
+pub fn push_report(world: &World, out: &mut Vec<u8>) -> Result<(), AllocError>
+    requires { world.now.sound ≡ true }
+    ensures ok { OnOk result (out.new.items ≡ out.old.items ++ report_text world.now.script world.now.history) }
+    ensures err { OnErr result (out.new.items ≡ out.old.items) }
+    ensures some { OnErr result (report_text world.now.script world.now.history ≢ []) }
+{
+    let Some(severity) = displayed_severity(world) else {
+        return Ok(());
+    };
+    match world.log().last() {
+        Some(Entry::Did { who, outcome, act }) => {
+            push_deed(world, severity, who, &outcome.get(), act.act(), out)
+        }
+        Some(Entry::Note { fatal, node }) => push_note(world, severity, fatal, *node, out),
+        _ => Ok(()),
+    }
+}
+
+// The severity under which the report of the newest entry is displayed, if it is.
+fn displayed_severity(world: &World) -> Option<Severity>
+    requires { world.now.sound ≡ true }
+    ensures { result ≡ option_and_then displayed_as (newest_fate world.now.script world.now.history) }
+{
+    newest_fate(world)?.displayed_as()
+}
+
+// The line of the report of an act's entry.
+fn push_deed(
+    world: &World,
+    severity: Severity,
+    who: &Who,
+    outcome: &Outcome,
+    act: &Act,
+    out: &mut Vec<u8>,
+) -> Result<(), AllocError>
+    requires { world.now.sound ≡ true }
+    ensures ok { OnOk result (out.new.items ≡ out.old.items ++ line_under (now_of world.now.history) (source_text (nodes_of world.now.history) (sequences_of world.now.history) who.now) (deed_command (path_at (nodes_of world.now.history) (node_of who.now)) outcome.now act.now) (Some severity)) }
+    ensures err { OnErr result (out.new.items ≡ out.old.items) }
+    ensures some { OnErr result (line_under (now_of world.now.history) (source_text (nodes_of world.now.history) (sequences_of world.now.history) who.now) (deed_command (path_at (nodes_of world.now.history) (node_of who.now)) outcome.now act.now) (Some severity) ≢ []) }
+{
+    site(world, severity).push_deed(who, outcome, act, out)
+}
+
+// The line of the report of a note.
+fn push_note(
+    world: &World,
+    severity: Severity,
+    fatal: &Fatal,
+    node: NodeId,
+    out: &mut Vec<u8>,
+) -> Result<(), AllocError>
+    requires { world.now.sound ≡ true }
+    ensures ok { OnOk result (out.new.items ≡ out.old.items ++ report_line severity (now_of world.now.history) (shown_path (path_at (nodes_of world.now.history) node)) (fatal_report fatal.now).id (fatal_report fatal.now).text) }
+    ensures err { OnErr result (out.new.items ≡ out.old.items) }
+    ensures some { OnErr result (report_line severity (now_of world.now.history) (shown_path (path_at (nodes_of world.now.history) node)) (fatal_report fatal.now).id (fatal_report fatal.now).text ≢ []) }
+{
+    site(world, severity).push_note(fatal, node, out)
+}
+
+// What the line of a report shows of the world.
+fn site(world: &World, severity: Severity) -> ReportSite<'_>
+    requires { world.now.sound ≡ true }
+    ensures severity { result.severity ≡ severity }
+    ensures time { result.time ≡ now_of world.now.history }
+    ensures nodes { result.tree.now.nodes ≡ nodes_of world.now.history }
+    ensures sequences { result.sequences.now.started ≡ sequences_of world.now.history }
+{
+    ReportSite {
+        alloc: world.alloc(),
+        severity,
+        time: now(world),
+        tree: tree(world),
+        sequences: sequences(world),
+    }
+}

@@ -1,0 +1,79 @@
+//! What may come to pass next in a world.
+
+ghost use Rattle.std.specs.Prelude.{◌≡◌, true};
+ghost use Rattle.std.specs.Option.{option_copied};
+ghost use Rattle.bench_history.specs.Arbitration.{next_locked, next_served};
+ghost use Rattle.bench_history.specs.Dues.{due_now};
+ghost use Rattle.bench_history.specs.History.{next_call};
+ghost use Rattle.bench_history.specs.Passing.{next_passed};
+
+use crate::told::now;
+use bench_history::{Owner, laws};
+use bench_world::World;
+use uvm_object::{Call, Passage};
+use uvm_phase::{Due, Phase};
+use uvm_sequences::SeqId;
+use uvm_tree::{NodeId, laws as trees};
+use world_fifos::stations::first_passing;
+use world_sequencers::arbiters::{first_locked, first_served};
+use world_services::turns::direction_of;
+
+/// The event that is due at the present time, of several the first: somebody is to hear a call, or a drain ends. For a sound
+/// world.
+#[tactic(auto, unfolding(bench_history::specs::Dues::due_now))]
+pub fn due_now(world: &World) -> Option<&Due<Owner, Option<Call>>>
+    requires { world.now.sound ≡ true }
+    ensures { option_copied result ≡ due_now world.now.history }
+{
+    match world.services().agenda.first() {
+        Some(due) if due.time == now(world) => Some(due),
+        _ => None,
+    }
+}
+
+/// What passes next: of the FIFOs at which something that waits can come to pass the first in path order, and what passes
+/// there (Clause 12). For a sound world.
+#[tactic(auto, unfolding(bench_history::specs::Passing::next_passed))]
+pub fn next_passed(world: &World) -> Option<(NodeId, Passage)>
+    requires { world.now.sound ≡ true }
+    ensures { result ≡ next_passed world.now.history }
+{
+    let services = world.services();
+    first_passing(&services.stations, services.unsettled.as_slice())
+}
+
+/// The lock that leads, and whose it is: of the sequencers at which one does the first in path order (Clause 15). For a sound
+/// world.
+pub fn next_locked(world: &World) -> Option<(NodeId, SeqId)>
+    requires { world.now.sound ≡ true }
+    ensures { result ≡ next_locked world.now.history }
+{
+    let services = world.services();
+    first_locked(&services.arbiters, &services.sequences, &services.contest)
+}
+
+/// Whose driver is served next, and whether a word decides which sequence it is then: of the sequencers whose driver waits
+/// and that have a candidate the first in path order (Clause 15). For a sound world.
+pub fn next_served(world: &World) -> Option<(NodeId, bool)>
+    requires { world.now.sound ≡ true }
+    ensures { result ≡ next_served world.now.history }
+{
+    let services = world.services();
+    first_served(&services.arbiters, &services.sequences, &services.contest)
+}
+
+/// The node whose turn it is in a phase (Clause 9): of the components that had no call since a phase began, the least in the
+/// order of the phase. For a sound world.
+#[tactic(auto, unfolding(bench_history::specs::History::next_call))]
+pub fn next_call(world: &World, phase: Phase) -> Option<NodeId>
+    requires { world.now.sound ≡ true }
+    ensures { result ≡ next_call phase world.now.history }
+{
+    // It is the first of the components that wait, which are all nodes of this kind.
+    laws::components_by_kind();
+    trees::nodes_are_ordered();
+    trees::least_is_least();
+    trees::one_is_least();
+    let services = world.services();
+    services.turns.first(&services.tree, direction_of(phase))
+}

@@ -16,7 +16,8 @@ use uvm_tree::NodeId;
 const TASKS: usize = 13;
 
 /// The objections of the phases that take time, one for each (IEEE 1800.2-2020, 10.5): what is raised at the nodes of a tree, and what is
-/// held back there until a drain ends. Contracts see them as a list, in which that of a phase has its place.
+/// held back there until a drain ends. Contracts see them as a list, in which that of a phase has its place. A phase that takes no time has
+/// none: for such a phase each call goes to run's.
 #[derive(Drop)]
 pub struct Objections {
     // Run's, and behind it those of the run-time phases in their order.

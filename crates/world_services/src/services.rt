@@ -63,8 +63,8 @@ pub struct Services {
     /// Some nodes in path order, all FIFOs among them at which something may pass.
     pub unsettled: Vec<NodeId>,
     pub arbiters: Arbiters,
-    /// Which sequencer was changed last: at no other does a lock lead, or can a driver be served; and of which requests it is known
-    /// that they are blocked.
+    /// The sequencers at which something may be granted: at no other does a lock lead, or can a driver be served; and of which requests
+    /// it is known that they are blocked.
     pub contest: Contest,
     pub sequences: Sequences,
     /// Of the sequences, by their numbers.

@@ -6,7 +6,18 @@ use Rattle.uvm_phase.specs.declared.phases.Phase.{Phase}
 use Rattle.uvm_phase.specs.declared.phases.Phase.TheVariants.{Build, Connect, EndOfElaboration, StartOfSimulation, Run, Extract, Check, Report, Final, PreReset, Reset, PostReset, PreConfigure, Configure, PostConfigure, PreMain, Main, PostMain, PreShutdown, Shutdown, PostShutdown}
 use Rattle.uvm_phase.specs.Phases.{phase_number, same_phase, is_task}
 use Rattle.uvm_objection.specs.Nodes.{ObjectionValue, Node}
-use Rattle.world_objections.specs.Phased.{HaveChanged, HaveRoom, OthersStayAt, nodes_at, place_in, spare_at}
+use Rattle.world_objections.specs.Phased.{OthersStayAt, nodes_at, place_in, spare_at}
+
+-- each before a place has changed, and from there on each is as it was
+pub record HaveChanged (change : List Node → List Node) (place : ℕ) (old new : List ObjectionValue) : Type 0 where
+  pub done : (other : ℕ) → other < place → nodes_at new other ≡ change (nodes_at old other)
+  pub rest : (other : ℕ) → place ≤ other → slice_get new other ≡ slice_get old other
+
+-- each before a place has room, no room was given up, and nothing else has changed
+pub record HaveRoom (place : ℕ) (old new : List ObjectionValue) : Type 0 where
+  pub nodes : (other : ℕ) → nodes_at new other ≡ nodes_at old other
+  pub spare : (other : ℕ) → other < place → 0 < spare_at new other
+  pub kept : (other : ℕ) → spare_at old other ≤ spare_at new other
 
 -- what holds at the place of each phase holds at each place
 pub at-place : (P : ℕ → Type 0) → ((phase : Phase) → P (place_in phase)) → (n : ℕ) → n < 13 → P n

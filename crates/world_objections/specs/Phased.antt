@@ -1,5 +1,5 @@
 -- The objections of the phases that take time, one for each.
-use Rattle.std.specs.Prelude.{◌≡◌, ◌-◌, ◌==◌, ◌<◌, ◌≤◌, ℕ, false, List, [], slice_get}
+use Rattle.std.specs.Prelude.{◌≡◌, ◌-◌, ◌==◌, ℕ, false, List, [], slice_get}
 use Rattle.std.specs.Option.{option_map_or}
 use Rattle.uvm_phase.specs.declared.phases.Phase.{Phase}
 use Rattle.uvm_phase.specs.Phases.{phase_number}
@@ -31,14 +31,3 @@ OthersStay phase old new = (other : Phase) → (place_in phase == place_in other
 -- the one at a place changes, and no other
 abbrev pub OthersStayAt : ℕ → List ObjectionValue → List ObjectionValue → Type 0
 OthersStayAt place old new = (other : ℕ) → (place == other) ≡ false → slice_get new other ≡ slice_get old other
-
--- each before a place has changed, and from there on each is as it was
-pub record HaveChanged (change : List objection.Node → List objection.Node) (place : ℕ) (old new : List ObjectionValue) : Type 0 where
-  pub done : (other : ℕ) → other < place → nodes_at new other ≡ change (nodes_at old other)
-  pub rest : (other : ℕ) → place ≤ other → slice_get new other ≡ slice_get old other
-
--- each before a place has room, no room was given up, and nothing else has changed
-pub record HaveRoom (place : ℕ) (old new : List ObjectionValue) : Type 0 where
-  pub nodes : (other : ℕ) → nodes_at new other ≡ nodes_at old other
-  pub spare : (other : ℕ) → other < place → 0 < spare_at new other
-  pub kept : (other : ℕ) → spare_at old other ≤ spare_at new other

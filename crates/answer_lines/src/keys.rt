@@ -217,20 +217,39 @@ fn port_call(key: &str) -> Result<Call, LineFault> {
 // A call of one word.
 fn plain_call(word: &str) -> Result<Call, LineFault> {
     match word {
-        "build" => Ok(Call::Phase(Phase::Build)),
-        "connect" => Ok(Call::Phase(Phase::Connect)),
-        "end_of_elaboration" => Ok(Call::Phase(Phase::EndOfElaboration)),
-        "start_of_simulation" => Ok(Call::Phase(Phase::StartOfSimulation)),
-        "run" => Ok(Call::Phase(Phase::Run)),
-        "extract" => Ok(Call::Phase(Phase::Extract)),
-        "check" => Ok(Call::Phase(Phase::Check)),
-        "report" => Ok(Call::Phase(Phase::Report)),
-        "final" => Ok(Call::Phase(Phase::Final)),
         "pre_start" => Ok(Call::PreStart),
         "body" => Ok(Call::Body),
         "post_start" => Ok(Call::PostStart),
         "grant" => Ok(Call::Grant),
         "held" => Ok(Call::Held),
+        word => Ok(Call::Phase(phase_of(word)?)),
+    }
+}
+
+// The phase of a name.
+fn phase_of(name: &str) -> Result<Phase, LineFault> {
+    match name {
+        "build" => Ok(Phase::Build),
+        "connect" => Ok(Phase::Connect),
+        "end_of_elaboration" => Ok(Phase::EndOfElaboration),
+        "start_of_simulation" => Ok(Phase::StartOfSimulation),
+        "run" => Ok(Phase::Run),
+        "extract" => Ok(Phase::Extract),
+        "check" => Ok(Phase::Check),
+        "report" => Ok(Phase::Report),
+        "final" => Ok(Phase::Final),
+        "pre_reset" => Ok(Phase::PreReset),
+        "reset" => Ok(Phase::Reset),
+        "post_reset" => Ok(Phase::PostReset),
+        "pre_configure" => Ok(Phase::PreConfigure),
+        "configure" => Ok(Phase::Configure),
+        "post_configure" => Ok(Phase::PostConfigure),
+        "pre_main" => Ok(Phase::PreMain),
+        "main" => Ok(Phase::Main),
+        "post_main" => Ok(Phase::PostMain),
+        "pre_shutdown" => Ok(Phase::PreShutdown),
+        "shutdown" => Ok(Phase::Shutdown),
+        "post_shutdown" => Ok(Phase::PostShutdown),
         _ => Err(LineFault::NoCall),
     }
 }

@@ -1,11 +1,10 @@
 //! The choice of the next entry.
 
-ghost use Rattle.std.specs.Prelude.{◌≡◌, ◌&&◌, true, [], ◌∷◌, Some, IfOk, if◌then◌else◌};
-ghost use Rattle.uvm_phase.specs.Phases.{is_task};
+ghost use Rattle.std.specs.Prelude.{◌≡◌, true, [], ◌∷◌, Some, IfOk, if◌then◌else◌};
 ghost use Rattle.uvm_object.specs.declared.entries.Entry.TheVariants.{End};
 ghost use Rattle.bench_history.specs.Dues.{first_due};
-ghost use Rattle.bench_history.specs.Cases.{Exactly, by_call, origin_of, port_check, phase_end, time_passes};
-ghost use Rattle.bench_history.specs.Objections.{objections_of, stands};
+ghost use Rattle.bench_history.specs.Cases.{Exactly, by_call, origin_of, phase_to_begin, port_check, phase_end, time_passes};
+ghost use Rattle.bench_history.specs.Objections.{is_kept};
 ghost use Rattle.bench_history.specs.Laws.{is_at_check};
 ghost use Rattle.bench_history.specs.Next.{first_next, next_of};
 ghost use Rattle.bench_core.specs.Choices.{IsChoice, entry_of};
@@ -56,7 +55,7 @@ pub(crate) enum Choice {
 }
 
 // What comes next after the log of a world.
-#[tactic(auto, unfolding(bench_history::specs::Next::next_of))]
+#[tactic(auto, unfolding(bench_history::specs::Limits::has_runtime, bench_history::specs::Next::next_of))]
 pub(crate) fn choose(world: &mut World) -> Result<Choice, AllocError>
     requires { world.old.sound ≡ true }
     ensures choice { IfOk result (IsChoice (next_of world.old.script world.old.history)) }
@@ -89,18 +88,30 @@ pub(crate) fn choose(world: &mut World) -> Result<Choice, AllocError>
     if let Some(due) = upcoming::due_now(world) {
         return Ok(happening(due));
     }
-    Ok(match stage {
-        Stage::Before => Choice::Enter(Mark::Begin(Phase::Build)),
-        Stage::During(phase) => match upcoming::next_call(world, phase) {
-            Some(node) => Choice::Ask(Who::Node(node), Call::Phase(phase), None),
-            None => Choice::Enter(done(world, phase)?),
-        },
-        Stage::After(phase) => match Schedule::next(phase) {
-            Some(phase) => Choice::Enter(Mark::Begin(phase)),
-            None => Choice::Enter(Mark::Over(Reason::Finished)),
-        },
-        Stage::Ended => Choice::Nothing,
-    })
+    if let Some(phase) = next_begin(world.script().has_runtime(), stage) {
+        return Ok(Choice::Enter(Mark::Begin(phase)));
+    }
+    if let Some((node, phase)) = upcoming::next_turn(world) {
+        return Ok(Choice::Ask(Who::Node(node), Call::Phase(phase), None));
+    }
+    Ok(Choice::Enter(match told::phase(world) {
+        Some(phase) => done(world, phase)?,
+        None => Mark::Over(Reason::Finished),
+    }))
+}
+
+// The phase that begins next, if one does (Clause 9): the first, or that which follows the one that has ended. With run begins the first of
+// the run-time phases, where they go beside it, and after the last of them run goes on.
+fn next_begin(has_runtime: bool, stage: Stage) -> Option<Phase>
+    ensures { result ≡ phase_to_begin has_runtime stage }
+{
+    match stage {
+        Stage::Before => Some(Phase::Build),
+        Stage::During(Phase::Run) if has_runtime => Some(Phase::PreReset),
+        Stage::After(Phase::PostShutdown) => None,
+        Stage::After(phase) => Schedule::next(phase),
+        Stage::During(_) | Stage::Ended => None,
+    }
 }
 
 // Where each component had its call: in connect the next unsound port is reported, and else the phase comes to its end.
@@ -133,12 +144,12 @@ fn happening(due: &Due<Owner, Option<Call>>) -> Choice
     }
 }
 
-// The phase ends, or time passes while its objection stands.
+// The phase ends, or time passes while an objection keeps it.
 fn ending(world: &World, phase: Phase) -> Mark
     requires { world.now.sound ≡ true }
-    ensures { entry_of result ≡ (if is_task phase && stands (objections_of phase world.now.history) then time_passes world.now.script.time_limit (first_due world.now.history) else End phase) }
+    ensures { entry_of result ≡ (if is_kept phase world.now.history then time_passes world.now.script.time_limit (first_due world.now.history) else End phase) }
 {
-    if told::objection_stands(world, phase) {
+    if told::is_kept(world, phase) {
         time_passes(world)
     } else {
         Mark::End(phase)

@@ -1,5 +1,5 @@
 -- While a driver waits, is granted a sequence or has an item in hand, the phase in which it asked runs.
-use Rattle.std.proofs.Common.{◌≡◌, ℕ, Bool, true, false, not, ◌==◌, List, [], ◌∷◌, Option, Some, None, is_some, option_and_then, refl, sym, ap, subst, ◌∙◌, if◌then◌else◌}
+use Rattle.std.proofs.Common.{◌≡◌, ℕ, Bool, true, false, not, ◌==◌, List, [], ◌∷◌, Option, Some, None, is_some, option_and_then, refl, sym, ap, subst, ◌∙◌, if◌then◌else◌, ◌⊎◌, inl, inr}
 use Rattle.std.specs.Option.{option_map_or}
 use Rattle.uvm_glob.specs.Lists.{first_given}
 use Rattle.uvm_glob.specs.Faults.{fault_if}
@@ -8,7 +8,7 @@ use Rattle.uvm_phase.specs.declared.phases.Phase.{Phase}
 use Rattle.uvm_sequencer.specs.declared.drivers.How.{How}
 use Rattle.uvm_sequencer.specs.declared.drivers.Driver.{Driver}
 use Rattle.uvm_sequencer.specs.declared.drivers.Driver.TheVariants as driver
-use Rattle.uvm_sequencer.specs.Drivers.{grant_of, granted_by, is_idle, left_by}
+use Rattle.uvm_sequencer.specs.Drivers.{grant_of, granted_by, is_idle, left_by, kept_on}
 use Rattle.uvm_sequencer.specs.Laws.{LockExcludes}
 use Rattle.uvm_object.specs.declared.acts.Who.{Who}
 use Rattle.uvm_object.specs.declared.acts.Call.{Call}
@@ -23,18 +23,21 @@ use Rattle.uvm_object.specs.declared.entries.Entry.TheVariants.{Begin, Did, End,
 use Rattle.bench_script.specs.Scripts.{ScriptValue}
 use Rattle.bench_history.specs.declared.owners.Owner.{Owner}
 use Rattle.bench_history.specs.declared.stages.Stage.TheVariants.{Ended}
-use Rattle.bench_history.specs.History.{act_phase, running, speaker_of, stage_of}
-use Rattle.bench_history.specs.Sequences.{sequences_of}
-use Rattle.bench_history.specs.Arbitration.{asked_in, driver_asker, driver_state, leads_there, sent_by, sequence_on, sequencer_below}
-use Rattle.bench_history.specs.Refusals.{ask_refusal, driving_refusal, in_task, is_open_to}
+use Rattle.bench_history.specs.History.{act_phase, in_progress, in_task, speaker_of, stage_of}
+use Rattle.bench_history.specs.Sequences.{sequences_of, is_live}
+use Rattle.bench_history.specs.Arbitration.{asked_in, driver_asker, driver_state, leads_there, sent_by, sequence_on, sequencer_below, ends_ask}
+use Rattle.bench_history.specs.Refusals.{ask_refusal, driving_refusal, is_open_to}
 use Rattle.bench_history.specs.Upshots.{Upshot, asked_upshot, driven_at, has_candidate, unless_refused, upshot_of}
 use Rattle.bench_history.specs.Cases.{Next, by_act, by_upshot}
 use Rattle.bench_history.specs.Next.{next_of, Allows, IsNext, EachIsNext}
 use Rattle.bench_history.proofs.Called.{acts_are_in_phase}
 use Rattle.bench_history.proofs.Deeds.{deed-next, is-act}
 use Rattle.bench_history.proofs.Ended.{none-after}
-use Rattle.bench_history.proofs.Living.{begin-runs}
+use Rattle.bench_history.proofs.Living.{begin-going, end-going}
 use Rattle.bench_history.proofs.Performed.{acts_go_in_order}
+use Rattle.std.specs.List.{list_any}
+use Rattle.uvm_phase.specs.Phases.{same_phase}
+use Rattle.bench_history.specs.declared.askers.DriverPort.{DriverPort}
 
 -- an act that was performed came to its upshot
 pub upshot-next : (script : ScriptValue) (before : List Entry) (performer : Who) (outcome : Outcome) (act : Act) → IsNext script before (Did performer outcome act) → Allows (by_upshot performer act (upshot_of script before performer act)) (Did performer outcome act)
@@ -72,9 +75,9 @@ asks-task script before performer outcome port way next accepted =
     task-of (act_phase before) (is_some (sequencer_below before performer port)) (option_and_then ask_refusal (driven_at before performer port))
     (not-refused performer outcome (Ask port way) (fault_if (not (is_open_to (Ask port way) performer)) NotOpen) _ (asked_upshot way (has_candidate (sequences_of before) (driven_at before performer port))) accepted (upshot-next script before performer outcome (Ask port way) next))
 
--- a driver that is not idle asked in the phase that runs
+-- a driver that is not idle asked in a phase in progress
 abbrev pub IsAsking : List Entry → ℕ → Type 0
-IsAsking history node = (phase : Phase) × (asked_in history node ≡ Some phase) × (running (stage_of history) ≡ Some phase)
+IsAsking history node = (phase : Phase) × (asked_in history node ≡ Some phase) × (list_any (same_phase phase) (in_progress (stage_of history)) ≡ true)
 
 abbrev pub AsksWhile : List Entry → ℕ → Type 0
 AsksWhile history node = (stage_of history ≡ Ended → ⊥) → is_idle (driver_state history node) ≡ false → IsAsking history node
@@ -100,15 +103,26 @@ busy-granted true id (driver.Waiting way) e = refl
 busy-granted true id (driver.Granted other way) e = refl
 busy-granted true id (driver.InHand other) e = refl
 
+busy-kept : (live : ℕ → Bool) (state : Driver) → is_idle (kept_on false live state) ≡ false → is_idle state ≡ false
+busy-kept live driver.Idle e = e
+busy-kept live (driver.Waiting way) e = refl
+busy-kept live (driver.Granted other way) e = refl
+busy-kept live (driver.InHand other) e = refl
+
+-- what does not end with a phase was asked in another
+asked-apart : (phase : Phase) (asker : Option DriverPort) (asked : Phase) → option_and_then (λ asker. asker.phase) asker ≡ Some asked → ends_ask phase asker ≡ false → same_phase asked phase ≡ false
+asked-apart phase None asked is e = cc
+asked-apart phase (Some asker) asked is e = rw is at e
+
 module _ (keeps : OrderKeepsAll Owner (Option Call)) (excludes : LockExcludes) where
   asking-ask : (script : ScriptValue) (before : List Entry) (node : ℕ) (performer : Who) (outcome : Outcome) (port : List ℕ) (way : How) (leads : Bool) → EachIsNext script before → IsNext script before (Did performer outcome (Ask port way)) → is_accepted outcome ≡ true
       → (is_idle (driver_state before node) ≡ false → IsAsking before node) → is_idle (if leads then driver.Waiting way else driver_state before node) ≡ false
-      → (phase : Phase) × (option_and_then (λ asker. asker.phase) (if leads then Some (record { who = performer; name = port; phase = act_phase before }) else driver_asker before node) ≡ Some phase) × (running (stage_of before) ≡ Some phase)
+      → (phase : Phase) × (option_and_then (λ asker. asker.phase) (if leads then Some (record { who = performer; name = port; phase = act_phase before }) else driver_asker before node) ≡ Some phase) × (list_any (same_phase phase) (in_progress (stage_of before)) ≡ true)
   asking-ask script before node performer outcome port way true each next accepted was busy =
       let task = asks-task script before performer outcome port way next accepted in
       let deed = deed-next script before performer outcome (Ask port way) (next_of script before) refl next in
       let in_phase = acts_are_in_phase keeps excludes script before (Ask port way) each (is-act performer outcome (Ask port way) (next_of script before) next) deed.left in
-      (task.0, task.1, in_phase.runs task.0 task.1)
+      (task.0, task.1, in_phase.going task.0 task.1)
   asking-ask script before node performer outcome port way false each next accepted was busy = was busy
 
   asking-done : (before : List Entry) (node : ℕ) (leads : Bool) → (is_idle (driver_state before node) ≡ false → IsAsking before node) → is_idle (if leads then driver.Idle else driver_state before node) ≡ false → IsAsking before node
@@ -127,11 +141,23 @@ module _ (keeps : OrderKeepsAll Owner (Option Call)) (excludes : LockExcludes) w
   asking-did script before node performer (Waits false) act each next was busy = was busy
   asking-did script before node performer outcome act each next was busy = was busy
 
+  -- with the end of a phase it is idle, where it asked in that phase, and else it waits on, or is sent what it was granted
+  asking-end : (script : ScriptValue) (before : List Entry) (phase : Phase) (node : ℕ) → IsNext script before (End phase) → (is_idle (driver_state before node) ≡ false → IsAsking before node) → (ends : Bool) → ends_ask phase (driver_asker before node) ≡ ends
+      → is_idle (kept_on ends (is_live (End phase ∷ before)) (driver_state before node)) ≡ false → IsAsking (End phase ∷ before) node
+  asking-end script before phase node next was true is busy = cc
+  asking-end script before phase node next was false is busy =
+      let asks = was (busy-kept (is_live (End phase ∷ before)) (driver_state before node) busy) in
+      (asks.0, asks.1, by asks.0 (end-going script before phase asks.0 next asks.2) (asked-apart phase (driver_asker before node) asks.0 asks.1 is))
+    where
+      by : (asked : Phase) → (list_any (same_phase asked) (in_progress (stage_of (End phase ∷ before))) ≡ true) ⊎ (same_phase asked phase ≡ true) → same_phase asked phase ≡ false → list_any (same_phase asked) (in_progress (stage_of (End phase ∷ before))) ≡ true
+      by asked (inl going) apart = going
+      by asked (inr same) apart = cc
+
   asking-more : (script : ScriptValue) (before : List Entry) (entry : Entry) (node : ℕ) → EachIsNext script before → IsNext script before entry → (is_idle (driver_state before node) ≡ false → IsAsking before node) → AsksWhile (entry ∷ before) node
   asking-more script before (Did performer outcome act) node each next was on busy = asking-did script before node performer outcome act each next was busy
   asking-more script before (Granted other grant) node each next was on busy = was (busy-granted (other == node) grant.id (driver_state before node) busy)
-  asking-more script before (Begin phase) node each next was on busy = let asks = was busy in absurd (begin-runs script before phase asks.0 next asks.2)
-  asking-more script before (End phase) node each next was on busy = cc
+  asking-more script before (Begin phase) node each next was on busy = let asks = was busy in (asks.0, asks.1, begin-going script before phase asks.0 next asks.2)
+  asking-more script before (End phase) node each next was on busy = asking-end script before phase node next was (ends_ask phase (driver_asker before node)) refl busy
   asking-more script before (Over reason) node each next was on busy = absurd (on refl)
   asking-more script before entry node each next was on busy = was busy
 

@@ -1,9 +1,9 @@
 -- Who is called: a component, which is a node of the tree, or a sequence that lives.
-use Rattle.std.proofs.Common.{◌≡◌, ℕ, ◌<◌, ◌≤◌, ◌==◌, ◌⊎◌, inl, inr, true, false, List, [], ◌∷◌, length, Option, Some, None, option_and_then, IfSome, refl, ap, ◌∙◌, sym, subst, arith, option_map}
+use Rattle.std.proofs.Common.{◌≡◌, ℕ, ◌<◌, ◌≤◌, ◌==◌, ◌⊎◌, inl, inr, true, false, List, [], ◌∷◌, length, Option, Some, None, option_and_then, IfSome, refl, ap, ◌∙◌, sym, subst, arith, option_map, flat_map}
 use Rattle.uvm_tree.specs.Sorted.{path_order}
 use Rattle.uvm_sequences.specs.Sequences.{numbered}
 use Rattle.uvm_sequencer.specs.Sequencers.{SequencerValue, candidates_at, choice_at, lock_at}
-use Rattle.uvm_sequencer.specs.Drivers.{hand_of}
+use Rattle.uvm_sequencer.specs.Drivers.{hand_of, loses_try}
 use Rattle.uvm_sequencer.specs.Queues.{lock_request}
 use Rattle.uvm_sequencer.specs.Choices.{choice}
 use Rattle.uvm_sequencer.specs.declared.requests.Request.{Request}
@@ -11,8 +11,8 @@ use Rattle.uvm_sequencer.specs.declared.modes.Mode.{Mode}
 use Rattle.uvm_sequencer.specs.Laws.{LockExcludes}
 use Rattle.uvm_phase.specs.declared.phases.Phase.{Phase}
 use Rattle.bench_history.specs.declared.askers.DriverPort.{DriverPort}
-use Rattle.bench_history.specs.Arbitration.{all_wanted, driver_asker, driver_move, driver_state, sequence_on, wish_in, locking_at, mode_at, next_locked, request_queue, sequencer_with, still_waits}
-use Rattle.bench_history.proofs.Served.{IsBy, move-kept, wish-all, asked-by, awaits, hand-sequence, queue-all}
+use Rattle.bench_history.specs.Arbitration.{all_wanted, driver_asker, driver_move, driver_state, sequence_on, wish_in, locking_at, mode_at, next_locked, request_queue, sequencer_with, still_waits, ends_ask}
+use Rattle.bench_history.proofs.Served.{IsBy, move-kept, wish-all, asked-by, awaits, hand-sequence, queue-all, end-kept, lapse-told}
 use Rattle.std.specs.List.{All}
 use Rattle.std.proofs.lemmas.Bool.Decides.{nat_tests}
 use Rattle.std.proofs.lemmas.List.Elements.{All-nil, All-cons, All-head, All-append, All-weaker, All-contains}
@@ -40,7 +40,7 @@ use Rattle.bench_history.specs.declared.owners.Owner.{Owner}
 use Rattle.bench_history.specs.History.{stage_of, now_of, nodes_of, components_of, left_of, rest_of, speaker_of, opening, act_phase, ended_of, phase_heard}
 use Rattle.bench_history.specs.Passing.{puts_asked, takes_asked, put_in, take_in}
 use Rattle.uvm_tlm.specs.declared.ends.PortKind.TheVariants as through
-use Rattle.bench_history.specs.Dues.{told_by, told_of, calls_told, calls_numbered, due_after, due_from, calls_from, moves_drains, caused_at, caused_of}
+use Rattle.bench_history.specs.Dues.{told_by, told_of, calls_told, calls_numbered, due_after, due_from, calls_from, moves_drains, caused_at, caused_of, lapsed_with, lapsed_at}
 use Rattle.bench_history.specs.Cases.{Exactly, Answer, Nothing, chosen_at}
 use Rattle.bench_history.specs.Next.{next_of, IsAct, IsNext, EachIsNext}
 use Rattle.bench_history.specs.Laws.{IsComponent, IsLiving, IsLivingSequence, IsThere, AskedAreThere, WaitersAreComponents, PerformersAreThere, NewNodesAreUnasked, NewSequencesAreUnasked, ActsAreInPhase, HasNotEnded, IsInPhase}
@@ -49,9 +49,22 @@ use Rattle.bench_history.proofs.Deeds.{IsDeed, deed-next, closed-refused, finish
 use Rattle.bench_history.proofs.Asking.{asked-more, passing-holds, puts-wait, takes-wait, given-holds}
 use Rattle.bench_history.proofs.Performed.{passages_go_in_order}
 use Rattle.bench_history.proofs.Living.{Stands, Runs, numbered-within, begun-count, begin-left, end-left, sequence-more, stands-more}
-use Rattle.bench_history.proofs.Phased.{running-open}
+use Rattle.bench_history.proofs.Phased.{phases_in_progress_are_open}
 use Rattle.bench_history.proofs.Grown.{nodes-more}
-use Rattle.bench_history.proofs.Expected.{GoesOn, IsGoing, going-did, IsStartedBy, expected-stands, IsCallTo, IsDriver, IsExpected, IsOneIn, IsRequester, acting-more, one-more, more-one, more-driver, requester-more, requester-expected, component-expected, IsSpeaker, Known, NoneLeft, Opens, Speaking, Speaks, asker-more, asks-one, begun-starters, closed-asks, closed-puts, closed-takes, component-expected, component-more, component-or, components_are_nodes, deed-owner, due-owner, expected-unless, first-part, grant-next, granted-served, heard-one, imps-more, lock-next, moved-call, numbered-owners, opening-asks, opening-puts, opening-takes, opening-tells, opening-wishes, owners-more, passed-alone, speaker-stays, speaker-there, speaking-did, speaking-on, starters-more, told-owners, unless-opening, wanting-more, wishes-by, with-drains-call}
+use Rattle.bench_history.proofs.Expected.{GoesOn, IsGoing, going-did, IsStartedBy, expected-stands, IsCallTo, IsDriver, IsExpected, IsOneIn, IsRequester, acting-more, one-more, more-one, more-driver, requester-more, requester-expected, component-expected, IsSpeaker, Known, NoneLeft, Opens, Speaking, Speaks, asker-more, asks-one, begun-starters, closed-asks, closed-puts, closed-takes, component-more, component-or, components_are_nodes, deed-owner, due-owner, expected-unless, first-part, grant-next, granted-served, heard-one, imps-more, lock-next, moved-call, numbered-owners, opening-asks, opening-puts, opening-takes, opening-tells, opening-wishes, owners-more, passed-alone, speaker-stays, speaker-there, speaking-did, speaking-on, starters-more, told-owners, unless-opening, wanting-more, wishes-by, with-drains-call, IsTold, IsHearer, asker-hears}
+
+-- a driver whose grant lapses with a phase is told that there is no item
+each-flat : {A B : Type 0} (P : B → Type 0) (f : A → List B) (xs : List A) → ((x : A) → All P (f x)) → All P (flat_map f xs)
+each-flat P f [] each = All-nil P
+each-flat P f (x ∷ xs) each = All-append P (f x) (flat_map f xs) (each x) (each-flat P f xs each)
+
+pub lapsed-owners : (script : ScriptValue) (before : List Entry) (phase : Phase) → IsNext script before (End phase) → GoesOn (End phase ∷ before) → Known script before → All (IsTold (End phase ∷ before)) (lapsed_with phase before)
+lapsed-owners script before phase next on known = each-flat (IsTold (End phase ∷ before)) (lapsed_at phase before) (path_order (nodes_of before)) told
+  where
+    told : (node : ℕ) → All (IsTold (End phase ∷ before)) (lapsed_at phase before node)
+    told node =
+        lapse-told (IsTold (End phase ∷ before)) (IsHearer (End phase ∷ before)) (λ phase who call hears. hears) (loses_try (ends_ask phase (driver_asker before node)) (is_live (End phase ∷ before)) (driver_state before node)) (driver_asker before node)
+        (asker-hears (End phase ∷ before) (driver_asker before node) (asker-more script before (End phase) (driver_asker before node) next on (known.askers node)))
 
 module _ (keeps : OrderKeepsAll Owner (Option Call)) (excludes : LockExcludes) where
   speaking-more : (script : ScriptValue) (before : List Entry) (entry : Entry) → Known script before → IsNext script before entry → GoesOn (entry ∷ before) → Speaking script (entry ∷ before)
@@ -227,7 +240,8 @@ module _ (keeps : OrderKeepsAll Owner (Option Call)) (excludes : LockExcludes) w
     askers = λ node. asker-more script before (Begin phase) (driver_asker before node) next on (known.askers node);
   }
   known-more script before (End phase) known next on = record {
-    owners = owners-more script before (End phase) next on known;
+    owners = All-append (IsCallTo (End phase ∷ before)) (calls_numbered (now_of before) (length before) 0 (lapsed_with phase before)) (caused_of before)
+        (numbered-owners (End phase ∷ before) (now_of before) (length before) 0 (lapsed_with phase before) (lapsed-owners script before phase next on known)) (owners-more script before (End phase) next on known);
     acting = acting-more script before (End phase) (act_phase before) next on known.acting;
     going = inl (end-left script before phase next);
     starters = starters-more script before (End phase) next on known;
@@ -236,7 +250,7 @@ module _ (keeps : OrderKeepsAll Owner (Option Call)) (excludes : LockExcludes) w
     takers = λ fifo. one-more script before (End phase) (takes_asked before fifo) next on (known.takers fifo);
     imps = known.imps;
     wanting = λ node. wanting-more script before (End phase) node (all_wanted before node) next on (known.wanting node);
-    served = λ node id e. absurd cc;
+    served = λ node id e. requester-more script before (End phase) node id next on (known.served node id (end-kept (ends_ask phase (driver_asker before node)) (is_live (End phase ∷ before)) (driver_state before node) id e));
     askers = λ node. asker-more script before (End phase) (driver_asker before node) next on (known.askers node);
   }
   known-more script before (Heard performer call origin acts) known next on =
@@ -269,8 +283,8 @@ module _ (keeps : OrderKeepsAll Owner (Option Call)) (excludes : LockExcludes) w
   }
   known-more script before entry known next on = record {
     owners = owners-more script before entry next on known;
-    acting = acting-more script before entry (act_phase before) next on known.acting;
     going = known.going;
+    acting = acting-more script before entry (act_phase before) next on known.acting;
     starters = starters-more script before entry next on known;
     speaker = speaking-more script before entry known next on;
     putters = λ fifo. one-more script before entry (puts_asked before fifo) next on (known.putters fifo);
@@ -307,12 +321,12 @@ module _ (keeps : OrderKeepsAll Owner (Option Call)) (excludes : LockExcludes) w
       All-weaker (IsStartedBy history) (λ beginning. (phase : Phase) → beginning.phase ≡ Some phase → Stands history phase)
       (λ beginning by phase is. expected-stands history phase beginning.starter (by phase is)) (begun_of history) (known-of script history each on).starters
 
-  -- where an act is next its phase runs, and a sequence acts in the phase in which it was started
+  -- where an act is next its phase is in progress, and a sequence acts in the phase in which it was started
   pub acts_are_in_phase : ActsAreInPhase
   acts_are_in_phase script history act each is left =
       let known = known-of script history each (λ ended. subst IsAct (nothing-comes script history ended) is) in
-      let runs = goes known.going in
-      record { runs = runs; unended = not-ended (act_phase history) runs; own = owned known.speaker }
+      let on = goes known.going in
+      record { going = on; unended = not-ended (act_phase history) on; own = owned known.speaker }
     where
       some : {Goal : Type 0} → left_of script history ≡ [] → Goal
       some none = let both : act ∷ rest_of (left_of script history) ≡ [] = sym left ∙ none in cc
@@ -323,7 +337,7 @@ module _ (keeps : OrderKeepsAll Owner (Option Call)) (excludes : LockExcludes) w
 
       not-ended : (acting : Option Phase) → IsGoing history acting → HasNotEnded (ended_of history) acting
       not-ended None on = tt
-      not-ended (Some phase) on = running-open script history phase each (on phase refl)
+      not-ended (Some phase) on = phases_in_progress_are_open script history phase each (on phase refl)
 
       in-phase : (who : Who) → IsSpeaker history (act_phase history) who → IsInPhase history who
       in-phase (Node node) has = tt
@@ -350,12 +364,15 @@ module _ (keeps : OrderKeepsAll Owner (Option Call)) (excludes : LockExcludes) w
   acts-before-end script history is ended = subst IsAct (nothing-comes script history ended) is
 
   -- who drives a sequencer is a component
-  pub drivers-known : (script : ScriptValue) (history : List Entry) → EachIsNext script history → IsAct (next_of script history) → (node : ℕ) → IfSome (driver_asker history node) (λ driver. IsComponent (components_of history) driver.who)
-  drivers-known script history each is node = component-of (driver_asker history node) ((known-of script history each (acts-before-end script history is)).askers node)
+  pub askers-known : (script : ScriptValue) (history : List Entry) → EachIsNext script history → GoesOn history → (node : ℕ) → IfSome (driver_asker history node) (λ driver. IsComponent (components_of history) driver.who)
+  askers-known script history each on node = component-of (driver_asker history node) ((known-of script history each on).askers node)
     where
       component-of : (asker : Option DriverPort) → IfSome asker (λ driver. IsDriver history driver.who driver.phase) → IfSome asker (λ driver. IsComponent (components_of history) driver.who)
       component-of None has = tt
       component-of (Some asker) has = has.0
+
+  pub drivers-known : (script : ScriptValue) (history : List Entry) → EachIsNext script history → IsAct (next_of script history) → (node : ℕ) → IfSome (driver_asker history node) (λ driver. IsComponent (components_of history) driver.who)
+  drivers-known script history each is node = askers-known script history each (acts-before-end script history is) node
 
   -- whose item is in hand was started there
   pub hands-known :

@@ -14,7 +14,7 @@ use Rattle.uvm_object.specs.declared.acts.Call.TheVariants as call
 use Rattle.uvm_object.specs.declared.acts.Act.{Act}
 use Rattle.uvm_object.specs.declared.entries.Origin.{Origin}
 use Rattle.uvm_object.specs.declared.entries.Entry.{Entry}
-use Rattle.uvm_object.specs.declared.entries.Entry.TheVariants.{Heard, Did, Locked, Granted, Passed, Drained}
+use Rattle.uvm_object.specs.declared.entries.Entry.TheVariants.{Heard, Did, Locked, Granted, Passed, Drained, End}
 use Rattle.bench_script.specs.Scripts.{ScriptValue}
 use Rattle.bench_history.specs.declared.owners.Told.{Told}
 use Rattle.bench_history.specs.declared.owners.Owner.{Owner}
@@ -23,7 +23,7 @@ use Rattle.bench_history.specs.Owners.{Event, is_drain_of}
 use Rattle.bench_history.specs.History.{act_phase, now_of}
 use Rattle.bench_history.specs.Sequences.{phase_begun}
 use Rattle.bench_history.specs.Objections.{objections_of}
-use Rattle.bench_history.specs.Dues.{calls_from, calls_numbered, calls_told, caused_at, caused_of, drain_from, due_after, due_from, event_in, events_from, moves_drains, told_by, told_of, with_drains_of, with_events_from}
+use Rattle.bench_history.specs.Dues.{calls_from, calls_numbered, calls_told, caused_at, caused_of, drain_from, due_after, due_from, event_in, events_from, moves_drains, told_by, told_of, with_drains_of, with_events_from, lapsed_with}
 use Rattle.bench_history.specs.Next.{next_of, IsLegal}
 use Rattle.bench_history.specs.LegalLogs.{IsAtCause, IsCaused, call_time}
 use Rattle.bench_history.proofs.Grown.{plain-next}
@@ -68,6 +68,9 @@ module _ (P : Event → Type 0) where
   both-all (Granted node grant) before caused new old =
       let told = due_from (Some call.Grant) (who.Sequence grant.id node) (phase_begun before grant.id) (now_of before) (caused_at (length before)) in
       All-append P told caused (all-left told [] new) old
+  both-all (End phase) before caused new old =
+      let told = calls_numbered (now_of before) (length before) 0 (lapsed_with phase before) in
+      All-append P told caused (all-left told [] new) old
   both-all (Drained node origin) before caused new old = both-drains (Some origin.phase) (Drained node origin) before caused new old
   both-all entry before caused new old = old
 
@@ -110,6 +113,7 @@ placed-all (Did performer outcome act) before =
 placed-all (Passed fifo passage) before = All-append (IsPlaced (length before)) (due_from (Some (told_of passage.kind passage)) passage.who (Some passage.phase) (now_of before) (caused_at (length before))) [] (due-placed (Some (told_of passage.kind passage)) passage.who (Some passage.phase) (now_of before) (length before)) (All-nil (IsPlaced (length before)))
 placed-all (Locked node id) before = All-append (IsPlaced (length before)) _ [] (due-placed (Some call.Held) (who.Sequence id node) (phase_begun before id) (now_of before) (length before)) (All-nil (IsPlaced (length before)))
 placed-all (Granted node grant) before = All-append (IsPlaced (length before)) _ [] (due-placed (Some call.Grant) (who.Sequence grant.id node) (phase_begun before grant.id) (now_of before) (length before)) (All-nil (IsPlaced (length before)))
+placed-all (End phase) before = All-append (IsPlaced (length before)) (calls_numbered (now_of before) (length before) 0 (lapsed_with phase before)) [] (numbered-placed (now_of before) (length before) 0 (lapsed_with phase before)) (All-nil (IsPlaced (length before)))
 placed-all (Drained node origin) before = drains-placed (Some origin.phase) (Drained node origin) before
 placed-all entry before = All-nil (IsPlaced (length before))
 

@@ -25,20 +25,21 @@ use Rattle.uvm_object.specs.declared.entries.Entry.TheVariants.{Did, Locked}
 use Rattle.bench_script.specs.Scripts.{ScriptValue}
 use Rattle.bench_history.specs.declared.owners.Owner.{Owner}
 use Rattle.bench_history.specs.declared.stages.Stage.TheVariants.{Ended}
-use Rattle.bench_history.specs.History.{created_name, ended_of, kind_of, nodes_of, opening, speaker_of, stage_of}
+use Rattle.bench_history.specs.History.{created_name, ended_of, kind_of, nodes_of, opening, speaker_of, stage_of, in_progress}
 use Rattle.bench_history.specs.Wires.{node_below}
 use Rattle.bench_history.specs.Arbitration.{asked_in, mode_at, mode_in, modes_of}
 use Rattle.bench_history.specs.Sequences.{Beginning, begun_of, home_asked, if_sequencer, is_sequencer, sequences_of, start_by}
 use Rattle.bench_history.specs.Cases.{Next, Exactly, Grant, Nothing}
 use Rattle.bench_history.specs.Next.{next_of, EachIsNext, IsAct, IsNext}
-use Rattle.bench_history.specs.Laws.{ChosenAreThere, DriversAreThere, HasNotEnded, IsLiving, IsThere, LockersAreThere}
+use Rattle.bench_history.specs.Laws.{ChosenAreThere, DriversAreThere, HasNotEnded, IsLiving, IsThere, LockersAreThere, AsksAreInPhase, is_going}
 use Rattle.bench_history.proofs.Awaiting.{IsAsking, asking-of}
-use Rattle.bench_history.proofs.Phased.{running-open}
+use Rattle.bench_history.proofs.Phased.{phases_in_progress_are_open}
 use Rattle.bench_history.proofs.Ended.{nothing-comes}
 use Rattle.bench_history.proofs.Homes.{IsStarting, home-of, starting-next}
 use Rattle.bench_history.proofs.Living.{numbered-holds}
 use Rattle.bench_history.proofs.Performed.{grants_go_in_order, locks_go_in_order}
-use Rattle.bench_history.proofs.Called.{chosen-holds, drivers-known, hands-known, locking-holds, performers_are_there, queue-living}
+use Rattle.bench_history.proofs.Called.{chosen-holds, drivers-known, hands-known, locking-holds, performers_are_there, queue-living, askers-known}
+use Rattle.uvm_phase.specs.declared.phases.Phase.{Phase}
 
 -- the mode of the sequencer at a node
 abbrev found_in : List (ℕ × Mode) → ℕ → Option Mode
@@ -176,7 +177,10 @@ module _ (keeps : OrderKeepsAll Owner (Option Call)) (excludes : LockExcludes) w
   acts-go script history is ended = subst IsAct (nothing-comes script history ended) is
 
   asked-open : (script : ScriptValue) (history : List Entry) (node : ℕ) → EachIsNext script history → IsAsking history node → HasNotEnded (ended_of history) (asked_in history node)
-  asked-open script history node each asks = subst (HasNotEnded (ended_of history)) (sym asks.1) (running-open script history asks.0 each asks.2)
+  asked-open script history node each asks = subst (HasNotEnded (ended_of history)) (sym asks.1) (phases_in_progress_are_open script history asks.0 each asks.2)
+
+  going-on : (history : List Entry) (node : ℕ) → IsAsking history node → is_going (asked_in history node) (in_progress (stage_of history)) ≡ true
+  going-on history node asks = subst (λ (phase : Option Phase). is_going phase (in_progress (stage_of history)) ≡ true) (sym asks.1) asks.2
 
   -- and so it is where an act is next
   pub drivers_are_there : DriversAreThere
@@ -185,6 +189,12 @@ module _ (keeps : OrderKeepsAll Owner (Option Call)) (excludes : LockExcludes) w
     drivers = drivers-known keeps excludes script history each is;
     hands = hands-known keeps excludes script history each is;
     asks = λ node busy. asked-open script history node each (asking-of keeps excludes script history node each (acts-go script history is) busy);
+  }
+
+  pub asks_are_in_phase : AsksAreInPhase
+  asks_are_in_phase script history each on = record {
+    drivers = askers-known keeps excludes script history each on;
+    going = λ node busy. going-on history node (asking-of keeps excludes script history node each on busy);
   }
 
   -- who is granted a lock, or an item, lives

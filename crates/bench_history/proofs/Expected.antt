@@ -2,6 +2,7 @@
 use Rattle.std.proofs.Common.{◌≡◌, ℕ, ◌<◌, ◌==◌, ◌⊎◌, inl, inr, suc, Bool, true, false, not, ◌&&◌, filter, if◌then◌else◌, List, [], ◌∷◌, length, slice_get, Option, Some, None, option_and_then, IfSome, OnSome, refl, ap, ◌∙◌, sym, subst, arith, filter_map, option_map}
 use Rattle.std.specs.Option.{option_map_or}
 use Rattle.uvm_sequencer.specs.Drivers.{granted_by, hand_of}
+use Rattle.bench_history.specs.Objections.{objections_of}
 use Rattle.bench_history.specs.declared.askers.DriverPort.{DriverPort}
 use Rattle.bench_history.specs.Arbitration.{Wanted, all_wanted, driver_asker, driver_move, driver_state, sequence_on, wish_in, next_locked, sequencer_below}
 use Rattle.bench_history.proofs.Served.{HoldsOf, IsBy, driver_sequence, awaits, done-told, granted-kept, hand-sequence, lapse-told, sent-told}
@@ -45,7 +46,7 @@ use Rattle.bench_history.specs.declared.owners.Owner.{Owner}
 use Rattle.bench_history.specs.declared.owners.Owner.TheVariants.{Object, Drain}
 use Rattle.bench_history.specs.Objections.{objections_of}
 use Rattle.bench_history.specs.Owners.{Event, who_of, is_drain_of}
-use Rattle.bench_history.specs.History.{stage_of, now_of, nodes_of, components_of, left_of, left_after, rest_of, speaker_of, phase_order, called_of, had_call, next_call, opening, ended_of, act_phase, phase_heard, running}
+use Rattle.bench_history.specs.History.{stage_of, now_of, nodes_of, components_of, left_of, left_after, rest_of, speaker_of, phase_order, called_of, had_call, next_call, opening, ended_of, act_phase, phase_heard, in_progress}
 use Rattle.bench_history.specs.Wires.{wiring_of, closed_wiring}
 use Rattle.bench_history.specs.Ports.{is_imp_at, imps_below, outlets_below}
 use Rattle.bench_history.specs.Passing.{puts_asked, takes_asked, put_in, take_in, Request}
@@ -188,9 +189,9 @@ IsOneIn history who phase = IsComponent (components_of history) who × Stands hi
 abbrev pub IsDriver : List Entry → Who → Option Phase → Type 0
 IsDriver history who phase = IsComponent (components_of history) who × IsActing history phase
 
--- the phase of the acts runs
+-- the phase of the acts is in progress
 abbrev pub IsGoing : List Entry → Option Phase → Type 0
-IsGoing history acting = (phase : Phase) → acting ≡ Some phase → running (stage_of history) ≡ Some phase
+IsGoing history acting = (phase : Phase) → acting ≡ Some phase → list_any (same_phase phase) (in_progress (stage_of history)) ≡ true
 
 -- whoever waits for a call is expected, and whoever spoke last may act; who waits at a FIFO is a component, and who owns an imp; who waits for a sequencer
 -- is a sequence of it, as is the one that is granted or sent an item, and who drives it is a component
@@ -317,7 +318,7 @@ unfolding next_call
 turn-one history phase =
     let components = components_of history in
     least-holds (Contains components) (is_before (phase_order phase) (nodes_of history)) _
-    (All-filter (λ node. not (had_call (called_of history) node)) (Contains components) components (All-contains_itself components))
+    (All-filter (λ node. not (had_call (called_of phase history) node)) (Contains components) components (All-contains_itself components))
 
 -- what holds of each event holds of the one that is due
 first-of : (P : Event → Type 0) (dues : List Event) → All P dues → IfSome (slice_get dues 0) P
@@ -363,7 +364,7 @@ not-true true e = cc
 not-true false e = refl
 
 going-on : (history : List Entry) (phase : Phase) → Stands history phase → list_any (same_phase phase) (ended_of history) ≡ false → IsGoing history (Some phase)
-going-on history phase stands unended p same = runs-still history phase stands unended ∙ same
+going-on history phase stands unended p same = let at : phase ≡ p = cc in subst (λ (q : Phase). list_any (same_phase q) (in_progress (stage_of history)) ≡ true) at (runs-still history phase stands unended)
 
 open-speaker : (history : List Entry) (time : ℕ) (cause : Cause) (phase : Phase) (owner : Owner) (notice : Option Call) → IsExpected history phase (who_of owner) → open_now history (record { time = time; cause = cause; phase = phase; owner = owner; notice = notice }) ≡ true → IsSpeaker history (Some phase) (who_of owner) × IsGoing history (Some phase)
 open-speaker history time cause phase (Object (Node node)) notice has is =
@@ -399,7 +400,7 @@ module _ (keeps : OrderKeepsAll Owner (Option Call)) where
   asks-case script history next known (ByNeed act need made left upshot e) = subst (AsksOne history) (sym e) tt
   asks-case script history next known (ByDeed act outcome left plain comes e) = subst (AsksOne history) (sym e) tt
   asks-case script history next known (ByDue event call now is_call e) = subst (AsksOne history) (sym e) (asks-due history event call known.owners now is_call)
-  asks-case script history next known (ByTurn phase node during turn e) = subst (AsksOne history) (sym e) (subst (λ (found : Option ℕ). IfSome found (Contains (components_of history))) turn (turn-one history phase), λ p same. ap running during ∙ same)
+  asks-case script history next known (ByTurn phase node during turn e) = subst (AsksOne history) (sym e) (subst (λ (found : Option ℕ). IfSome found (Contains (components_of history))) turn (turn-one history phase), λ p same. let on : phase ≡ p = cc in subst (λ (q : Phase). list_any (same_phase q) (in_progress (stage_of history)) ≡ true) on during)
   asks-case script history next known (ByEnd phase runs e) = subst (AsksOne history) (sym e) tt
   asks-case script history next known (ByBegin phase may e) = subst (AsksOne history) (sym e) tt
   asks-case script history next known (ByGrant sequencer drawn served e) = subst (AsksOne history) (sym e) tt
@@ -550,7 +551,7 @@ wishes-by script before performer outcome act node next on (inl none) = inl none
 wishes-by script before performer outcome act node next on (inr speaks) = inr (wisher script before (Did performer outcome act) performer node next on speaks)
 
 -- what is told to who is expected is such a call
-abbrev IsTold : List Entry → Told → Type 0
+abbrev pub IsTold : List Entry → Told → Type 0
 IsTold history told = (p : Phase) → told.phase ≡ Some p → IsExpected history p told.who
 
 pub numbered-owners : (history : List Entry) (time place number : ℕ) (calls : List Told) → All (IsTold history) calls → All (IsCallTo history) (calls_numbered time place number calls)
@@ -618,10 +619,10 @@ started-owners script before performer id act next acting =
     }
 
 -- who hears what is caused in the phase that runs
-abbrev IsHearer : List Entry → Option Phase → Who → Type 0
+abbrev pub IsHearer : List Entry → Option Phase → Who → Type 0
 IsHearer history phase who = (p : Phase) → phase ≡ Some p → IsExpected history p who
 
-asker-hears : (history : List Entry) (asker : Option DriverPort) → IfSome asker (λ asker. IsDriver history asker.who asker.phase) → IfSome asker (λ asker. IsHearer history asker.phase asker.who)
+pub asker-hears : (history : List Entry) (asker : Option DriverPort) → IfSome asker (λ asker. IsDriver history asker.who asker.phase) → IfSome asker (λ asker. IsHearer history asker.phase asker.who)
 asker-hears history None has = tt
 asker-hears history (Some asker) has = λ p at. component-expected history p asker.who has.0 (has.1 p at)
 
@@ -785,7 +786,7 @@ pub expected-stands : (history : List Entry) (phase : Phase) (who : Who) → IsE
 expected-stands history phase (Node node) has = has.1
 expected-stands history phase (Sequence id home) s = s.stands
 
--- what goes on goes on still with an act
+-- what goes on goes on still, unless a phase begins or ends
 pub going-did : (script : ScriptValue) (before : List Entry) (performer : Who) (outcome : Outcome) (act : Act) → (left_of script before ≡ []) ⊎ IsGoing before (act_phase before) → (left_of script (Did performer outcome act ∷ before) ≡ []) ⊎ IsGoing (Did performer outcome act ∷ before) (act_phase before)
 going-did script before performer outcome act (inl none) = inl (left-none outcome (left_of script before) none)
 going-did script before performer outcome act (inr goes) = inr goes

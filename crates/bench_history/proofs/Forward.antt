@@ -23,7 +23,7 @@ use Rattle.uvm_object.specs.declared.acts.Act.TheVariants.{Wait, RaiseObjection,
 use Rattle.uvm_object.specs.declared.entries.Outcome.{Outcome}
 use Rattle.uvm_object.specs.declared.entries.Outcome.TheVariants.{Done}
 use Rattle.uvm_object.specs.declared.entries.Entry.{Entry}
-use Rattle.uvm_object.specs.declared.entries.Entry.TheVariants.{Time, Did, Drained, Granted, Locked, Passed}
+use Rattle.uvm_object.specs.declared.entries.Entry.TheVariants.{Time, Did, Drained, Granted, Locked, Passed, End}
 use Rattle.bench_script.specs.Scripts.{ScriptValue}
 use Rattle.bench_history.specs.declared.owners.Told.{Told}
 use Rattle.bench_history.specs.declared.owners.Owner.{Owner}
@@ -32,7 +32,7 @@ use Rattle.bench_history.specs.Owners.{Event, is_drain_of}
 use Rattle.bench_history.specs.History.{act_phase, ended_in, ended_of, now_of}
 use Rattle.bench_history.specs.Sequences.{finished_in, finished_of, phase_begun}
 use Rattle.bench_history.specs.Objections.{objections_of}
-use Rattle.bench_history.specs.Dues.{calls_from, calls_numbered, calls_told, caused_at, caused_of, drain_from, due_after, due_events, due_from, event_in, heard_in, heard_of, is_of_one, is_open, moves_drains, told_by, told_of, with_drains, with_drains_of}
+use Rattle.bench_history.specs.Dues.{calls_from, calls_numbered, calls_told, caused_at, caused_of, drain_from, due_after, due_events, due_from, event_in, heard_in, heard_of, is_of_one, is_open, moves_drains, told_by, told_of, with_drains, with_drains_of, lapsed_with}
 use Rattle.bench_history.specs.Next.{IsNext, EachIsNext}
 use Rattle.bench_history.specs.LegalLogs.{OnTime}
 use Rattle.bench_history.proofs.Caused.{calls_on_time}
@@ -163,6 +163,9 @@ module _ (goes : SettledGoByTotals) (held_are : BegunDrainsAreHeld) where
   ahead-more script before (Passed fifo passage) next are all = one-ahead (Passed fifo passage) before (Some passage.phase) (told_of passage.kind passage) passage.who refl all
   ahead-more script before (Locked node id) next are all = one-ahead (Locked node id) before (phase_begun before id) call.Held (who.Sequence id node) refl all
   ahead-more script before (Granted node grant) next are all = one-ahead (Granted node grant) before (phase_begun before grant.id) call.Grant (who.Sequence grant.id node) refl all
+  ahead-more script before (End phase) next are all =
+      All-append (IsOpenAhead (End phase ∷ before)) (calls_numbered (now_of before) (length before) 0 (lapsed_with phase before)) (caused_of before)
+      (new-ahead (End phase ∷ before) _ (numbered-ahead (now_of before) (length before) 0 (lapsed_with phase before))) (old-ahead (End phase) before (caused_of before) refl all)
   ahead-more script before (Drained node origin) next are all = with-ahead origin.phase (Drained node origin) before (released node (objections_of origin.phase before)) refl (released-is node (objections_of origin.phase before)) (rw (same-itself origin.phase) refl) (are origin.phase) all
   ahead-more script before (Time time) next are all = unfiltered (λ event. time ≤ event.time) (open_at before) (caused_of before) (passes-over script before time (time-next script before time next))
   ahead-more script before entry next are all = old-ahead entry before (caused_of before) refl all

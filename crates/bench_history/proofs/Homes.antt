@@ -22,11 +22,11 @@ use Rattle.uvm_object.specs.declared.entries.Entry.{Entry}
 use Rattle.uvm_object.specs.declared.entries.Entry.TheVariants.{Heard, Did}
 use Rattle.bench_script.specs.Scripts.{ScriptValue}
 use Rattle.bench_history.specs.declared.owners.Owner.{Owner}
-use Rattle.bench_history.specs.History.{nodes_of, opening, left_of, rest_of, speaker_of}
+use Rattle.bench_history.specs.History.{nodes_of, opening, left_of, rest_of, speaker_of, in_task}
 use Rattle.bench_history.specs.Wires.{node_below}
 use Rattle.bench_history.specs.Sequences.{Beginning, begun_of, home_asked, if_sequencer, is_sequencer, sequences_of, start_by}
 use Rattle.uvm_glob.specs.Paths.{path_fault}
-use Rattle.bench_history.specs.Refusals.{Starting, starting_refusal, in_task, is_none_at_all, sequence_named, sequence_made}
+use Rattle.bench_history.specs.Refusals.{Starting, starting_refusal, is_none_at_all, sequence_named, sequence_made}
 use Rattle.bench_history.specs.Upshots.{starting_now}
 use Rattle.bench_history.specs.Cases.{Next, Exactly, Answer, Need, Nothing}
 use Rattle.bench_history.specs.Next.{next_of, Allows, IsAct, IsNext, EachIsNext}

@@ -1,8 +1,8 @@
 -- Which case of the machine gives what comes next.
-use Rattle.std.proofs.Common.{◌≡◌, ℕ, Bool, true, false, List, [], ◌∷◌, length, nat_lt, Option, Some, None, option_map, refl, ap, subst, arith, ◌≤◌, ◌==◌, ◌&&◌, if◌then◌else◌}
+use Rattle.std.proofs.Common.{◌≡◌, ℕ, Bool, true, false, List, [], ◌∷◌, length, nat_lt, Option, Some, None, option_map, refl, ap, subst, arith, ◌≤◌, ◌==◌, if◌then◌else◌, map, ◌||◌}
 use Rattle.std.proofs.lemmas.Bool.Decides.{nat_tests}
 use Rattle.uvm_phase.specs.declared.phases.Phase.{Phase}
-use Rattle.uvm_phase.specs.Phases.{is_task}
+use Rattle.uvm_phase.specs.Phases.{is_runtime, same_phase}
 use Rattle.uvm_object.specs.declared.acts.Who.TheVariants as who
 use Rattle.uvm_object.specs.declared.acts.Call.{Call}
 use Rattle.uvm_object.specs.declared.acts.Call.TheVariants as call
@@ -18,20 +18,24 @@ use Rattle.uvm_object.specs.declared.entries.Passage.{Passage}
 use Rattle.uvm_object.specs.declared.entries.Entry.{Entry}
 use Rattle.uvm_object.specs.declared.entries.Entry.TheVariants.{Begin, End, Time, Heard, Did, Locked, Granted, Passed, Drained, Note, Over}
 use Rattle.bench_script.specs.Scripts.{ScriptValue}
+use Rattle.uvm_phase.specs.declared.phases.Phase.TheVariants.{Build, Run}
+use Rattle.std.specs.List.{All, list_any}
+use Rattle.std.proofs.lemmas.List.Elements.{All-nil, All-cons, All-head, All-tail}
+use Rattle.uvm_glob.specs.Lists.{first_given}
 use Rattle.bench_history.specs.declared.needs.Need as declared
 use Rattle.bench_history.specs.declared.stages.Stage.{Stage}
 use Rattle.bench_history.specs.declared.stages.Stage.TheVariants.{Before, During, After, Ended}
 use Rattle.bench_history.specs.Owners.{Event, who_of}
-use Rattle.bench_history.specs.Limits.{most_acts}
-use Rattle.bench_history.specs.History.{stage_of, now_of, running, next_call, left_of, rest_of, speaker_of}
+use Rattle.bench_history.specs.Limits.{most_acts, has_runtime}
+use Rattle.bench_history.specs.History.{stage_of, now_of, running, next_call, left_of, rest_of, speaker_of, in_progress}
 use Rattle.bench_history.specs.Reports.{reason_of}
-use Rattle.bench_history.specs.Objections.{objections_of, stands}
+use Rattle.bench_history.specs.Objections.{is_kept}
 use Rattle.bench_history.specs.Dues.{first_due, due_at, due_now}
 use Rattle.bench_history.specs.Wires.{next_unsound}
 use Rattle.bench_history.specs.Passing.{next_passed}
 use Rattle.bench_history.specs.Upshots.{Upshot, Needs, Does, Finds, Stores, Takes, Asks, Finishes, Refuses, upshot_of}
 use Rattle.bench_history.specs.Arbitration.{next_locked, next_served}
-use Rattle.bench_history.specs.Cases.{Next, Exactly, Answer, Need, Grant, Nothing, end_reached, giving_up, chosen_at, locking, serving, passing, first_act, by_upshot, by_act, by_call, event_due, phase_call, in_connect, port_check, phase_end, time_passes, phase_begin, phase_to_begin, finish, origin_of}
+use Rattle.bench_history.specs.Cases.{Next, Exactly, Answer, Need, Grant, Nothing, end_reached, giving_up, chosen_at, locking, serving, passing, first_act, by_upshot, by_act, by_call, event_due, phase_call, in_connect, port_check, phase_end, time_passes, phase_begin, phase_to_begin, finish, origin_of, turn_in}
 use Rattle.bench_history.specs.Next.{first_next, next_of}
 use Rattle.bench_history.specs.Laws.{IsDue, IsDrainDue}
 
@@ -42,10 +46,11 @@ pub record IsPassing (script : ScriptValue) (history : List Entry) (time : ℕ) 
   pub first : first_due history ≡ Some event
   pub time_is : event.time ≡ time
 
--- the phase that runs is at its end: it takes no time, or no objection stands
-pub record IsEnding (history : List Entry) (phase : Phase) : Type 0 where
-  pub runs : stage_of history ≡ During phase
-  pub quiet : is_task phase && stands (objections_of phase history) ≡ false
+-- the phase that was begun last is at its end: none begins, and no objection keeps it
+pub record IsEnding (script : ScriptValue) (history : List Entry) (phase : Phase) : Type 0 where
+  pub runs : running (stage_of history) ≡ Some phase
+  pub last : phase_to_begin (has_runtime script) (stage_of history) ≡ None
+  pub quiet : is_kept phase history ≡ false
 
 -- what the machine writes by itself, outside a phase's course: neither a mark, nor an answer, nor an act. Time passes to what is due, what
 -- passes is next to pass, and a drain that ends is due
@@ -80,24 +85,23 @@ pub data Case (script : ScriptValue) (history : List Entry) (next : Next) : Type
   ByGrant : (sequencer : ℕ) (drawn : Bool) → next_served history ≡ Some (sequencer, drawn) → next ≡ Grant sequencer drawn (chosen_at history sequencer) → Case script history next
   -- or a call is due
   ByDue : (event : Event) (call : Call) → due_now history ≡ Some event → event.notice ≡ Some call → next ≡ Answer (who_of event.owner) call (Some (origin_of event)) → Case script history next
-  -- or it is somebody's turn in the phase that runs
-  ByTurn : (phase : Phase) (node : ℕ) → stage_of history ≡ During phase → next_call phase history ≡ Some node → next ≡ Answer (who.Node node) (call.Phase phase) None → Case script history next
+  -- or it is somebody's turn in a phase in progress
+  ByTurn : (phase : Phase) (node : ℕ) → list_any (same_phase phase) (in_progress (stage_of history)) ≡ true → next_call phase history ≡ Some node → next ≡ Answer (who.Node node) (call.Phase phase) None → Case script history next
   -- or that phase ends
-  ByEnd : (phase : Phase) → IsEnding history phase → next ≡ Exactly (End phase) → Case script history next
+  ByEnd : (phase : Phase) → IsEnding script history phase → next ≡ Exactly (End phase) → Case script history next
   -- or a phase begins
-  ByBegin : (phase : Phase) → phase_to_begin (stage_of history) ≡ Some phase → next ≡ Exactly (Begin phase) → Case script history next
+  ByBegin : (phase : Phase) → phase_to_begin (has_runtime script) (stage_of history) ≡ Some phase → next ≡ Exactly (Begin phase) → Case script history next
 
--- the cases from the phases' course on
-abbrev phase_cases : ScriptValue → List Entry → Option Phase → List (Option Next)
-phase_cases script history phase = phase_call history phase ∷ port_check history phase ∷ phase_end script history phase ∷ phase_begin (phase_to_begin (stage_of history)) ∷ finish ∷ []
+-- the cases from the calls of phases on
+abbrev turn_cases : ScriptValue → List Entry → List Phase → Option Phase → List (Option Next)
+turn_cases script history going phase = phase_call history going ∷ port_check history phase ∷ phase_end script history phase ∷ finish ∷ []
+
+abbrev phase_cases : ScriptValue → List Entry → List (Option Next)
+phase_cases script history = phase_begin (phase_to_begin (has_runtime script) (stage_of history)) ∷ turn_cases script history (in_progress (stage_of history)) (running (stage_of history))
 
 -- and from the acts on
 abbrev act_cases : ScriptValue → List Entry → List (Option Next)
-act_cases script history = event_due (due_now history) ∷ phase_cases script history (running (stage_of history))
-
-case-begin : (script : ScriptValue) (history : List Entry) (next : Next) (begins : Option Phase) → phase_to_begin (stage_of history) ≡ begins → next ≡ first_next (phase_begin begins ∷ finish ∷ []) → Case script history next
-case-begin script history next (Some phase) is e = ByBegin phase is e
-case-begin script history next None is e = ByOwn (Over reason.Finished) tt e
+act_cases script history = event_due (due_now history) ∷ phase_cases script history
 
 -- where time would pass
 case-limit : (script : ScriptValue) (history : List Entry) (next : Next) (event : Event) (late : Bool) → first_due history ≡ Some event → nat_lt script.time_limit event.time ≡ late → next ≡ Exactly (if late then Note Timeout 0 else Time event.time) → Case script history next
@@ -109,30 +113,67 @@ case-time script history next None is e = ByOwn (Note Stall 0) tt e
 case-time script history next (Some event) is e = case-limit script history next event (nat_lt script.time_limit event.time) is refl e
 
 -- where no port is unsound
-case-ended : (script : ScriptValue) (history : List Entry) (next : Next) (phase : Phase) (standing : Bool) → stage_of history ≡ During phase → is_task phase && stands (objections_of phase history) ≡ standing → next ≡ Exactly (if standing then time_passes script.time_limit (first_due history) else End phase) → Case script history next
+case-ended :
+    (script : ScriptValue) (history : List Entry) (next : Next) (phase : Phase) (kept : Bool) → (running (stage_of history) ≡ Some phase) × (phase_to_begin (has_runtime script) (stage_of history) ≡ None) → is_kept phase history ≡ kept
+    → next ≡ Exactly (if kept then time_passes script.time_limit (first_due history) else End phase) → Case script history next
 case-ended script history next phase true runs is e = case-time script history next (first_due history) refl e
-case-ended script history next phase false runs is e = ByEnd phase (record { runs = runs; quiet = is }) e
+case-ended script history next phase false runs is e = ByEnd phase (record { runs = runs.0; last = runs.1; quiet = is }) e
 
 -- where each component had its call
-case-check : (script : ScriptValue) (history : List Entry) (next : Next) (phase : Phase) (connects : Bool) (port : Option (ℕ × Fatal)) → stage_of history ≡ During phase → next ≡ first_next ((if connects then option_map (λ port. Exactly (Note port.1 port.0)) port else None) ∷ phase_end script history (Some phase) ∷ phase_begin (phase_to_begin (stage_of history)) ∷ finish ∷ []) → Case script history next
+case-check :
+    (script : ScriptValue) (history : List Entry) (next : Next) (phase : Phase) (connects : Bool) (port : Option (ℕ × Fatal)) → (running (stage_of history) ≡ Some phase) × (phase_to_begin (has_runtime script) (stage_of history) ≡ None)
+    → next ≡ first_next ((if connects then option_map (λ port. Exactly (Note port.1 port.0)) port else None) ∷ phase_end script history (Some phase) ∷ finish ∷ []) → Case script history next
 case-check script history next phase true (Some port) runs e = ByOwn (Note port.1 port.0) tt e
-case-check script history next phase true None runs e = case-ended script history next phase (is_task phase && stands (objections_of phase history)) runs refl e
-case-check script history next phase false port runs e = case-ended script history next phase (is_task phase && stands (objections_of phase history)) runs refl e
+case-check script history next phase true None runs e = case-ended script history next phase (is_kept phase history) runs refl e
+case-check script history next phase false port runs e = case-ended script history next phase (is_kept phase history) runs refl e
 
-case-turn : (script : ScriptValue) (history : List Entry) (next : Next) (phase : Phase) (turn : Option ℕ) → stage_of history ≡ During phase → next_call phase history ≡ turn → next ≡ first_next (option_map (λ node. Answer (who.Node node) (call.Phase phase) None) turn ∷ port_check history (Some phase) ∷ phase_end script history (Some phase) ∷ phase_begin (phase_to_begin (stage_of history)) ∷ finish ∷ []) → Case script history next
-case-turn script history next phase (Some node) runs is e = ByTurn phase node runs is e
-case-turn script history next phase None runs is e = case-check script history next phase (in_connect (Some phase)) (next_unsound history) runs e
+case-running :
+    (script : ScriptValue) (history : List Entry) (next : Next) (phase : Option Phase) → running (stage_of history) ≡ phase → phase_to_begin (has_runtime script) (stage_of history) ≡ None
+    → next ≡ first_next (port_check history phase ∷ phase_end script history phase ∷ finish ∷ []) → Case script history next
+case-running script history next (Some phase) runs none e = case-check script history next phase (in_connect (Some phase)) (next_unsound history) (runs, none) e
+case-running script history next None runs none e = ByOwn (Over reason.Finished) tt e
 
--- a phase that runs is the stage
-runs-during : (stage : Stage) (phase : Phase) → running stage ≡ Some phase → stage ≡ During phase
-runs-during Before phase e = cc
-runs-during (During other) phase e = let same : other ≡ phase = cc in rw same refl
-runs-during (After other) phase e = cc
-runs-during Ended phase e = cc
+-- where a phase in progress may have a call left
+case-turns :
+    (script : ScriptValue) (history : List Entry) (next : Next) (others : List (Option Next)) (phases : List Phase) → All (λ phase. list_any (same_phase phase) (in_progress (stage_of history)) ≡ true) phases
+    → next ≡ first_next (first_given (map (turn_in history) phases) ∷ others) → (next ≡ first_next others → Case script history next) → Case script history next
+case-turns script history next others [] all e rest = rest e
+case-turns script history next others (phase ∷ phases) all e rest =
+    by (next_call phase history) refl e (λ e. case-turns script history next others phases (All-tail (λ phase. list_any (same_phase phase) (in_progress (stage_of history)) ≡ true) phase phases all) e rest)
+  where
+    More : Type 0
+    More = next ≡ first_next (first_given (map (turn_in history) phases) ∷ others) → Case script history next
 
-case-phase : (script : ScriptValue) (history : List Entry) (next : Next) (phase : Option Phase) → running (stage_of history) ≡ phase → next ≡ first_next (phase_cases script history phase) → Case script history next
-case-phase script history next (Some phase) runs e = case-turn script history next phase (next_call phase history) (runs-during (stage_of history) phase runs) refl e
-case-phase script history next None runs e = case-begin script history next (phase_to_begin (stage_of history)) refl e
+    by : (turn : Option ℕ) → next_call phase history ≡ turn → next ≡ first_next (first_given (option_map (λ node. Answer (who.Node node) (call.Phase phase) None) turn ∷ map (turn_in history) phases) ∷ others) → More → Case script history next
+    by (Some node) is e more = ByTurn phase node (All-head (λ phase. list_any (same_phase phase) (in_progress (stage_of history)) ≡ true) phase phases all) is e
+    by None is e more = more e
+
+any-itself : (phase : Phase) → same_phase phase phase ≡ true
+any-itself Build = refl
+any-itself phase = refl
+
+going-two : (runtime : Bool) (phase : Phase) → All (λ one. list_any (same_phase one) (if runtime then Run ∷ phase ∷ [] else phase ∷ []) ≡ true) (if runtime then Run ∷ phase ∷ [] else phase ∷ [])
+going-two true phase = All-cons (λ one. list_any (same_phase one) (Run ∷ phase ∷ []) ≡ true) Run (phase ∷ []) refl (All-cons (λ one. list_any (same_phase one) (Run ∷ phase ∷ []) ≡ true) phase [] (last (same_phase phase Run)) (All-nil _))
+  where
+    last : (b : Bool) → b || (same_phase phase phase || false) ≡ true
+    last true = refl
+    last false = rw any-itself refl
+going-two false phase = All-cons (λ one. list_any (same_phase one) (phase ∷ []) ≡ true) phase [] (rw any-itself refl) (All-nil _)
+
+going-one : (runtime : Bool) → All (λ one. list_any (same_phase one) (if runtime then Run ∷ [] else []) ≡ true) (if runtime then Run ∷ [] else [])
+going-one true = All-cons (λ one. list_any (same_phase one) (Run ∷ []) ≡ true) Run [] refl (All-nil _)
+going-one false = All-nil _
+
+all-going : (stage : Stage) → All (λ phase. list_any (same_phase phase) (in_progress stage) ≡ true) (in_progress stage)
+all-going Before = All-nil _
+all-going (During phase) = going-two (is_runtime phase) phase
+all-going (After phase) = going-one (is_runtime phase)
+all-going Ended = All-nil _
+
+case-phase : (script : ScriptValue) (history : List Entry) (next : Next) (begins : Option Phase) → phase_to_begin (has_runtime script) (stage_of history) ≡ begins → next ≡ first_next (phase_begin begins ∷ turn_cases script history (in_progress (stage_of history)) (running (stage_of history))) → Case script history next
+case-phase script history next (Some phase) is e = ByBegin phase is e
+case-phase script history next None is e =
+    case-turns script history next _ (in_progress (stage_of history)) (all-going (stage_of history)) e (case-running script history next (running (stage_of history)) refl is)
 
 -- an event that is due now is due first
 record IsFirst (now : ℕ) (first : Option Event) (event : Event) : Type 0 where
@@ -162,9 +203,9 @@ case-event script history next event None now is e =
     let I : Option Call → Type 0 = λ notice. IsDue history (who_of event.owner) notice (origin_of event) in
     ByOwn (Drained (node_of (who_of event.owner)) (origin_of event)) (record { hearer = who_of event.owner; stands = refl; due = subst I is (due-first history event now) }) e
 
-case-due : (script : ScriptValue) (history : List Entry) (next : Next) (due : Option Event) → due_now history ≡ due → next ≡ first_next (event_due due ∷ phase_cases script history (running (stage_of history))) → Case script history next
+case-due : (script : ScriptValue) (history : List Entry) (next : Next) (due : Option Event) → due_now history ≡ due → next ≡ first_next (event_due due ∷ phase_cases script history) → Case script history next
 case-due script history next (Some event) is e = case-event script history next event event.notice is refl e
-case-due script history next None is e = case-phase script history next (running (stage_of history)) refl e
+case-due script history next None is e = case-phase script history next (phase_to_begin (has_runtime script) (stage_of history)) refl e
 
 case-upshot : (script : ScriptValue) (history : List Entry) (next : Next) (act : Act) (upshot : Upshot) → left_of script history ≡ act ∷ rest_of (left_of script history) → upshot_of script history (speaker_of history) act ≡ upshot → next ≡ by_upshot (speaker_of history) act upshot → Case script history next
 case-upshot script history next act (Needs need made) left is e = ByNeed act need made left is e

@@ -1,12 +1,13 @@
 -- Which sequences live: those whose phase runs, and that have not finished.
-use Rattle.std.proofs.Common.{◌≡◌, ℕ, suc, ◌≤◌, ◌==◌, Bool, true, false, ◌||◌, List, [], ◌∷◌, length, nat_lt, Option, Some, None, option_map, refl, ap, ◌∙◌, sym, subst, arith, if◌then◌else◌}
+use Rattle.std.proofs.Common.{◌≡◌, ℕ, suc, ◌≤◌, ◌==◌, Bool, true, false, ◌||◌, List, [], ◌∷◌, length, nat_lt, Option, Some, None, option_map, refl, ap, ◌∙◌, sym, subst, arith, if◌then◌else◌, ◌⊎◌, inl, inr, ◌++◌}
 use Rattle.std.specs.List.{All, list_any}
 use Rattle.std.proofs.lemmas.Bool.Decides.{nat_tests}
 use Rattle.std.proofs.lemmas.List.Elements.{All-head, All-tail}
 use Rattle.uvm_phase.specs.declared.phases.Phase.{Phase}
-use Rattle.uvm_phase.specs.Phases.{same_phase}
+use Rattle.uvm_phase.specs.Phases.{same_phase, is_runtime}
 use Rattle.uvm_sequences.specs.Sequences.{numbered}
 use Rattle.uvm_tree.specs.Nodes.{Node}
+use Rattle.uvm_phase.specs.declared.phases.Phase.TheVariants.{Run, PreReset, Reset, PostReset, PreConfigure, Configure, PostConfigure, PreMain, Main, PostMain, PreShutdown, Shutdown, PostShutdown, Build, Connect, EndOfElaboration, StartOfSimulation, Extract, Check, Report, Final}
 use Rattle.uvm_object.specs.declared.acts.Who.{Who}
 use Rattle.uvm_object.specs.declared.acts.Who.TheVariants as who
 use Rattle.uvm_object.specs.Objects.{same_who}
@@ -22,8 +23,8 @@ use Rattle.uvm_object.specs.declared.entries.Entry.TheVariants.{Begin, End, Did,
 use Rattle.bench_script.specs.Scripts.{ScriptValue}
 use Rattle.bench_history.specs.declared.stages.Stage.{Stage}
 use Rattle.bench_history.specs.declared.stages.Stage.TheVariants.{Before, During, After, Ended}
-use Rattle.bench_history.specs.Limits.{most_acts}
-use Rattle.bench_history.specs.History.{stage_of, running, nodes_of, left_of, speaker_of, ended_of, act_phase}
+use Rattle.bench_history.specs.Limits.{most_acts, has_runtime}
+use Rattle.bench_history.specs.History.{stage_of, running, nodes_of, left_of, speaker_of, ended_of, act_phase, in_progress}
 use Rattle.bench_history.specs.Reports.{reason_of}
 use Rattle.bench_history.specs.Sequences.{Beginning, begun_after, begun_of, finished_of, is_live}
 use Rattle.bench_history.specs.Passing.{next_passed}
@@ -31,7 +32,7 @@ use Rattle.bench_history.specs.Arbitration.{next_locked, next_served}
 use Rattle.bench_history.specs.Upshots.{Upshot, Needs, Does, Finds, Stores, Takes, Finishes, Refuses, upshot_of, Asks}
 use Rattle.bench_history.specs.Cases.{Next, Exactly, end_reached, giving_up, locking, serving, passing, long_answer, first_act, by_upshot, phase_to_begin}
 use Rattle.bench_history.specs.Next.{first_next, next_of, IsNext}
-use Rattle.bench_history.specs.Laws.{IsLiving}
+use Rattle.bench_history.specs.Laws.{IsLiving, PhasesBeginBehind}
 use Rattle.bench_history.proofs.Inversion.{IsOwn, Case, AtEnd, ByOwn, ByNeed, ByDeed, ByDue, ByTurn, ByEnd, ByBegin, ByGrant, case-of}
 use Rattle.bench_history.proofs.Phased.{begin-alone, end-alone, end-case}
 
@@ -148,8 +149,8 @@ begin-left script history phase next = mark-left script history (subst IsMarkNex
 pub end-left : (script : ScriptValue) (history : List Entry) (phase : Phase) → IsNext script history (End phase) → left_of script history ≡ []
 end-left script history phase next = mark-left script history (subst IsMarkNext (sym (end-alone phase (next_of script history) next)) tt)
 
--- a phase begins where none runs
-begins-case : (script : ScriptValue) (history : List Entry) (phase : Phase) (next : Next) → next ≡ Exactly (Begin phase) → Case script history next → phase_to_begin (stage_of history) ≡ Some phase
+-- a phase begins that may begin next
+begins-case : (script : ScriptValue) (history : List Entry) (phase : Phase) (next : Next) → next ≡ Exactly (Begin phase) → Case script history next → phase_to_begin (has_runtime script) (stage_of history) ≡ Some phase
 begins-case script history phase next is (AtEnd over e) = cc
 begins-case script history phase next is (ByOwn entry own e) = let same : entry ≡ Begin phase = cc in absurd (subst (IsOwn script history) same own)
 begins-case script history phase next is (ByNeed act need made left upshot e) = cc
@@ -157,45 +158,124 @@ begins-case script history phase next is (ByDeed act outcome left plain comes e)
 begins-case script history phase next is (ByDue event call now is_call e) = cc
 begins-case script history phase next is (ByTurn running node during turn e) = cc
 begins-case script history phase next is (ByEnd running runs e) = cc
-begins-case script history phase next is (ByBegin begins may e) = let same : begins ≡ phase = cc in subst (λ (p : Phase). phase_to_begin (stage_of history) ≡ Some p) same may
+begins-case script history phase next is (ByBegin begins may e) = let same : begins ≡ phase = cc in subst (λ (p : Phase). phase_to_begin (has_runtime script) (stage_of history) ≡ Some p) same may
 begins-case script history phase next is (ByGrant sequencer drawn served e) = cc
 
-none-runs : (stage : Stage) (phase other : Phase) → phase_to_begin stage ≡ Some other → running stage ≡ Some phase → ⊥
-none-runs Before phase other begins runs = cc
-none-runs (During running) phase other begins runs = cc
-none-runs (After last) phase other begins runs = cc
-none-runs Ended phase other begins runs = cc
+add-last : (a b : Bool) → a || false ≡ true → a || (b || false) ≡ true
+add-last true b e = refl
+add-last false b e = cc
 
--- so that none runs where one begins
-pub begin-runs : (script : ScriptValue) (history : List Entry) (phase other : Phase) → IsNext script history (Begin phase) → running (stage_of history) ≡ Some other → ⊥
-begin-runs script history phase other next runs = none-runs (stage_of history) other phase (begins-case script history phase (next_of script history) (begin-alone phase (next_of script history) next) (case-of script history)) runs
+-- those in progress stay so where one begins
+begin-keeps : (runtime : Bool) (stage : Stage) (other phase : Phase) → phase_to_begin runtime stage ≡ Some other → list_any (same_phase phase) (in_progress stage) ≡ true → list_any (same_phase phase) (in_progress (During other)) ≡ true
+begin-keeps runtime Before other phase b r = cc
+begin-keeps true (During Run) other phase b r = let same : PreReset ≡ other = cc in rw (← same) (add-last (same_phase phase Run) (same_phase phase PreReset) r)
+begin-keeps false (During Run) other phase b r = cc
+begin-keeps runtime (During last) other phase b r = cc
+begin-keeps runtime (After PreReset) other phase b r = let same : Reset ≡ other = cc in rw (← same) (add-last (same_phase phase Run) (same_phase phase Reset) r)
+begin-keeps runtime (After Reset) other phase b r = let same : PostReset ≡ other = cc in rw (← same) (add-last (same_phase phase Run) (same_phase phase PostReset) r)
+begin-keeps runtime (After PostReset) other phase b r = let same : PreConfigure ≡ other = cc in rw (← same) (add-last (same_phase phase Run) (same_phase phase PreConfigure) r)
+begin-keeps runtime (After PreConfigure) other phase b r = let same : Configure ≡ other = cc in rw (← same) (add-last (same_phase phase Run) (same_phase phase Configure) r)
+begin-keeps runtime (After Configure) other phase b r = let same : PostConfigure ≡ other = cc in rw (← same) (add-last (same_phase phase Run) (same_phase phase PostConfigure) r)
+begin-keeps runtime (After PostConfigure) other phase b r = let same : PreMain ≡ other = cc in rw (← same) (add-last (same_phase phase Run) (same_phase phase PreMain) r)
+begin-keeps runtime (After PreMain) other phase b r = let same : Main ≡ other = cc in rw (← same) (add-last (same_phase phase Run) (same_phase phase Main) r)
+begin-keeps runtime (After Main) other phase b r = let same : PostMain ≡ other = cc in rw (← same) (add-last (same_phase phase Run) (same_phase phase PostMain) r)
+begin-keeps runtime (After PostMain) other phase b r = let same : PreShutdown ≡ other = cc in rw (← same) (add-last (same_phase phase Run) (same_phase phase PreShutdown) r)
+begin-keeps runtime (After PreShutdown) other phase b r = let same : Shutdown ≡ other = cc in rw (← same) (add-last (same_phase phase Run) (same_phase phase Shutdown) r)
+begin-keeps runtime (After Shutdown) other phase b r = let same : PostShutdown ≡ other = cc in rw (← same) (add-last (same_phase phase Run) (same_phase phase PostShutdown) r)
+begin-keeps runtime (After last) other phase b r = cc
+begin-keeps runtime Ended other phase b r = cc
+
+-- one that begins goes beside those in progress, behind them
+begins-behind : (runtime : Bool) (stage : Stage) (phase : Phase) → phase_to_begin runtime stage ≡ Some phase → in_progress (During phase) ≡ in_progress stage ++ phase ∷ []
+begins-behind runtime Before phase b = let same : Build ≡ phase = cc in rw (← same) refl
+begins-behind true (During Run) phase b = let same : PreReset ≡ phase = cc in rw (← same) refl
+begins-behind false (During Run) phase b = cc
+begins-behind runtime (During last) phase b = cc
+begins-behind runtime (After Build) phase b = let same : Connect ≡ phase = cc in rw (← same) refl
+begins-behind runtime (After Connect) phase b = let same : EndOfElaboration ≡ phase = cc in rw (← same) refl
+begins-behind runtime (After EndOfElaboration) phase b = let same : StartOfSimulation ≡ phase = cc in rw (← same) refl
+begins-behind runtime (After StartOfSimulation) phase b = let same : Run ≡ phase = cc in rw (← same) refl
+begins-behind runtime (After Run) phase b = let same : Extract ≡ phase = cc in rw (← same) refl
+begins-behind runtime (After Extract) phase b = let same : Check ≡ phase = cc in rw (← same) refl
+begins-behind runtime (After Check) phase b = let same : Report ≡ phase = cc in rw (← same) refl
+begins-behind runtime (After Report) phase b = let same : Final ≡ phase = cc in rw (← same) refl
+begins-behind runtime (After PreReset) phase b = let same : Reset ≡ phase = cc in rw (← same) refl
+begins-behind runtime (After Reset) phase b = let same : PostReset ≡ phase = cc in rw (← same) refl
+begins-behind runtime (After PostReset) phase b = let same : PreConfigure ≡ phase = cc in rw (← same) refl
+begins-behind runtime (After PreConfigure) phase b = let same : Configure ≡ phase = cc in rw (← same) refl
+begins-behind runtime (After Configure) phase b = let same : PostConfigure ≡ phase = cc in rw (← same) refl
+begins-behind runtime (After PostConfigure) phase b = let same : PreMain ≡ phase = cc in rw (← same) refl
+begins-behind runtime (After PreMain) phase b = let same : Main ≡ phase = cc in rw (← same) refl
+begins-behind runtime (After Main) phase b = let same : PostMain ≡ phase = cc in rw (← same) refl
+begins-behind runtime (After PostMain) phase b = let same : PreShutdown ≡ phase = cc in rw (← same) refl
+begins-behind runtime (After PreShutdown) phase b = let same : Shutdown ≡ phase = cc in rw (← same) refl
+begins-behind runtime (After Shutdown) phase b = let same : PostShutdown ≡ phase = cc in rw (← same) refl
+begins-behind runtime (After Final) phase b = cc
+begins-behind runtime (After PostShutdown) phase b = cc
+begins-behind runtime Ended phase b = cc
+
+pub phases_begin_behind : PhasesBeginBehind
+phases_begin_behind script history phase is = begins-behind (has_runtime script) (stage_of history) phase (begins-case script history phase (next_of script history) is (case-of script history))
+
+-- and where one ends, but for that one
+split-last : (a b : Bool) → a || (b || false) ≡ true → (a || false ≡ true) ⊎ (b ≡ true)
+split-last true b e = inl refl
+split-last false true e = inr refl
+split-last false false e = cc
+
+split-one : (a : Bool) → a || false ≡ true → a ≡ true
+split-one true e = refl
+split-one false e = cc
+
+two-end : (b : Bool) (other phase : Phase) → list_any (same_phase phase) (if b then Run ∷ other ∷ [] else other ∷ []) ≡ true → (list_any (same_phase phase) (if b then Run ∷ [] else []) ≡ true) ⊎ (same_phase phase other ≡ true)
+two-end true other phase e = split-last (same_phase phase Run) (same_phase phase other) e
+two-end false other phase e = inr (split-one (same_phase phase other) e)
+
+one-ends : (b : Bool) (other phase : Phase) → (if b then Some Run else None) ≡ Some other → list_any (same_phase phase) (if b then Run ∷ [] else []) ≡ true → same_phase phase other ≡ true
+one-ends true other phase runs e = let same : Run ≡ other = cc in rw (← same) (split-one (same_phase phase Run) e)
+one-ends false other phase runs e = cc
+
+end-keeps : (stage : Stage) (other phase : Phase) → running stage ≡ Some other → list_any (same_phase phase) (in_progress stage) ≡ true → (list_any (same_phase phase) (in_progress (After other)) ≡ true) ⊎ (same_phase phase other ≡ true)
+end-keeps Before other phase runs e = cc
+end-keeps (During last) other phase runs e = let same : last ≡ other = cc in subst (λ (p : Phase). (list_any (same_phase phase) (in_progress (After p)) ≡ true) ⊎ (same_phase phase p ≡ true)) same (two-end (is_runtime last) last phase e)
+end-keeps (After last) other phase runs e = inr (one-ends (is_runtime last) other phase runs e)
+end-keeps Ended other phase runs e = cc
 
 pub same-itself : (phase : Phase) → same_phase phase phase ≡ true
 same-itself phase = grind (arith, nat_tests)
 
--- a phase runs, or has ended
+-- a phase is in progress, or has ended
 pub data Stands (history : List Entry) (phase : Phase) : Type 0 where
-  Runs : running (stage_of history) ≡ Some phase → Stands history phase
+  Runs : list_any (same_phase phase) (in_progress (stage_of history)) ≡ true → Stands history phase
   HasEnded : list_any (same_phase phase) (ended_of history) ≡ true → Stands history phase
 
 any-more : (b c : Bool) → c ≡ true → b || c ≡ true
 any-more true c e = refl
 any-more false c e = e
 
+-- so where one begins, those in progress go on
+pub begin-going : (script : ScriptValue) (before : List Entry) (other phase : Phase) → IsNext script before (Begin other) → list_any (same_phase phase) (in_progress (stage_of before)) ≡ true → list_any (same_phase phase) (in_progress (During other)) ≡ true
+begin-going script before other phase next goes = begin-keeps (has_runtime script) (stage_of before) other phase (begins-case script before other (next_of script before) (begin-alone other (next_of script before) next) (case-of script before)) goes
+
+-- and where one ends, all but that one
+pub end-going : (script : ScriptValue) (before : List Entry) (other phase : Phase) → IsNext script before (End other) → list_any (same_phase phase) (in_progress (stage_of before)) ≡ true → (list_any (same_phase phase) (in_progress (After other)) ≡ true) ⊎ (same_phase phase other ≡ true)
+end-going script before other phase next goes = end-keeps (stage_of before) other phase (end-case script before other (next_of script before) (end-alone other (next_of script before) next) (case-of script before)).0 goes
+
 stands-begun : (script : ScriptValue) (before : List Entry) (other phase : Phase) → IsNext script before (Begin other) → Stands before phase → Stands (Begin other ∷ before) phase
-stands-begun script before other phase next (Runs runs) = absurd (none-runs (stage_of before) phase other (begins-case script before other (next_of script before) (begin-alone other (next_of script before) next) (case-of script before)) runs)
+stands-begun script before other phase next (Runs runs) = Runs (begin-going script before other phase next runs)
 stands-begun script before other phase next (HasEnded ended) = HasEnded ended
 
 stands-ended : (script : ScriptValue) (before : List Entry) (other phase : Phase) → IsNext script before (End other) → Stands before phase → Stands (End other ∷ before) phase
 stands-ended script before other phase next (Runs runs) =
-    let during = end-case script before other (next_of script before) (end-alone other (next_of script before) next) (case-of script before) in
-    let at : Some other ≡ Some phase = ap running (sym during) ∙ runs in
-    let same : other ≡ phase = cc in
-    HasEnded (subst (λ (p : Phase). same_phase phase p || list_any (same_phase phase) (ended_of before) ≡ true) (sym same) (rw same-itself refl))
+    by (end-going script before other phase next runs)
+  where
+    by : (list_any (same_phase phase) (in_progress (After other)) ≡ true) ⊎ (same_phase phase other ≡ true) → Stands (End other ∷ before) phase
+    by (inl on) = Runs on
+    by (inr same) = HasEnded (rw same refl)
 stands-ended script before other phase next (HasEnded ended) = HasEnded (any-more (same_phase phase other) _ ended)
 
-stays : (entry : Entry) (before : List Entry) (phase : Phase) → running (stage_of (entry ∷ before)) ≡ running (stage_of before) → ended_of (entry ∷ before) ≡ ended_of before → Stands before phase → Stands (entry ∷ before) phase
-stays entry before phase same ended (Runs runs) = Runs (same ∙ runs)
+stays : (entry : Entry) (before : List Entry) (phase : Phase) → stage_of (entry ∷ before) ≡ stage_of before → ended_of (entry ∷ before) ≡ ended_of before → Stands before phase → Stands (entry ∷ before) phase
+stays entry before phase same ended (Runs runs) = Runs (ap (λ (stage : Stage). list_any (same_phase phase) (in_progress stage)) same ∙ runs)
 stays entry before phase same ended (HasEnded has) = HasEnded (ap (list_any (same_phase phase)) ended ∙ has)
 
 -- this stays, whatever comes next but the end of the run
@@ -231,6 +311,6 @@ living-of history phase id home s unfinished unended = record {
 }
 
 -- a phase that runs or has ended runs, if it has not ended
-pub runs-still : (history : List Entry) (phase : Phase) → Stands history phase → list_any (same_phase phase) (ended_of history) ≡ false → running (stage_of history) ≡ Some phase
+pub runs-still : (history : List Entry) (phase : Phase) → Stands history phase → list_any (same_phase phase) (ended_of history) ≡ false → list_any (same_phase phase) (in_progress (stage_of history)) ≡ true
 runs-still history phase (Runs runs) unended = runs
 runs-still history phase (HasEnded ended) unended = cc

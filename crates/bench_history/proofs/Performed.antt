@@ -1,7 +1,6 @@
 -- Where an act, or a call that is due, is what comes next.
 use Rattle.std.proofs.Common.{◌≡◌, ℕ, List, ◌∷◌, Option, Some, None, refl, ap, sym, ◌∙◌, subst, Bool, false, IfSome}
 use Rattle.std.specs.List.{list_any}
-use Rattle.uvm_phase.specs.declared.phases.Phase.{Phase}
 use Rattle.uvm_phase.specs.Phases.{same_phase}
 use Rattle.uvm_object.specs.Acts.{node_of}
 use Rattle.uvm_object.specs.declared.acts.Who.{Who}
@@ -12,9 +11,10 @@ use Rattle.uvm_object.specs.declared.acts.Act.{Act}
 use Rattle.uvm_object.specs.declared.entries.Passage.{Passage}
 use Rattle.uvm_object.specs.declared.entries.Reason.{Reason}
 use Rattle.uvm_object.specs.declared.entries.Entry.{Entry}
-use Rattle.uvm_object.specs.declared.entries.Entry.TheVariants.{End, Did, Locked, Passed, Drained}
+use Rattle.uvm_object.specs.declared.entries.Entry.TheVariants.{Did, Locked, Passed, Drained}
 use Rattle.uvm_object.specs.declared.entries.Origin.{Origin}
 use Rattle.bench_script.specs.Scripts.{ScriptValue}
+use Rattle.bench_history.proofs.Phased.{end-case}
 use Rattle.bench_history.specs.Owners.{who_of}
 use Rattle.bench_history.specs.declared.stages.Stage.{Stage}
 use Rattle.bench_history.specs.declared.stages.Stage.TheVariants.{Before, During, After, Ended}
@@ -24,7 +24,7 @@ use Rattle.bench_history.specs.Passing.{next_passed}
 use Rattle.bench_history.specs.Arbitration.{next_locked, next_served}
 use Rattle.bench_history.specs.Cases.{Next, Exactly, Answer, Grant, chosen_at, end_reached, giving_up, locking, serving, passing, by_upshot, origin_of}
 use Rattle.bench_history.specs.Next.{first_next, next_of, IsAct}
-use Rattle.bench_history.specs.Laws.{IsDrainDue, IsDue, IsFirstAct, IsServing, IsSettled, HasTurn, ActsGoInOrder, CallsGoInTurn, GrantsGoInOrder, LocksGoInOrder, PassagesGoInOrder, PassagesAreInPhase, RunningPhasesEnd, DueCallsGoInOrder, DrainsGoInOrder}
+use Rattle.bench_history.specs.Laws.{IsDrainDue, IsDue, IsFirstAct, IsServing, IsSettled, HasTurn, ActsGoInOrder, CallsGoInTurn, GrantsGoInOrder, LocksGoInOrder, PassagesGoInOrder, PassagesAreInPhase, RunningPhasesEnd, DueCallsGoInOrder, DrainsGoInOrder, AnswersAreSettled}
 use Rattle.bench_history.proofs.Asking.{passing-open}
 use Rattle.bench_history.proofs.Inversion.{IsOwn, Case, AtEnd, ByOwn, ByNeed, ByDeed, ByDue, ByTurn, ByEnd, ByBegin, ByGrant, case-of, due-first}
 
@@ -37,7 +37,16 @@ no-own script history entry own is = is
 abbrev AreNone : Option (ℕ × ℕ) → Option (ℕ × Bool) → Option (ℕ × Passage) → Type 0
 AreNone led served passed = (led ≡ None) × (served ≡ None) × (passed ≡ None)
 
-settled-led : (history : List Entry) (led : Option (ℕ × ℕ)) (served : Option (ℕ × Bool)) (passed : Option (ℕ × Passage)) (others : List (Option Next)) → IsAct (first_next (locking led ∷ serving history served ∷ passing passed ∷ others)) → AreNone led served passed
+-- what comes once nothing passes and nothing is granted: an answer, or an act
+abbrev IsLate : Next → Type 0
+IsLate (Answer performer call origin) = Unit {0}
+IsLate next = IsAct next
+
+late-act : (next : Next) → IsAct next → IsLate next
+late-act (Answer performer call origin) is = tt
+late-act next is = is
+
+settled-led : (history : List Entry) (led : Option (ℕ × ℕ)) (served : Option (ℕ × Bool)) (passed : Option (ℕ × Passage)) (others : List (Option Next)) → IsLate (first_next (locking led ∷ serving history served ∷ passing passed ∷ others)) → AreNone led served passed
 settled-led history (Some one) served passed others is = absurd is
 settled-led history None (Some one) passed others is = absurd is
 settled-led history None None (Some passed) others is = absurd is
@@ -45,23 +54,29 @@ settled-led history None None None others is = (refl, refl, refl)
 
 settled-given :
     (history : List Entry) (reason : Option Reason) (led : Option (ℕ × ℕ)) (served : Option (ℕ × Bool)) (passed : Option (ℕ × Passage)) (others : List (Option Next))
-    → IsAct (first_next (giving_up reason ∷ locking led ∷ serving history served ∷ passing passed ∷ others)) → AreNone led served passed
+    → IsLate (first_next (giving_up reason ∷ locking led ∷ serving history served ∷ passing passed ∷ others)) → AreNone led served passed
 settled-given history (Some reason) led served passed others is = absurd is
 settled-given history None led served passed others is = settled-led history led served passed others is
 
 settled-after :
     (history : List Entry) (stage : Stage) (reason : Option Reason) (led : Option (ℕ × ℕ)) (served : Option (ℕ × Bool)) (passed : Option (ℕ × Passage)) (others : List (Option Next))
-    → IsAct (first_next (end_reached stage ∷ giving_up reason ∷ locking led ∷ serving history served ∷ passing passed ∷ others)) → AreNone led served passed
+    → IsLate (first_next (end_reached stage ∷ giving_up reason ∷ locking led ∷ serving history served ∷ passing passed ∷ others)) → AreNone led served passed
 settled-after history Ended reason led served passed others is = absurd is
 settled-after history Before reason led served passed others is = settled-given history reason led served passed others is
 settled-after history (During phase) reason led served passed others is = settled-given history reason led served passed others is
 settled-after history (After phase) reason led served passed others is = settled-given history reason led served passed others is
 
-pub settled-of : (script : ScriptValue) (history : List Entry) → IsAct (next_of script history) → IsSettled history
+late-settled : (script : ScriptValue) (history : List Entry) → IsLate (next_of script history) → IsSettled history
 unfolding next_of
-settled-of script history is =
+late-settled script history is =
     let none = settled-after history (stage_of history) (reason_of script history) (next_locked history) (next_served history) (next_passed history) _ is in
     record { unlocked = none.0; unserved = none.1; unpassed = none.2 }
+
+pub settled-of : (script : ScriptValue) (history : List Entry) → IsAct (next_of script history) → IsSettled history
+settled-of script history is = late-settled script history (late-act (next_of script history) is)
+
+pub answers_are_settled : AnswersAreSettled
+answers_are_settled script history hearer call origin asks = late-settled script history (subst IsLate (sym asks) tt)
 
 act-case : (script : ScriptValue) (history : List Entry) (next : Next) → next_of script history ≡ next → IsAct next → Case script history next → (act : Act) × IsFirstAct script history act
 act-case script history next is did (AtEnd ended e) = absurd (subst IsAct e did)
@@ -97,7 +112,7 @@ due-case script history hearer call origin next asks (ByGrant sequencer drawn se
 pub due_calls_go_in_order : DueCallsGoInOrder
 due_calls_go_in_order script history hearer call origin asks = due-case script history hearer call origin _ asks (case-of script history)
 
-turn-case : (script : ScriptValue) (history : List Entry) (hearer : Who) (call : Call) (next : Next) → next ≡ Answer hearer call None → Case script history next → HasTurn history hearer
+turn-case : (script : ScriptValue) (history : List Entry) (hearer : Who) (call : Call) (next : Next) → next ≡ Answer hearer call None → Case script history next → HasTurn history hearer call
 turn-case script history hearer call next asks (AtEnd ended e) = cc
 turn-case script history hearer call next asks (ByOwn entry own e) = cc
 turn-case script history hearer call next asks (ByNeed act need made left is e) = cc
@@ -106,7 +121,8 @@ turn-case script history hearer call next asks (ByDue event heard now is e) = cc
 turn-case script history hearer call next asks (ByTurn phase node during turn e) =
     let same : Answer (who.Node node) (calls.Phase phase) None ≡ Answer hearer call None = sym e ∙ asks in
     let hearer_is : who.Node node ≡ hearer = cc in
-    record { phase = phase; runs = during; next = turn ∙ ap (λ w. Some (node_of w)) hearer_is }
+    let call_is : call ≡ calls.Phase phase = cc in
+    record { phase = phase; call_is = call_is; going = during; next = turn ∙ ap (λ w. Some (node_of w)) hearer_is }
 turn-case script history hearer call next asks (ByEnd phase runs e) = cc
 turn-case script history hearer call next asks (ByBegin phase may e) = cc
 turn-case script history hearer call next asks (ByGrant sequencer drawn served e) = cc
@@ -180,17 +196,6 @@ serving-case script history node drawn chosen next is (ByGrant sequencer word se
 pub grants_go_in_order : GrantsGoInOrder
 grants_go_in_order script history node drawn chosen is = serving-case script history node drawn chosen _ is (case-of script history)
 
--- the phase that ends is the one that runs
-end-case : (script : ScriptValue) (history : List Entry) (phase : Phase) (next : Next) → next ≡ Exactly (End phase) → Case script history next → stage_of history ≡ During phase
-end-case script history phase next is (AtEnd ended e) = cc
-end-case script history phase next is (ByOwn entry own e) = let same : entry ≡ End phase = cc in absurd (subst (IsOwn script history) same own)
-end-case script history phase next is (ByNeed act need made left upshot e) = cc
-end-case script history phase next is (ByDeed act outcome left plain comes e) = cc
-end-case script history phase next is (ByDue event call now is_call e) = cc
-end-case script history phase next is (ByTurn other node during turn e) = cc
-end-case script history phase next is (ByEnd other runs e) = let same : other ≡ phase = cc in subst (λ (p : Phase). stage_of history ≡ During p) same runs.runs
-end-case script history phase next is (ByBegin other may e) = cc
-end-case script history phase next is (ByGrant sequencer word served e) = cc
-
+-- the phase that ends is the one that was begun last, of those in progress
 pub running_phases_end : RunningPhasesEnd
-running_phases_end script history phase is = end-case script history phase _ is (case-of script history)
+running_phases_end script history phase is = (end-case script history phase _ is (case-of script history)).0

@@ -1,73 +1,88 @@
 -- The phases go in their order.
-use Rattle.std.proofs.Common.{◌≡◌, ℕ, ◌+◌, ◌<◌, ◌≤◌, true, false, not, List, [], ◌∷◌, reverse, take, Some, inl, inr, refl, ap, ◌∙◌, sym, subst, arith}
-use Rattle.std.specs.List.{All, list_any}
+use Rattle.std.proofs.Common.{◌≡◌, ◌||◌, ◌==◌, ◌⊎◌, ℕ, ◌+◌, ◌<◌, ◌≤◌, true, false, List, [], ◌∷◌, reverse, take, Some, inl, inr, refl, ap, ◌∙◌, subst, arith, Bool, None, filter}
+use Rattle.std.specs.List.{list_any}
 use Rattle.std.proofs.lemmas.Bool.Decides.{nat_tests}
-use Rattle.std.proofs.lemmas.List.Folds.{list_any_none}
 use Rattle.std.proofs.lemmas.List.Elements.{All-nil, All-cons, All-weaker}
 use Rattle.uvm_phase.specs.declared.phases.Phase.{Phase}
-use Rattle.uvm_phase.specs.declared.phases.Phase.TheVariants.{Build, Connect, EndOfElaboration, StartOfSimulation, Run, Extract, Check, Report, Final}
-use Rattle.uvm_phase.specs.Phases.{common_phases, is_runtime, phase_number, phase_after, same_phase}
+use Rattle.uvm_phase.specs.declared.phases.Phase.TheVariants.{Build, Connect, EndOfElaboration, StartOfSimulation, Run, Extract, Check, Report, Final, PreReset, Reset, PostReset, PreConfigure, Configure, PostConfigure, PreMain, Main, PostMain, PreShutdown, Shutdown, PostShutdown}
+use Rattle.uvm_phase.specs.Phases.{phase_number, same_phase}
 use Rattle.uvm_object.specs.declared.entries.Entry.{Entry}
 use Rattle.uvm_object.specs.declared.entries.Entry.TheVariants.{Begin, End, Over, Granted}
 use Rattle.bench_script.specs.Scripts.{ScriptValue}
+use Rattle.bench_history.specs.Limits.{has_runtime}
 use Rattle.bench_history.specs.declared.stages.Stage.{Stage}
 use Rattle.bench_history.specs.declared.stages.Stage.TheVariants.{Before, During, After, Ended}
-use Rattle.bench_history.specs.History.{stage_of, running, ended_of}
+use Rattle.bench_history.specs.History.{ended_of, in_progress, running, stage_of}
 use Rattle.bench_history.specs.Cases.{Next, Exactly, Answer, Need, Nothing, phase_to_begin, Grant}
-use Rattle.bench_history.specs.Next.{next_of, Allows, IsNext, EachIsNext}
-use Rattle.bench_history.specs.Laws.{is_common, next_number, ArePhasesInOrder, PhasesGoInOrder}
+use Rattle.bench_history.specs.Next.{next_of, Allows, IsNext}
+use Rattle.bench_history.specs.Laws.{ArePhasesInOrder, PhasesGoInOrder, PhasesInProgressAreOpen, end_number, ending_order, is_run, is_run_at, next_number}
 use Rattle.bench_history.proofs.Inversion.{IsOwn, Case, AtEnd, ByOwn, ByNeed, ByDeed, ByDue, ByTurn, ByEnd, ByBegin, ByGrant, case-of}
 
--- a phase is common, and has this number
-record HasNumber (phase : Phase) (number : ℕ) : Type 0 where
-  is : phase_number phase ≡ number
-  common : not (is_runtime phase) ≡ true
-
--- the phase after a common one has the next number
-number-after : (last phase : Phase) → not (is_runtime last) ≡ true → phase_after last ≡ Some phase → HasNumber phase (phase_number last + 1)
-number-after Build phase common e = let same : Connect ≡ phase = cc in rw (← same) (record { is = refl; common = refl })
-number-after Connect phase common e = let same : EndOfElaboration ≡ phase = cc in rw (← same) (record { is = refl; common = refl })
-number-after EndOfElaboration phase common e = let same : StartOfSimulation ≡ phase = cc in rw (← same) (record { is = refl; common = refl })
-number-after StartOfSimulation phase common e = let same : Run ≡ phase = cc in rw (← same) (record { is = refl; common = refl })
-number-after Run phase common e = let same : Extract ≡ phase = cc in rw (← same) (record { is = refl; common = refl })
-number-after Extract phase common e = let same : Check ≡ phase = cc in rw (← same) (record { is = refl; common = refl })
-number-after Check phase common e = let same : Report ≡ phase = cc in rw (← same) (record { is = refl; common = refl })
-number-after Report phase common e = let same : Final ≡ phase = cc in rw (← same) (record { is = refl; common = refl })
-number-after last phase common e = cc
-
 -- the phase that begins is the one that may begin next
-begin-number : (stage : Stage) (phase : Phase) → is_common stage ≡ true → phase_to_begin stage ≡ Some phase → HasNumber phase (next_number stage)
-begin-number Before phase common e = let same : Build ≡ phase = cc in rw (← same) (record { is = refl; common = refl })
-begin-number (During running) phase common e = cc
-begin-number (After last) phase common e = number-after last phase common e
-begin-number Ended phase common e = cc
+begin-number : (runtime : Bool) (stage : Stage) (phase : Phase) → is_run_at runtime stage ≡ true → phase_to_begin runtime stage ≡ Some phase → (next_number (During phase) ≡ next_number stage) × (is_run runtime phase ≡ true)
+begin-number runtime Before phase c e = let same : Build ≡ phase = cc in rw (← same) (refl, refl)
+begin-number true (During Run) phase c e = let same : PreReset ≡ phase = cc in rw (← same) (refl, refl)
+begin-number false (During Run) phase c e = cc
+begin-number runtime (During running) phase c e = cc
+begin-number runtime (After Build) phase c e = let same : Connect ≡ phase = cc in rw (← same) (refl, refl)
+begin-number runtime (After Connect) phase c e = let same : EndOfElaboration ≡ phase = cc in rw (← same) (refl, refl)
+begin-number runtime (After EndOfElaboration) phase c e = let same : StartOfSimulation ≡ phase = cc in rw (← same) (refl, refl)
+begin-number runtime (After StartOfSimulation) phase c e = let same : Run ≡ phase = cc in rw (← same) (refl, refl)
+begin-number runtime (After Run) phase c e = let same : Extract ≡ phase = cc in rw (← same) (refl, refl)
+begin-number runtime (After Extract) phase c e = let same : Check ≡ phase = cc in rw (← same) (refl, refl)
+begin-number runtime (After Check) phase c e = let same : Report ≡ phase = cc in rw (← same) (refl, refl)
+begin-number runtime (After Report) phase c e = let same : Final ≡ phase = cc in rw (← same) (refl, refl)
+begin-number true (After PreReset) phase c e = let same : Reset ≡ phase = cc in rw (← same) (refl, refl)
+begin-number false (After PreReset) phase c e = cc
+begin-number true (After Reset) phase c e = let same : PostReset ≡ phase = cc in rw (← same) (refl, refl)
+begin-number false (After Reset) phase c e = cc
+begin-number true (After PostReset) phase c e = let same : PreConfigure ≡ phase = cc in rw (← same) (refl, refl)
+begin-number false (After PostReset) phase c e = cc
+begin-number true (After PreConfigure) phase c e = let same : Configure ≡ phase = cc in rw (← same) (refl, refl)
+begin-number false (After PreConfigure) phase c e = cc
+begin-number true (After Configure) phase c e = let same : PostConfigure ≡ phase = cc in rw (← same) (refl, refl)
+begin-number false (After Configure) phase c e = cc
+begin-number true (After PostConfigure) phase c e = let same : PreMain ≡ phase = cc in rw (← same) (refl, refl)
+begin-number false (After PostConfigure) phase c e = cc
+begin-number true (After PreMain) phase c e = let same : Main ≡ phase = cc in rw (← same) (refl, refl)
+begin-number false (After PreMain) phase c e = cc
+begin-number true (After Main) phase c e = let same : PostMain ≡ phase = cc in rw (← same) (refl, refl)
+begin-number false (After Main) phase c e = cc
+begin-number true (After PostMain) phase c e = let same : PreShutdown ≡ phase = cc in rw (← same) (refl, refl)
+begin-number false (After PostMain) phase c e = cc
+begin-number true (After PreShutdown) phase c e = let same : Shutdown ≡ phase = cc in rw (← same) (refl, refl)
+begin-number false (After PreShutdown) phase c e = cc
+begin-number true (After Shutdown) phase c e = let same : PostShutdown ≡ phase = cc in rw (← same) (refl, refl)
+begin-number false (After Shutdown) phase c e = cc
+begin-number runtime (After last) phase c e = cc
+begin-number runtime Ended phase c e = cc
 
-begin-on : (stage : Stage) (phase : Phase) → phase_to_begin stage ≡ Some phase → stage ≡ Ended → ⊥
-begin-on Before phase may ended = cc
-begin-on (During running) phase may ended = cc
-begin-on (After last) phase may ended = cc
-begin-on Ended phase may ended = cc
+begin-on : (runtime : Bool) (stage : Stage) (phase : Phase) → phase_to_begin runtime stage ≡ Some phase → stage ≡ Ended → ⊥
+begin-on runtime Before phase may ended = cc
+begin-on runtime (During running) phase may ended = cc
+begin-on runtime (After last) phase may ended = cc
+begin-on runtime Ended phase may ended = cc
 
-begin-case : (script : ScriptValue) (history : List Entry) (phase : Phase) (next : Next) → next ≡ Exactly (Begin phase) → is_common (stage_of history) ≡ true → Case script history next → HasNumber phase (next_number (stage_of history)) × (stage_of history ≡ Ended → ⊥)
-begin-case script history phase next is common (AtEnd over e) = cc
-begin-case script history phase next is common (ByOwn entry own e) = let same : entry ≡ Begin phase = cc in absurd (subst (IsOwn script history) same own)
-begin-case script history phase next is common (ByNeed act need made left upshot e) = cc
-begin-case script history phase next is common (ByDeed act outcome left plain comes e) = cc
-begin-case script history phase next is common (ByDue event call now is_call e) = cc
-begin-case script history phase next is common (ByTurn running node during turn e) = cc
-begin-case script history phase next is common (ByEnd running runs e) = cc
-begin-case script history phase next is common (ByBegin begins may e) = let same : begins ≡ phase = cc in rw (← same) (begin-number (stage_of history) begins common may, begin-on (stage_of history) begins may)
-begin-case script history phase next is common (ByGrant sequencer drawn served e) = cc
+begin-case : (script : ScriptValue) (history : List Entry) (phase : Phase) (next : Next) → next ≡ Exactly (Begin phase) → is_run_at (has_runtime script) (stage_of history) ≡ true → Case script history next → ((next_number (During phase) ≡ next_number (stage_of history)) × (is_run (has_runtime script) phase ≡ true)) × (stage_of history ≡ Ended → ⊥)
+begin-case script history phase next is c (AtEnd over e) = cc
+begin-case script history phase next is c (ByOwn entry own e) = let same : entry ≡ Begin phase = cc in absurd (subst (IsOwn script history) same own)
+begin-case script history phase next is c (ByNeed act need made left upshot e) = cc
+begin-case script history phase next is c (ByDeed act outcome left plain comes e) = cc
+begin-case script history phase next is c (ByDue event call now is_call e) = cc
+begin-case script history phase next is c (ByTurn running node turn its e) = cc
+begin-case script history phase next is c (ByEnd running runs e) = cc
+begin-case script history phase next is c (ByBegin begins may e) = let same : begins ≡ phase = cc in rw (← same) (begin-number (has_runtime script) (stage_of history) begins c may, begin-on (has_runtime script) (stage_of history) begins may)
+begin-case script history phase next is c (ByGrant sequencer drawn served e) = cc
 
--- a phase that ends is the one that runs
-pub end-case : (script : ScriptValue) (history : List Entry) (phase : Phase) (next : Next) → next ≡ Exactly (End phase) → Case script history next → stage_of history ≡ During phase
+-- a phase that ends is the one that was begun last
+pub end-case : (script : ScriptValue) (history : List Entry) (phase : Phase) (next : Next) → next ≡ Exactly (End phase) → Case script history next → (running (stage_of history) ≡ Some phase) × (phase_to_begin (has_runtime script) (stage_of history) ≡ None)
 end-case script history phase next is (AtEnd over e) = cc
 end-case script history phase next is (ByOwn entry own e) = let same : entry ≡ End phase = cc in absurd (subst (IsOwn script history) same own)
 end-case script history phase next is (ByNeed act need made left upshot e) = cc
 end-case script history phase next is (ByDeed act outcome left plain comes e) = cc
 end-case script history phase next is (ByDue event call now is_call e) = cc
-end-case script history phase next is (ByTurn running node during turn e) = cc
-end-case script history phase next is (ByEnd running runs e) = let same : running ≡ phase = cc in rw (← same) runs.runs
+end-case script history phase next is (ByTurn other node during turn e) = cc
+end-case script history phase next is (ByEnd other ends e) = let same : other ≡ phase = cc in rw (← same) (ends.runs, ends.last)
 end-case script history phase next is (ByBegin begins may e) = cc
 end-case script history phase next is (ByGrant sequencer drawn served e) = cc
 
@@ -88,75 +103,346 @@ end-alone phase (Need need made performer act) (inr declined) = cc
 end-alone phase (Grant sequencer drawn chosen) allows = let e : End phase ≡ Granted sequencer allows.0 = allows.3 in cc
 end-alone phase Nothing allows = absurd allows
 
--- there are nine common phases
-common-below : (phase : Phase) → not (is_runtime phase) ≡ true → phase_number phase < 9
-common-below Build common = omega arith
-common-below Connect common = omega arith
-common-below EndOfElaboration common = omega arith
-common-below StartOfSimulation common = omega arith
-common-below Run common = omega arith
-common-below Extract common = omega arith
-common-below Check common = omega arith
-common-below Report common = omega arith
-common-below Final common = omega arith
-common-below phase common = cc
+ended-not : (stage : Stage) (phase : Phase) → running stage ≡ Some phase → stage ≡ Ended → ⊥
+ended-not Before phase runs e = cc
+ended-not (During other) phase runs e = cc
+ended-not (After other) phase runs e = cc
+ended-not Ended phase runs e = cc
 
-below : (stage : Stage) → is_common stage ≡ true → next_number stage ≤ 9
-below Before common = omega arith
-below (During phase) common = let least = common-below phase common in omega (arith, least)
-below (After phase) common = let least = common-below phase common in omega (arith, least)
-below Ended common = omega arith
+few : (stage : Stage) → next_number stage ≤ 21
+few Before = omega arith
+few (During Build) = omega arith
+few (During phase) = omega arith
+few (After Build) = omega arith
+few (After phase) = omega arith
+few Ended = omega arith
 
--- a phase that ends is the next of the nine
-ends-next : (phase : Phase) → not (is_runtime phase) ≡ true → phase ∷ reverse (take (phase_number phase) common_phases) ≡ reverse (take (phase_number phase + 1) common_phases)
-ends-next Build common = refl
-ends-next Connect common = refl
-ends-next EndOfElaboration common = refl
-ends-next StartOfSimulation common = refl
-ends-next Run common = refl
-ends-next Extract common = refl
-ends-next Check common = refl
-ends-next Report common = refl
-ends-next Final common = refl
-ends-next phase common = cc
+-- a phase that ends is the next of those that are run
+ends-next :
+    (runtime : Bool) (stage : Stage) (phase : Phase) → is_run_at runtime stage ≡ true → running stage ≡ Some phase → phase_to_begin runtime stage ≡ None
+    → phase ∷ reverse (filter (is_run runtime) (take (next_number stage) ending_order)) ≡ reverse (filter (is_run runtime) (take (end_number phase + 1) ending_order))
+ends-next runtime Before phase c runs none = cc
+ends-next true (During Run) phase c runs none = cc
+ends-next true (During Build) phase c runs none = let same : Build ≡ phase = cc in rw (← same) refl
+ends-next true (During Connect) phase c runs none = let same : Connect ≡ phase = cc in rw (← same) refl
+ends-next true (During EndOfElaboration) phase c runs none = let same : EndOfElaboration ≡ phase = cc in rw (← same) refl
+ends-next true (During StartOfSimulation) phase c runs none = let same : StartOfSimulation ≡ phase = cc in rw (← same) refl
+ends-next true (During Extract) phase c runs none = let same : Extract ≡ phase = cc in rw (← same) refl
+ends-next true (During Check) phase c runs none = let same : Check ≡ phase = cc in rw (← same) refl
+ends-next true (During Report) phase c runs none = let same : Report ≡ phase = cc in rw (← same) refl
+ends-next true (During Final) phase c runs none = let same : Final ≡ phase = cc in rw (← same) refl
+ends-next true (During PreReset) phase c runs none = let same : PreReset ≡ phase = cc in rw (← same) refl
+ends-next true (During Reset) phase c runs none = let same : Reset ≡ phase = cc in rw (← same) refl
+ends-next true (During PostReset) phase c runs none = let same : PostReset ≡ phase = cc in rw (← same) refl
+ends-next true (During PreConfigure) phase c runs none = let same : PreConfigure ≡ phase = cc in rw (← same) refl
+ends-next true (During Configure) phase c runs none = let same : Configure ≡ phase = cc in rw (← same) refl
+ends-next true (During PostConfigure) phase c runs none = let same : PostConfigure ≡ phase = cc in rw (← same) refl
+ends-next true (During PreMain) phase c runs none = let same : PreMain ≡ phase = cc in rw (← same) refl
+ends-next true (During Main) phase c runs none = let same : Main ≡ phase = cc in rw (← same) refl
+ends-next true (During PostMain) phase c runs none = let same : PostMain ≡ phase = cc in rw (← same) refl
+ends-next true (During PreShutdown) phase c runs none = let same : PreShutdown ≡ phase = cc in rw (← same) refl
+ends-next true (During Shutdown) phase c runs none = let same : Shutdown ≡ phase = cc in rw (← same) refl
+ends-next true (During PostShutdown) phase c runs none = let same : PostShutdown ≡ phase = cc in rw (← same) refl
+ends-next false (During Build) phase c runs none = let same : Build ≡ phase = cc in rw (← same) refl
+ends-next false (During Connect) phase c runs none = let same : Connect ≡ phase = cc in rw (← same) refl
+ends-next false (During EndOfElaboration) phase c runs none = let same : EndOfElaboration ≡ phase = cc in rw (← same) refl
+ends-next false (During StartOfSimulation) phase c runs none = let same : StartOfSimulation ≡ phase = cc in rw (← same) refl
+ends-next false (During Run) phase c runs none = let same : Run ≡ phase = cc in rw (← same) refl
+ends-next false (During Extract) phase c runs none = let same : Extract ≡ phase = cc in rw (← same) refl
+ends-next false (During Check) phase c runs none = let same : Check ≡ phase = cc in rw (← same) refl
+ends-next false (During Report) phase c runs none = let same : Report ≡ phase = cc in rw (← same) refl
+ends-next false (During Final) phase c runs none = let same : Final ≡ phase = cc in rw (← same) refl
+ends-next false (During other) phase c runs none = cc
+ends-next true (After PostShutdown) phase c runs none = let same : Run ≡ phase = cc in rw (← same) refl
+ends-next false (After PreReset) phase c runs none = cc
+ends-next false (After Reset) phase c runs none = cc
+ends-next false (After PostReset) phase c runs none = cc
+ends-next false (After PreConfigure) phase c runs none = cc
+ends-next false (After Configure) phase c runs none = cc
+ends-next false (After PostConfigure) phase c runs none = cc
+ends-next false (After PreMain) phase c runs none = cc
+ends-next false (After Main) phase c runs none = cc
+ends-next false (After PostMain) phase c runs none = cc
+ends-next false (After PreShutdown) phase c runs none = cc
+ends-next false (After Shutdown) phase c runs none = cc
+ends-next false (After PostShutdown) phase c runs none = cc
+ends-next true (After PreReset) phase c runs none = cc
+ends-next true (After Reset) phase c runs none = cc
+ends-next true (After PostReset) phase c runs none = cc
+ends-next true (After PreConfigure) phase c runs none = cc
+ends-next true (After Configure) phase c runs none = cc
+ends-next true (After PostConfigure) phase c runs none = cc
+ends-next true (After PreMain) phase c runs none = cc
+ends-next true (After Main) phase c runs none = cc
+ends-next true (After PostMain) phase c runs none = cc
+ends-next true (After PreShutdown) phase c runs none = cc
+ends-next true (After Shutdown) phase c runs none = cc
+ends-next runtime (After last) phase c runs none = cc
+ends-next runtime Ended phase c runs none = cc
 
-in-order-more : (script : ScriptValue) (before : List Entry) (entry : Entry) → IsNext script before entry → ArePhasesInOrder before → ArePhasesInOrder (entry ∷ before)
+ends-low : (stage : Stage) (phase : Phase) → running stage ≡ Some phase → next_number stage ≤ end_number phase
+ends-low Before phase runs = cc
+ends-low (During Build) phase runs = let same : Build ≡ phase = cc in rw (← same) (omega arith)
+ends-low (During Connect) phase runs = let same : Connect ≡ phase = cc in rw (← same) (omega arith)
+ends-low (During EndOfElaboration) phase runs = let same : EndOfElaboration ≡ phase = cc in rw (← same) (omega arith)
+ends-low (During StartOfSimulation) phase runs = let same : StartOfSimulation ≡ phase = cc in rw (← same) (omega arith)
+ends-low (During Run) phase runs = let same : Run ≡ phase = cc in rw (← same) (omega arith)
+ends-low (During Extract) phase runs = let same : Extract ≡ phase = cc in rw (← same) (omega arith)
+ends-low (During Check) phase runs = let same : Check ≡ phase = cc in rw (← same) (omega arith)
+ends-low (During Report) phase runs = let same : Report ≡ phase = cc in rw (← same) (omega arith)
+ends-low (During Final) phase runs = let same : Final ≡ phase = cc in rw (← same) (omega arith)
+ends-low (During PreReset) phase runs = let same : PreReset ≡ phase = cc in rw (← same) (omega arith)
+ends-low (During Reset) phase runs = let same : Reset ≡ phase = cc in rw (← same) (omega arith)
+ends-low (During PostReset) phase runs = let same : PostReset ≡ phase = cc in rw (← same) (omega arith)
+ends-low (During PreConfigure) phase runs = let same : PreConfigure ≡ phase = cc in rw (← same) (omega arith)
+ends-low (During Configure) phase runs = let same : Configure ≡ phase = cc in rw (← same) (omega arith)
+ends-low (During PostConfigure) phase runs = let same : PostConfigure ≡ phase = cc in rw (← same) (omega arith)
+ends-low (During PreMain) phase runs = let same : PreMain ≡ phase = cc in rw (← same) (omega arith)
+ends-low (During Main) phase runs = let same : Main ≡ phase = cc in rw (← same) (omega arith)
+ends-low (During PostMain) phase runs = let same : PostMain ≡ phase = cc in rw (← same) (omega arith)
+ends-low (During PreShutdown) phase runs = let same : PreShutdown ≡ phase = cc in rw (← same) (omega arith)
+ends-low (During Shutdown) phase runs = let same : Shutdown ≡ phase = cc in rw (← same) (omega arith)
+ends-low (During PostShutdown) phase runs = let same : PostShutdown ≡ phase = cc in rw (← same) (omega arith)
+ends-low (After PreReset) phase runs = let same : Run ≡ phase = cc in rw (← same) (omega arith)
+ends-low (After Reset) phase runs = let same : Run ≡ phase = cc in rw (← same) (omega arith)
+ends-low (After PostReset) phase runs = let same : Run ≡ phase = cc in rw (← same) (omega arith)
+ends-low (After PreConfigure) phase runs = let same : Run ≡ phase = cc in rw (← same) (omega arith)
+ends-low (After Configure) phase runs = let same : Run ≡ phase = cc in rw (← same) (omega arith)
+ends-low (After PostConfigure) phase runs = let same : Run ≡ phase = cc in rw (← same) (omega arith)
+ends-low (After PreMain) phase runs = let same : Run ≡ phase = cc in rw (← same) (omega arith)
+ends-low (After Main) phase runs = let same : Run ≡ phase = cc in rw (← same) (omega arith)
+ends-low (After PostMain) phase runs = let same : Run ≡ phase = cc in rw (← same) (omega arith)
+ends-low (After PreShutdown) phase runs = let same : Run ≡ phase = cc in rw (← same) (omega arith)
+ends-low (After Shutdown) phase runs = let same : Run ≡ phase = cc in rw (← same) (omega arith)
+ends-low (After PostShutdown) phase runs = let same : Run ≡ phase = cc in rw (← same) (omega arith)
+ends-low (After last) phase runs = cc
+ends-low Ended phase runs = cc
+
+ends-run : (runtime : Bool) (stage : Stage) (phase : Phase) → is_run_at runtime stage ≡ true → running stage ≡ Some phase → is_run runtime phase ≡ true
+ends-run runtime Before phase c runs = cc
+ends-run runtime (During last) phase c runs = let same : last ≡ phase = cc in rw (← same) c
+ends-run runtime (After PreReset) phase c runs = let same : Run ≡ phase = cc in rw (← same) refl
+ends-run runtime (After Reset) phase c runs = let same : Run ≡ phase = cc in rw (← same) refl
+ends-run runtime (After PostReset) phase c runs = let same : Run ≡ phase = cc in rw (← same) refl
+ends-run runtime (After PreConfigure) phase c runs = let same : Run ≡ phase = cc in rw (← same) refl
+ends-run runtime (After Configure) phase c runs = let same : Run ≡ phase = cc in rw (← same) refl
+ends-run runtime (After PostConfigure) phase c runs = let same : Run ≡ phase = cc in rw (← same) refl
+ends-run runtime (After PreMain) phase c runs = let same : Run ≡ phase = cc in rw (← same) refl
+ends-run runtime (After Main) phase c runs = let same : Run ≡ phase = cc in rw (← same) refl
+ends-run runtime (After PostMain) phase c runs = let same : Run ≡ phase = cc in rw (← same) refl
+ends-run runtime (After PreShutdown) phase c runs = let same : Run ≡ phase = cc in rw (← same) refl
+ends-run runtime (After Shutdown) phase c runs = let same : Run ≡ phase = cc in rw (← same) refl
+ends-run runtime (After PostShutdown) phase c runs = let same : Run ≡ phase = cc in rw (← same) refl
+ends-run runtime (After last) phase c runs = cc
+ends-run runtime Ended phase c runs = cc
+
+in-order-more : (script : ScriptValue) (before : List Entry) (entry : Entry) → IsNext script before entry → ArePhasesInOrder (has_runtime script) before → ArePhasesInOrder (has_runtime script) (entry ∷ before)
 in-order-more script before (Begin phase) next order =
-    let begins = begin-case script before phase (next_of script before) (begin-alone phase (next_of script before) next) order.common (case-of script before) in
-    record { common = begins.0.common; are = λ on. rw begins.0.is (order.are begins.1); before = rw begins.0.is order.before }
+    let begins = begin-case script before phase (next_of script before) (begin-alone phase (next_of script before) next) order.run (case-of script before) in
+    record { run = begins.0.1; are = λ on. rw begins.0.0 (order.are begins.1); before = rw begins.0.0 order.before }
 in-order-more script before (End phase) next order =
     let runs = end-case script before phase (next_of script before) (end-alone phase (next_of script before) next) (case-of script before) in
-    let on : stage_of before ≡ Ended → ⊥ = λ ended. let e : During phase ≡ Ended = sym runs ∙ ended in cc in
-    let are : ended_of before ≡ reverse (take (phase_number phase) common_phases) = rw runs at (order.are on) in
-    let common : not (is_runtime phase) ≡ true = rw runs at (order.common) in
-    let earlier : All (λ other. phase_number other < phase_number phase) (ended_of before) = rw runs at (order.before) in
+    let low = ends-low (stage_of before) phase runs.0 in
     record {
-      common = common;
-      are = λ going. ap (λ (ended : List Phase). phase ∷ ended) are ∙ ends-next phase common;
-      before = All-cons (λ other. phase_number other < phase_number phase + 1) phase (ended_of before) (omega arith) (All-weaker (λ other. phase_number other < phase_number phase) (λ other. phase_number other < phase_number phase + 1) (λ other lt. omega (arith, lt)) (ended_of before) earlier);
+      run = ends-run (has_runtime script) (stage_of before) phase order.run runs.0;
+      are = λ going. ap (λ (ended : List Phase). phase ∷ ended) (order.are (ended-not (stage_of before) phase runs.0)) ∙ ends-next (has_runtime script) (stage_of before) phase order.run runs.0 runs.1;
+      before = All-cons (λ other. end_number other < end_number phase + 1) phase (ended_of before) (omega arith) (All-weaker (λ other. end_number other < next_number (stage_of before)) (λ other. end_number other < end_number phase + 1) (λ other lt. omega (arith, lt, low)) (ended_of before) order.before);
     }
 in-order-more script before (Over reason) next order =
-    let few = below (stage_of before) order.common in
-    record {
-      common = refl;
-      are = λ on. absurd (on refl);
-      before = All-weaker (λ phase. phase_number phase < next_number (stage_of before)) (λ phase. phase_number phase < 9) (λ phase lt. omega (arith, lt, few)) (ended_of before) order.before;
-    }
-in-order-more script before entry next order = record { common = order.common; are = order.are; before = order.before }
+    let most = few (stage_of before) in
+    record { run = refl; are = λ on. absurd (on refl); before = All-weaker (λ phase. end_number phase < next_number (stage_of before)) (λ phase. end_number phase < 21) (λ phase lt. omega (arith, lt, most)) (ended_of before) order.before }
+in-order-more script before entry next order = record { run = order.run; are = order.are; before = order.before }
 
 pub phases_go_in_order : PhasesGoInOrder
-phases_go_in_order script [] each = record { common = refl; are = λ on. refl; before = All-nil (λ phase. phase_number phase < 0) }
+phases_go_in_order script [] each = record { run = refl; are = λ on. refl; before = All-nil (λ phase. end_number phase < 0) }
 phases_go_in_order script (entry ∷ before) each = in-order-more script before entry each.0 (phases_go_in_order script before each.1)
 
--- the phase that runs has not ended
-pub running-open : (script : ScriptValue) (history : List Entry) (phase : Phase) → EachIsNext script history → running (stage_of history) ≡ Some phase → list_any (same_phase phase) (ended_of history) ≡ false
-running-open script history phase each runs = by (stage_of history) runs (phases_go_in_order script history each).before
+pub one-of : (b : Bool) → b || false ≡ true → b ≡ true
+one-of true e = refl
+one-of false e = cc
+
+-- a phase in progress has not ended
+number-is : (phase : Phase) (n : ℕ) → (phase_number phase == n) ≡ true → phase_number phase ≡ n
+number-is phase n same = grind (arith, nat_tests, same)
+
+either-of : (a b : Bool) → a || (b || false) ≡ true → (a ≡ true) ⊎ (b ≡ true)
+either-of true b e = inl refl
+either-of false true e = inr refl
+either-of false false e = cc
+
+open-going : (runtime : Bool) (stage : Stage) (ended : List Phase) (phase : Phase) → list_any (same_phase phase) (in_progress stage) ≡ true → ended ≡ reverse (filter (is_run runtime) (take (next_number stage) ending_order)) → list_any (same_phase phase) ended ≡ false
+open-going runtime Before ended phase going are = cc
+open-going true (During Build) ended phase going are = rw are refl
+open-going false (During Build) ended phase going are = rw are refl
+open-going true (During Connect) ended phase going are = let at = number-is phase (phase_number Connect) (one-of (same_phase phase Connect) going) in rw (are, at) refl
+open-going false (During Connect) ended phase going are = let at = number-is phase (phase_number Connect) (one-of (same_phase phase Connect) going) in rw (are, at) refl
+open-going true (During EndOfElaboration) ended phase going are = let at = number-is phase (phase_number EndOfElaboration) (one-of (same_phase phase EndOfElaboration) going) in rw (are, at) refl
+open-going false (During EndOfElaboration) ended phase going are = let at = number-is phase (phase_number EndOfElaboration) (one-of (same_phase phase EndOfElaboration) going) in rw (are, at) refl
+open-going true (During StartOfSimulation) ended phase going are = let at = number-is phase (phase_number StartOfSimulation) (one-of (same_phase phase StartOfSimulation) going) in rw (are, at) refl
+open-going false (During StartOfSimulation) ended phase going are = let at = number-is phase (phase_number StartOfSimulation) (one-of (same_phase phase StartOfSimulation) going) in rw (are, at) refl
+open-going true (During Run) ended phase going are = let at = number-is phase (phase_number Run) (one-of (same_phase phase Run) going) in rw (are, at) refl
+open-going false (During Run) ended phase going are = let at = number-is phase (phase_number Run) (one-of (same_phase phase Run) going) in rw (are, at) refl
+open-going true (During Extract) ended phase going are = let at = number-is phase (phase_number Extract) (one-of (same_phase phase Extract) going) in rw (are, at) refl
+open-going false (During Extract) ended phase going are = let at = number-is phase (phase_number Extract) (one-of (same_phase phase Extract) going) in rw (are, at) refl
+open-going true (During Check) ended phase going are = let at = number-is phase (phase_number Check) (one-of (same_phase phase Check) going) in rw (are, at) refl
+open-going false (During Check) ended phase going are = let at = number-is phase (phase_number Check) (one-of (same_phase phase Check) going) in rw (are, at) refl
+open-going true (During Report) ended phase going are = let at = number-is phase (phase_number Report) (one-of (same_phase phase Report) going) in rw (are, at) refl
+open-going false (During Report) ended phase going are = let at = number-is phase (phase_number Report) (one-of (same_phase phase Report) going) in rw (are, at) refl
+open-going true (During Final) ended phase going are = let at = number-is phase (phase_number Final) (one-of (same_phase phase Final) going) in rw (are, at) refl
+open-going false (During Final) ended phase going are = let at = number-is phase (phase_number Final) (one-of (same_phase phase Final) going) in rw (are, at) refl
+open-going true (During PreReset) ended phase going are = by (either-of (same_phase phase Run) (same_phase phase PreReset) going)
   where
-    by : (stage : Stage) → running stage ≡ Some phase → All (λ other. phase_number other < next_number stage) (ended_of history) → list_any (same_phase phase) (ended_of history) ≡ false
-    by (During other) is all =
-        let same : other ≡ phase = cc in
-        let before = subst (λ (p : Phase). All (λ other. phase_number other < phase_number p) (ended_of history)) same all in
-        list_any_none (same_phase phase) (ended_of history) (All-weaker (λ other. phase_number other < phase_number phase) (λ other. same_phase phase other ≡ false) (λ other lt. grind (arith, nat_tests, lt)) (ended_of history) before)
-    by Before is all = cc
-    by (After other) is all = cc
-    by Ended is all = cc
+    by : (same_phase phase Run ≡ true) ⊎ (same_phase phase PreReset ≡ true) → list_any (same_phase phase) ended ≡ false
+    by (inl same) = let at = number-is phase (phase_number Run) same in rw (are, at) refl
+    by (inr same) = let at = number-is phase (phase_number PreReset) same in rw (are, at) refl
+open-going false (During PreReset) ended phase going are = by (either-of (same_phase phase Run) (same_phase phase PreReset) going)
+  where
+    by : (same_phase phase Run ≡ true) ⊎ (same_phase phase PreReset ≡ true) → list_any (same_phase phase) ended ≡ false
+    by (inl same) = let at = number-is phase (phase_number Run) same in rw (are, at) refl
+    by (inr same) = let at = number-is phase (phase_number PreReset) same in rw (are, at) refl
+open-going true (During Reset) ended phase going are = by (either-of (same_phase phase Run) (same_phase phase Reset) going)
+  where
+    by : (same_phase phase Run ≡ true) ⊎ (same_phase phase Reset ≡ true) → list_any (same_phase phase) ended ≡ false
+    by (inl same) = let at = number-is phase (phase_number Run) same in rw (are, at) refl
+    by (inr same) = let at = number-is phase (phase_number Reset) same in rw (are, at) refl
+open-going false (During Reset) ended phase going are = by (either-of (same_phase phase Run) (same_phase phase Reset) going)
+  where
+    by : (same_phase phase Run ≡ true) ⊎ (same_phase phase Reset ≡ true) → list_any (same_phase phase) ended ≡ false
+    by (inl same) = let at = number-is phase (phase_number Run) same in rw (are, at) refl
+    by (inr same) = let at = number-is phase (phase_number Reset) same in rw (are, at) refl
+open-going true (During PostReset) ended phase going are = by (either-of (same_phase phase Run) (same_phase phase PostReset) going)
+  where
+    by : (same_phase phase Run ≡ true) ⊎ (same_phase phase PostReset ≡ true) → list_any (same_phase phase) ended ≡ false
+    by (inl same) = let at = number-is phase (phase_number Run) same in rw (are, at) refl
+    by (inr same) = let at = number-is phase (phase_number PostReset) same in rw (are, at) refl
+open-going false (During PostReset) ended phase going are = by (either-of (same_phase phase Run) (same_phase phase PostReset) going)
+  where
+    by : (same_phase phase Run ≡ true) ⊎ (same_phase phase PostReset ≡ true) → list_any (same_phase phase) ended ≡ false
+    by (inl same) = let at = number-is phase (phase_number Run) same in rw (are, at) refl
+    by (inr same) = let at = number-is phase (phase_number PostReset) same in rw (are, at) refl
+open-going true (During PreConfigure) ended phase going are = by (either-of (same_phase phase Run) (same_phase phase PreConfigure) going)
+  where
+    by : (same_phase phase Run ≡ true) ⊎ (same_phase phase PreConfigure ≡ true) → list_any (same_phase phase) ended ≡ false
+    by (inl same) = let at = number-is phase (phase_number Run) same in rw (are, at) refl
+    by (inr same) = let at = number-is phase (phase_number PreConfigure) same in rw (are, at) refl
+open-going false (During PreConfigure) ended phase going are = by (either-of (same_phase phase Run) (same_phase phase PreConfigure) going)
+  where
+    by : (same_phase phase Run ≡ true) ⊎ (same_phase phase PreConfigure ≡ true) → list_any (same_phase phase) ended ≡ false
+    by (inl same) = let at = number-is phase (phase_number Run) same in rw (are, at) refl
+    by (inr same) = let at = number-is phase (phase_number PreConfigure) same in rw (are, at) refl
+open-going true (During Configure) ended phase going are = by (either-of (same_phase phase Run) (same_phase phase Configure) going)
+  where
+    by : (same_phase phase Run ≡ true) ⊎ (same_phase phase Configure ≡ true) → list_any (same_phase phase) ended ≡ false
+    by (inl same) = let at = number-is phase (phase_number Run) same in rw (are, at) refl
+    by (inr same) = let at = number-is phase (phase_number Configure) same in rw (are, at) refl
+open-going false (During Configure) ended phase going are = by (either-of (same_phase phase Run) (same_phase phase Configure) going)
+  where
+    by : (same_phase phase Run ≡ true) ⊎ (same_phase phase Configure ≡ true) → list_any (same_phase phase) ended ≡ false
+    by (inl same) = let at = number-is phase (phase_number Run) same in rw (are, at) refl
+    by (inr same) = let at = number-is phase (phase_number Configure) same in rw (are, at) refl
+open-going true (During PostConfigure) ended phase going are = by (either-of (same_phase phase Run) (same_phase phase PostConfigure) going)
+  where
+    by : (same_phase phase Run ≡ true) ⊎ (same_phase phase PostConfigure ≡ true) → list_any (same_phase phase) ended ≡ false
+    by (inl same) = let at = number-is phase (phase_number Run) same in rw (are, at) refl
+    by (inr same) = let at = number-is phase (phase_number PostConfigure) same in rw (are, at) refl
+open-going false (During PostConfigure) ended phase going are = by (either-of (same_phase phase Run) (same_phase phase PostConfigure) going)
+  where
+    by : (same_phase phase Run ≡ true) ⊎ (same_phase phase PostConfigure ≡ true) → list_any (same_phase phase) ended ≡ false
+    by (inl same) = let at = number-is phase (phase_number Run) same in rw (are, at) refl
+    by (inr same) = let at = number-is phase (phase_number PostConfigure) same in rw (are, at) refl
+open-going true (During PreMain) ended phase going are = by (either-of (same_phase phase Run) (same_phase phase PreMain) going)
+  where
+    by : (same_phase phase Run ≡ true) ⊎ (same_phase phase PreMain ≡ true) → list_any (same_phase phase) ended ≡ false
+    by (inl same) = let at = number-is phase (phase_number Run) same in rw (are, at) refl
+    by (inr same) = let at = number-is phase (phase_number PreMain) same in rw (are, at) refl
+open-going false (During PreMain) ended phase going are = by (either-of (same_phase phase Run) (same_phase phase PreMain) going)
+  where
+    by : (same_phase phase Run ≡ true) ⊎ (same_phase phase PreMain ≡ true) → list_any (same_phase phase) ended ≡ false
+    by (inl same) = let at = number-is phase (phase_number Run) same in rw (are, at) refl
+    by (inr same) = let at = number-is phase (phase_number PreMain) same in rw (are, at) refl
+open-going true (During Main) ended phase going are = by (either-of (same_phase phase Run) (same_phase phase Main) going)
+  where
+    by : (same_phase phase Run ≡ true) ⊎ (same_phase phase Main ≡ true) → list_any (same_phase phase) ended ≡ false
+    by (inl same) = let at = number-is phase (phase_number Run) same in rw (are, at) refl
+    by (inr same) = let at = number-is phase (phase_number Main) same in rw (are, at) refl
+open-going false (During Main) ended phase going are = by (either-of (same_phase phase Run) (same_phase phase Main) going)
+  where
+    by : (same_phase phase Run ≡ true) ⊎ (same_phase phase Main ≡ true) → list_any (same_phase phase) ended ≡ false
+    by (inl same) = let at = number-is phase (phase_number Run) same in rw (are, at) refl
+    by (inr same) = let at = number-is phase (phase_number Main) same in rw (are, at) refl
+open-going true (During PostMain) ended phase going are = by (either-of (same_phase phase Run) (same_phase phase PostMain) going)
+  where
+    by : (same_phase phase Run ≡ true) ⊎ (same_phase phase PostMain ≡ true) → list_any (same_phase phase) ended ≡ false
+    by (inl same) = let at = number-is phase (phase_number Run) same in rw (are, at) refl
+    by (inr same) = let at = number-is phase (phase_number PostMain) same in rw (are, at) refl
+open-going false (During PostMain) ended phase going are = by (either-of (same_phase phase Run) (same_phase phase PostMain) going)
+  where
+    by : (same_phase phase Run ≡ true) ⊎ (same_phase phase PostMain ≡ true) → list_any (same_phase phase) ended ≡ false
+    by (inl same) = let at = number-is phase (phase_number Run) same in rw (are, at) refl
+    by (inr same) = let at = number-is phase (phase_number PostMain) same in rw (are, at) refl
+open-going true (During PreShutdown) ended phase going are = by (either-of (same_phase phase Run) (same_phase phase PreShutdown) going)
+  where
+    by : (same_phase phase Run ≡ true) ⊎ (same_phase phase PreShutdown ≡ true) → list_any (same_phase phase) ended ≡ false
+    by (inl same) = let at = number-is phase (phase_number Run) same in rw (are, at) refl
+    by (inr same) = let at = number-is phase (phase_number PreShutdown) same in rw (are, at) refl
+open-going false (During PreShutdown) ended phase going are = by (either-of (same_phase phase Run) (same_phase phase PreShutdown) going)
+  where
+    by : (same_phase phase Run ≡ true) ⊎ (same_phase phase PreShutdown ≡ true) → list_any (same_phase phase) ended ≡ false
+    by (inl same) = let at = number-is phase (phase_number Run) same in rw (are, at) refl
+    by (inr same) = let at = number-is phase (phase_number PreShutdown) same in rw (are, at) refl
+open-going true (During Shutdown) ended phase going are = by (either-of (same_phase phase Run) (same_phase phase Shutdown) going)
+  where
+    by : (same_phase phase Run ≡ true) ⊎ (same_phase phase Shutdown ≡ true) → list_any (same_phase phase) ended ≡ false
+    by (inl same) = let at = number-is phase (phase_number Run) same in rw (are, at) refl
+    by (inr same) = let at = number-is phase (phase_number Shutdown) same in rw (are, at) refl
+open-going false (During Shutdown) ended phase going are = by (either-of (same_phase phase Run) (same_phase phase Shutdown) going)
+  where
+    by : (same_phase phase Run ≡ true) ⊎ (same_phase phase Shutdown ≡ true) → list_any (same_phase phase) ended ≡ false
+    by (inl same) = let at = number-is phase (phase_number Run) same in rw (are, at) refl
+    by (inr same) = let at = number-is phase (phase_number Shutdown) same in rw (are, at) refl
+open-going true (During PostShutdown) ended phase going are = by (either-of (same_phase phase Run) (same_phase phase PostShutdown) going)
+  where
+    by : (same_phase phase Run ≡ true) ⊎ (same_phase phase PostShutdown ≡ true) → list_any (same_phase phase) ended ≡ false
+    by (inl same) = let at = number-is phase (phase_number Run) same in rw (are, at) refl
+    by (inr same) = let at = number-is phase (phase_number PostShutdown) same in rw (are, at) refl
+open-going false (During PostShutdown) ended phase going are = by (either-of (same_phase phase Run) (same_phase phase PostShutdown) going)
+  where
+    by : (same_phase phase Run ≡ true) ⊎ (same_phase phase PostShutdown ≡ true) → list_any (same_phase phase) ended ≡ false
+    by (inl same) = let at = number-is phase (phase_number Run) same in rw (are, at) refl
+    by (inr same) = let at = number-is phase (phase_number PostShutdown) same in rw (are, at) refl
+open-going true (After PreReset) ended phase going are = let at = number-is phase (phase_number Run) (one-of (same_phase phase Run) going) in rw (are, at) refl
+open-going false (After PreReset) ended phase going are = let at = number-is phase (phase_number Run) (one-of (same_phase phase Run) going) in rw (are, at) refl
+open-going true (After Reset) ended phase going are = let at = number-is phase (phase_number Run) (one-of (same_phase phase Run) going) in rw (are, at) refl
+open-going false (After Reset) ended phase going are = let at = number-is phase (phase_number Run) (one-of (same_phase phase Run) going) in rw (are, at) refl
+open-going true (After PostReset) ended phase going are = let at = number-is phase (phase_number Run) (one-of (same_phase phase Run) going) in rw (are, at) refl
+open-going false (After PostReset) ended phase going are = let at = number-is phase (phase_number Run) (one-of (same_phase phase Run) going) in rw (are, at) refl
+open-going true (After PreConfigure) ended phase going are = let at = number-is phase (phase_number Run) (one-of (same_phase phase Run) going) in rw (are, at) refl
+open-going false (After PreConfigure) ended phase going are = let at = number-is phase (phase_number Run) (one-of (same_phase phase Run) going) in rw (are, at) refl
+open-going true (After Configure) ended phase going are = let at = number-is phase (phase_number Run) (one-of (same_phase phase Run) going) in rw (are, at) refl
+open-going false (After Configure) ended phase going are = let at = number-is phase (phase_number Run) (one-of (same_phase phase Run) going) in rw (are, at) refl
+open-going true (After PostConfigure) ended phase going are = let at = number-is phase (phase_number Run) (one-of (same_phase phase Run) going) in rw (are, at) refl
+open-going false (After PostConfigure) ended phase going are = let at = number-is phase (phase_number Run) (one-of (same_phase phase Run) going) in rw (are, at) refl
+open-going true (After PreMain) ended phase going are = let at = number-is phase (phase_number Run) (one-of (same_phase phase Run) going) in rw (are, at) refl
+open-going false (After PreMain) ended phase going are = let at = number-is phase (phase_number Run) (one-of (same_phase phase Run) going) in rw (are, at) refl
+open-going true (After Main) ended phase going are = let at = number-is phase (phase_number Run) (one-of (same_phase phase Run) going) in rw (are, at) refl
+open-going false (After Main) ended phase going are = let at = number-is phase (phase_number Run) (one-of (same_phase phase Run) going) in rw (are, at) refl
+open-going true (After PostMain) ended phase going are = let at = number-is phase (phase_number Run) (one-of (same_phase phase Run) going) in rw (are, at) refl
+open-going false (After PostMain) ended phase going are = let at = number-is phase (phase_number Run) (one-of (same_phase phase Run) going) in rw (are, at) refl
+open-going true (After PreShutdown) ended phase going are = let at = number-is phase (phase_number Run) (one-of (same_phase phase Run) going) in rw (are, at) refl
+open-going false (After PreShutdown) ended phase going are = let at = number-is phase (phase_number Run) (one-of (same_phase phase Run) going) in rw (are, at) refl
+open-going true (After Shutdown) ended phase going are = let at = number-is phase (phase_number Run) (one-of (same_phase phase Run) going) in rw (are, at) refl
+open-going false (After Shutdown) ended phase going are = let at = number-is phase (phase_number Run) (one-of (same_phase phase Run) going) in rw (are, at) refl
+open-going true (After PostShutdown) ended phase going are = let at = number-is phase (phase_number Run) (one-of (same_phase phase Run) going) in rw (are, at) refl
+open-going false (After PostShutdown) ended phase going are = let at = number-is phase (phase_number Run) (one-of (same_phase phase Run) going) in rw (are, at) refl
+open-going runtime (After last) ended phase going are = cc
+open-going runtime Ended ended phase going are = cc
+
+goes-on : (stage : Stage) (phase : Phase) → list_any (same_phase phase) (in_progress stage) ≡ true → stage ≡ Ended → ⊥
+goes-on Before phase going is = cc
+goes-on (During other) phase going is = cc
+goes-on (After other) phase going is = cc
+goes-on Ended phase going is = cc
+
+pub phases_in_progress_are_open : PhasesInProgressAreOpen
+phases_in_progress_are_open script history phase each going =
+    open-going (has_runtime script) (stage_of history) (ended_of history) phase going ((phases_go_in_order script history each).are (goes-on (stage_of history) phase going))

@@ -8,7 +8,8 @@ use Rattle.std.proofs.lemmas.List.Sums.{sum_by-cons}
 use Rattle.std.proofs.lemmas.List.Folds.{list_any-append}
 use Rattle.std.proofs.lemmas.Option.{slice_get_within}
 use Rattle.uvm_phase.specs.declared.phases.Phase.{Phase}
-use Rattle.uvm_phase.specs.Phases.{same_phase}
+use Rattle.uvm_phase.specs.declared.phases.Phase.TheVariants.{Build, Connect, EndOfElaboration, StartOfSimulation, Extract, Check, Report, Final}
+use Rattle.uvm_phase.specs.Phases.{is_task, same_phase}
 use Rattle.uvm_tree.specs.Nodes as tree
 use Rattle.uvm_tree.specs.declared.nodes.NodeKind.TheVariants as kind
 use Rattle.uvm_tree.specs.Nodes.{add_fault, child, node_at}
@@ -25,9 +26,9 @@ use Rattle.uvm_object.specs.declared.entries.Outcome.TheVariants.{Done, Made}
 use Rattle.uvm_object.specs.declared.entries.Entry.{Entry}
 use Rattle.uvm_object.specs.declared.entries.Entry.TheVariants.{Did, Drained, End}
 use Rattle.bench_script.specs.Scripts.{ScriptValue}
-use Rattle.bench_history.specs.History.{act_phase, created_name, kind_of, nodes_of, now_of}
-use Rattle.bench_history.specs.Objections.{is_of_phase, objections_of, stands}
-use Rattle.bench_history.specs.Refusals.{child_refusal, in_task}
+use Rattle.bench_history.specs.History.{act_phase, created_name, in_task, is_of_phase, kind_of, nodes_of, now_of}
+use Rattle.bench_history.specs.Objections.{is_kept, objections_of, stands}
+use Rattle.bench_history.specs.Refusals.{child_refusal}
 use Rattle.bench_history.specs.Cases.{Next, Exactly}
 use Rattle.bench_history.specs.Next.{next_of, IsNext, EachIsNext}
 use Rattle.bench_history.specs.LegalLogs.{IsQuiet, QuietEnd}
@@ -262,15 +263,32 @@ quiet-at sums nodes are none node =
         record { raised = omega (arith, sum, nothing); all = nothing; held = held-zero sums nodes are node nodes all }
     by all false is = record { raised = source-none node nodes is; all = total-none node nodes is; held = held-zero sums nodes are node nodes all }
 
--- and no objection stands where such a phase ends
-ending-case : (script : ScriptValue) (history : List Entry) (phase : Phase) (next : Next) → next ≡ Exactly (End phase) → Case script history next → IsEnding history phase
+-- where nothing keeps a phase that takes time, its own objection does not stand
+first-none : (a b : Bool) → (a || b) ≡ false → a ≡ false
+first-none true b e = cc
+first-none false b e = refl
+
+own-quiet : (phase : Phase) (history : List Entry) → is_task phase ≡ true → is_kept phase history ≡ false → stands (objections_of phase history) ≡ false
+unfolding is_kept
+own-quiet Build history task quiet = cc
+own-quiet Connect history task quiet = cc
+own-quiet EndOfElaboration history task quiet = cc
+own-quiet StartOfSimulation history task quiet = cc
+own-quiet Extract history task quiet = cc
+own-quiet Check history task quiet = cc
+own-quiet Report history task quiet = cc
+own-quiet Final history task quiet = cc
+own-quiet phase history task quiet = first-none (stands (objections_of phase history)) _ quiet
+
+-- so none stands where it ends
+ending-case : (script : ScriptValue) (history : List Entry) (phase : Phase) (next : Next) → next ≡ Exactly (End phase) → Case script history next → IsEnding script history phase
 ending-case script history phase next is (AtEnd over e) = cc
 ending-case script history phase next is (ByOwn entry own e) = let same : entry ≡ End phase = cc in absurd (subst (IsOwn script history) same own)
 ending-case script history phase next is (ByNeed act need made left upshot e) = cc
 ending-case script history phase next is (ByDeed act outcome left plain comes e) = cc
 ending-case script history phase next is (ByDue event call now is_call e) = cc
 ending-case script history phase next is (ByTurn running node during turn e) = cc
-ending-case script history phase next is (ByEnd other ends e) = let same : other ≡ phase = cc in subst (IsEnding history) same ends
+ending-case script history phase next is (ByEnd other ends e) = let same : other ≡ phase = cc in subst (IsEnding script history) same ends
 ending-case script history phase next is (ByBegin begins may e) = cc
 ending-case script history phase next is (ByGrant sequencer drawn served e) = cc
 
@@ -278,6 +296,6 @@ pub quiet_end : PlacesStay → NodesGrow → TotalIsSum → QuietEnd
 quiet_end stay grow sums script later before phase node legal takes =
     let each = older-each script later (End phase ∷ before) legal.each in
     let ending = ending-case script before phase (next_of script before) (end-alone phase (next_of script before) each.0) (case-of script before) in
-    let quiet : stands (objections_of phase before) ≡ false = rw takes at ending.quiet in
+    let quiet : stands (objections_of phase before) ≡ false = own-quiet phase before takes ending.quiet in
     let none : standing (objections_of phase before) ≡ 0 = grind (arith, nat_tests, quiet) in
     quiet-at sums (objections_of phase before) (objections-are stay grow phase script before each.1).are_nodes none node

@@ -11,7 +11,7 @@ use Rattle.uvm_sequencer.specs.declared.drivers.How.{How}
 use Rattle.uvm_sequencer.specs.declared.drivers.How.TheVariants as how
 use Rattle.uvm_sequencer.specs.declared.drivers.Driver.{Driver}
 use Rattle.uvm_sequencer.specs.declared.drivers.Driver.TheVariants as driver
-use Rattle.uvm_sequencer.specs.Drivers.{grant_of, granted_by, hand_of, is_idle, lapsed, left_by, sent}
+use Rattle.uvm_sequencer.specs.Drivers.{grant_of, granted_by, hand_of, is_idle, lapsed, left_by, sent, kept_on}
 use Rattle.uvm_sequencer.specs.Laws.{LockExcludes}
 use Rattle.uvm_sequences.specs.Sequences.{numbered}
 use Rattle.uvm_tlm.specs.Wirings.{targets_of}
@@ -30,12 +30,12 @@ use Rattle.uvm_object.specs.declared.entries.Entry.{Entry}
 use Rattle.uvm_object.specs.declared.entries.Entry.TheVariants.{Did, End, Granted}
 use Rattle.bench_script.specs.Scripts.{ScriptValue}
 use Rattle.bench_history.specs.declared.owners.Owner.{Owner}
-use Rattle.bench_history.specs.History.{act_phase, opening, running, speaker_of}
-use Rattle.bench_history.specs.Sequences.{begun_of, sequences_of}
+use Rattle.bench_history.specs.History.{act_phase, opening, speaker_of, in_task}
+use Rattle.bench_history.specs.Sequences.{begun_of, sequences_of, is_live}
 use Rattle.bench_history.specs.Wires.{closed_wiring}
 use Rattle.bench_history.specs.Ports.{port_below}
-use Rattle.bench_history.specs.Arbitration.{driver_state, if_arbitrated, leads_there, mode_at, sent_by, sequence_on, sequencer_at, sequencer_below, sequencer_with}
-use Rattle.bench_history.specs.Refusals.{ask_refusal, done_refusal, driving_refusal, in_task, is_open_to, send_refusal}
+use Rattle.bench_history.specs.Arbitration.{driver_state, if_arbitrated, leads_there, mode_at, sent_by, sequence_on, sequencer_at, sequencer_below, sequencer_with, asked_in, driver_asker, ends_ask}
+use Rattle.bench_history.specs.Refusals.{ask_refusal, done_refusal, driving_refusal, is_open_to, send_refusal}
 use Rattle.bench_history.specs.Upshots.{Does, asked_upshot, driven_at, has_candidate}
 use Rattle.bench_history.specs.Next.{next_of, IsNext, EachIsNext}
 use Rattle.bench_history.specs.Laws.{IsLiving, IsThere}
@@ -45,10 +45,9 @@ use Rattle.bench_history.proofs.Called.{performers_are_there}
 use Rattle.bench_history.proofs.Deeds.{deed-next, is-act}
 use Rattle.bench_history.proofs.Driving.{begun-mode, drivers_are_there}
 use Rattle.bench_history.proofs.Ended.{none-after}
-use Rattle.bench_history.proofs.Inversion.{case-of}
-use Rattle.bench_history.proofs.Living.{same-itself}
 use Rattle.bench_history.proofs.Olders.{older-each}
-use Rattle.bench_history.proofs.Phased.{end-alone, end-case}
+use Rattle.uvm_phase.specs.Phases.{phase_number, same_phase}
+use Rattle.bench_history.specs.declared.askers.DriverPort.{DriverPort}
 
 no-fault : (is : Bool) (fatal : Fatal) → fault_if is fatal ≡ None → is ≡ false
 no-fault true fatal e = cc
@@ -207,20 +206,45 @@ granted-stays : (here : Bool) (state : Driver) (other id : ℕ) → state ≡ dr
 granted-stays true state other id is = subst (λ (one : Driver). granted_by other one ≡ driver.InHand id) (sym is) refl
 granted-stays false state other id is = is
 
+-- what ends with a phase was asked in it
+either-way : (a b : Phase) → same_phase a b ≡ same_phase b a
+either-way a b = by (phase_number a == phase_number b) (phase_number b == phase_number a) refl refl
+  where
+    by : (t u : Bool) → (phase_number a == phase_number b) ≡ t → (phase_number b == phase_number a) ≡ u → t ≡ u
+    by true true is at = refl
+    by false false is at = refl
+    by true false is at = let same : (phase_number b == phase_number a) ≡ true = grind (arith, nat_tests, is) in sym same ∙ at
+    by false true is at = let same : (phase_number a == phase_number b) ≡ true = grind (arith, nat_tests, at) in sym is ∙ same
+
+ends-with : (phase : Phase) (asker : Option DriverPort) (asked : Phase) → option_and_then (λ asker. asker.phase) asker ≡ Some asked → ends_ask phase asker ≡ same_phase asked phase
+ends-with phase None asked is = cc
+ends-with phase (Some asker) asked is = rw is refl
+
+-- and is then taken out of the hand
+taken-with : (phase asked : Phase) (found : Option Phase) → found ≡ Some asked → option_map_or (same_phase phase) found false ≡ same_phase asked phase
+taken-with phase asked found is = rw is (either-way phase asked)
+
 module _ (keeps : OrderKeepsAll Owner (Option Call)) (excludes : LockExcludes) where
-  phase-taken : (script : ScriptValue) (before : List Entry) (node id : ℕ) (phase : Phase) → EachIsNext script before → IsNext script before (End phase) → driver_state before node ≡ driver.InHand id → takes_out before node (End phase) ≡ true
-  phase-taken script before node id phase each next is =
+  asked-by : (script : ScriptValue) (before : List Entry) (node id : ℕ) (phase : Phase) → EachIsNext script before → IsNext script before (End phase) → driver_state before node ≡ driver.InHand id → (asked : Phase) × (asked_in before node ≡ Some asked)
+  asked-by script before node id phase each next is =
       let busy : is_idle (driver_state before node) ≡ false = ap is_idle is in
       let asks = asking-of keeps excludes script before node each (none-after script before (End phase) next) busy in
-      let during = end-case script before phase (next_of script before) (end-alone phase (next_of script before) next) (case-of script before) in
-      let both : Some phase ≡ Some asks.0 = sym (ap running during) ∙ asks.2 in
-      let same : phase ≡ asks.0 = cc in
-      rw (asks.1, ← same) (same-itself phase)
+      (asks.0, asks.1)
+
+  -- an item is taken out of the hand with the phase of its ask, and with no other
+  phase-stays : (script : ScriptValue) (before : List Entry) (node id : ℕ) (phase : Phase) → EachIsNext script before → IsNext script before (End phase) → driver_state before node ≡ driver.InHand id → Stays before node id (End phase)
+  phase-stays script before node id phase each next is = let asked = asked-by script before node id phase each next is in by asked.0 asked.1 (same_phase asked.0 phase) refl
+    where
+      by : (asked : Phase) → asked_in before node ≡ Some asked → (t : Bool) → same_phase asked phase ≡ t → Stays before node id (End phase)
+      by asked on true at = inl (taken-with phase asked (asked_in before node) on ∙ at)
+      by asked on false at =
+          let ends : ends_ask phase (driver_asker before node) ≡ false = ends-with phase (driver_asker before node) asked on ∙ at in
+          inr (ap (λ (b : Bool). kept_on b (is_live (End phase ∷ before)) (driver_state before node)) ends ∙ ap (λ (state : Driver). kept_on false (is_live (End phase ∷ before)) state) is)
 
   stays-more : (script : ScriptValue) (before : List Entry) (node id : ℕ) (entry : Entry) → EachIsNext script before → IsNext script before entry → driver_state before node ≡ driver.InHand id → Stays before node id entry
   stays-more script before node id (Did performer outcome act) each next is = stays-did script before node id performer outcome act next is
   stays-more script before node id (Granted other grant) each next is = inr (granted-stays (other == node) (driver_state before node) grant.id id is)
-  stays-more script before node id (End phase) each next is = inl (phase-taken script before node id phase each next is)
+  stays-more script before node id (End phase) each next is = phase-stays script before node id phase each next is
   stays-more script before node id entry each next is = inr is
 
   out-more : (entry : Entry) (between before : List Entry) (node id : ℕ) → IsTakenOut between before node id → IsTakenOut (entry ∷ between) before node id
@@ -352,15 +376,50 @@ module _ (keeps : OrderKeepsAll Owner (Option Call)) (excludes : LockExcludes) w
       by : (here : Bool) → sends_at before node ≡ gets_at before node + dones_at before node + ended_at before node + hand_count (if here then granted_by grant.id (driver_state before node) else driver_state before node)
       by true = rw (hand-granted (driver_state before node) grant.id) e
       by false = e
-  counted-more script before (End phase) node each next e = by (driver_state before node) refl (takes_out before node (End phase)) refl
+  counted-more script before (End phase) node each next e = by (driver_state before node) refl
     where
-      by : (state : Driver) → driver_state before node ≡ state → (takes : Bool) → takes_out before node (End phase) ≡ takes
-          → sends_at before node ≡ gets_at before node + dones_at before node + ((if takes then hand_count (driver_state before node) else 0) + ended_at before node) + 0
-      by state is true takes = omega (arith, e)
-      by (driver.InHand id) is false takes = let taken = phase-taken keeps excludes script before node id phase each next is in cc
-      by driver.Idle is false takes = let none : hand_count (driver_state before node) ≡ 0 = ap hand_count is in omega (arith, e, none)
-      by (driver.Waiting way) is false takes = let none : hand_count (driver_state before node) ≡ 0 = ap hand_count is in omega (arith, e, none)
-      by (driver.Granted id way) is false takes = let none : hand_count (driver_state before node) ≡ 0 = ap hand_count is in omega (arith, e, none)
+      live : ℕ → Bool
+      live = is_live (End phase ∷ before)
+
+      Counted : Bool → Bool → Driver → Type 0
+      Counted takes ends state = sends_at before node ≡ gets_at before node + dones_at before node + ((if takes then hand_count state else 0) + ended_at before node) + hand_count (kept_on ends live state)
+
+      in-hand : (id : ℕ) → driver_state before node ≡ driver.InHand id → (asked : Phase) → asked_in before node ≡ Some asked → (t : Bool) → same_phase asked phase ≡ t → Counted (takes_out before node (End phase)) (ends_ask phase (driver_asker before node)) (driver_state before node)
+      in-hand id is asked on t at =
+          let takes : takes_out before node (End phase) ≡ t = taken-with phase asked (asked_in before node) on ∙ at in
+          let ends : ends_ask phase (driver_asker before node) ≡ t = ends-with phase (driver_asker before node) asked on ∙ at in
+          let counts : sends_at before node ≡ gets_at before node + dones_at before node + ended_at before node + 1 = e ∙ ap (λ (state : Driver). gets_at before node + dones_at before node + ended_at before node + hand_count state) is in
+          rw (takes, ends, is) (counted t counts)
+        where
+          counted : (t : Bool) → sends_at before node ≡ gets_at before node + dones_at before node + ended_at before node + 1 → Counted t t (driver.InHand id)
+          counted true counts = omega (arith, counts)
+          counted false counts = omega (arith, counts)
+
+      no-hand : (state : Driver) (takes ends : Bool) → hand_count state ≡ 0 → hand_count (kept_on ends live state) ≡ 0 → driver_state before node ≡ state → Counted takes ends state
+      no-hand state true ends none kept is = let counts = e ∙ ap (λ (one : Driver). gets_at before node + dones_at before node + ended_at before node + hand_count one) is in omega (arith, counts, none, kept)
+      no-hand state false ends none kept is = let counts = e ∙ ap (λ (one : Driver). gets_at before node + dones_at before node + ended_at before node + hand_count one) is in omega (arith, counts, none, kept)
+
+      kept-none : (ends : Bool) (state : Driver) → hand_count state ≡ 0 → hand_count (kept_on ends live state) ≡ 0
+      kept-none true state none = refl
+      kept-none false driver.Idle none = refl
+      kept-none false (driver.Waiting way) none = refl
+      kept-none false (driver.InHand id) none = cc
+      kept-none false (driver.Granted id way) none = tested (live id)
+        where
+          lapses : (way : How) → hand_count (lapsed way) ≡ 0
+          lapses how.Next = refl
+          lapses how.Try = refl
+          lapses how.Get = refl
+
+          tested : (b : Bool) → hand_count (left_by (if b then None else Some way) (driver.Granted id way)) ≡ 0
+          tested true = refl
+          tested false = lapses way
+
+      by : (state : Driver) → driver_state before node ≡ state → Counted (takes_out before node (End phase)) (ends_ask phase (driver_asker before node)) (driver_state before node)
+      by (driver.InHand id) is = let asked = asked-by keeps excludes script before node id phase each next is in in-hand id is asked.0 asked.1 (same_phase asked.0 phase) refl
+      by driver.Idle is = rw is (no-hand driver.Idle (takes_out before node (End phase)) (ends_ask phase (driver_asker before node)) refl (kept-none (ends_ask phase (driver_asker before node)) driver.Idle refl) is)
+      by (driver.Waiting way) is = rw is (no-hand (driver.Waiting way) (takes_out before node (End phase)) (ends_ask phase (driver_asker before node)) refl (kept-none (ends_ask phase (driver_asker before node)) (driver.Waiting way) refl) is)
+      by (driver.Granted id way) is = rw is (no-hand (driver.Granted id way) (takes_out before node (End phase)) (ends_ask phase (driver_asker before node)) refl (kept-none (ends_ask phase (driver_asker before node)) (driver.Granted id way) refl) is)
   counted-more script before entry node each next e = e
 
   counted-of : (script : ScriptValue) (history : List Entry) (node : ℕ) → EachIsNext script history → AreCounted history node

@@ -8,7 +8,7 @@ use Rattle.uvm_sequencer.specs.declared.drivers.How.{How}
 use Rattle.uvm_sequencer.specs.declared.drivers.How.TheVariants as how
 use Rattle.uvm_sequencer.specs.declared.drivers.Driver.{Driver}
 use Rattle.uvm_sequencer.specs.declared.drivers.Driver.TheVariants as driver
-use Rattle.uvm_sequencer.specs.Drivers.{grant_of, granted_by, lapsed, left_by, sent}
+use Rattle.uvm_sequencer.specs.Drivers.{grant_of, granted_by, lapsed, left_by, sent, kept_on}
 use Rattle.uvm_sequences.specs.Sequences.{Start}
 use Rattle.uvm_object.specs.declared.acts.Who.{Who}
 use Rattle.uvm_object.specs.declared.entries.Entry.{Entry}
@@ -73,6 +73,20 @@ either-kept false new old seq none e = e
 on-kept : (change : ℕ → Driver) (state : Driver) (id : Option ℕ) (seq : ℕ) → ((n : ℕ) → driver_sequence (change n) ≡ Some seq → driver_sequence state ≡ Some seq) → driver_sequence (option_map_or change id state) ≡ Some seq → driver_sequence state ≡ Some seq
 on-kept change state None seq kept e = e
 on-kept change state (Some id) seq kept e = kept id e
+
+-- nor does the end of a phase
+pub end-kept : (ends : Bool) (live : ℕ → Bool) (state : Driver) (seq : ℕ) → driver_sequence (kept_on ends live state) ≡ Some seq → driver_sequence state ≡ Some seq
+end-kept true live state seq e = cc
+end-kept false live driver.Idle seq e = e
+end-kept false live (driver.Waiting way) seq e = e
+end-kept false live (driver.InHand other) seq e = e
+end-kept false live (driver.Granted other way) seq e = tested (live other) way e
+  where
+    tested : (b : Bool) (way : How) → driver_sequence (left_by (if b then None else Some way) (driver.Granted other way)) ≡ Some seq → driver_sequence (driver.Granted other way) ≡ Some seq
+    tested true way e = e
+    tested false how.Next e = cc
+    tested false how.Try e = cc
+    tested false how.Get e = cc
 
 pub move-kept : (before : List Entry) (node : ℕ) (performer : Who) (move : Option DriverMove) (state : Driver) (seq : ℕ) → driver_sequence (driver_by before node performer move state) ≡ Some seq → driver_sequence state ≡ Some seq
 move-kept before node performer None state seq e = e

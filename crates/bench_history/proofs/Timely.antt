@@ -24,7 +24,7 @@ use Rattle.uvm_object.specs.declared.entries.Outcome.{Outcome}
 use Rattle.uvm_object.specs.declared.entries.Outcome.TheVariants.{Done, Waits}
 use Rattle.uvm_object.specs.declared.entries.Origin.{Origin}
 use Rattle.uvm_object.specs.declared.entries.Entry.{Entry}
-use Rattle.uvm_object.specs.declared.entries.Entry.TheVariants.{Heard, Did, Locked, Granted, Passed, Drained}
+use Rattle.uvm_object.specs.declared.entries.Entry.TheVariants.{Heard, Did, Locked, Granted, Passed, Drained, End}
 use Rattle.bench_script.specs.Scripts.{ScriptValue}
 use Rattle.bench_history.specs.declared.owners.Told.{Told}
 use Rattle.bench_history.specs.declared.owners.Owner.{Owner}
@@ -33,7 +33,7 @@ use Rattle.bench_history.specs.Owners.{Event, is_drain_of, who_of}
 use Rattle.bench_history.specs.History.{act_phase, ended_of, now_of}
 use Rattle.bench_history.specs.Sequences.{finished_of, phase_begun}
 use Rattle.bench_history.specs.Objections.{objections_of}
-use Rattle.bench_history.specs.Dues.{told_by, told_of, calls_told, calls_numbered, due_after, due_from, due_events, calls_from, moves_drains, caused_at, caused_of, drain_from, event_in, with_drains, with_drains_of, first_due, heard_of, is_open}
+use Rattle.bench_history.specs.Dues.{told_by, told_of, calls_told, calls_numbered, due_after, due_from, due_events, calls_from, moves_drains, caused_at, caused_of, drain_from, event_in, with_drains, with_drains_of, first_due, heard_of, is_open, lapsed_with}
 use Rattle.bench_history.specs.Cases.{Next, Exactly, Answer, Need, Grant, Nothing}
 use Rattle.bench_history.specs.Next.{next_of, Allows, EachIsNext, IsLegal}
 use Rattle.bench_history.specs.LegalLogs.{IsWakeTime, IsAtCause, IsDrainTime, call_time}
@@ -273,6 +273,9 @@ module _ (goes : SettledGoByTotals) (held_are : BegunDrainsAreHeld) where
   timed-more (Granted node grant) before are all =
       All-append (IsTimed (Granted node grant ∷ before)) (due_from (Some call.Grant) (who.Sequence grant.id node) (phase_begun before grant.id) (now_of before) (caused_at (length before))) (caused_of before)
       (due-timed (Granted node grant ∷ before) (Some call.Grant) (who.Sequence grant.id node) (phase_begun before grant.id) (now_of before) (caused_at (length before)) (λ call e. call-newest (Granted node grant) before 0 (now_of before) refl)) (all-later (Granted node grant) before (caused_of before) all)
+  timed-more (End phase) before are all =
+      All-append (IsTimed (End phase ∷ before)) (calls_numbered (now_of before) (length before) 0 (lapsed_with phase before)) (caused_of before)
+      (numbered-timed (End phase) before 0 (lapsed_with phase before) refl) (all-later (End phase) before (caused_of before) all)
   timed-more (Drained node origin) before are all = with-timed origin.phase (Drained node origin) before (released node (objections_of origin.phase before)) (released-is node (objections_of origin.phase before)) (rw (same-itself origin.phase) refl) (are origin.phase) all
   timed-more entry before are all = all-later entry before (caused_of before) all
 

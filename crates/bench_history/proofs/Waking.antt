@@ -10,7 +10,7 @@ use Rattle.uvm_sequences.specs.declared.starts.SeqStep.{SeqStep}
 use Rattle.uvm_sequences.specs.declared.starts.SeqStep.TheVariants.{PreStart, Body, PostStart}
 use Rattle.uvm_sequencer.specs.declared.drivers.How.{How}
 use Rattle.uvm_sequencer.specs.declared.drivers.How.TheVariants as how
-use Rattle.uvm_sequencer.specs.Drivers.{grant_of, hand_of, is_try}
+use Rattle.uvm_sequencer.specs.Drivers.{grant_of, hand_of, is_try, loses_try}
 use Rattle.uvm_sequences.specs.Sequences.{numbered}
 use Rattle.uvm_tlm.specs.declared.fifos.MoveKind.{MoveKind}
 use Rattle.uvm_tlm.specs.declared.fifos.MoveKind.TheVariants as move
@@ -28,7 +28,7 @@ use Rattle.uvm_object.specs.declared.entries.Passage.{Passage}
 use Rattle.uvm_object.specs.declared.entries.Outcome.{Outcome}
 use Rattle.uvm_object.specs.declared.entries.Outcome.TheVariants.{Done, Started, Value, Stored, Taken, Waits, Finished}
 use Rattle.uvm_object.specs.declared.entries.Entry.{Entry}
-use Rattle.uvm_object.specs.declared.entries.Entry.TheVariants.{Did, Drained, Granted, Locked, Passed}
+use Rattle.uvm_object.specs.declared.entries.Entry.TheVariants.{Did, Drained, Granted, Locked, Passed, End}
 use Rattle.bench_history.specs.declared.askers.DriverPort.{DriverPort}
 use Rattle.bench_history.specs.declared.owners.Told.{Told}
 use Rattle.bench_history.specs.declared.owners.Owner.{Owner}
@@ -37,10 +37,11 @@ use Rattle.bench_history.specs.Owners.{Event, is_drain_of, who_of}
 use Rattle.bench_history.specs.History.{act_phase, nodes_of, now_of}
 use Rattle.bench_history.specs.Objections.{objections_of}
 use Rattle.bench_history.specs.Ports.{imps_below}
-use Rattle.bench_history.specs.Sequences.{Beginning, begun_of, next_step, phase_begun, sequence_in}
-use Rattle.bench_history.specs.Arbitration.{driver_asker, driver_state, sequencer_below}
-use Rattle.bench_history.specs.Dues.{calls_from, calls_numbered, calls_told, caused_at, caused_of, done_by, drain_from, due_from, event_in, finished_by, moves_drains, told_done, told_finished, told_in, told_item, told_of, told_sent, told_step, with_drains_of, written_to}
+use Rattle.bench_history.specs.Sequences.{Beginning, begun_of, next_step, phase_begun, sequence_in, is_live}
+use Rattle.bench_history.specs.Arbitration.{driver_asker, driver_state, sequencer_below, ends_ask}
+use Rattle.bench_history.specs.Dues.{calls_from, calls_numbered, calls_told, caused_at, caused_of, done_by, drain_from, due_from, event_in, finished_by, moves_drains, told_done, told_finished, told_in, told_item, told_of, told_sent, told_step, with_drains_of, written_to, lapsed_with, lapsed_at}
 use Rattle.bench_history.specs.LegalLogs.{IsWakeTime}
+use Rattle.uvm_tree.specs.Sorted.{path_order}
 
 -- a call is one after a wait
 abbrev is_wake : Call → Bool
@@ -137,6 +138,12 @@ lapsed-plain : (lapses : Bool) (asker : Option DriverPort) → All IsPlainCall (
 lapsed-plain true asker = item-plain asker None
 lapsed-plain false asker = All-nil IsPlainCall
 
+each-lapsed : (phase : Phase) (before : List Entry) (nodes : List ℕ) → All IsPlainCall (flat_map (lapsed_at phase before) nodes)
+each-lapsed phase before [] = All-nil IsPlainCall
+each-lapsed phase before (node ∷ nodes) =
+    All-append IsPlainCall (lapsed_at phase before node) (flat_map (lapsed_at phase before) nodes)
+    (lapsed-plain (loses_try (ends_ask phase (driver_asker before node)) (is_live (End phase ∷ before)) (driver_state before node)) (driver_asker before node)) (each-lapsed phase before nodes)
+
 told-plain : (before : List Entry) (performer : Who) (outcome : Outcome) (act : Act) → All IsPlainCall (calls_told before performer outcome act)
 told-plain before performer Done (Write port item) = written-plain (act_phase before) (nodes_of before) item (imps_below before performer port)
 told-plain before performer Done EndStep = step-plain (act_phase before) performer (next_step before performer)
@@ -204,6 +211,9 @@ woken-more (Did performer outcome act) before all =
 woken-more (Passed fifo passage) before all = one-woken (Passed fifo passage) before (Some passage.phase) (told_of passage.kind passage) passage.who (passed-plain passage.kind passage) all
 woken-more (Locked node id) before all = one-woken (Locked node id) before (phase_begun before id) call.Held (who.Sequence id node) refl all
 woken-more (Granted node grant) before all = one-woken (Granted node grant) before (phase_begun before grant.id) call.Grant (who.Sequence grant.id node) refl all
+woken-more (End phase) before all =
+    All-append (IsWoken (End phase ∷ before)) (calls_numbered (now_of before) (length before) 0 (lapsed_with phase before)) (caused_of before)
+    (all-plain (End phase ∷ before) _ (numbered-plain (now_of before) (length before) 0 (lapsed_with phase before) (each-lapsed phase before (path_order (nodes_of before))))) (all-later (End phase) before (caused_of before) all)
 woken-more (Drained node origin) before all = with-woken (Some origin.phase) (Drained node origin) before all
 woken-more entry before all = all-later entry before (caused_of before) all
 

@@ -1,15 +1,20 @@
 -- Once connect has nothing left, nothing is connected any more.
-use Rattle.std.proofs.Common.{◌≡◌, ℕ, Bool, true, false, ◌&&◌, ◌||◌, List, [], ◌∷◌, reverse, take, Option, Some, None, is_none, refl, ap, ◌∙◌, subst}
+use Rattle.std.proofs.Common.{◌≡◌, ℕ, Bool, true, false, ◌&&◌, ◌||◌, List, [], ◌∷◌, reverse, take, Option, Some, None, is_none, refl, ap, ◌∙◌, subst, ◌==◌, nat_lt, filter, sym, arith}
 use Rattle.uvm_phase.specs.Laws.{OrderKeepsAll}
 use Rattle.uvm_sequencer.specs.Laws.{LockExcludes}
 use Rattle.uvm_object.specs.declared.acts.Call.{Call}
+use Rattle.std.proofs.lemmas.Bool.Decides.{nat_tests}
+use Rattle.bench_history.specs.Objections.{is_kept}
+use Rattle.bench_history.specs.Limits.{has_runtime}
+use Rattle.bench_history.proofs.Living.{Stands, Runs, HasEnded}
+use Rattle.bench_history.proofs.Called.{acting-stands}
 use Rattle.bench_history.specs.declared.owners.Owner.{Owner}
 use Rattle.bench_history.specs.Sequences.{is_live}
 use Rattle.bench_history.specs.Arbitration.{next_locked, next_served}
 use Rattle.std.specs.List.{list_any}
 use Rattle.uvm_phase.specs.declared.phases.Phase.{Phase}
-use Rattle.uvm_phase.specs.declared.phases.Phase.TheVariants.{Build, Connect, EndOfElaboration, StartOfSimulation, Run, Extract, Check, Report, Final}
-use Rattle.uvm_phase.specs.Phases.{common_phases, is_task, same_phase}
+use Rattle.uvm_phase.specs.declared.phases.Phase.TheVariants.{Build, Connect, EndOfElaboration, StartOfSimulation, Run, Extract, Check, Report, Final, PreReset, Reset, PostReset, PreConfigure, Configure, PostConfigure, PreMain, Main, PostMain, PreShutdown, Shutdown, PostShutdown}
+use Rattle.uvm_phase.specs.Phases.{is_task, same_phase, phase_number}
 use Rattle.uvm_object.specs.declared.acts.Act.{Act}
 use Rattle.uvm_object.specs.declared.fatals.Fatal.{Fatal}
 use Rattle.uvm_object.specs.declared.entries.Reason.{Reason}
@@ -20,19 +25,18 @@ use Rattle.bench_script.specs.Scripts.{ScriptValue}
 use Rattle.bench_history.specs.declared.stages.Stage.{Stage}
 use Rattle.bench_history.specs.declared.stages.Stage.TheVariants.{Before, During, After, Ended}
 use Rattle.bench_history.specs.Owners.{Event}
-use Rattle.bench_history.specs.History.{act_phase, stage_of, running, left_of, head_of, next_call, is_built, ends_build, ended_of}
+use Rattle.bench_history.specs.History.{act_phase, stage_of, left_of, head_of, next_call, is_built, ends_build, ended_of, in_task, in_progress}
 use Rattle.bench_history.specs.Reports.{reason_of}
 use Rattle.bench_history.specs.Dues.{due_now}
 use Rattle.bench_history.specs.Wires.{is_past_connect, ends_connect, next_unsound}
 use Rattle.bench_history.specs.Passing.{next_passed}
 use Rattle.bench_history.specs.Cases.{Next, Exactly}
 use Rattle.bench_history.specs.Next.{next_of, Allows, IsNext, EachIsNext}
-use Rattle.bench_history.specs.Laws.{WiringStays, ConnectFollowsBuild, TasksFollowConnect, is_common, is_connect_last, is_in_connect, has_nothing_left, next_number}
-use Rattle.bench_history.specs.Refusals.{in_task}
+use Rattle.bench_history.specs.Laws.{WiringStays, ConnectFollowsBuild, TasksFollowConnect, is_connect_last, is_in_connect, has_nothing_left, next_number, ending_order, is_run, TaskPhasesFollowConnect}
 use Rattle.bench_history.proofs.Ended.{nothing-comes}
 use Rattle.bench_history.proofs.Living.{Stands, Runs, HasEnded}
 use Rattle.bench_history.proofs.Called.{acting-stands}
-use Rattle.bench_history.proofs.Phased.{phases_go_in_order}
+use Rattle.bench_history.proofs.Phased.{one-of, phases_go_in_order}
 
 -- what it is to have nothing left
 record IsIdle (script : ScriptValue) (history : List Entry) : Type 0 where
@@ -75,7 +79,7 @@ end_or None None = End Connect
 
 idle-next : (script : ScriptValue) (history : List Entry) → stage_of history ≡ During Connect → IsIdle script history → (reason : Option Reason) → reason_of script history ≡ reason → (port : Option (ℕ × Fatal)) → next_unsound history ≡ port
     → next_of script history ≡ Exactly (end_or reason port)
-unfolding next_of
+unfolding next_of is_kept
 idle-next script history runs idle (Some reason) given port is = rw (runs, given) refl
 idle-next script history runs idle None given (Some port) is = rw (runs, given, idle.none_led, idle.none_served, idle.none_passes, idle.left, idle.none_due, idle.no_call, is) refl
 idle-next script history runs idle None given None is = rw (runs, given, idle.none_led, idle.none_served, idle.none_passes, idle.left, idle.none_due, idle.no_call, is) refl
@@ -137,13 +141,13 @@ built-ended (End phase ∷ history) = ap (λ b. ends_build (End phase) || b) (bu
 built-ended (entry ∷ history) = built-ended history
 
 -- and so it is where connect runs, or has just ended
-build-first : (stage : Stage) (ended : List Phase) → is_in_connect stage ≡ true → ((stage ≡ Ended → ⊥) → ended ≡ reverse (take (next_number stage) common_phases)) → list_any (λ phase. ends_build (End phase)) ended ≡ true
-build-first (During Connect) ended runs are = rw (are (λ e. cc)) refl
-build-first (After Connect) ended runs are = rw (are (λ e. cc)) refl
-build-first stage ended runs are = cc
+build-first : (runtime : Bool) (stage : Stage) (ended : List Phase) → is_in_connect stage ≡ true → ((stage ≡ Ended → ⊥) → ended ≡ reverse (filter (is_run runtime) (take (next_number stage) ending_order))) → list_any (λ phase. ends_build (End phase)) ended ≡ true
+build-first runtime (During Connect) ended runs are = rw (are (λ e. cc)) refl
+build-first runtime (After Connect) ended runs are = rw (are (λ e. cc)) refl
+build-first runtime stage ended runs are = cc
 
 pub connect_follows_build : ConnectFollowsBuild
-connect_follows_build script history each runs = built-ended history ∙ build-first (stage_of history) (ended_of history) runs (phases_go_in_order script history each).are
+connect_follows_build script history each runs = built-ended history ∙ build-first (has_runtime script) (stage_of history) (ended_of history) runs (phases_go_in_order script history each).are
 
 -- so has connect
 past-ended : (history : List Entry) → is_past_connect history ≡ list_any (λ phase. ends_connect (End phase)) (ended_of history)
@@ -151,69 +155,183 @@ past-ended [] = refl
 past-ended (End phase ∷ history) = ap (λ b. ends_connect (End phase) || b) (past-ended history)
 past-ended (entry ∷ history) = past-ended history
 
--- and connect has ended where a phase runs that takes time
-task-after : (stage : Stage) (ended : List Phase) → is_common stage ≡ true → in_task (running stage) ≡ true → ((stage ≡ Ended → ⊥) → ended ≡ reverse (take (next_number stage) common_phases)) → list_any (λ phase. ends_connect (End phase)) ended ≡ true
-task-after (During Run) ended common task are = rw (are (λ e. cc)) refl
-task-after (During Build) ended common task are = cc
-task-after (During Connect) ended common task are = cc
-task-after (During EndOfElaboration) ended common task are = cc
-task-after (During StartOfSimulation) ended common task are = cc
-task-after (During Extract) ended common task are = cc
-task-after (During Check) ended common task are = cc
-task-after (During Report) ended common task are = cc
-task-after (During Final) ended common task are = cc
-task-after (During phase) ended common task are = cc
-task-after Before ended common task are = cc
-task-after (After phase) ended common task are = cc
-task-after Ended ended common task are = cc
+-- a phase that takes time has one of these numbers
+task-number : (phase : Phase) → is_task phase ≡ ((phase_number phase == 4) || nat_lt 8 (phase_number phase))
+task-number Build = refl
+task-number phase = refl
 
--- or where one that takes time has ended
-no-build : (phase : Phase) → is_task phase ≡ true → same_phase phase Build ≡ true → ⊥
-no-build Build task e = cc
-no-build phase task e = cc
+no-task : (phase : Phase) (n : ℕ) → is_task phase ≡ true → (phase_number phase == n) ≡ true → ((n == 4) || nat_lt 8 n) ≡ true
+no-task phase n task same =
+    let at : phase_number phase ≡ n = grind (arith, nat_tests, same) in
+    subst (λ (k : ℕ). ((k == 4) || nat_lt 8 k) ≡ true) at (sym (task-number phase) ∙ task)
 
-one-of : (b : Bool) → b || false ≡ true → b ≡ true
-one-of true e = refl
-one-of false e = cc
+-- and connect has ended where one is in progress
+task-after : (runtime : Bool) (stage : Stage) (ended : List Phase) (phase : Phase) → is_task phase ≡ true → list_any (same_phase phase) (in_progress stage) ≡ true → ended ≡ reverse (filter (is_run runtime) (take (next_number stage) ending_order)) → list_any (λ one. ends_connect (End one)) ended ≡ true
+task-after runtime Before ended phase task going are = cc
+task-after runtime (During Build) ended phase task going are = let none : false ≡ true = no-task phase (phase_number Build) task (one-of (same_phase phase Build) going) in cc
+task-after runtime (During Connect) ended phase task going are = let none : false ≡ true = no-task phase (phase_number Connect) task (one-of (same_phase phase Connect) going) in cc
+task-after runtime (During EndOfElaboration) ended phase task going are = let none : false ≡ true = no-task phase (phase_number EndOfElaboration) task (one-of (same_phase phase EndOfElaboration) going) in cc
+task-after runtime (During StartOfSimulation) ended phase task going are = let none : false ≡ true = no-task phase (phase_number StartOfSimulation) task (one-of (same_phase phase StartOfSimulation) going) in cc
+task-after runtime (During Extract) ended phase task going are = let none : false ≡ true = no-task phase (phase_number Extract) task (one-of (same_phase phase Extract) going) in cc
+task-after runtime (During Check) ended phase task going are = let none : false ≡ true = no-task phase (phase_number Check) task (one-of (same_phase phase Check) going) in cc
+task-after runtime (During Report) ended phase task going are = let none : false ≡ true = no-task phase (phase_number Report) task (one-of (same_phase phase Report) going) in cc
+task-after runtime (During Final) ended phase task going are = let none : false ≡ true = no-task phase (phase_number Final) task (one-of (same_phase phase Final) going) in cc
+task-after runtime (During Run) ended phase task going are = rw are refl
+task-after true (During PreReset) ended phase task going are = rw are refl
+task-after false (During PreReset) ended phase task going are = rw are refl
+task-after true (During Reset) ended phase task going are = rw are refl
+task-after false (During Reset) ended phase task going are = rw are refl
+task-after true (During PostReset) ended phase task going are = rw are refl
+task-after false (During PostReset) ended phase task going are = rw are refl
+task-after true (During PreConfigure) ended phase task going are = rw are refl
+task-after false (During PreConfigure) ended phase task going are = rw are refl
+task-after true (During Configure) ended phase task going are = rw are refl
+task-after false (During Configure) ended phase task going are = rw are refl
+task-after true (During PostConfigure) ended phase task going are = rw are refl
+task-after false (During PostConfigure) ended phase task going are = rw are refl
+task-after true (During PreMain) ended phase task going are = rw are refl
+task-after false (During PreMain) ended phase task going are = rw are refl
+task-after true (During Main) ended phase task going are = rw are refl
+task-after false (During Main) ended phase task going are = rw are refl
+task-after true (During PostMain) ended phase task going are = rw are refl
+task-after false (During PostMain) ended phase task going are = rw are refl
+task-after true (During PreShutdown) ended phase task going are = rw are refl
+task-after false (During PreShutdown) ended phase task going are = rw are refl
+task-after true (During Shutdown) ended phase task going are = rw are refl
+task-after false (During Shutdown) ended phase task going are = rw are refl
+task-after true (During PostShutdown) ended phase task going are = rw are refl
+task-after false (During PostShutdown) ended phase task going are = rw are refl
+task-after true (After PreReset) ended phase task going are = rw are refl
+task-after false (After PreReset) ended phase task going are = rw are refl
+task-after true (After Reset) ended phase task going are = rw are refl
+task-after false (After Reset) ended phase task going are = rw are refl
+task-after true (After PostReset) ended phase task going are = rw are refl
+task-after false (After PostReset) ended phase task going are = rw are refl
+task-after true (After PreConfigure) ended phase task going are = rw are refl
+task-after false (After PreConfigure) ended phase task going are = rw are refl
+task-after true (After Configure) ended phase task going are = rw are refl
+task-after false (After Configure) ended phase task going are = rw are refl
+task-after true (After PostConfigure) ended phase task going are = rw are refl
+task-after false (After PostConfigure) ended phase task going are = rw are refl
+task-after true (After PreMain) ended phase task going are = rw are refl
+task-after false (After PreMain) ended phase task going are = rw are refl
+task-after true (After Main) ended phase task going are = rw are refl
+task-after false (After Main) ended phase task going are = rw are refl
+task-after true (After PostMain) ended phase task going are = rw are refl
+task-after false (After PostMain) ended phase task going are = rw are refl
+task-after true (After PreShutdown) ended phase task going are = rw are refl
+task-after false (After PreShutdown) ended phase task going are = rw are refl
+task-after true (After Shutdown) ended phase task going are = rw are refl
+task-after false (After Shutdown) ended phase task going are = rw are refl
+task-after true (After PostShutdown) ended phase task going are = rw are refl
+task-after false (After PostShutdown) ended phase task going are = rw are refl
+task-after runtime (After last) ended phase task going are = cc
+task-after runtime Ended ended phase task going are = cc
 
-task-ended :
-    (stage : Stage) (ended : List Phase) (phase : Phase) → (stage ≡ Ended → ⊥) → is_common stage ≡ true → is_task phase ≡ true → ended ≡ reverse (take (next_number stage) common_phases)
-    → list_any (same_phase phase) ended ≡ true → list_any (λ one. ends_connect (End one)) ended ≡ true
-task-ended Before ended phase on common task are has = let none : false ≡ true = rw are at has in cc
-task-ended (During Build) ended phase on common task are has = let none : false ≡ true = rw are at has in cc
-task-ended (After Build) ended phase on common task are has = let one : same_phase phase Build || false ≡ true = rw are at has in absurd (no-build phase task (one-of (same_phase phase Build) one))
-task-ended (During Connect) ended phase on common task are has = let one : same_phase phase Build || false ≡ true = rw are at has in absurd (no-build phase task (one-of (same_phase phase Build) one))
-task-ended (During EndOfElaboration) ended phase on common task are has = rw are refl
-task-ended (During StartOfSimulation) ended phase on common task are has = rw are refl
-task-ended (During Run) ended phase on common task are has = rw are refl
-task-ended (During Extract) ended phase on common task are has = rw are refl
-task-ended (During Check) ended phase on common task are has = rw are refl
-task-ended (During Report) ended phase on common task are has = rw are refl
-task-ended (During Final) ended phase on common task are has = rw are refl
-task-ended (After Connect) ended phase on common task are has = rw are refl
-task-ended (After EndOfElaboration) ended phase on common task are has = rw are refl
-task-ended (After StartOfSimulation) ended phase on common task are has = rw are refl
-task-ended (After Run) ended phase on common task are has = rw are refl
-task-ended (After Extract) ended phase on common task are has = rw are refl
-task-ended (After Check) ended phase on common task are has = rw are refl
-task-ended (After Report) ended phase on common task are has = rw are refl
-task-ended (After Final) ended phase on common task are has = rw are refl
-task-ended (During other) ended phase on common task are has = cc
-task-ended (After other) ended phase on common task are has = cc
-task-ended Ended ended phase on common task are has = absurd (on refl)
+-- or where one has ended
+task-ended : (runtime : Bool) (stage : Stage) (ended : List Phase) (phase : Phase) → (stage ≡ Ended → ⊥) → is_task phase ≡ true → ended ≡ reverse (filter (is_run runtime) (take (next_number stage) ending_order)) → list_any (same_phase phase) ended ≡ true → list_any (λ one. ends_connect (End one)) ended ≡ true
+task-ended runtime Before ended phase on task are has = let none : false ≡ true = rw are at has in cc
+task-ended runtime (During Build) ended phase on task are has = let none : false ≡ true = rw are at has in cc
+task-ended runtime (After Build) ended phase on task are has = let one : same_phase phase Build || false ≡ true = rw are at has in let none : false ≡ true = no-task phase 0 task (one-of (same_phase phase Build) one) in cc
+task-ended runtime (During Connect) ended phase on task are has = let one : same_phase phase Build || false ≡ true = rw are at has in let none : false ≡ true = no-task phase 0 task (one-of (same_phase phase Build) one) in cc
+task-ended true (During EndOfElaboration) ended phase on task are has = rw are refl
+task-ended false (During EndOfElaboration) ended phase on task are has = rw are refl
+task-ended true (During StartOfSimulation) ended phase on task are has = rw are refl
+task-ended false (During StartOfSimulation) ended phase on task are has = rw are refl
+task-ended true (During Run) ended phase on task are has = rw are refl
+task-ended false (During Run) ended phase on task are has = rw are refl
+task-ended true (During Extract) ended phase on task are has = rw are refl
+task-ended false (During Extract) ended phase on task are has = rw are refl
+task-ended true (During Check) ended phase on task are has = rw are refl
+task-ended false (During Check) ended phase on task are has = rw are refl
+task-ended true (During Report) ended phase on task are has = rw are refl
+task-ended false (During Report) ended phase on task are has = rw are refl
+task-ended true (During Final) ended phase on task are has = rw are refl
+task-ended false (During Final) ended phase on task are has = rw are refl
+task-ended true (During PreReset) ended phase on task are has = rw are refl
+task-ended false (During PreReset) ended phase on task are has = rw are refl
+task-ended true (During Reset) ended phase on task are has = rw are refl
+task-ended false (During Reset) ended phase on task are has = rw are refl
+task-ended true (During PostReset) ended phase on task are has = rw are refl
+task-ended false (During PostReset) ended phase on task are has = rw are refl
+task-ended true (During PreConfigure) ended phase on task are has = rw are refl
+task-ended false (During PreConfigure) ended phase on task are has = rw are refl
+task-ended true (During Configure) ended phase on task are has = rw are refl
+task-ended false (During Configure) ended phase on task are has = rw are refl
+task-ended true (During PostConfigure) ended phase on task are has = rw are refl
+task-ended false (During PostConfigure) ended phase on task are has = rw are refl
+task-ended true (During PreMain) ended phase on task are has = rw are refl
+task-ended false (During PreMain) ended phase on task are has = rw are refl
+task-ended true (During Main) ended phase on task are has = rw are refl
+task-ended false (During Main) ended phase on task are has = rw are refl
+task-ended true (During PostMain) ended phase on task are has = rw are refl
+task-ended false (During PostMain) ended phase on task are has = rw are refl
+task-ended true (During PreShutdown) ended phase on task are has = rw are refl
+task-ended false (During PreShutdown) ended phase on task are has = rw are refl
+task-ended true (During Shutdown) ended phase on task are has = rw are refl
+task-ended false (During Shutdown) ended phase on task are has = rw are refl
+task-ended true (During PostShutdown) ended phase on task are has = rw are refl
+task-ended false (During PostShutdown) ended phase on task are has = rw are refl
+task-ended true (After Connect) ended phase on task are has = rw are refl
+task-ended false (After Connect) ended phase on task are has = rw are refl
+task-ended true (After EndOfElaboration) ended phase on task are has = rw are refl
+task-ended false (After EndOfElaboration) ended phase on task are has = rw are refl
+task-ended true (After StartOfSimulation) ended phase on task are has = rw are refl
+task-ended false (After StartOfSimulation) ended phase on task are has = rw are refl
+task-ended true (After Run) ended phase on task are has = rw are refl
+task-ended false (After Run) ended phase on task are has = rw are refl
+task-ended true (After Extract) ended phase on task are has = rw are refl
+task-ended false (After Extract) ended phase on task are has = rw are refl
+task-ended true (After Check) ended phase on task are has = rw are refl
+task-ended false (After Check) ended phase on task are has = rw are refl
+task-ended true (After Report) ended phase on task are has = rw are refl
+task-ended false (After Report) ended phase on task are has = rw are refl
+task-ended true (After Final) ended phase on task are has = rw are refl
+task-ended false (After Final) ended phase on task are has = rw are refl
+task-ended true (After PreReset) ended phase on task are has = rw are refl
+task-ended false (After PreReset) ended phase on task are has = rw are refl
+task-ended true (After Reset) ended phase on task are has = rw are refl
+task-ended false (After Reset) ended phase on task are has = rw are refl
+task-ended true (After PostReset) ended phase on task are has = rw are refl
+task-ended false (After PostReset) ended phase on task are has = rw are refl
+task-ended true (After PreConfigure) ended phase on task are has = rw are refl
+task-ended false (After PreConfigure) ended phase on task are has = rw are refl
+task-ended true (After Configure) ended phase on task are has = rw are refl
+task-ended false (After Configure) ended phase on task are has = rw are refl
+task-ended true (After PostConfigure) ended phase on task are has = rw are refl
+task-ended false (After PostConfigure) ended phase on task are has = rw are refl
+task-ended true (After PreMain) ended phase on task are has = rw are refl
+task-ended false (After PreMain) ended phase on task are has = rw are refl
+task-ended true (After Main) ended phase on task are has = rw are refl
+task-ended false (After Main) ended phase on task are has = rw are refl
+task-ended true (After PostMain) ended phase on task are has = rw are refl
+task-ended false (After PostMain) ended phase on task are has = rw are refl
+task-ended true (After PreShutdown) ended phase on task are has = rw are refl
+task-ended false (After PreShutdown) ended phase on task are has = rw are refl
+task-ended true (After Shutdown) ended phase on task are has = rw are refl
+task-ended false (After Shutdown) ended phase on task are has = rw are refl
+task-ended true (After PostShutdown) ended phase on task are has = rw are refl
+task-ended false (After PostShutdown) ended phase on task are has = rw are refl
+task-ended runtime Ended ended phase on task are has = absurd (on refl)
 
 task-stands : (script : ScriptValue) (history : List Entry) (phase : Phase) → EachIsNext script history → (stage_of history ≡ Ended → ⊥) → is_task phase ≡ true → Stands history phase → is_past_connect history ≡ true
 task-stands script history phase each on task (Runs runs) =
     let order = phases_go_in_order script history each in
-    past-ended history ∙ task-after (stage_of history) (ended_of history) order.common (rw runs task) order.are
+    past-ended history ∙ task-after (has_runtime script) (stage_of history) (ended_of history) phase task runs (order.are on)
 task-stands script history phase each on task (HasEnded has) =
     let order = phases_go_in_order script history each in
-    past-ended history ∙ task-ended (stage_of history) (ended_of history) phase on order.common task (order.are on) has
+    past-ended history ∙ task-ended (has_runtime script) (stage_of history) (ended_of history) phase on task (order.are on) has
 
 -- so it has where an act belongs to one
 acting-task : (script : ScriptValue) (history : List Entry) (acting : Option Phase) → EachIsNext script history → (stage_of history ≡ Ended → ⊥) → in_task acting ≡ true → ((phase : Phase) → acting ≡ Some phase → Stands history phase) → is_past_connect history ≡ true
 acting-task script history None each on task stands = cc
 acting-task script history (Some phase) each on task stands = task-stands script history phase each on task (stands phase refl)
+
+pub task_phases_follow_connect : TaskPhasesFollowConnect
+task_phases_follow_connect script history phase each going task = task-stands script history phase each on task (Runs going)
+  where
+    on : stage_of history ≡ Ended → ⊥
+    on ended = let none : false ≡ true = ap (λ stage. list_any (same_phase phase) (in_progress stage)) (sym ended) ∙ going in cc
 
 module _ (keeps : OrderKeepsAll Owner (Option Call)) (excludes : LockExcludes) where
   pub tasks_follow_connect : TasksFollowConnect

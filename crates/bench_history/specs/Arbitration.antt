@@ -10,7 +10,7 @@ use Rattle.uvm_sequencer.specs.declared.drivers.How.{How}
 use Rattle.uvm_sequencer.specs.declared.drivers.Driver.{Driver}
 use Rattle.uvm_sequencer.specs.declared.drivers.Driver.TheVariants.{Idle, Waiting}
 use Rattle.uvm_sequencer.specs.declared.requests.Request.{Request}
-use Rattle.uvm_sequencer.specs.Drivers.{grant_of, granted_by, left_by, sent}
+use Rattle.uvm_sequencer.specs.Drivers.{grant_of, granted_by, kept_on, left_by, sent}
 use Rattle.uvm_sequencer.specs.Queues.{is_item, item_request, lock_request, released}
 use Rattle.uvm_sequences.specs.Sequences.{Start}
 use Rattle.uvm_sequencer.specs.Sequencers.{SequencerValue, lock_at, ready_at}
@@ -28,7 +28,7 @@ use Rattle.uvm_object.specs.declared.entries.Outcome.TheVariants.{Done, Waits, F
 use Rattle.uvm_object.specs.declared.entries.Entry.{Entry}
 use Rattle.uvm_object.specs.declared.entries.Entry.TheVariants.{Did, Locked, Granted, End}
 use Rattle.bench_history.specs.declared.askers.DriverPort.{DriverPort}
-use Rattle.bench_history.specs.History.{act_phase, nodes_of}
+use Rattle.bench_history.specs.History.{act_phase, is_of_phase, nodes_of}
 use Rattle.uvm_tlm.specs.Fifos.{waiting_count}
 use Rattle.bench_history.specs.Passing.{station_at}
 use Rattle.bench_history.specs.Ports.{port_below}
@@ -169,14 +169,6 @@ driver_by before node performer (Some (IsDone port)) driver = if leads_there nod
 driver_by before node performer (Some Sends) driver = option_map_or (sent_by driver) (sequence_on node performer) driver
 driver_by before node performer (Some Leaves) driver = option_map_or (λ id. left_by (grant_of id driver) driver) (sequence_on node performer) driver
 
--- where the driver of a sequencer stands: the last of these decides, a grant, or the end of a phase
-abbrev pub driver_state : List Entry → ℕ → Driver
-driver_state [] node = Idle
-driver_state (Did performer outcome act ∷ before) node = driver_by before node performer (driver_move outcome act) (driver_state before node)
-driver_state (Granted other grant ∷ before) node = if other == node then granted_by grant.id (driver_state before node) else driver_state before node
-driver_state (End phase ∷ before) node = Idle
-driver_state (entry ∷ before) node = driver_state before node
-
 -- who drives it, and through which port of its own: who has asked last, and in which phase
 abbrev pub asker_by : List Entry → ℕ → Who → Option DriverMove → Option DriverPort → Option DriverPort
 asker_by before node performer None asker = asker
@@ -191,6 +183,20 @@ driver_asker (entry ∷ before) node = driver_asker before node
 -- the phase in which it asked last
 abbrev pub asked_in : List Entry → ℕ → Option Phase
 asked_in history node = option_and_then (λ asker. asker.phase) (driver_asker history node)
+
+-- what was asked last ends with this phase
+abbrev pub ends_ask : Phase → Option DriverPort → Bool
+ends_ask phase None = true
+ends_ask phase (Some asker) = is_of_phase phase asker.phase
+
+-- where the driver of a sequencer stands: the last of these decides, a grant, or the end of a phase, with which what it asked ends, or the sequence that it
+-- may have been granted
+abbrev pub driver_state : List Entry → ℕ → Driver
+driver_state [] node = Idle
+driver_state (Did performer outcome act ∷ before) node = driver_by before node performer (driver_move outcome act) (driver_state before node)
+driver_state (Granted other grant ∷ before) node = if other == node then granted_by grant.id (driver_state before node) else driver_state before node
+driver_state (End phase ∷ before) node = kept_on (ends_ask phase (driver_asker before node)) (is_live (End phase ∷ before)) (driver_state before node)
+driver_state (entry ∷ before) node = driver_state before node
 
 -- a sequencer, as the service has it. No port is named: a driver asks through a sound one, and of the ports that lead to a sequencer one alone is sound
 abbrev pub sequencer_with : List Entry → ℕ → Mode → SequencerValue

@@ -1,9 +1,10 @@
 -- The machine's cases: for each what comes next, if the case is given. Each takes for granted that those that stand above it in `next_of` were
 -- not.
-use Rattle.std.specs.Prelude.{ℕ, Bool, true, false, ◌&&◌, List, [], ◌∷◌, length, nat_lt, Option, Some, None, option_map, option_and_then, if◌then◌else◌}
+use Rattle.std.specs.Prelude.{ℕ, Bool, true, false, List, [], ◌∷◌, length, map, nat_lt, Option, Some, None, option_map, option_and_then, if◌then◌else◌}
+use Rattle.uvm_glob.specs.Lists.{first_given}
 use Rattle.uvm_phase.specs.declared.phases.Phase.{Phase}
-use Rattle.uvm_phase.specs.declared.phases.Phase.TheVariants.{Build, Connect}
-use Rattle.uvm_phase.specs.Phases.{phase_after, is_task}
+use Rattle.uvm_phase.specs.declared.phases.Phase.TheVariants.{Build, Connect, Run, PreReset, PostShutdown}
+use Rattle.uvm_phase.specs.Phases.{phase_after}
 use Rattle.uvm_object.specs.Acts.{node_of}
 use Rattle.uvm_object.specs.declared.acts.Who.{Who}
 use Rattle.uvm_object.specs.declared.acts.Who.TheVariants as who
@@ -23,11 +24,11 @@ use Rattle.bench_script.specs.Scripts.{ScriptValue}
 use Rattle.bench_history.specs.declared.needs.Need as declared
 use Rattle.bench_history.specs.declared.owners.Owner.{Owner}
 use Rattle.bench_history.specs.declared.stages.Stage.{Stage}
-use Rattle.bench_history.specs.declared.stages.Stage.TheVariants.{Before, After, Ended}
+use Rattle.bench_history.specs.declared.stages.Stage.TheVariants.{Before, During, After, Ended}
 use Rattle.bench_history.specs.Owners.{Event, who_of}
 use Rattle.bench_history.specs.Limits.{most_acts}
 use Rattle.bench_history.specs.History.{next_call, speaker_of}
-use Rattle.bench_history.specs.Objections.{objections_of, stands}
+use Rattle.bench_history.specs.Objections.{is_kept}
 use Rattle.bench_history.specs.Dues.{first_due}
 use Rattle.bench_history.specs.Wires.{next_unsound}
 use Rattle.bench_history.specs.Upshots.{Upshot, Needs, Does, Finds, Stores, Takes, Asks, Finishes, Refuses, open_upshot, upshot_of}
@@ -108,10 +109,12 @@ by_call owner None origin = Exactly (Drained (node_of (who_of owner)) origin)
 abbrev pub event_due : Option Event → Option Next
 event_due due = option_map (λ event. by_call event.owner event.notice (origin_of event)) due
 
--- the phase that runs is heard by the node whose turn it is
-abbrev pub phase_call : List Entry → Option Phase → Option Next
-phase_call history None = None
-phase_call history (Some phase) = option_map (λ node. Answer (who.Node node) (call.Phase phase) None) (next_call phase history)
+-- a phase in progress is heard by the node whose turn it is: run goes before the run-time phase beside it
+abbrev pub turn_in : List Entry → Phase → Option Next
+turn_in history phase = option_map (λ node. Answer (who.Node node) (call.Phase phase) None) (next_call phase history)
+
+abbrev pub phase_call : List Entry → List Phase → Option Next
+phase_call history phases = first_given (map (turn_in history) phases)
 
 -- in connect, once each component had its call, the next unsound port is reported
 abbrev pub in_connect : Option Phase → Bool
@@ -126,16 +129,19 @@ abbrev pub time_passes : ℕ → Option Event → Entry
 time_passes limit None = Note Stall 0
 time_passes limit (Some event) = if nat_lt limit event.time then Note Timeout 0 else Time event.time
 
--- the phase that runs ends: each component had its call. In run time passes while an objection stands
+-- the phase that was begun last ends: each component had its call. In one that takes time, time passes while an objection keeps it
 abbrev pub phase_end : ScriptValue → List Entry → Option Phase → Option Next
 phase_end script history None = None
-phase_end script history (Some phase) = Some (Exactly (if is_task phase && stands (objections_of phase history) then time_passes script.time_limit (first_due history) else End phase))
+phase_end script history (Some phase) = Some (Exactly (if is_kept phase history then time_passes script.time_limit (first_due history) else End phase))
 
--- a phase begins: the first, or the one after that which has ended
-abbrev pub phase_to_begin : Stage → Option Phase
-phase_to_begin Before = Some Build
-phase_to_begin (After phase) = phase_after phase
-phase_to_begin stage = None
+-- a phase begins: the first, or the one after that which has ended; with run begins the first of the run-time phases, if they are to run, and after the
+-- last of them run goes on
+abbrev pub phase_to_begin : Bool → Stage → Option Phase
+phase_to_begin runtime Before = Some Build
+phase_to_begin runtime (During Run) = if runtime then Some PreReset else None
+phase_to_begin runtime (After PostShutdown) = None
+phase_to_begin runtime (After phase) = phase_after phase
+phase_to_begin runtime stage = None
 
 abbrev pub phase_begin : Option Phase → Option Next
 phase_begin phase = option_map (λ phase. Exactly (Begin phase)) phase

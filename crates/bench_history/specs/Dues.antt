@@ -14,10 +14,11 @@ use Rattle.uvm_sequences.specs.declared.starts.SeqStep.TheVariants.{PreStart, Bo
 use Rattle.uvm_sequences.specs.Sequences.{numbered}
 use Rattle.uvm_sequencer.specs.declared.drivers.How.{How}
 use Rattle.uvm_sequencer.specs.declared.drivers.How.TheVariants.{Get as ByGet}
-use Rattle.uvm_sequencer.specs.Drivers.{grant_of, hand_of, is_try}
+use Rattle.uvm_sequencer.specs.Drivers.{grant_of, hand_of, is_try, loses_try}
 use Rattle.uvm_object.specs.Acts.{node_of}
 use Rattle.uvm_tree.specs.Nodes as tree
 use Rattle.uvm_tree.specs.Nodes.{under_at}
+use Rattle.uvm_tree.specs.Sorted.{path_order}
 use Rattle.uvm_tlm.specs.declared.fifos.MoveKind.{MoveKind}
 use Rattle.uvm_tlm.specs.declared.fifos.MoveKind.TheVariants as move
 use Rattle.uvm_tlm.specs.declared.items.Item.{Item}
@@ -32,7 +33,7 @@ use Rattle.uvm_object.specs.declared.entries.Outcome.{Outcome}
 use Rattle.uvm_object.specs.declared.entries.Outcome.TheVariants.{Done, Started, Value, Stored, Taken, Waits, Finished}
 use Rattle.uvm_object.specs.declared.entries.Passage.{Passage}
 use Rattle.uvm_object.specs.declared.entries.Entry.{Entry}
-use Rattle.uvm_object.specs.declared.entries.Entry.TheVariants.{Heard, Did, Locked, Granted, Passed, Drained}
+use Rattle.uvm_object.specs.declared.entries.Entry.TheVariants.{End, Heard, Did, Locked, Granted, Passed, Drained}
 use Rattle.bench_history.specs.declared.askers.DriverPort.{DriverPort}
 use Rattle.bench_history.specs.declared.owners.Told.{Told}
 use Rattle.bench_history.specs.declared.owners.Owner.{Owner}
@@ -40,9 +41,9 @@ use Rattle.bench_history.specs.declared.owners.Owner.TheVariants.{Object, Drain}
 use Rattle.bench_history.specs.Owners.{Event, is_drain_of}
 use Rattle.bench_history.specs.History.{act_phase, now_of, nodes_of, ended_of}
 use Rattle.bench_history.specs.Objections.{objections_of}
-use Rattle.bench_history.specs.Sequences.{Beginning, begun_of, finished_of, next_step, phase_begun, sequence_in, sequences_of, start_by}
+use Rattle.bench_history.specs.Sequences.{Beginning, begun_of, finished_of, is_live, next_step, phase_begun, sequence_in, sequences_of, start_by}
 use Rattle.bench_history.specs.Ports.{imps_below}
-use Rattle.bench_history.specs.Arbitration.{driver_asker, driver_state, sequencer_below}
+use Rattle.bench_history.specs.Arbitration.{driver_asker, driver_state, ends_ask, sequencer_below}
 
 -- an event is due in a phase
 abbrev pub event_in : {O N : Type 0} → Option Phase → ℕ → Cause → O → N → List (Due O N)
@@ -139,6 +140,14 @@ calls_told before performer (Started id) act = told_in (act_phase before) (who.S
 calls_told before performer Finished act = finished_by before (sequence_in performer) ++ lapsed_by before (node_of performer) (sequence_in performer)
 calls_told before performer outcome act = []
 
+-- with the end of a phase the grants of some sequences lapse whose driver asked in another: where that was a `try`, it is told that there is no item
+abbrev pub lapsed_at : Phase → List Entry → ℕ → List Told
+lapsed_at phase before node =
+    if loses_try (ends_ask phase (driver_asker before node)) (is_live (End phase ∷ before)) (driver_state before node) then told_item (driver_asker before node) None else []
+
+abbrev pub lapsed_with : Phase → List Entry → List Told
+lapsed_with phase before = flat_map (lapsed_at phase before) (path_order (nodes_of before))
+
 -- they are numbered in this order, and due at once; the newest first
 abbrev pub calls_numbered : ℕ → ℕ → ℕ → List Told → List Event
 calls_numbered time place number [] = []
@@ -180,6 +189,7 @@ with_events_from (Did performer outcome act) before caused =
 with_events_from (Passed fifo passage) before caused = due_from (Some (told_of passage.kind passage)) passage.who (Some passage.phase) (now_of before) (caused_at (length before)) ++ caused
 with_events_from (Locked node id) before caused = due_from (Some call.Held) (who.Sequence id node) (phase_begun before id) (now_of before) (caused_at (length before)) ++ caused
 with_events_from (Granted node grant) before caused = due_from (Some call.Grant) (who.Sequence grant.id node) (phase_begun before grant.id) (now_of before) (caused_at (length before)) ++ caused
+with_events_from (End phase) before caused = calls_numbered (now_of before) (length before) 0 (lapsed_with phase before) ++ caused
 with_events_from (Drained node origin) before caused = with_drains_of (Some origin.phase) (Drained node origin) before caused
 with_events_from entry before caused = caused
 

@@ -10,8 +10,8 @@ use Rattle.uvm_factory.specs.declared.overrides.Override.{Override}
 use Rattle.uvm_factory.specs.declared.overrides.Override.TheVariants.{Instance, Whole}
 use Rattle.uvm_factory.specs.Faults.{Types, type_named}
 use Rattle.uvm_phase.specs.declared.phases.Phase.{Phase}
-use Rattle.uvm_phase.specs.declared.phases.Phase.TheVariants.{Build}
-use Rattle.uvm_phase.specs.Phases.{is_top_down}
+use Rattle.uvm_phase.specs.declared.phases.Phase.TheVariants.{Build, Run}
+use Rattle.uvm_phase.specs.Phases.{is_runtime, is_task, is_top_down, same_phase}
 use Rattle.uvm_tree.specs.declared.nodes.NodeKind.{NodeKind}
 use Rattle.uvm_tree.specs.declared.nodes.NodeKind.TheVariants as kind
 use Rattle.uvm_tree.specs.Nodes.{Node, top, child, path_at}
@@ -48,10 +48,27 @@ now_of [] = 0
 now_of (Time time ∷ before) = time
 now_of (entry ∷ before) = now_of before
 
--- the phase that runs
+-- the phase that was begun last and has not ended: once a run-time phase has ended that is run, beside which it went
 abbrev pub running : Stage → Option Phase
 running (During phase) = Some phase
+running (After phase) = if is_runtime phase then Some Run else None
 running stage = None
+
+-- the phases that were begun and have not ended, in the order of their begins: there are two while a run-time phase goes beside run
+abbrev pub in_progress : Stage → List Phase
+in_progress (During phase) = if is_runtime phase then Run ∷ phase ∷ [] else phase ∷ []
+in_progress (After phase) = if is_runtime phase then Run ∷ [] else []
+in_progress stage = []
+
+-- what belongs to a phase, if to one, belongs to this one
+abbrev pub is_of_phase : Phase → Option Phase → Bool
+is_of_phase phase None = false
+is_of_phase phase (Some other) = same_phase other phase
+
+-- an act belongs to a phase that takes time
+abbrev pub in_task : Option Phase → Bool
+in_task None = false
+in_task (Some phase) = is_task phase
 
 -- the phase to which a call belongs: one that was due to that of its origin, and a phase's call to this phase
 abbrev pub phase_heard : Call → Option Origin → Option Phase
@@ -100,12 +117,21 @@ components_of [] = []
 components_of (Did performer outcome act ∷ before) = components_after (length (nodes_of before)) (components_of before) outcome
 components_of (entry ∷ before) = components_of before
 
--- the nodes that had their call since the phase began: a call without a cause is a phase's
-abbrev pub called_of : List Entry → List ℕ
-called_of [] = []
-called_of (Begin phase ∷ before) = []
-called_of (Heard hearer call None acts ∷ before) = node_of hearer ∷ called_of before
-called_of (entry ∷ before) = called_of before
+-- two phases are run-time phases, or neither is: of such two never both are in progress
+abbrev pub same_sort : Phase → Phase → Bool
+same_sort a b = if is_runtime a then is_runtime b else not (is_runtime b)
+
+-- a call is one of these phases'
+abbrev pub calls_sort : Phase → Call → Bool
+calls_sort phase (call.Phase other) = same_sort other phase
+calls_sort phase call = false
+
+-- the nodes that had the call of a phase since it began: a call without a cause is a phase's
+abbrev pub called_of : Phase → List Entry → List ℕ
+called_of phase [] = []
+called_of phase (Begin other ∷ before) = if same_sort other phase then [] else called_of phase before
+called_of phase (Heard hearer call None acts ∷ before) = if calls_sort phase call then node_of hearer ∷ called_of phase before else called_of phase before
+called_of phase (entry ∷ before) = called_of phase before
 
 abbrev pub had_call : List ℕ → ℕ → Bool
 had_call called node = list_any (λ other. other == node) called
@@ -118,7 +144,7 @@ phase_order phase = if is_top_down phase then down_cmp else up_cmp
 unfoldable pub next_call : Phase → List Entry → Option ℕ
 next_call phase history =
     least (is_before (phase_order phase) (nodes_of history))
-    (filter (λ node. not (had_call (called_of history) node)) (components_of history))
+    (filter (λ node. not (had_call (called_of phase history) node)) (components_of history))
 
 -- the name of a type, or another where there is no such type
 abbrev pub type_name_or : Types → ℕ → List ℕ → List ℕ

@@ -1,8 +1,8 @@
 -- What holds of all logs, or of all in which each entry was next, as in each legal one, and of what comes next in them.
-use Rattle.std.specs.Prelude.{◌≡◌, ◌<◌, ◌≤◌, ◌+◌, ◌⊎◌, ℕ, suc, Bool, true, false, not, ◌&&◌, is_none, List, [], ◌∷◌, ◌++◌, length, reverse, take, Option, Some, None, option_and_then, option_map, IsSome, IfSome, All, Contains}
-use Rattle.uvm_phase.specs.declared.phases.Phase.TheVariants.{Connect}
+use Rattle.std.specs.Prelude.{◌≡◌, ◌<◌, ◌≤◌, ◌+◌, ◌⊎◌, ℕ, suc, Bool, true, false, not, ◌&&◌, ◌||◌, filter, is_none, List, [], ◌∷◌, ◌++◌, length, reverse, take, Option, Some, None, option_map, IsSome, IfSome, All, Contains}
+use Rattle.uvm_phase.specs.declared.phases.Phase.TheVariants.{Build, Connect, EndOfElaboration, StartOfSimulation, PreReset, Reset, PostReset, PreConfigure, Configure, PostConfigure, PreMain, Main, PostMain, PreShutdown, Shutdown, PostShutdown, Run, Extract, Check, Report, Final}
 use Rattle.uvm_phase.specs.declared.phases.Phase.{Phase}
-use Rattle.uvm_phase.specs.Phases.{common_phases, is_runtime, phase_number, same_phase}
+use Rattle.uvm_phase.specs.Phases.{is_runtime, is_task, runtime_phases, same_phase}
 use Rattle.std.specs.List.{list_any}
 use Rattle.uvm_sequencer.specs.Drivers.{hand_of, is_idle}
 use Rattle.uvm_sequences.specs.Sequences.{numbered}
@@ -15,6 +15,7 @@ use Rattle.uvm_object.specs.Objects.{exchanged_in, life_of}
 use Rattle.uvm_object.specs.declared.acts.Who.{Who}
 use Rattle.uvm_object.specs.declared.acts.Who.TheVariants as who
 use Rattle.uvm_object.specs.declared.acts.Call.{Call}
+use Rattle.uvm_object.specs.declared.acts.Call.TheVariants as calls
 use Rattle.uvm_object.specs.declared.acts.Act.{Act}
 use Rattle.uvm_object.specs.declared.acts.Act.TheVariants.{Create, Start}
 use Rattle.uvm_object.specs.declared.entries.Outcome.{Outcome}
@@ -22,67 +23,110 @@ use Rattle.uvm_object.specs.declared.entries.Outcome.TheVariants.{Made, Started}
 use Rattle.uvm_object.specs.declared.entries.Origin.{Origin}
 use Rattle.uvm_object.specs.declared.entries.Passage.{Passage}
 use Rattle.uvm_object.specs.declared.entries.Entry.{Entry}
-use Rattle.uvm_object.specs.declared.entries.Entry.TheVariants.{End, Did, Locked, Passed, Drained}
+use Rattle.uvm_object.specs.declared.entries.Entry.TheVariants.{Begin, End, Did, Locked, Passed, Drained}
 use Rattle.bench_script.specs.Scripts.{ScriptValue}
 use Rattle.bench_history.specs.declared.needs.Need as declared
 use Rattle.bench_history.specs.declared.stages.Stage.{Stage}
 use Rattle.bench_history.specs.declared.stages.Stage.TheVariants.{Before, During, After, Ended}
 use Rattle.bench_history.specs.Owners.{Event, who_of}
-use Rattle.bench_history.specs.History.{act_phase, now_of, stage_of, running, nodes_of, components_of, created_name, left_of, head_of, rest_of, speaker_of, opening, is_built, is_over, next_call, ended_of}
+use Rattle.bench_history.specs.History.{act_phase, in_progress, in_task, is_of_phase, now_of, stage_of, running, nodes_of, components_of, created_name, left_of, head_of, rest_of, speaker_of, opening, is_built, is_over, next_call, ended_of}
 use Rattle.bench_history.specs.Dues.{first_due, due_now}
+use Rattle.bench_history.specs.Limits.{has_runtime}
 use Rattle.bench_history.specs.Wires.{is_past_connect}
 use Rattle.bench_history.specs.Arbitration.{asked_in, driver_asker, driver_state, mode_at, next_locked, next_served}
 use Rattle.bench_history.specs.Passing.{next_passed}
 use Rattle.bench_history.specs.Reports.{report_commands}
-use Rattle.bench_history.specs.Refusals.{child_refusal, in_task, starting_refusal}
+use Rattle.bench_history.specs.Refusals.{child_refusal, starting_refusal}
 use Rattle.bench_history.specs.Sequences.{Beginning, all_begun, begun_of, is_live, leaving_of, phase_begun, sequences_of, start_by}
 use Rattle.bench_history.specs.Upshots.{starting_now}
 use Rattle.bench_history.specs.Cases.{Next, Exactly, Answer, Need, Grant, Nothing, by_act, chosen_at, origin_of}
 use Rattle.bench_history.specs.Next.{next_of, need_in, IsAct, IsNext, EachIsNext}
 
--- the number of the next phase that may begin, or of the one that runs; at the end that of all common phases
+-- the phases in the order in which they end, run behind the run-time phases; and where a phase stands there
+abbrev pub ending_order : List Phase
+ending_order = Build ∷ Connect ∷ EndOfElaboration ∷ StartOfSimulation ∷ runtime_phases ++ Run ∷ Extract ∷ Check ∷ Report ∷ Final ∷ []
+
+abbrev pub end_number : Phase → ℕ
+end_number Build = 0
+end_number Connect = 1
+end_number EndOfElaboration = 2
+end_number StartOfSimulation = 3
+end_number PreReset = 4
+end_number Reset = 5
+end_number PostReset = 6
+end_number PreConfigure = 7
+end_number Configure = 8
+end_number PostConfigure = 9
+end_number PreMain = 10
+end_number Main = 11
+end_number PostMain = 12
+end_number PreShutdown = 13
+end_number Shutdown = 14
+end_number PostShutdown = 15
+end_number Run = 16
+end_number Extract = 17
+end_number Check = 18
+end_number Report = 19
+end_number Final = 20
+
+-- in that order those that may have ended stand before this place: before the phase that was begun last, but as run begins those before all run-time phases
 abbrev pub next_number : Stage → ℕ
 next_number Before = 0
-next_number (During phase) = phase_number phase
-next_number (After phase) = phase_number phase + 1
-next_number Ended = length common_phases
+next_number (During Run) = end_number PreReset
+next_number (During phase) = end_number phase
+next_number (After phase) = end_number phase + 1
+next_number Ended = length ending_order
 
--- no run-time phase runs, and none has just ended
-abbrev pub is_common : Stage → Bool
-is_common (During phase) = not (is_runtime phase)
-is_common (After phase) = not (is_runtime phase)
-is_common stage = true
+-- the run-time phases are run, or they are left out
+abbrev pub is_run : Bool → Phase → Bool
+is_run runtime phase = not (is_runtime phase) || runtime
 
--- the phases go in their order: none is a run-time phase, until the end those that have ended are the first of the nine common ones, each
--- once, and so they stand before the one that runs, or may begin next
-pub record ArePhasesInOrder (history : List Entry) : Type 0 where
-  pub common : is_common (stage_of history) ≡ true
-  pub are : (stage_of history ≡ Ended → ⊥) → ended_of history ≡ reverse (take (next_number (stage_of history)) common_phases)
-  pub before : All (λ phase. phase_number phase < next_number (stage_of history)) (ended_of history)
+abbrev pub is_run_at : Bool → Stage → Bool
+is_run_at runtime (During phase) = is_run runtime phase
+is_run_at runtime (After phase) = is_run runtime phase
+is_run_at runtime stage = true
+
+-- the phases go in their order: until the end those that have ended are the first in that order, each once
+pub record ArePhasesInOrder (runtime : Bool) (history : List Entry) : Type 0 where
+  pub run : is_run_at runtime (stage_of history) ≡ true
+  pub are : (stage_of history ≡ Ended → ⊥) → ended_of history ≡ reverse (filter (is_run runtime) (take (next_number (stage_of history)) ending_order))
+  pub before : All (λ phase. end_number phase < next_number (stage_of history)) (ended_of history)
 
 abbrev pub PhasesGoInOrder : Type 0
-PhasesGoInOrder = (script : ScriptValue) (history : List Entry) → EachIsNext script history → ArePhasesInOrder history
+PhasesGoInOrder = (script : ScriptValue) (history : List Entry) → EachIsNext script history → ArePhasesInOrder (has_runtime script) history
+
+-- none that is in progress has ended
+abbrev pub PhasesInProgressAreOpen : Type 0
+PhasesInProgressAreOpen = (script : ScriptValue) (history : List Entry) (phase : Phase) → EachIsNext script history → list_any (same_phase phase) (in_progress (stage_of history)) ≡ true → list_any (same_phase phase) (ended_of history) ≡ false
 
 -- a phase, if there is one, has not ended
 abbrev pub HasNotEnded : List Phase → Option Phase → Type 0
 HasNotEnded ended phase = IfSome phase (λ one. list_any (same_phase one) ended ≡ false)
 
--- where an act is next, its phase runs, and so has not ended, and that of a sequence is the phase in which it was started
+-- what belongs to a phase belongs to one of these
+abbrev pub is_going : Option Phase → List Phase → Bool
+is_going phase going = list_any (λ one. is_of_phase one phase) going
+
+-- where an act is next, its phase is in progress, and so has not ended, and that of a sequence is the phase in which it was started
 abbrev pub IsInPhase : List Entry → Who → Type 0
 IsInPhase history (who.Node node) = Unit {0}
 IsInPhase history (who.Sequence id home) = phase_begun history id ≡ act_phase history
 
 pub record AreActsInPhase (script : ScriptValue) (history : List Entry) (act : Act) : Type 0 where
-  pub runs : (phase : Phase) → act_phase history ≡ Some phase → running (stage_of history) ≡ Some phase
+  pub going : (phase : Phase) → act_phase history ≡ Some phase → list_any (same_phase phase) (in_progress (stage_of history)) ≡ true
   pub unended : HasNotEnded (ended_of history) (act_phase history)
   pub own : (act ≡ opening script) ⊎ IsInPhase history (speaker_of history)
 
 abbrev pub ActsAreInPhase : Type 0
 ActsAreInPhase = (script : ScriptValue) (history : List Entry) (act : Act) → EachIsNext script history → IsAct (next_of script history) → left_of script history ≡ act ∷ rest_of (left_of script history) → AreActsInPhase script history act
 
--- the phase that ends is the one that runs
+-- a phase that begins goes beside those in progress, behind them
+abbrev pub PhasesBeginBehind : Type 0
+PhasesBeginBehind = (script : ScriptValue) (history : List Entry) (phase : Phase) → next_of script history ≡ Exactly (Begin phase) → in_progress (During phase) ≡ in_progress (stage_of history) ++ phase ∷ []
+
+-- the phase that ends is the one that was begun last and has not ended
 abbrev pub RunningPhasesEnd : Type 0
-RunningPhasesEnd = (script : ScriptValue) (history : List Entry) (phase : Phase) → next_of script history ≡ Exactly (End phase) → stage_of history ≡ During phase
+RunningPhasesEnd = (script : ScriptValue) (history : List Entry) (phase : Phase) → next_of script history ≡ Exactly (End phase) → running (stage_of history) ≡ Some phase
 
 -- somebody is one of the components, and no sequence
 abbrev pub IsComponent : List ℕ → Who → Type 0
@@ -142,14 +186,15 @@ pub record IsDrainDue (history : List Entry) (node : ℕ) (origin : Origin) : Ty
   pub stands : node_of hearer ≡ node
   pub due : IsDue history hearer None origin
 
--- it is the turn of whoever is called without an origin, in the phase that runs
-pub record HasTurn (history : List Entry) (hearer : Who) : Type 0 where
+-- it is the turn of whoever is called without an origin, in a phase in progress
+pub record HasTurn (history : List Entry) (hearer : Who) (call : Call) : Type 0 where
   pub phase : Phase
-  pub runs : stage_of history ≡ During phase
+  pub call_is : call ≡ calls.Phase phase
+  pub going : list_any (same_phase phase) (in_progress (stage_of history)) ≡ true
   pub next : next_call phase history ≡ Some (node_of hearer)
 
 abbrev pub CallsGoInTurn : Type 0
-CallsGoInTurn = (script : ScriptValue) (history : List Entry) (hearer : Who) (call : Call) → next_of script history ≡ Answer hearer call None → HasTurn history hearer
+CallsGoInTurn = (script : ScriptValue) (history : List Entry) (hearer : Who) (call : Call) → next_of script history ≡ Answer hearer call None → HasTurn history hearer call
 
 -- a call with an origin happens so, and the end of a drain
 abbrev pub DueCallsGoInOrder : Type 0
@@ -205,11 +250,23 @@ pub record IsDriving (history : List Entry) : Type 0 where
 abbrev pub DriversAreThere : Type 0
 DriversAreThere = (script : ScriptValue) (history : List Entry) → EachIsNext script history → IsAct (next_of script history) → IsDriving history
 
+-- while the run goes on, who drives a sequencer is a component, and asked in a phase in progress, unless the driver is idle
+pub record AreAsking (history : List Entry) : Type 0 where
+  pub drivers : (node : ℕ) → IfSome (driver_asker history node) (λ driver. IsComponent (components_of history) driver.who)
+  pub going : (node : ℕ) → is_idle (driver_state history node) ≡ false → is_going (asked_in history node) (in_progress (stage_of history)) ≡ true
+
+abbrev pub AsksAreInPhase : Type 0
+AsksAreInPhase = (script : ScriptValue) (history : List Entry) → EachIsNext script history → (stage_of history ≡ Ended → ⊥) → AreAsking history
+
 -- nothing that waits can come to pass: no lock leads, no driver can be served, and nothing passes at a FIFO
 pub record IsSettled (history : List Entry) : Type 0 where
   pub unlocked : next_locked history ≡ None
   pub unserved : next_served history ≡ None
   pub unpassed : next_passed history ≡ None
+
+-- where an answer is next nothing passes, and nothing is granted
+abbrev pub AnswersAreSettled : Type 0
+AnswersAreSettled = (script : ScriptValue) (history : List Entry) (hearer : Who) (call : Call) (origin : Option Origin) → next_of script history ≡ Answer hearer call origin → IsSettled history
 
 -- where an act is next, that is so, and it is the first of those that are left
 pub record IsFirstAct (script : ScriptValue) (history : List Entry) (act : Act) : Type 0 where
@@ -303,6 +360,10 @@ ConnectFollowsBuild = (script : ScriptValue) (history : List Entry) → EachIsNe
 abbrev pub TasksFollowConnect : Type 0
 TasksFollowConnect = (script : ScriptValue) (history : List Entry) → EachIsNext script history → (stage_of history ≡ Ended → ⊥) → in_task (act_phase history) ≡ true → is_past_connect history ≡ true
 
+-- so does each phase that takes time
+abbrev pub TaskPhasesFollowConnect : Type 0
+TaskPhasesFollowConnect = (script : ScriptValue) (history : List Entry) (phase : Phase) → EachIsNext script history → list_any (same_phase phase) (in_progress (stage_of history)) ≡ true → is_task phase ≡ true → is_past_connect history ≡ true
+
 -- something comes next
 abbrev pub IsSomething : Next → Type 0
 IsSomething Nothing = ⊥
@@ -365,9 +426,9 @@ NewSequencesAreUnasked = (script : ScriptValue) (history : List Entry) (id home 
 abbrev pub LivingLived : Type 0
 LivingLived = (entry : Entry) (before : List Entry) (id home : ℕ) → id ≤ length (begun_of before) → IsLiving (entry ∷ before) id home → IsLiving before id home
 
--- a sequence that lives was started in the phase that runs, while the run goes on
+-- a sequence that lives was started in a phase in progress, while the run goes on
 abbrev pub LivingRun : Type 0
-LivingRun = (script : ScriptValue) (history : List Entry) (id home : ℕ) → EachIsNext script history → (stage_of history ≡ Ended → ⊥) → IsLiving history id home → option_and_then (λ beginning. beginning.phase) (numbered (begun_of history) id) ≡ running (stage_of history)
+LivingRun = (script : ScriptValue) (history : List Entry) (id home : ℕ) → EachIsNext script history → (stage_of history ≡ Ended → ⊥) → IsLiving history id home → is_going (phase_begun history id) (in_progress (stage_of history)) ≡ true
 
 -- somebody is a sequence that lives, and no component
 abbrev pub IsLivingSequence : List Entry → Who → Type 0

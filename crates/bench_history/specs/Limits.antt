@@ -1,10 +1,14 @@
 -- How long a log and an answer may be.
-use Rattle.std.specs.Prelude.{◌^◌, ℕ}
+use Rattle.std.specs.Prelude.{◌^◌, ℕ, Bool}
 use Rattle.bench_script.specs.Scripts.{ScriptValue}
 
 -- the most entries of a log
 abbrev pub log_limit : ScriptValue → ℕ
 log_limit script = 1000000
+
+-- whether the run-time phases go beside run: what the script says by its key `runtime`
+unfoldable pub has_runtime : ScriptValue → Bool
+has_runtime script = script.runtime
 
 -- the most ticks of a wait and of a drain time
 abbrev pub most_ticks : ℕ

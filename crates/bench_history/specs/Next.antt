@@ -9,8 +9,8 @@ use Rattle.uvm_object.specs.declared.entries.Grant as entries
 use Rattle.uvm_object.specs.declared.entries.Entry.TheVariants.{Heard, Did, Granted}
 use Rattle.bench_script.specs.Scripts.{ScriptValue}
 use Rattle.bench_history.specs.declared.needs.Need as declared
-use Rattle.bench_history.specs.Limits.{log_limit}
-use Rattle.bench_history.specs.History.{stage_of, running, left_of}
+use Rattle.bench_history.specs.Limits.{has_runtime, log_limit}
+use Rattle.bench_history.specs.History.{in_progress, stage_of, running, left_of}
 use Rattle.bench_history.specs.Reports.{reason_of}
 use Rattle.bench_history.specs.Dues.{due_now}
 use Rattle.bench_history.specs.Passing.{next_passed}
@@ -32,10 +32,10 @@ next_of script history =
     ∷ long_answer history (left_of script history)
     ∷ first_act script history (left_of script history)
     ∷ event_due (due_now history)
-    ∷ phase_call history (running (stage_of history))
+    ∷ phase_begin (phase_to_begin (has_runtime script) (stage_of history))
+    ∷ phase_call history (in_progress (stage_of history))
     ∷ port_check history (running (stage_of history))
     ∷ phase_end script history (running (stage_of history))
-    ∷ phase_begin (phase_to_begin (stage_of history))
     ∷ finish
     ∷ [])
 

@@ -1,8 +1,10 @@
 -- What a log says of objections (IEEE 1800.2-2020, 10.5).
-use Rattle.std.specs.Prelude.{ℕ, Bool, false, not, ◌||◌, nat_lt, List, [], ◌∷◌, ◌++◌, length, Option, Some, None, if◌then◌else◌}
+use Rattle.std.specs.Prelude.{ℕ, Bool, not, ◌||◌, nat_lt, List, [], ◌∷◌, ◌++◌, length, if◌then◌else◌}
+use Rattle.std.specs.List.{list_any}
 use Rattle.std.specs.Option.{option_map_or}
 use Rattle.uvm_phase.specs.declared.phases.Phase.{Phase}
-use Rattle.uvm_phase.specs.Phases.{same_phase}
+use Rattle.uvm_phase.specs.declared.phases.Phase.TheVariants.{PostShutdown, Run}
+use Rattle.uvm_phase.specs.Phases.{is_task, same_phase}
 use Rattle.uvm_objection.specs.Nodes as objection
 use Rattle.uvm_objection.specs.Nodes.{top, new_node, raised, dropped, released, with_drain}
 use Rattle.uvm_objection.specs.Totals.{total, settled, standing}
@@ -14,13 +16,7 @@ use Rattle.uvm_object.specs.declared.entries.Outcome.{Outcome}
 use Rattle.uvm_object.specs.declared.entries.Outcome.TheVariants.{Done, Made}
 use Rattle.uvm_object.specs.declared.entries.Entry.{Entry}
 use Rattle.uvm_object.specs.declared.entries.Entry.TheVariants.{Did, Drained}
-use Rattle.bench_history.specs.History.{act_phase, now_of}
-use Rattle.bench_history.specs.Refusals.{in_task}
-
--- an act belongs to a phase
-abbrev pub is_of_phase : Phase → Option Phase → Bool
-is_of_phase phase None = false
-is_of_phase phase (Some other) = same_phase other phase
+use Rattle.bench_history.specs.History.{act_phase, in_task, is_of_phase, now_of}
 
 -- the nodes of the objection of a phase, with what is raised at each, once an act was performed, of that phase or not. A drain time that is set outside a phase
 -- that takes time is shared by all
@@ -47,3 +43,12 @@ objection_now history = option_map_or (λ phase. objections_of phase history) (a
 -- an objection stands
 abbrev pub stands : List objection.Node → Bool
 stands nodes = nat_lt 0 (standing nodes)
+
+-- the phases whose objections keep a phase from its end: its own, if it takes time, and for the last of the run-time phases that of run too
+abbrev pub keepers : Phase → List Phase
+keepers PostShutdown = PostShutdown ∷ Run ∷ []
+keepers phase = if is_task phase then phase ∷ [] else []
+
+-- one of them stands
+unfoldable pub is_kept : Phase → List Entry → Bool
+is_kept phase history = list_any (λ keeper. stands (objections_of keeper history)) (keepers phase)

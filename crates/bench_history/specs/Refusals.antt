@@ -15,7 +15,7 @@ use Rattle.uvm_tlm.specs.declared.ends.End.{End}
 use Rattle.uvm_tlm.specs.Wirings.{are_known, may_connect}
 use Rattle.bench_history.specs.Limits.{most_ticks}
 use Rattle.uvm_phase.specs.declared.phases.Phase.{Phase}
-use Rattle.uvm_phase.specs.Phases.{is_task}
+use Rattle.bench_history.specs.History.{in_task}
 use Rattle.uvm_tree.specs.declared.faults.TreeFault.{TreeFault}
 use Rattle.uvm_tree.specs.declared.faults.TreeFault.TheVariants.{NameTaken}
 use Rattle.uvm_tree.specs.Nodes.{Node, path_at, add_fault}
@@ -82,11 +82,6 @@ creation_refusal creation =
 -- nothing is added after build; there has to be a new child of the name
 unfoldable pub addition_refusal : Bool → List Node → ℕ → List ℕ → Option Fatal
 addition_refusal built nodes parent name = first_given (fault_if built CreatedAfterBuild ∷ child_refusal nodes parent name ∷ [])
-
--- an act belongs to a phase that takes time
-abbrev pub in_task : Option Phase → Bool
-in_task None = false
-in_task (Some phase) = is_task phase
 
 -- a sequence that is to be started: of which type by name, on which sequencer, at which path and with which priority, and what that depends on
 pub record Starting : Type 0 where

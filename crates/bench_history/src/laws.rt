@@ -1,7 +1,7 @@
 //! What holds of all logs, or of all in which each entry was next, as in each legal one, and of what comes next in them. The functions do
 //! nothing that shows; their contracts are the laws (`specs/Laws.antt`), for all scripts.
 
-ghost use Rattle.bench_history.specs.Laws.{PhasesGoInOrder, ActsAreInPhase, RunningPhasesEnd, AskedAreThere, PerformersAreThere, ComponentsAreNodes, ComponentsByKind, HomesAreNodes, CallsGoInTurn, DueCallsGoInOrder, DrainsGoInOrder, PassagesGoInOrder, PassagesAreInPhase, WaitersAreComponents, LocksGoInOrder, LockersAreThere, GrantsGoInOrder, ChosenAreThere, DriversAreThere, ActsGoInOrder, NeedsAreWanted, NothingAfterOver, SomethingBeforeOver, MachineEntriesAreSilent, NodesStay, NodesAreATree, MadeObjectsAreNew, NewNodesAreUnasked, NewSequencesAreUnasked, LivingLived, LivingRun, LeaversLived, ReportsAreFew, TimeStaysWithin, WiringStays, ConnectFollowsBuild, TasksFollowConnect};
+ghost use Rattle.bench_history.specs.Laws.{PhasesGoInOrder, PhasesInProgressAreOpen, ActsAreInPhase, PhasesBeginBehind, RunningPhasesEnd, AskedAreThere, PerformersAreThere, ComponentsAreNodes, ComponentsByKind, HomesAreNodes, CallsGoInTurn, AnswersAreSettled, DueCallsGoInOrder, DrainsGoInOrder, PassagesGoInOrder, PassagesAreInPhase, WaitersAreComponents, LocksGoInOrder, LockersAreThere, GrantsGoInOrder, ChosenAreThere, DriversAreThere, AsksAreInPhase, ActsGoInOrder, NeedsAreWanted, NothingAfterOver, SomethingBeforeOver, MachineEntriesAreSilent, NodesStay, NodesAreATree, MadeObjectsAreNew, NewNodesAreUnasked, NewSequencesAreUnasked, LivingLived, LivingRun, LeaversLived, ReportsAreFew, TimeStaysWithin, WiringStays, ConnectFollowsBuild, TasksFollowConnect, TaskPhasesFollowConnect};
 
 use crate::owners::Owner;
 use uvm_object::Call;
@@ -10,14 +10,19 @@ use uvm_report::laws as reports;
 use uvm_sequencer::laws as sequencers;
 use uvm_tree::laws as trees;
 
-/// The phases go in their order (IEEE 1800.2-2020, Clause 9): none is a run-time phase, until the end of the run those that have ended
-/// are the first of the nine common ones, each once, and so they stand before the one that runs, or may begin next.
-#[tactic(auto, using(crate::proofs::Phased::phases_go_in_order))]
+/// The phases go in their order (IEEE 1800.2-2020, Clause 9): until the end of the run those that have ended are the first in the order in which
+/// phases end, run behind the run-time phases, each once; the run-time phases are left out where the script does not have them run.
 pub fn phases_go_in_order()
     ensures { PhasesGoInOrder }
 {}
 
-/// Where an act is next its phase runs, and so has not ended, and that of a sequence is the phase in which the sequence was started.
+/// A phase in progress has not ended.
+#[tactic(auto, using(crate::proofs::Phased::phases_in_progress_are_open))]
+pub fn phases_in_progress_are_open()
+    ensures { PhasesInProgressAreOpen }
+{}
+
+/// Where an act is next, it belongs to a phase in progress, which has not ended, and that of a sequence to the phase in which the sequence was started.
 pub fn acts_are_in_phase()
     ensures { ActsAreInPhase }
 {
@@ -25,7 +30,13 @@ pub fn acts_are_in_phase()
     sequencers::lock_excludes();
 }
 
-/// The phase that ends is the one that runs.
+/// A phase that begins goes beside those in progress, behind them.
+#[tactic(auto, using(crate::proofs::Living::phases_begin_behind))]
+pub fn phases_begin_behind()
+    ensures { PhasesBeginBehind }
+{}
+
+/// The phase that ends is the one that was begun last, of those in progress.
 #[tactic(auto, using(crate::proofs::Performed::running_phases_end))]
 pub fn running_phases_end()
     ensures { RunningPhasesEnd }
@@ -66,10 +77,16 @@ pub fn homes_are_nodes()
     sequencers::lock_excludes();
 }
 
-/// A call without an origin is that of the phase which runs, to the node whose turn it is.
+/// A call without an origin is that of a phase in progress, to the node whose turn it is there.
 #[tactic(auto, using(crate::proofs::Performed::calls_go_in_turn))]
 pub fn calls_go_in_turn()
     ensures { CallsGoInTurn }
+{}
+
+/// Where an answer is next nothing passes, and nothing is granted.
+#[tactic(auto, using(crate::proofs::Performed::answers_are_settled))]
+pub fn answers_are_settled()
+    ensures { AnswersAreSettled }
 {}
 
 /// A call that has an origin is that of the event which is due first, now, and its owner's.
@@ -136,6 +153,14 @@ pub fn chosen_are_there()
 /// hand is that of a sequence which was started there, and the phase in which a driver asked has not ended, unless it is idle.
 pub fn drivers_are_there()
     ensures { DriversAreThere }
+{
+    agenda::order_keeps_all::<Owner, Option<Call>>();
+    sequencers::lock_excludes();
+}
+
+/// While the run goes on, who drives a sequencer is a component, and asked in a phase in progress, unless the driver is idle.
+pub fn asks_are_in_phase()
+    ensures { AsksAreInPhase }
 {
     agenda::order_keeps_all::<Owner, Option<Call>>();
     sequencers::lock_excludes();
@@ -262,3 +287,9 @@ pub fn tasks_follow_connect()
     agenda::order_keeps_all::<Owner, Option<Call>>();
     sequencers::lock_excludes();
 }
+
+/// Where a phase that takes time is in progress, connect has ended.
+#[tactic(auto, using(crate::proofs::Wired::task_phases_follow_connect))]
+pub fn task_phases_follow_connect()
+    ensures { TaskPhasesFollowConnect }
+{}

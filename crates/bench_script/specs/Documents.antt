@@ -1,5 +1,5 @@
 -- The script that a TOML tree stands for, or its first fault.
-use Rattle.std.specs.Prelude.{◌≤◌, IsTrue, ℕ, ℤ, pos, negsuc, ◌==◌, List, [], ◌∷◌, ◌++◌, Option, Some, None, Result, Ok, Err, ok_or, slice_get, codes, nat_lt, not, length, if◌then◌else◌}
+use Rattle.std.specs.Prelude.{◌≤◌, IsTrue, ℕ, ℤ, false, pos, negsuc, ◌==◌, List, [], ◌∷◌, ◌++◌, Option, Some, None, Result, Ok, Err, ok_or, slice_get, codes, nat_lt, not, length, if◌then◌else◌}
 use Rattle.std.specs.Str.{is_utf8}
 use Rattle.toml.specs.Parse.{parse_document}
 use Rattle.toml.specs.Data.{Data, Members}
@@ -10,7 +10,7 @@ use Rattle.bench_script.specs.declared.heads.Head.{Head}
 use Rattle.script_values.specs.declared.faults.ScriptFault.{ScriptFault}
 use Rattle.script_values.specs.declared.faults.ScriptFault.TheVariants.{NotText, NotToml, WrongKind, UnknownType, Version, TooLong}
 use Rattle.script_values.specs.Reading.{and_then}
-use Rattle.script_values.specs.Values.{integer_in, number_in, name_in}
+use Rattle.script_values.specs.Values.{integer_in, number_in, name_in, flag_in}
 use Rattle.bench_script.specs.Limits.{most_time, most_quit_limit, most_script_bytes}
 use Rattle.script_values.specs.Keys.{only_keys, required, optional, some_of}
 use Rattle.bench_script.specs.Scripts.{ScriptValue}
@@ -26,7 +26,7 @@ abbrev pub version_in : Data → Result (Unit {0}) ScriptFault
 version_in value = and_then (integer_in value) version_one
 
 abbrev pub root_keys : List (List ℕ)
-root_keys = codes "version" ∷ codes "test" ∷ codes "time_limit" ∷ codes "quit_limit" ∷ codes "type" ∷ codes "override" ∷ codes "set" ∷ codes "verbosity" ∷ codes "action" ∷ codes "severity" ∷ codes "probe" ∷ []
+root_keys = codes "version" ∷ codes "test" ∷ codes "time_limit" ∷ codes "quit_limit" ∷ codes "runtime" ∷ codes "type" ∷ codes "override" ∷ codes "set" ∷ codes "verbosity" ∷ codes "action" ∷ codes "severity" ∷ codes "probe" ∷ []
 
 -- the test is a component
 abbrev pub component_at : ℕ → Option (List ℕ × Kind) → Result (Option ℕ) ScriptFault
@@ -39,7 +39,7 @@ abbrev pub test_among : Types → Option (List ℕ) → Result (Option ℕ) Scri
 test_among types None = Ok None
 test_among types (Some name) = and_then (ok_or (type_named types name) UnknownType) (λ place. component_at place (slice_get types place))
 
--- what stands before the arrays, in a tree that has some other keys beside the script's: the test's name and the two limits
+-- what stands before the arrays, in a tree that has some other keys beside the script's: the test's name, the two limits, and whether the run-time phases run
 abbrev pub head_in : List (List ℕ) → Members → Result Head ScriptFault
 head_in others root =
     and_then (required (codes "version") version_in root) (λ _.
@@ -47,7 +47,8 @@ head_in others root =
     and_then (optional (codes "test") None (some_of name_in) root) (λ test.
     and_then (optional (codes "time_limit") most_time (number_in most_time) root) (λ time_limit.
     and_then (optional (codes "quit_limit") 0 (number_in most_quit_limit) root) (λ quit_limit.
-    Ok (record { test = test; time_limit = time_limit; quit_limit = quit_limit }))))))
+    and_then (optional (codes "runtime") false flag_in root) (λ runtime.
+    Ok (record { test = test; time_limit = time_limit; quit_limit = quit_limit; runtime = runtime })))))))
 
 -- the script that a tree stands for which has some other keys beside, or its first fault
 unfoldable pub script_beside : List (List ℕ) → Members → Result ScriptValue ScriptFault
@@ -65,6 +66,7 @@ script_beside others root =
       test = test;
       time_limit = head.time_limit;
       quit_limit = head.quit_limit;
+      runtime = head.runtime;
       types = types;
       overrides = overrides;
       settings = settings;

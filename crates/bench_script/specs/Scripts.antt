@@ -1,5 +1,5 @@
 -- What contracts see of a script.
-use Rattle.std.specs.Prelude.{ℕ, List, Option}
+use Rattle.std.specs.Prelude.{ℕ, Bool, List, Option}
 use Rattle.uvm_factory.specs.declared.overrides.Override.{Override}
 use Rattle.uvm_factory.specs.Faults.{Types}
 use Rattle.script_tables.specs.declared.rows.Probe.{Probe}
@@ -8,12 +8,13 @@ use Rattle.script_tables.specs.declared.report_settings.VerbositySetting.{Verbos
 use Rattle.script_tables.specs.declared.report_settings.ActionSetting.{ActionSetting}
 use Rattle.script_tables.specs.declared.report_settings.SeverityChange.{SeverityChange}
 
--- the test, a type's place, where there is one; the limits of a run; the types in order, what replaces them, what is set, also for reports, and the questions
--- to the factory
+-- the test, a type's place, where there is one; the limits of a run; whether the run-time phases go beside run; the types in order, what replaces them, what
+-- is set, also for reports, and the questions to the factory
 pub record ScriptValue : Type 0 where
   pub test : Option ℕ
   pub time_limit : ℕ
   pub quit_limit : ℕ
+  pub runtime : Bool
   pub types : Types
   pub overrides : List Override
   pub settings : List Setting

@@ -22,6 +22,7 @@ impl Script {
             test: self.test,
             time_limit: self.time_limit,
             quit_limit: self.quit_limit,
+            runtime: self.runtime,
             types: Vec::from_slice(alloc, self.types.as_slice())?,
             overrides: copied_overrides(alloc, self.overrides.as_slice())?,
             settings: copied_settings(alloc, self.settings.as_slice())?,

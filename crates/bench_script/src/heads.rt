@@ -7,7 +7,7 @@ ghost use Rattle.bench_script.specs.Documents.{version_in, head_in};
 
 use script_values::ScriptFault;
 use script_values::keys::{member, only_keys, required};
-use script_values::values::{integer, name, number};
+use script_values::values::{flag, integer, name, number};
 use toml::{Table, Value};
 use uvm_glob::Name;
 
@@ -16,11 +16,12 @@ const MAX_TIME: u64 = 1_000_000_000_000_000_000;
 
 const MAX_QUIT_LIMIT: u64 = u16::MAX as u64;
 
-const ROOT_KEYS: [&str; 11] = [
+const ROOT_KEYS: [&str; 12] = [
     "version",
     "test",
     "time_limit",
     "quit_limit",
+    "runtime",
     "type",
     "override",
     "set",
@@ -30,12 +31,13 @@ const ROOT_KEYS: [&str; 11] = [
     "probe",
 ];
 
-/// The test and the limits.
+/// The test, the limits, and whether the run-time phases run.
 #[derive(Drop)]
 pub(crate) struct Head {
     pub(crate) test: Option<Name>,
     pub(crate) time_limit: u64,
     pub(crate) quit_limit: u64,
+    pub(crate) runtime: bool,
 }
 
 pub(crate) fn read_head(root: &Table, others: &[&str]) -> Result<Head, ScriptFault>
@@ -57,10 +59,15 @@ pub(crate) fn read_head(root: &Table, others: &[&str]) -> Result<Head, ScriptFau
         Some(value) => number(value, MAX_QUIT_LIMIT)?,
         None => 0,
     };
+    let runtime = match member(root, "runtime") {
+        Some(value) => flag(value)?,
+        None => false,
+    };
     Ok(Head {
         test,
         time_limit,
         quit_limit,
+        runtime,
     })
 }
 

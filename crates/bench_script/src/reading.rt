@@ -84,6 +84,7 @@ pub fn read_table(alloc: Global, root: &Table, others: &[&str]) -> Result<Script
         test,
         time_limit: head.time_limit,
         quit_limit: head.quit_limit as u16,
+        runtime: head.runtime,
         types: types.rows(alloc)?,
         overrides,
         settings,

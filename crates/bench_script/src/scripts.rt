@@ -17,6 +17,7 @@ pub struct Script {
     pub(crate) test: Option<TypeId>,
     pub(crate) time_limit: u64,
     pub(crate) quit_limit: u16,
+    pub(crate) runtime: bool,
     pub(crate) types: Vec<(Name, Kind)>,
     pub(crate) overrides: Vec<Override>,
     pub(crate) settings: Vec<Setting>,
@@ -35,6 +36,7 @@ impl Model for Script {
       test = s.test;
       time_limit = s.time_limit;
       quit_limit = s.quit_limit;
+      runtime = s.runtime;
       types = s.types.items;
       overrides = s.overrides.items;
       settings = s.settings.items;
@@ -50,6 +52,7 @@ impl Model for Script {
       test = s.test;
       time_limit = s.time_limit;
       quit_limit = s.quit_limit;
+      runtime = s.runtime;
       types = s.types.items;
       overrides = s.overrides.items;
       settings = s.settings.items;
@@ -82,6 +85,13 @@ impl Script {
         ensures { result ≡ self.now.quit_limit }
     {
         self.quit_limit
+    }
+
+    /// Whether the twelve run-time phases go beside run (IEEE 1800.2-2020, Clause 9), from pre_reset to post_shutdown.
+    pub fn has_runtime(&self) -> bool
+        ensures { result ≡ self.now.runtime }
+    {
+        self.runtime
     }
 
     /// The types with their kinds, in the order in which they are registered, at most 1,024. They can be registered one after

@@ -291,6 +291,32 @@ none
 live 0
 ";
 
+// Its calls in run are due at once, so that the one in pre_reset never comes.
+#[test]
+fn spinner_in_run_lets_no_run_time_phase_go_on(rt: HostRuntime) {
+    assert!(rt;
+        shows_with(
+            rt.alloc(),
+            IDLE_IN_PHASES,
+            Look::Break(SPUN_BESIDE),
+            &make_spinner
+        )
+    );
+}
+
+const IDLE_IN_PHASES: &[u8] =
+    b"version = 1\ntest = \"idle\"\nruntime = true\ntype = [{ name = \"idle\", kind = \"component\" }]\n";
+
+const SPUN_BESIDE: &str = "log full
+1000000 entries
+heard uvm_test_top wake 1: 1
+failed
+live 1
+uvm_test_top
+none
+live 0
+";
+
 #[test]
 fn boxed_object_of_too_many_acts_comes_back(rt: HostRuntime) {
     let look = Look::Run(NEVER, NEVER, TOO_MANY_ACTS);

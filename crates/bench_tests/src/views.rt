@@ -115,6 +115,59 @@ fn what_is_raised_is_counted_in_its_phase_alone(rt: HostRuntime) {
     );
 }
 
+// The third put waits behind the second, and ends with main, in which it was asked for. What run raised is not dropped in main.
+const PHASES: &[u8] = b"version = 1
+test = \"t\"
+runtime = true
+type = [{ name = \"t\", kind = \"component\" }]
+severity = [{ scope = \"*\", from = \"FATAL\", to = \"WARNING\" }]
+[answers.t]
+build = [\"add f fifo 1\", \"add p port put\", \"add g port get\"]
+connect = [\"connect (p) (f)\", \"connect (g) (f)\"]
+run = [\"raise 1\", \"put p [1,0,0,0]\", \"put p [2,0,0,0]\", \"wait 9 9\"]
+main = [\"raise 1\", \"put p [3,0,0,0]\", \"wait 2 1\"]
+post_main = [\"take g\", \"take g\"]
+\"wake 1\" = [\"drop 1\", \"drop 1\"]
+\"wake 9\" = [\"drop 1\"]
+";
+
+#[test]
+fn waits_end_with_their_phase_alone(rt: HostRuntime) {
+    assert!(rt;
+        shows(
+            rt.alloc(),
+            PHASES,
+            Look::Counts(Count::Waiting, b"uvm_test_top.f", "1012121010")
+        )
+    );
+}
+
+#[test]
+fn objections_of_two_phases_are_counted_apart(rt: HostRuntime) {
+    let top = b"uvm_test_top";
+    assert!(rt;
+        shows(
+            rt.alloc(),
+            PHASES,
+            Look::Counts(Count::Raised(Phase::Run), top, "10")
+        )
+    );
+    assert!(rt;
+        shows(
+            rt.alloc(),
+            PHASES,
+            Look::Counts(Count::Raised(Phase::Main), top, "10")
+        )
+    );
+    assert!(rt;
+        shows(
+            rt.alloc(),
+            PHASES,
+            Look::Counts(Count::Raised(Phase::Build), top, "")
+        )
+    );
+}
+
 /// Runs to the end, and writes what is counted at a path each time that it changes.
 pub(crate) fn write_counts<O: UvmObject, F: Fn(&Name) -> Result<Option<O>, AllocError>>(
     alloc: Global,

@@ -4,7 +4,7 @@ ghost use Rattle.std.specs.Prelude.{◌≡◌, ◌&&◌, true, length, nat_lt, i
 ghost use Rattle.bench_history.specs.Arbitration.{waiters_at};
 ghost use Rattle.bench_history.specs.Configuration.{settings_of};
 ghost use Rattle.bench_history.specs.History.{left_of, nodes_of, now_of, running, speaker_of, stage_of};
-ghost use Rattle.bench_history.specs.Objections.{objections_of, stands};
+ghost use Rattle.bench_history.specs.Objections.{is_kept, objections_of, stands};
 ghost use Rattle.bench_history.specs.Reports.{newest_fate, reason_of, report_commands};
 ghost use Rattle.uvm_config.specs.Answers.{config_answer};
 ghost use Rattle.uvm_glob.specs.Paths.{path_text};
@@ -31,13 +31,15 @@ pub fn stage(world: &World) -> Stage
     world.services().stage
 }
 
-/// The phase that runs, if one does (IEEE 1800.2-2020, Clause 9). For a sound world.
+/// The phase that was begun last and has not ended, if one is in progress: once a run-time phase has ended that is run, beside which it
+/// went (IEEE 1800.2-2020, Clause 9). For a sound world.
 pub fn phase(world: &World) -> Option<Phase>
     requires { world.now.sound ≡ true }
     ensures { result ≡ running (stage_of world.now.history) }
 {
     match world.services().stage {
         Stage::During(phase) => Some(phase),
+        Stage::After(phase) if phase.is_runtime() => Some(Phase::Run),
         _ => None,
     }
 }
@@ -93,11 +95,18 @@ pub fn total_in(world: &World, phase: Phase, node: NodeId) -> u64
     requires { world.now.sound ≡ true }
     ensures { result ≡ (if is_task phase && nat_lt node (length (nodes_of world.now.history)) then total (objections_of phase world.now.history) node else 0) }
 {
-    let services = world.services();
-    if !phase.is_task() || services.tree.path(node).is_none() {
+    if !phase.is_task() || !is_there(world, node) {
         return 0;
     }
-    services.objections.total(phase, node)
+    world.services().objections.total(phase, node)
+}
+
+// Whether there is such a node.
+fn is_there(world: &World, node: NodeId) -> bool
+    requires { world.now.sound ≡ true }
+    ensures { result ≡ nat_lt node (length (nodes_of world.now.history)) }
+{
+    world.services().tree.path(node).is_some()
 }
 
 /// Whether the objection of a phase stands: the phase takes time, and something is raised at the top or below, or held back (10.5).
@@ -107,6 +116,20 @@ pub fn objection_stands(world: &World, phase: Phase) -> bool
     ensures { result ≡ (is_task phase && stands (objections_of phase world.now.history)) }
 {
     phase.is_task() && world.services().objections.stands(phase)
+}
+
+/// Whether an objection keeps a phase from its end (10.5): its own, or, for the last of the run-time phases, that of run too. For a sound
+/// world.
+#[tactic(auto, unfolding(bench_history::specs::Objections::is_kept))]
+pub fn is_kept(world: &World, phase: Phase) -> bool
+    requires { world.now.sound ≡ true }
+    ensures { result ≡ is_kept phase world.now.history }
+{
+    match phase {
+        Phase::PostShutdown => objection_stands(world, phase)
+            || objection_stands(world, Phase::Run),
+        _ => objection_stands(world, phase),
+    }
 }
 
 /// Why the run is given up, if it is. For a sound world.

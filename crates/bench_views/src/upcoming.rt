@@ -1,13 +1,16 @@
 //! What may come to pass next in a world.
 
-ghost use Rattle.std.specs.Prelude.{◌≡◌, true};
+ghost use Rattle.std.specs.Prelude.{◌≡◌, true, None, option_map};
+ghost use Rattle.uvm_object.specs.declared.acts.Call.TheVariants as call;
+ghost use Rattle.uvm_object.specs.declared.acts.Who.TheVariants as who;
 ghost use Rattle.std.specs.Option.{option_copied};
 ghost use Rattle.bench_history.specs.Arbitration.{next_locked, next_served};
 ghost use Rattle.bench_history.specs.Dues.{due_now};
-ghost use Rattle.bench_history.specs.History.{next_call};
+ghost use Rattle.bench_history.specs.Cases.{Answer, phase_call};
+ghost use Rattle.bench_history.specs.History.{in_progress, next_call, stage_of};
 ghost use Rattle.bench_history.specs.Passing.{next_passed};
 
-use crate::told::now;
+use crate::told;
 use bench_history::{Owner, laws};
 use bench_world::World;
 use uvm_object::{Call, Passage};
@@ -16,7 +19,6 @@ use uvm_sequences::SeqId;
 use uvm_tree::{NodeId, laws as trees};
 use world_fifos::stations::first_passing;
 use world_sequencers::arbiters::{first_locked, first_served};
-use world_services::turns::direction_of;
 
 /// The event that is due at the present time, of several the first: somebody is to hear a call, or a drain ends. For a sound
 /// world.
@@ -26,7 +28,7 @@ pub fn due_now(world: &World) -> Option<&Due<Owner, Option<Call>>>
     ensures { option_copied result ≡ due_now world.now.history }
 {
     match world.services().agenda.first() {
-        Some(due) if due.time == now(world) => Some(due),
+        Some(due) if due.time == told::now(world) => Some(due),
         _ => None,
     }
 }
@@ -75,5 +77,21 @@ pub fn next_call(world: &World, phase: Phase) -> Option<NodeId>
     trees::least_is_least();
     trees::one_is_least();
     let services = world.services();
-    services.turns.first(&services.tree, direction_of(phase))
+    services.turns.first(&services.tree, phase)
+}
+
+/// The node that hears the call of a phase next, and of which phase: of the phases in progress, of which run goes before the run-time phase
+/// beside it, the first in which it is somebody's turn (Clause 9). For a sound world.
+pub fn next_turn(world: &World) -> Option<(NodeId, Phase)>
+    requires { world.now.sound ≡ true }
+    ensures { option_map (λ turn. Answer (who.Node turn.0) (call.Phase turn.1) None) result ≡ phase_call world.now.history (in_progress (stage_of world.now.history)) }
+{
+    let phase = told::phase(world)?;
+    if phase.is_runtime()
+        && let Some(node) = next_call(world, Phase::Run)
+    {
+        return Some((node, Phase::Run));
+    }
+    let node = next_call(world, phase)?;
+    Some((node, phase))
 }

@@ -17,13 +17,14 @@ use Rattle.uvm_object.specs.declared.entries.Outcome.{Outcome}
 use Rattle.world_deeds.specs.declared.making.Waiting.{Waiting}
 use Rattle.uvm_phase.specs.declared.phases.Phase.{Phase}
 use Rattle.bench_history.specs.declared.stages.Stage.TheVariants.{Ended}
-use Rattle.bench_history.specs.Refusals.{in_task}
-use Rattle.bench_history.specs.History.{act_phase, left_of, rest_of, running, speaker_of, stage_of}
+use Rattle.bench_history.specs.History.{act_phase, in_progress, in_task, left_of, rest_of, speaker_of, stage_of}
 use Rattle.bench_history.specs.Upshots.{Upshot, Needs, Does, Finds, Stores, Takes, Asks, Finishes, Refuses, upshot_of}
 use Rattle.bench_history.specs.Cases.{by_act, by_upshot}
 use Rattle.bench_history.specs.Laws.{DriversAreThere, IsSettled, PerformersAreThere, ActsAreInPhase}
 use Rattle.world_services.specs.Attempts.{TakesIn, IsPerformed, one_done}
 use Rattle.world_services.proofs.Later.{scene-of}
+use Rattle.uvm_phase.specs.Phases.{same_phase}
+use Rattle.std.specs.List.{list_any}
 
 -- a legal log goes on with an entry that is next
 pub legal-more : {script : ScriptValue} {before : List Entry} (entry : Entry) → IsNext script before entry → length before < log_limit script → IsLegal script before → IsLegal script (entry ∷ before)
@@ -78,12 +79,12 @@ pub act-next : (script : ScriptValue) (history : List Entry) (act : Act) → nex
 act-next script history act next = subst IsAct (sym next) (act-is (speaker_of history) act (upshot_of script history (speaker_of history) act))
 
 -- where one is performed in a phase that takes time, the run has not ended
-pub goes-still : (history : List Entry) → ((phase : Phase) → act_phase history ≡ Some phase → running (stage_of history) ≡ Some phase) → in_task (act_phase history) ≡ true → stage_of history ≡ Ended → ⊥
-goes-still history runs task ended = by (act_phase history) refl task
+pub goes-still : (history : List Entry) → ((phase : Phase) → act_phase history ≡ Some phase → list_any (same_phase phase) (in_progress (stage_of history)) ≡ true) → in_task (act_phase history) ≡ true → stage_of history ≡ Ended → ⊥
+goes-still history going task ended = by (act_phase history) refl task
   where
     by : (phase : Option Phase) → act_phase history ≡ phase → in_task phase ≡ true → ⊥
     by None is task = cc
-    by (Some phase) is task = let still : running Ended ≡ Some phase = rw ended at (runs phase is) in cc
+    by (Some phase) is task = let still : list_any (same_phase phase) (in_progress Ended) ≡ true = rw ended at (going phase is) in cc
 
 -- and with the entry of an act
 pub acted-on :

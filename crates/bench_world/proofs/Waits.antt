@@ -19,7 +19,7 @@ use Rattle.world_deeds.specs.declared.making.Waiting.{Waiting}
 use Rattle.world_services.specs.declared.services.Services.{Services}
 use Rattle.world_services.specs.Services.{ServicesMatch}
 use Rattle.world_services.proofs.Settling.{objectings-same}
-use Rattle.world_services.proofs.Waiting.{turns-same}
+use Rattle.world_services.proofs.Rounding.{rounds-same}
 use Rattle.world_agenda.specs.Agendas.{IsAgenda}
 use Rattle.world_services.specs.Attempts.{IsScene}
 use Rattle.world_deeds.specs.Deeds.{IsEntered, WaitsForObject}
@@ -38,7 +38,7 @@ same-match {script} {old} {new} log same m =
     let objections = objectings-same new.objections same.objections m.objections in
     let reporting = same.reporting _ _ m.reporting in
     let tree = same.nodes ∙ m.tree in
-    let turns = turns-same same.turns m.turns in
+    let turns = rounds-same same.turns m.turns in
     let sequencing = sequencing-same new.sequences new.beginnings.items same.sequences same.beginnings m.sequencing in
     let agenda : IsAgenda (caused_of history) (heard_of history) (ended_of history) (finished_of history) (length history) new.agenda.dues = rw same.dues m.agenda in
     let match : ServicesMatch script history (record old { tree = new.tree; objections = new.objections; turns = new.turns; sequences = new.sequences; beginnings = new.beginnings; agenda = new.agenda; reporting = new.reporting }) = search (rules, tree, turns, objections, sequencing, agenda, reporting) in

@@ -35,7 +35,7 @@ impl World {
         Ok(())
     }
 
-    /// A phase ends (Clause 9), and with it all sequences that live (Clause 14). The world is sound, its log is not full, and
+    /// A phase ends (Clause 9), and with it all sequences that were started in it and live (Clause 14). The world is sound, its log is not full, and
     /// this entry is next. The error is want of memory: the log stays as it was, and the world is not sound any more.
     pub fn end(&mut self, phase: Phase) -> Result<(), AllocError>
         requires { MayEnter self.old (Exactly (End phase)) }
@@ -44,7 +44,8 @@ impl World {
     {
         self.sound = false;
         self.waiting = None;
-        self.leaving = phases::end(&mut self.services, self.alloc, phase)?;
+        let place = self.log.len();
+        self.leaving = phases::end(&mut self.services, self.alloc, place, phase)?;
         push(&mut self.log, Entry::End(phase))?;
         self.sound = true;
         Ok(())

@@ -64,6 +64,9 @@ fn tell_script<R: Print>(rt: &R, script: &Script) -> io::Result<()> {
     put(rt, "\ntime limit ", script.time_limit())?;
     put(rt, "\nquit limit ", script.quit_limit())?;
     rt.print("\n")?;
+    if script.has_runtime() {
+        rt.println("run-time phases")?;
+    }
     tell_types(rt, script)?;
     tell_overrides(rt, script)?;
     tell_settings(rt, script)?;

@@ -32,7 +32,7 @@ pub struct Due {
 ///
 /// Contracts see the nodes in the order in which they were added, and for how many more there is room. A table leads
 /// to the place of each node, and a change goes from a node to its parent: a call looks at a node and at those above it, and at
-/// no other. None but `add` and `reserve` takes memory.
+/// no other. None but `add`, `reserve` and `copy` takes memory.
 #[derive(Drop)]
 pub struct Objection {
     top: Entry,
@@ -94,6 +94,17 @@ impl Objection {
             unreachable!()
         };
         Ok(())
+    }
+
+    /// Makes another objection with the same nodes, and maybe less room. Its error is want of memory.
+    pub fn copy(&self) -> Result<Objection, AllocError>
+        ensures { IfOk result (λ copied. copied.nodes ≡ self.now.nodes) }
+    {
+        Ok(Objection {
+            top: self.top,
+            entries: Vec::from_slice(*self.entries.allocator(), &self.entries)?,
+            places: self.places.clone()?,
+        })
     }
 
     /// Sets the drain time of a known node, in ticks, at most 10^15 (the standard's `set_drain_time`). A drain that has begun

@@ -233,6 +233,13 @@ impl Sequencer {
         self.driver.lapse(grant)
     }
 
+    /// Answers whether `end_phase` lets the grant of a `Try` lapse, where `ends` says whether what the driver asked ends too.
+    pub fn loses_try(&self, sequences: &Sequences, ends: bool) -> bool
+        ensures { result ≡ loses_try ends (is_live_at sequences.now.steps) self.now.driver }
+    {
+        !ends && matches!(self.driver.lost(sequences), Some(How::Try))
+    }
+
     /// A phase ended, and with it some sequences, and what the driver asked where `ends` says so: the driver is then idle, as after
     /// `end_ask`. What sequences asked for and hold that live no longer is gone; where the driver's ask goes on, an unsent grant of such
     /// a sequence lapses, as with `leave`, and an item in hand stays there. Answers whether the grant of a `Try` lapsed. The time is

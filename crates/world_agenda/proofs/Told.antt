@@ -101,18 +101,17 @@ agenda-heard caused heard ended finished count dues left due keeps loses a first
 pub agenda-ended :
     (caused : List Event) (heard : List Cause) (ended : List Phase) (finished : List Who) (count : ℕ) (dues left : List Event) (phase : Phase)
     → OrderKeepsFilters Owner (Option Call) → IsAgenda caused heard ended finished count dues → left ≡ filter (λ due. not (same_phase due.phase phase)) dues
-    → IsAgenda caused heard (phase ∷ ended) finished (suc count) left
+    → IsAgenda caused heard (phase ∷ ended) finished count left
 agenda-ended caused heard ended finished count dues left phase keeps a is =
     let known = filter (is_open heard ended finished) caused in
-    let l = agenda-later a in
     record {
       are =
           is ∙ ap (filter (λ due. not (same_phase due.phase phase))) a.are
           ∙ keeps (λ due. not (same_phase due.phase phase)) known
           ∙ ap in_order (sym (filter-twice (λ due. not (same_phase due.phase phase)) (is_open heard ended finished) (is_open heard (phase ∷ ended) finished) (λ due. one-ended-of (not (list_any (same_cause due.cause) heard)) (same_phase due.phase phase) (list_any (same_phase due.phase) ended) (not (is_of_one finished due.owner))) caused));
       distinct = a.distinct;
-      caused_within = l.caused_within;
-      heard_within = l.heard_within;
+      caused_within = a.caused_within;
+      heard_within = a.heard_within;
     }
 
 -- a sequence finishes, and what was due to it is out

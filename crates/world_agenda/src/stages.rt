@@ -1,7 +1,7 @@
 //! Whether what belongs to a phase may take time.
 
 ghost use Rattle.std.specs.Prelude.{◌≡◌};
-ghost use Rattle.bench_history.specs.Refusals.{in_task};
+ghost use Rattle.bench_history.specs.History.{in_task};
 
 use uvm_phase::Phase;
 

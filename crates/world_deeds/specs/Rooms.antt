@@ -7,7 +7,7 @@ use Rattle.uvm_report.specs.Observed.{has_room}
 use Rattle.uvm_phase.specs.declared.phases.Phase.{Phase}
 use Rattle.world_objections.specs.Phased.{nodes_in, spare_in}
 use Rattle.world_reports.specs.Reportings.{KeepsReporting}
-use Rattle.world_services.specs.Turns.{AreSameTurns}
+use Rattle.world_services.specs.Rounds.{AreSameRounds, HaveRoom}
 use Rattle.world_services.specs.declared.services.Services.{Services}
 
 -- services that give the same, where their room aside nothing has changed
@@ -15,7 +15,7 @@ pub record GiveTheSame (old new : Services) : Type 0 where
   pub rest : new ≡ record old { tree = new.tree; objections = new.objections; turns = new.turns; sequences = new.sequences; beginnings = new.beginnings; agenda = new.agenda; reporting = new.reporting }
   pub nodes : new.tree.nodes ≡ old.tree.nodes
   pub objections : (phase : Phase) → nodes_in new.objections phase ≡ nodes_in old.objections phase
-  pub turns : AreSameTurns old.turns new.turns
+  pub turns : AreSameRounds old.turns new.turns
   pub sequences : (new.sequences.started ≡ old.sequences.started) × (new.sequences.steps ≡ old.sequences.steps)
   pub beginnings : new.beginnings.items ≡ old.beginnings.items
   pub dues : new.agenda.dues ≡ old.agenda.dues
@@ -27,7 +27,7 @@ pub record HasRoomToMake (id : List ℕ) (log : LogValue) (services : Services) 
   pub log_spare : 0 < log.spare
   pub tree_spare : IsSome (node_at services.tree.nodes (node_of services.answer.speaker)) → services.tree.spare ≡ Some (node_of services.answer.speaker)
   pub objection_spare : (phase : Phase) → 0 < spare_in services.objections phase
-  pub turns : vec_len services.turns.late < vec_capacity services.turns.late
+  pub turns : HaveRoom services.turns
   pub sequence_spare : 0 < services.sequences.spare
   pub beginnings : vec_len services.beginnings < vec_capacity services.beginnings
   pub agenda_spare : 0 < services.agenda.spare

@@ -1,35 +1,37 @@
 -- An answer.
-use Rattle.std.proofs.Common.{◌≡◌, ◌∙◌, ℕ, false, not, List, ◌∷◌, length, filter, Option, Some, None, option_map, All, subst, refl, ap, sym, arith, ◌<◌}
+use Rattle.std.proofs.Common.{◌≡◌, ℕ, false, List, ◌∷◌, length, Option, Some, None, option_map, All, subst, refl, ap, sym, arith, ◌<◌, true, if◌then◌else◌}
 use Rattle.std.proofs.lemmas.List.Elements.{All-contains}
+use Rattle.std.specs.List.{list_any}
 use Rattle.uvm_phase.specs.declared.phases.Phase.{Phase}
+use Rattle.uvm_phase.specs.Phases.{same_phase}
 use Rattle.uvm_object.specs.declared.acts.Who.{Who}
 use Rattle.uvm_object.specs.declared.acts.Call.{Call}
 use Rattle.uvm_object.specs.declared.acts.Act.{Act}
 use Rattle.uvm_object.specs.Acts.{node_of}
 use Rattle.uvm_object.specs.declared.acts.Who.TheVariants.{Node, Sequence}
 use Rattle.uvm_glob.specs.declared.orders.Direction.{Direction}
-use Rattle.uvm_glob.specs.Orders.{PathOrder, order_of}
-use Rattle.uvm_tree.specs.Cursors.{IsLeast, LeastIsLeast, OrdersNodes, is_before, least, node_cmp}
-use Rattle.bench_history.specs.Laws.{HasTurn, IsThere}
-use Rattle.bench_history.specs.History.{called_of, components_of, had_call, next_call, nodes_of, phase_heard, phase_order, stage_of}
+use Rattle.uvm_glob.specs.Orders.{order_of}
+use Rattle.uvm_tree.specs.Cursors.{LeastIsLeast, OrdersNodes, node_cmp}
+use Rattle.bench_history.specs.Laws.{IsThere}
+use Rattle.bench_history.specs.History.{called_of, calls_sort, components_of, in_progress, next_call, nodes_of, phase_heard, same_sort, stage_of}
 use Rattle.bench_history.specs.Sequences.{Beginning, begun_of}
 use Rattle.uvm_sequences.specs.Sequences.{numbered}
 use Rattle.world_sequences.proofs.Numbered.{numbered-holds}
 use Rattle.uvm_object.specs.declared.entries.Origin.{Origin}
 use Rattle.uvm_object.specs.declared.entries.Entry.{Entry}
 use Rattle.uvm_object.specs.declared.entries.Entry.TheVariants.{Heard}
-use Rattle.world_services.specs.declared.turns.Turns.{Turns}
+use Rattle.world_services.specs.declared.rounds.Rounds.{Rounds}
 use Rattle.bench_history.specs.declared.stages.Stage.{Stage}
 use Rattle.world_services.specs.Services.{acts_in, IsLastAnswer}
-use Rattle.world_services.specs.Turns.{AreTurns, IsHeardIn}
-use Rattle.world_services.proofs.Waiting.{turns-heard}
+use Rattle.world_services.specs.Rounds.{AreRounds, IsHeardInRounds}
+use Rattle.world_services.proofs.Rounding.{called-alike, rounds-heard}
 use Rattle.world_services.proofs.Entered.{get-last, answered-last}
 
 -- who is there stands at a node
 pub there-within :
-    (history : List Entry) (performer : Who) {stage : Stage} {called : List ℕ} {kept : Turns} → IsThere history performer → All (λ beginning. beginning.start.home < length (nodes_of history)) (begun_of history)
-    → AreTurns stage (nodes_of history) (components_of history) called kept → node_of performer < length (nodes_of history)
-there-within history (Node node) there homes turns = All-contains (λ other. other < length (nodes_of history)) (components_of history) node turns.within there
+    (history : List Entry) (performer : Who) {stage : Stage} {called : Phase → List ℕ} {kept : Rounds} → IsThere history performer → All (λ beginning. beginning.start.home < length (nodes_of history)) (begun_of history)
+    → AreRounds stage (nodes_of history) (components_of history) called kept → node_of performer < length (nodes_of history)
+there-within history (Node node) there homes turns = All-contains (λ other. other < length (nodes_of history)) (components_of history) node turns.common.within there
 there-within history (Sequence id home) there homes turns = found (numbered (begun_of history) id) refl there.home_is
   where
     found : (beginning : Option Beginning) → numbered (begun_of history) id ≡ beginning → option_map (λ beginning. beginning.start.home) beginning ≡ Some home → home < length (nodes_of history)
@@ -38,19 +40,19 @@ there-within history (Sequence id home) there homes turns = found (numbered (beg
         let same : beginning.start.home ≡ home = cc in
         subst (λ (h : ℕ). h < length (nodes_of history)) same (numbered-holds (λ (one : Beginning). one.start.home < length (nodes_of history)) (begun_of history) id beginning homes is)
 
+-- who had a call then, by phases
+abbrev pub called_in : Call → ℕ → List Entry → Phase → List ℕ
+called_in call node history sort = if calls_sort sort call then node ∷ called_of sort history else called_of sort history
+
 -- whose turn it was had its call
 pub heard-turns :
-    (history : List Entry) (performer : Who) {old new : Turns} → HasTurn history performer → ((direction : Direction) → OrdersNodes (nodes_of history) (node_cmp (order_of direction) (nodes_of history))) → LeastIsLeast
-    → AreTurns (stage_of history) (nodes_of history) (components_of history) (called_of history) old → IsHeardIn (node_of performer) old new
-    → AreTurns (stage_of history) (nodes_of history) (components_of history) (node_of performer ∷ called_of history) new
+    (history : List Entry) (performer : Who) (phase : Phase) {old new : Rounds} → list_any (same_phase phase) (in_progress (stage_of history)) ≡ true → next_call phase history ≡ Some (node_of performer)
+    → ((direction : Direction) → OrdersNodes (nodes_of history) (node_cmp (order_of direction) (nodes_of history))) → LeastIsLeast
+    → AreRounds (stage_of history) (nodes_of history) (components_of history) (λ phase. called_of phase history) old → IsHeardInRounds phase (node_of performer) old new
+    → AreRounds (stage_of history) (nodes_of history) (components_of history) (λ sort. if same_sort phase sort then node_of performer ∷ called_of sort history else called_of sort history) new
 unfolding next_call
-heard-turns history performer {old} {new} turn orders leasts turns heard =
-    let order : order_of old.direction ≡ phase_order turn.phase = rw turn.runs at turns.direction in
-    let ordered = orders old.direction in
-    let uncalled = filter (λ node. not (had_call (called_of history) node)) (components_of history) in
-    let first : IsLeast (is_before (order_of old.direction) (nodes_of history)) uncalled (least (is_before (order_of old.direction) (nodes_of history)) uncalled) = leasts (node_cmp (order_of old.direction) (nodes_of history)) ordered.total uncalled in
-    let is : least (is_before (order_of old.direction) (nodes_of history)) uncalled ≡ Some (node_of performer) = ap (λ (o : PathOrder). least (is_before o (nodes_of history)) uncalled) order ∙ turn.next in
-    turns-heard (node_of performer) turns heard ordered (subst (IsLeast (is_before (order_of old.direction) (nodes_of history)) uncalled) is first)
+heard-turns history performer phase going turn orders leasts rounds heard =
+    rounds-heard (stage_of history) phase (node_of performer) going heard orders leasts rounds (λ sort same. called-alike phase sort history same) turn
 
 -- the answer is the last one, and all of it is left
 pub heard-answer :

@@ -1,21 +1,22 @@
 //! Answers.
 
-ghost use Rattle.std.specs.Prelude.{◌≡◌, List, false, length, Some, None};
+ghost use Rattle.std.specs.Prelude.{◌≡◌, List, false, length, Some, None, IfSome};
 ghost use Rattle.uvm_object.specs.declared.acts.Act.{Act};
 ghost use Rattle.uvm_object.specs.declared.acts.Call as calls;
 ghost use Rattle.uvm_object.specs.declared.entries.Entry.TheVariants.{Heard};
 ghost use Rattle.bench_history.specs.Cases.{Answer};
 ghost use Rattle.bench_history.specs.History.{phase_heard};
+ghost use Rattle.world_services.specs.Rounds.{IsHeardInRounds};
 ghost use Rattle.world_entries.specs.Coming.{GoesOnWith, IsDueNext};
 
 use bench_history::{Owner, laws};
 use uvm_object::{Call, Origin, Who};
 use uvm_phase::{Phase, laws as agenda};
-use uvm_tree::laws as trees;
+use uvm_tree::{NodeId, laws as trees};
+use world_services::rounds::Rounds;
 use world_services::services::{LastAnswer, Services};
 
-/// Keeps that somebody was called in the running phase, to which the call belongs, and answered with so many acts, in the entry at a
-/// place.
+/// Keeps that somebody had the call of a phase in progress, and answered with so many acts, in the entry at a place.
 pub fn hear(services: &mut Services, place: usize, who: Who, call: &Call, count: usize)
     ensures { (acts : List Act) → length acts ≡ count → GoesOnWith (λ _. Answer who call.now None) (Heard who call.now None acts) place services.old services.new }
 {
@@ -27,10 +28,23 @@ pub fn hear(services: &mut Services, place: usize, who: Who, call: &Call, count:
     laws::nodes_are_a_tree();
     trees::nodes_are_ordered();
     trees::least_is_least();
+    // Nothing is granted anywhere.
+    laws::answers_are_settled();
     laws::wiring_stays();
+    let phase = phase_called(call);
+    hear_call(&mut services.turns, phase, who.node());
     services.reporting.newest = None;
-    services.turns.hear(who.node());
-    services.answer = last_answer(place, who, phase_called(call), count);
+    services.contest.close();
+    services.answer = last_answer(place, who, phase, count);
+}
+
+// Keeps that the component whose turn it was had its call, if that was one of a phase.
+fn hear_call(turns: &mut Rounds, phase: Option<Phase>, node: NodeId)
+    ensures { IfSome phase (λ phase. IsHeardInRounds phase node turns.old turns.new) }
+{
+    if let Some(phase) = phase {
+        turns.hear(phase, node);
+    }
 }
 
 // The phase to which a call belongs that was not due: the one whose call it is.
@@ -56,8 +70,11 @@ pub fn hear_due(services: &mut Services, place: usize, who: Who, origin: Origin,
     laws::homes_are_nodes();
     agenda::order_keeps_all::<Owner, Option<Call>>();
     agenda::order_loses_first::<Owner, Option<Call>>();
+    // Nothing is granted anywhere.
+    laws::answers_are_settled();
     laws::wiring_stays();
     services.pass_blocked();
+    services.contest.close();
     services.reporting.newest = None;
     let _ = services.agenda.take_first();
     services.answer = last_answer(place, who, Some(origin.phase), count);

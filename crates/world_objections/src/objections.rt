@@ -1,14 +1,15 @@
-//! The objections of the phases that take time, one for each.
+//! The objections of the phases that take time, of which the run-time phases share one until they are parted.
 
-ghost use Rattle.std.specs.Prelude.{◌≡◌, ◌∷◌, ◌++◌, ◌+◌, ◌<◌, ◌≤◌, ◌^◌, ℕ, nat_lt, false, [], IsTrue, IsOk, IfOk, OnOk, OnErr};
+ghost use Rattle.std.specs.Prelude.{◌≡◌, ◌≢◌, ◌∷◌, ◌++◌, ◌+◌, ◌<◌, ◌≤◌, ◌^◌, ℕ, nat_lt, false, [], length, IsTrue, IsOk, IfOk, OnOk, OnErr};
 ghost use Rattle.std.specs.Option.{option_to_list};
 ghost use Rattle.uvm_objection.specs.Nodes.{dropped, held_of, due_of, is_known, new_node, raised, released, source_of, top, with_drain};
 ghost use Rattle.uvm_objection.specs.Totals.{drains_begun, drains_ended, settled, standing, total};
-ghost use Rattle.world_objections.specs.Phased.{OthersStay, OthersStayAt, nodes_at, nodes_in, place_in, spare_at, spare_in};
+ghost use Rattle.world_objections.specs.Phased.{HasOwn, OthersStay, OthersStayAt, nodes_at, nodes_in, place_in, spare_at, spare_in};
 
+use crate::faults::DropFault;
 use std::alloc::{AllocError, Global};
 use std::marker::Model;
-use uvm_objection::{BelowZero, Due, Objection};
+use uvm_objection::{Due, Objection};
 use uvm_phase::Phase;
 use uvm_tree::NodeId;
 
@@ -16,23 +17,26 @@ use uvm_tree::NodeId;
 const TASKS: usize = 13;
 
 /// The objections of the phases that take time, one for each (IEEE 1800.2-2020, 10.5): what is raised at the nodes of a tree, and what is
-/// held back there until a drain ends. Contracts see them as a list, in which that of a phase has its place. A phase that takes no time has
-/// none: for such a phase each call goes to run's.
+/// held back there until a drain ends. A phase that takes no time has none: for such a phase each call goes to run's.
+///
+/// Contracts see them as a list, run's first. The second stands for all run-time phases until a raise, a drop, the end of a drain or
+/// `set_drain` in one of them, which parts them: from then on each has its own, in their order, made as a copy of the second. That takes
+/// memory once; where nothing is done in any of these phases, two objections are kept.
 #[derive(Drop)]
 pub struct Objections {
-    // Run's, and behind it those of the run-time phases in their order.
+    // Run's, and behind it the one of all run-time phases, or one for each of them in their order.
     each: Vec<Objection>,
 }
 
 impl Model for Objections {
-    ghost use Rattle.std.specs.Prelude.{◌≡◌, List, length};
+    ghost use Rattle.std.specs.Prelude.{◌≤◌, List, length};
     ghost use Rattle.uvm_objection.specs.Nodes.{ObjectionValue};
 
     ghost Value = { List ObjectionValue };
 
     ghost view = { λ o. o.each.items };
 
-    ghost invariant = { λ o. length o.each.items ≡ 13 };
+    ghost invariant = { λ o. (2 ≤ length o.each.items) × (length o.each.items ≤ 13) };
 }
 
 impl Objections {
@@ -40,10 +44,7 @@ impl Objections {
     pub fn new(alloc: Global) -> Result<Objections, AllocError>
         ensures { IfOk result (λ objections. (phase : Phase) → nodes_in objections phase ≡ top ∷ []) }
     {
-        let mut each = Vec::new(alloc);
-        for _ in 0..TASKS {
-            each.push(Objection::new(alloc))?;
-        }
+        let each = vec![in alloc; Objection::new(alloc), Objection::new(alloc)]?;
         Ok(Objections { each })
     }
 
@@ -55,7 +56,7 @@ impl Objections {
         ensures room { ((phase : Phase) → 0 < spare_in self.old phase) → IsOk result }
         ensures kept { (phase : Phase) → spare_in self.old phase ≤ spare_in self.new phase }
     {
-        for place in 0..TASKS {
+        for place in 0..self.each.len() {
             self.reserve_at(place)?;
         }
         Ok(())
@@ -71,7 +72,7 @@ impl Objections {
         ensures room { ((phase : Phase) → 0 < spare_in self.old phase) → IsOk result }
     {
         self.reserve()?;
-        for place in 0..TASKS {
+        for place in 0..self.each.len() {
             self.add_at(place, node, parent);
         }
         Ok(())
@@ -83,19 +84,20 @@ impl Objections {
         requires limit { ticks ≤ 10 ^ 15 }
         ensures { (phase : Phase) → nodes_in self.new phase ≡ with_drain node ticks (nodes_in self.old phase) }
     {
-        for place in 0..TASKS {
+        for place in 0..self.each.len() {
             self.set_drain_at(place, node, ticks);
         }
     }
 
     // Makes room for a node in the one at a place.
     fn reserve_at(&mut self, place: usize) -> Result<(), AllocError>
-        requires { place < 13 }
+        requires { place < length self.old }
         ensures nodes { nodes_at self.new place ≡ nodes_at self.old place }
         ensures spare { OnOk result (0 < spare_at self.new place) }
         ensures room { 0 < spare_at self.old place → IsOk result }
         ensures kept { spare_at self.old place ≤ spare_at self.new place }
         ensures others { OthersStayAt place self.old self.new }
+        ensures count { length self.new ≡ length self.old }
     {
         let Some(objection) = self.each.get_mut(place) else {
             unreachable!()
@@ -105,12 +107,13 @@ impl Objections {
 
     // Adds a node to the one at a place, in the room for it.
     fn add_at(&mut self, place: usize, node: NodeId, parent: NodeId)
-        requires within { place < 13 }
+        requires within { place < length self.old }
         requires unknown { is_known node (nodes_at self.old place) ≡ false }
         requires parent { IsTrue (is_known parent (nodes_at self.old place)) }
         requires room { 0 < spare_at self.old place }
         ensures nodes { nodes_at self.new place ≡ nodes_at self.old place ++ new_node node parent ∷ [] }
         ensures others { OthersStayAt place self.old self.new }
+        ensures count { length self.new ≡ length self.old }
     {
         let Some(objection) = self.each.get_mut(place) else {
             unreachable!()
@@ -122,11 +125,12 @@ impl Objections {
 
     // Sets the drain time of a node in the one at a place, in ticks.
     fn set_drain_at(&mut self, place: usize, node: NodeId, ticks: u64)
-        requires within { place < 13 }
+        requires within { place < length self.old }
         requires known { IsTrue (is_known node (nodes_at self.old place)) }
         requires limit { ticks ≤ 10 ^ 15 }
         ensures nodes { nodes_at self.new place ≡ with_drain node ticks (nodes_at self.old place) }
         ensures others { OthersStayAt place self.old self.new }
+        ensures count { length self.new ≡ length self.old }
     {
         let Some(objection) = self.each.get_mut(place) else {
             unreachable!()
@@ -134,75 +138,102 @@ impl Objections {
         objection.set_drain(node, ticks);
     }
 
-    /// Raises a count at a known node in the objection of a phase, and answers the node whose drain this ended, if it ended one. Takes no
-    /// memory.
-    pub fn raise(&mut self, phase: Phase, node: NodeId, count: u16) -> Option<NodeId>
+    /// Raises a count at a known node in the objection of a phase, and answers the node whose drain this ended, if it ended one. Its error
+    /// is want of memory to part the run-time phases, which changes no node.
+    pub fn raise(
+        &mut self,
+        phase: Phase,
+        node: NodeId,
+        count: u16,
+    ) -> Result<Option<NodeId>, AllocError>
         requires known { IsTrue (is_known node (nodes_in self.old phase)) }
         requires limit { total (nodes_in self.old phase) 0 + count ≤ 10 ^ 18 }
-        ensures nodes { (time : ℕ) → nodes_in self.new phase ≡ settled time (total (nodes_in self.old phase)) (raised node count (nodes_in self.old phase)) }
-        ensures began { drains_begun (nodes_in self.old phase) (nodes_in self.new phase) ≡ [] }
-        ensures ended { drains_ended (nodes_in self.old phase) (nodes_in self.new phase) ≡ option_to_list result }
+        ensures nodes { OnOk result ((time : ℕ) → nodes_in self.new phase ≡ settled time (total (nodes_in self.old phase)) (raised node count (nodes_in self.old phase))) }
+        ensures began { OnOk result (drains_begun (nodes_in self.old phase) (nodes_in self.new phase) ≡ []) }
+        ensures ended { IfOk result (λ ended. drains_ended (nodes_in self.old phase) (nodes_in self.new phase) ≡ option_to_list ended) }
         ensures others { OthersStay phase self.old self.new }
+        ensures err { OnErr result ((one : Phase) → nodes_in self.new one ≡ nodes_in self.old one) }
+        ensures room { HasOwn phase self.old → IsOk result }
     {
-        let Some(objection) = self.each.get_mut(place_in(phase)) else {
+        let place = self.own_place(phase)?;
+        let Some(objection) = self.each.get_mut(place) else {
             unreachable!()
         };
-        objection.raise(node, count)
+        Ok(objection.raise(node, count))
     }
 
     /// Drops a count at a known node in the objection of a phase, at a time of at most 10^18 ticks, and answers the drain that this began, if
-    /// it began one. Its error is that less was raised there, and changes nothing. Takes no memory.
+    /// it began one. `BelowZero` comes where less was raised there, and changes nothing. `Memory` is want of memory to part the run-time
+    /// phases: it comes only where enough was raised, and changes no node.
     pub fn drop(
         &mut self,
         phase: Phase,
         node: NodeId,
         count: u16,
         now: u64,
-    ) -> Result<Option<Due>, BelowZero>
+    ) -> Result<Option<Due>, DropFault>
         requires known { IsTrue (is_known node (nodes_in self.old phase)) }
         requires limit { now ≤ 10 ^ 18 }
         ensures ok { OnOk result (count ≤ source_of node (nodes_in self.old phase)) }
         ensures nodes { OnOk result (nodes_in self.new phase ≡ settled now (total (nodes_in self.old phase)) (dropped node count (nodes_in self.old phase))) }
         ensures began { IfOk result (λ due. drains_begun (nodes_in self.old phase) (nodes_in self.new phase) ≡ option_to_list due) }
         ensures ended { OnOk result (drains_ended (nodes_in self.old phase) (nodes_in self.new phase) ≡ []) }
-        ensures err { OnErr result (source_of node (nodes_in self.old phase) < count) }
-        ensures unchanged { OnErr result (self.new ≡ self.old) }
+        ensures below { result ≡ Err DropFault.BelowZero → source_of node (nodes_in self.old phase) < count }
+        ensures unchanged { result ≡ Err DropFault.BelowZero → self.new ≡ self.old }
+        ensures memory { result ≡ Err DropFault.Memory → count ≤ source_of node (nodes_in self.old phase) }
         ensures others { OthersStay phase self.old self.new }
+        ensures err { OnErr result ((one : Phase) → nodes_in self.new one ≡ nodes_in self.old one) }
+        ensures room { HasOwn phase self.old → result ≢ Err DropFault.Memory }
     {
-        let Some(objection) = self.each.get_mut(place_in(phase)) else {
+        if self.objection(phase).source(node) < u64::from(count) {
+            return Err(DropFault::BelowZero);
+        }
+        let place = self.own_place(phase)?;
+        let Some(objection) = self.each.get_mut(place) else {
             unreachable!()
         };
-        objection.drop(node, count, now)
+        let Ok(due) = objection.drop(node, count, now) else {
+            unreachable!()
+        };
+        Ok(due)
     }
 
     /// Ends the drain of a known node that holds something back, in the objection of a phase, and answers the drain that this began above it,
-    /// if it began one. Takes no memory.
-    pub fn drained(&mut self, phase: Phase, node: NodeId) -> Option<Due>
+    /// if it began one. Its error is want of memory to part the run-time phases, which changes no node.
+    pub fn drained(&mut self, phase: Phase, node: NodeId) -> Result<Option<Due>, AllocError>
         requires known { IsTrue (is_known node (nodes_in self.old phase)) }
         requires held { 0 < held_of node (nodes_in self.old phase) }
         requires limit { due_of node (nodes_in self.old phase) ≤ 10 ^ 18 }
-        ensures nodes { nodes_in self.new phase ≡ settled (due_of node (nodes_in self.old phase)) (total (nodes_in self.old phase)) (released node (nodes_in self.old phase)) }
-        ensures began { drains_begun (nodes_in self.old phase) (nodes_in self.new phase) ≡ option_to_list result }
-        ensures ended { drains_ended (nodes_in self.old phase) (nodes_in self.new phase) ≡ node ∷ [] }
+        ensures nodes { OnOk result (nodes_in self.new phase ≡ settled (due_of node (nodes_in self.old phase)) (total (nodes_in self.old phase)) (released node (nodes_in self.old phase))) }
+        ensures began { IfOk result (λ due. drains_begun (nodes_in self.old phase) (nodes_in self.new phase) ≡ option_to_list due) }
+        ensures ended { OnOk result (drains_ended (nodes_in self.old phase) (nodes_in self.new phase) ≡ node ∷ []) }
         ensures others { OthersStay phase self.old self.new }
+        ensures err { OnErr result ((one : Phase) → nodes_in self.new one ≡ nodes_in self.old one) }
+        ensures room { HasOwn phase self.old → IsOk result }
     {
-        let Some(objection) = self.each.get_mut(place_in(phase)) else {
+        let place = self.own_place(phase)?;
+        let Some(objection) = self.each.get_mut(place) else {
             unreachable!()
         };
-        objection.drained(node)
+        Ok(objection.drained(node))
     }
 
-    /// Sets the drain time of a known node in the objection of a phase, in ticks. Takes no memory.
-    pub fn set_drain(&mut self, phase: Phase, node: NodeId, ticks: u64)
+    /// Sets the drain time of a known node in the objection of a phase, in ticks. Its error is want of memory to part the run-time phases,
+    /// which changes no node.
+    pub fn set_drain(&mut self, phase: Phase, node: NodeId, ticks: u64) -> Result<(), AllocError>
         requires known { IsTrue (is_known node (nodes_in self.old phase)) }
         requires limit { ticks ≤ 10 ^ 15 }
-        ensures nodes { nodes_in self.new phase ≡ with_drain node ticks (nodes_in self.old phase) }
+        ensures nodes { OnOk result (nodes_in self.new phase ≡ with_drain node ticks (nodes_in self.old phase)) }
         ensures others { OthersStay phase self.old self.new }
+        ensures err { OnErr result ((one : Phase) → nodes_in self.new one ≡ nodes_in self.old one) }
+        ensures room { HasOwn phase self.old → IsOk result }
     {
-        let Some(objection) = self.each.get_mut(place_in(phase)) else {
+        let place = self.own_place(phase)?;
+        let Some(objection) = self.each.get_mut(place) else {
             unreachable!()
         };
         objection.set_drain(node, ticks);
+        Ok(())
     }
 
     /// Answers the total of a known node in the objection of a phase.
@@ -210,10 +241,7 @@ impl Objections {
         requires { IsTrue (is_known node (nodes_in self.now phase)) }
         ensures { result ≡ total (nodes_in self.now phase) node }
     {
-        let Some(objection) = self.each.get(place_in(phase)) else {
-            unreachable!()
-        };
-        objection.total(node)
+        self.objection(phase).total(node)
     }
 
     /// Answers whether the objection of a phase stands: something is raised at the top or below, or held back at the top.
@@ -221,14 +249,63 @@ impl Objections {
         requires { IsTrue (is_known 0 (nodes_in self.now phase)) }
         ensures { result ≡ nat_lt 0 (standing (nodes_in self.now phase)) }
     {
-        let Some(objection) = self.each.get(place_in(phase)) else {
+        let objection = self.objection(phase);
+        objection.total(NodeId::TOP) > 0 || objection.held(NodeId::TOP) > 0
+    }
+
+    // Parts the run-time phases if the phase is one of them, and answers where its objection stands, which is then of no other phase. Its
+    // error is want of memory, which changes no node.
+    fn own_place(&mut self, phase: Phase) -> Result<usize, AllocError>
+        ensures nodes { (one : Phase) → nodes_in self.new one ≡ nodes_in self.old one }
+        ensures place { IfOk result (λ place. place ≡ place_in phase) }
+        ensures within { IfOk result (λ place. place < length self.new) }
+        ensures own { OnOk result (HasOwn phase self.new) }
+        ensures room { HasOwn phase self.old → IsOk result }
+    {
+        let place = place_in(phase);
+        if self.each.len() < TASKS && place > 0 {
+            self.part()?;
+        }
+        Ok(place)
+    }
+
+    // Gives each of the run-time phases its own. Its error is want of memory, which leaves fewer with their own, and changes no node.
+    fn part(&mut self) -> Result<(), AllocError>
+        ensures nodes { (place : ℕ) → nodes_at self.new place ≡ nodes_at self.old place }
+        ensures count { OnOk result (length self.new ≡ 13) }
+    {
+        for _ in self.each.len()..TASKS {
+            self.copy_second()?;
+        }
+        Ok(())
+    }
+
+    // Puts a copy of the second behind the last. Its error is want of memory, which adds none.
+    fn copy_second(&mut self) -> Result<(), AllocError>
+        requires { length self.old < 13 }
+        ensures nodes { (place : ℕ) → nodes_at self.new place ≡ nodes_at self.old place }
+        ensures count { OnOk result (length self.new ≡ length self.old + 1) }
+    {
+        let Some(second) = self.each.get(1) else {
             unreachable!()
         };
-        objection.total(NodeId::TOP) > 0 || objection.held(NodeId::TOP) > 0
+        let copied = second.copy()?;
+        self.each.push(copied)?;
+        Ok(())
+    }
+
+    // The objection of a phase, its own or that which it shares.
+    fn objection(&self, phase: Phase) -> &Objection
+        ensures { result.now.nodes ≡ nodes_in self.now phase }
+    {
+        let Some(objection) = self.each.get(place_in(phase)).or(self.each.get(1)) else {
+            unreachable!()
+        };
+        objection
     }
 }
 
-// Where the objection of a phase stands.
+// The place of a phase among the objections.
 fn place_in(phase: Phase) -> usize
     ensures place { result ≡ place_in phase }
     ensures within { result < 13 }

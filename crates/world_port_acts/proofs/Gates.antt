@@ -19,12 +19,12 @@ use Rattle.uvm_object.specs.declared.entries.Entry.{Entry}
 use Rattle.uvm_object.specs.declared.entries.Entry.TheVariants.{Did}
 use Rattle.bench_script.specs.Scripts.{ScriptValue}
 use Rattle.bench_history.specs.declared.askers.Gate.{Gate}
-use Rattle.bench_history.specs.History.{act_phase, nodes_of, ended_of}
+use Rattle.bench_history.specs.History.{act_phase, nodes_of, ended_of, in_task}
 use Rattle.bench_history.specs.Laws.{HasNotEnded}
 use Rattle.bench_history.specs.Wires.{wiring_of}
 use Rattle.bench_history.specs.Ports.{fifo_size, gate_below}
 use Rattle.bench_history.specs.Passing.{Request, Station, answered_at, is_no_put, is_put, items_entered, items_left, puts_asked, leads_to, puts_waiting, request_by, station_at, station_below, station_with, takes_asked, takes_now, takes_waiting, with_last}
-use Rattle.bench_history.specs.Refusals.{in_task, passing_refusal}
+use Rattle.bench_history.specs.Refusals.{passing_refusal}
 use Rattle.world_services.specs.declared.services.Services.{Services}
 use Rattle.world_fifos.specs.Passings.{ArePassed, IsPassed}
 use Rattle.world_services.specs.OpenPorts.{gate_in}

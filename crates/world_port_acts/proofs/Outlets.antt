@@ -24,10 +24,10 @@ use Rattle.uvm_object.specs.declared.fatals.Fatal.{Fatal}
 use Rattle.bench_script.specs.Scripts.{ScriptValue}
 use Rattle.uvm_phase.specs.declared.phases.Phase.{Phase}
 use Rattle.bench_history.specs.Dues.{calls_told, written_to}
-use Rattle.bench_history.specs.History.{act_phase, nodes_of, ended_of}
+use Rattle.bench_history.specs.History.{act_phase, nodes_of, ended_of, in_task}
 use Rattle.bench_history.specs.Ports.{fifo_size, fifos_below, if_sound, imps_below, is_imp, is_imp_at, is_sound_port, outlets_below, port_below, size_of}
 use Rattle.bench_history.specs.Passing.{Station, answered_at, fifo_items, is_no_put, is_put, items_entered, items_left, passage_in, puts_asked, puts_waiting, station_at, station_of, takes_asked, takes_waiting, waiting_put}
-use Rattle.bench_history.specs.Refusals.{in_task, passing_refusal}
+use Rattle.bench_history.specs.Refusals.{passing_refusal}
 use Rattle.bench_history.specs.Wires.{closed_wiring, wiring_of}
 use Rattle.world_services.specs.declared.services.Services.{Services}
 use Rattle.world_wiring.specs.Ports.{port_in}

@@ -1,5 +1,5 @@
 -- Sequences that are started.
-use Rattle.std.proofs.Common.{◌≡◌, ◌<◌, ◌≤◌, ◌+◌, ◌==◌, ℕ, suc, true, false, List, [], ◌∷◌, ◌++◌, length, Option, Some, None, option_map, option_and_then, ◌⊎◌, inl, inr, refl, ap, sym, ◌∙◌, subst, arith, add-one}
+use Rattle.std.proofs.Common.{◌≡◌, ◌≤◌, ◌+◌, ◌==◌, ℕ, suc, true, false, List, [], ◌∷◌, ◌++◌, length, Option, Some, None, option_map, option_and_then, ◌⊎◌, inl, inr, refl, ap, sym, ◌∙◌, subst, arith, add-one}
 use Rattle.std.proofs.lemmas.Bool.Decides.{nat_tests}
 use Rattle.std.proofs.lemmas.List.{length-map}
 use Rattle.std.proofs.lemmas.List.Elements.{All-weaker}
@@ -16,9 +16,9 @@ use Rattle.uvm_object.specs.declared.entries.Outcome.TheVariants.{Started}
 use Rattle.bench_script.specs.Scripts.{ScriptValue}
 use Rattle.bench_history.specs.declared.needs.Need.{Need}
 use Rattle.bench_history.specs.Dues.{is_of_one}
-use Rattle.bench_history.specs.History.{act_phase, opening, overrides_of, speaker_of}
+use Rattle.bench_history.specs.History.{act_phase, opening, overrides_of, speaker_of, in_task}
 use Rattle.bench_history.specs.Laws.{HasNotEnded, IsInPhase, IsThere, number_of, place_of}
-use Rattle.bench_history.specs.Refusals.{Starting, in_task, starting_refusal}
+use Rattle.bench_history.specs.Refusals.{Starting, starting_refusal}
 use Rattle.bench_history.specs.Sequences.{Beginning, begun_of, is_over_phase, sequence_in, start_by, start_priority, starts_in}
 use Rattle.bench_history.specs.Upshots.{Needs, needed_sequence, starting_now, starting_upshot}
 use Rattle.world_services.specs.declared.services.Services.{Services}

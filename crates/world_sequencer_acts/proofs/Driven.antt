@@ -1,5 +1,5 @@
 -- What drivers do at a sequencer, and what a sequence that finishes leaves there.
-use Rattle.std.proofs.Common.{◌≡◌, ℕ, suc, ◌<◌, ◌==◌, nat_eq, nat_lt, Bool, true, false, not, ◌&&◌, List, [], ◌∷◌, length, slice_get, All, Option, Some, None, IsSome, IfSome, is_none, is_some, option_map, option_and_then, Ok, Err, refl, ap, sym, ◌∙◌, subst, arith, rules, if◌then◌else◌}
+use Rattle.std.proofs.Common.{◌≡◌, ℕ, suc, ◌==◌, nat_eq, nat_lt, Bool, true, false, not, ◌&&◌, List, [], ◌∷◌, length, slice_get, All, Option, Some, None, IsSome, IfSome, is_none, is_some, option_map, option_and_then, Ok, Err, refl, ap, sym, ◌∙◌, subst, arith, rules, if◌then◌else◌}
 use Rattle.std.specs.List.{list_any}
 use Rattle.std.specs.Option.{option_map_or}
 use Rattle.std.specs.HashMap.{get}
@@ -39,9 +39,9 @@ use Rattle.bench_history.specs.declared.owners.Owner.TheVariants.{Object}
 use Rattle.bench_history.specs.Arbitration.{Wanted, driver_asker, driver_state, if_arbitrated, mode_at, sequencer_at, sequencer_below}
 use Rattle.bench_history.specs.Cases.{Exactly, by_open, by_upshot}
 use Rattle.bench_history.specs.Dues.{calls_told, is_of_one, lapsed_by, told_done, told_in, told_item}
-use Rattle.bench_history.specs.History.{act_phase, components_of, ended_of, left_of, nodes_of, rest_of}
+use Rattle.bench_history.specs.History.{act_phase, components_of, ended_of, left_of, nodes_of, rest_of, in_task}
 use Rattle.bench_history.specs.Ports.{port_below}
-use Rattle.bench_history.specs.Refusals.{ask_refusal, done_refusal, driving_refusal, in_task}
+use Rattle.bench_history.specs.Refusals.{ask_refusal, done_refusal, driving_refusal}
 use Rattle.bench_history.specs.Sequences.{Beginning, begun_of, finished_of, phase_begun, sequences_of, starts_in}
 use Rattle.bench_history.specs.Upshots.{asked_upshot, driven_at}
 use Rattle.world_sequencers.specs.declared.arbiters.Reached.{Reached}

@@ -17,7 +17,8 @@ use Rattle.bench_history.specs.declared.askers.DriverPort.{DriverPort}
 use Rattle.bench_history.specs.Dues.{is_of_one, told_in, told_item}
 use Rattle.bench_history.specs.declared.owners.Told.{Told}
 use Rattle.bench_history.specs.Owners.{Event}
-use Rattle.bench_history.specs.Refusals.{driving_refusal, in_task}
+use Rattle.bench_history.specs.History.{in_task}
+use Rattle.bench_history.specs.Refusals.{driving_refusal}
 use Rattle.world_sequencers.specs.declared.arbiters.Reached.{Reached}
 use Rattle.world_services.specs.declared.services.Services.{Services}
 use Rattle.world_sequences.specs.Sequencings.{beginning_at}

@@ -17,7 +17,9 @@ use uvm_sequencer::{How, laws as sequencers};
 use uvm_sequences::{SeqId, Sequences};
 use uvm_tlm::Item;
 use uvm_tree::{NodeId, laws as trees};
-use world_sequencers::arbiters::{driver_at, grab_for, lock_for, request_at, send_at, unlock_at};
+use world_sequencers::arbiters::{
+    driver_at, grab_for, lock_for, push_item, request_at, send_at, unlock_at,
+};
 use world_sequences::beginnings::{is_none_at_all, sequence_in, start_priority};
 use world_services::attempts::{Attempt, done, refused};
 use world_services::services::Services;
@@ -155,22 +157,6 @@ fn sent_calls(
         calls.push(Told { who, call, phase })?;
     }
     Ok(calls)
-}
-
-/// Adds the call that tells a driver of an item, or of none, in the phase in which it asked, where there is a driver. Its error is want
-/// of memory.
-pub fn push_item(
-    calls: &mut Vec<Told>,
-    driver: Option<DriverPort>,
-    item: Option<Item>,
-) -> Result<(), AllocError>
-    ensures { OnOk result (calls.new.items ≡ calls.old.items ++ told_item driver item) }
-{
-    if let Some(DriverPort { who, name, phase }) = driver {
-        let call = Call::NextItem { port: name, item };
-        calls.push(Told { who, call, phase })?;
-    }
-    Ok(())
 }
 
 // An act is performed at a sequencer, and nothing is reported. Its error is want of memory.

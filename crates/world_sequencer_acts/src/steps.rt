@@ -9,14 +9,13 @@ ghost use Rattle.world_sequencer_acts.specs.Drivings.{IsFinished, finished_calls
 ghost use Rattle.world_sequences.specs.Sequencings.{beginning_at};
 ghost use Rattle.world_services.specs.Attempts.{IsAttempt};
 
-use crate::requests::push_item;
 use bench_history::{DriverPort, Told};
 use std::alloc::{AllocError, Global};
 use uvm_object::{Call, LoggedOutcome};
 use uvm_sequences::{SeqId, laws};
 use uvm_tree::laws as trees;
 use world_agenda::events::cancel;
-use world_sequencers::arbiters::{driver_at, leave_at};
+use world_sequencers::arbiters::{driver_at, leave_at, push_item};
 use world_sequences::beginnings::{beginning_at, sequence_in, step_call};
 use world_services::attempts::{Attempt, done};
 use world_services::services::Services;

@@ -9,18 +9,19 @@ use Rattle.uvm_sequencer.specs.declared.drivers.Driver.{Driver}
 use Rattle.uvm_sequencer.specs.declared.drivers.Driver.TheVariants.{Idle}
 use Rattle.uvm_sequencer.specs.declared.requests.Request.{Request}
 use Rattle.uvm_sequences.specs.declared.starts.SeqStep.{SeqStep}
-use Rattle.uvm_sequencer.specs.Drivers.{grant_of, granted_by, left_by}
+use Rattle.uvm_sequencer.specs.Drivers.{grant_of, granted_by, kept_on, left_by}
 use Rattle.uvm_sequencer.specs.Queues.{is_held, is_item, is_item_of, is_lock_of, is_of, released}
 use Rattle.uvm_sequences.specs.Sequences.{numbered}
 use Rattle.uvm_sequencer.specs.Laws.{are_known}
-use Rattle.uvm_sequencer.specs.Sequencers.{after_leave, after_phase, granted, is_live_at, locked, unlocked}
+use Rattle.uvm_sequencer.specs.Sequencers.{after_leave, granted, is_live_at, locked, unlocked}
 use Rattle.bench_history.specs.declared.askers.DriverPort.{DriverPort}
-use Rattle.bench_history.specs.Arbitration.{Wanted, granted_since, waits_by, wanted}
+use Rattle.bench_history.specs.Arbitration.{Wanted, ends_ask, granted_since, waits_by, wanted}
 use Rattle.bench_history.specs.Sequences.{Beginning, starts_in}
-use Rattle.world_sequencers.specs.Arbiters.{ArbiterValue, at_sequencer, new_arbiter}
+use Rattle.world_sequencers.specs.Arbiters.{ArbiterValue, at_sequencer, ended_at, new_arbiter}
 use Rattle.world_sequencers.specs.Arbitratings.{IsArbitrated, Ledger, arbiter_of, arbiter_with, queue_of, runs_on}
 use Rattle.world_sequences.proofs.Numbered.{numbered-more, numbered-within}
 use Rattle.world_agenda.proofs.Lists.{filter-twice, one-ended, map-filter}
+use Rattle.uvm_phase.specs.declared.phases.Phase.{Phase}
 
 -- two filters by tests that are equal at each element
 pub filter-alike : {A : Type 0} (p q : A → Bool) (xs : List A) → All (λ x. p x ≡ q x) xs → filter p xs ≡ filter q xs
@@ -225,13 +226,24 @@ module _ (live gone : ℕ → Bool) (l : Ledger) where
         both true false e = let clash = e refl in cc
         both false li e = sym (and-false li)
 
-    pub ended-is : arbiter_of gone (record l { driver = Idle }) ≡ option_map (at_sequencer (after_phase steps true)) (arbiter_of live l)
-    ended-is = arbiter-changed live gone l (record l { driver = Idle }) (at_sequencer (after_phase steps true)) refl (λ mode. rw (ended-queue, ended-held) refl)
+    -- and of the driver's ask what goes on
+    pub ended-is : (phase : Phase) → arbiter_of gone (record l { driver = kept_on (ends_ask phase l.asker) gone l.driver }) ≡ option_map (ended_at phase steps) (arbiter_of live l)
+    ended-is phase =
+        arbiter-changed live gone l (record l { driver = kept_on (ends_ask phase l.asker) gone l.driver }) (ended_at phase steps) refl
+        (λ mode. rw (ended-queue, ended-held, kept-same (λ i n. known n i)) refl)
+      where
+        kept-same : is_live_at steps ≡ gone → kept_on (ends_ask phase l.asker) (is_live_at steps) l.driver ≡ kept_on (ends_ask phase l.asker) gone l.driver
+        kept-same same = ap (λ (test : ℕ → Bool). kept_on (ends_ask phase l.asker) test l.driver) same
 
 -- one is added
 pub added-is : (live : ℕ → Bool) (l : Ledger) (mode : Option Mode) → (l.wanted ≡ []) × (l.held ≡ []) × (l.driver ≡ Idle) × (l.asker ≡ None) → arbiter_of live (record l { mode = mode }) ≡ option_map new_arbiter mode
 added-is live l None none = refl
 added-is live l (Some mode) none = rw (none.0, none.1, none.2, none.3) refl
+
+-- a driver that is idle stays so
+idle-kept : (ends : Bool) (live : ℕ → Bool) (driver : Driver) → driver ≡ Idle → kept_on ends live driver ≡ Idle
+idle-kept true live driver is = refl
+idle-kept false live driver is = ap (λ (one : Driver). kept_on false live one) is
 
 -- what was said of a sequencer before one more entry
 module _ {count nodes : ℕ} {begun : List Beginning} {node : ℕ} {l : Ledger} (a : IsArbitrated count nodes begun node l) where
@@ -332,16 +344,16 @@ module _ {count nodes : ℕ} {begun : List Beginning} {node : ℕ} {l : Ledger} 
     nothing = λ none. some-is-some l.mode moded none;
   }
 
-  -- or is idle
-  pub arbitrated-idle : IsArbitrated (suc count) nodes begun node (record l { driver = Idle })
-  arbitrated-idle = record {
+  -- or goes on where its ask does, as a phase ends
+  pub arbitrated-ended : (ends : Bool) (live : ℕ → Bool) → IsArbitrated (suc count) nodes begun node (record l { driver = kept_on ends live l.driver })
+  arbitrated-ended ends live = record {
     wanted_within = places-later (λ w. w.place) l.wanted a.wanted_within;
     grants_within = pairs-later l.grants a.grants_within;
     locks_within = pairs-later l.locks a.locks_within;
     wanted_here = a.wanted_here;
     held_here = a.held_here;
     stands = a.stands;
-    nothing = λ none. let n = a.nothing none in (n.0, n.1, refl, n.3);
+    nothing = λ none. let n = a.nothing none in (n.0, n.1, idle-kept ends live l.driver n.2, n.3);
   }
 
   -- a lock is granted, or an item

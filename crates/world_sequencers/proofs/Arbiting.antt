@@ -1,43 +1,35 @@
 -- What is kept of sequencers, where nodes are added, sequences are started and end, and a phase ends.
-use Rattle.std.proofs.Common.{◌≡◌, ℕ, suc, ◌<◌, ◌≤◌, ◌==◌, nat_eq, Bool, true, false, not, ◌&&◌, ◌||◌, List, [], ◌∷◌, ◌++◌, length, map, find, All, Option, Some, None, IsSome, IsTrue, option_map, option_and_then, option_to_list, refl, ap, sym, ◌∙◌, subst, arith, if◌then◌else◌}
-use Rattle.std.specs.List.{list_any}
-use Rattle.std.specs.Option.{option_map_or, option_or}
+use Rattle.std.proofs.Common.{◌≡◌, ℕ, suc, ◌<◌, ◌≤◌, ◌==◌, nat_eq, Bool, true, false, List, [], ◌∷◌, ◌++◌, length, find, Option, Some, None, IsSome, IsTrue, option_map, option_to_list, refl, ap, sym, ◌∙◌, subst, arith, if◌then◌else◌}
+use Rattle.std.specs.Option.{option_or}
 use Rattle.std.specs.HashMap.{get}
 use Rattle.std.proofs.lemmas.Bool.Decides.{nat_tests}
 use Rattle.std.specs.Map.{lookup}
 use Rattle.std.proofs.lemmas.List.Elements.{All-nil, All-weaker}
 use Rattle.uvm_phase.specs.declared.phases.Phase.{Phase}
-use Rattle.uvm_phase.specs.Phases.{same_phase}
 use Rattle.uvm_tree.specs.Nodes.{Node}
 use Rattle.uvm_tree.specs.Sorted.{path_order}
 use Rattle.world_agenda.proofs.Lists.{filter-none}
 use Rattle.uvm_sequencer.specs.declared.modes.Mode.{Mode}
-use Rattle.uvm_sequences.specs.declared.starts.SeqStep.{SeqStep}
 use Rattle.uvm_sequencer.specs.Choices.{readiness}
 use Rattle.uvm_sequencer.specs.Drivers.{wait_of}
 use Rattle.uvm_sequencer.specs.Laws.{StartsChangeNothing, are_known}
 use Rattle.uvm_sequences.specs.Sequences.{numbered}
-use Rattle.uvm_sequencer.specs.Sequencers.{after_phase, is_live_at}
 use Rattle.uvm_object.specs.declared.acts.Who.{Who}
 use Rattle.uvm_object.specs.declared.acts.What.{What}
 use Rattle.uvm_object.specs.declared.acts.Act.TheVariants.{Add}
 use Rattle.uvm_object.specs.declared.entries.Outcome.TheVariants.{Done}
 use Rattle.uvm_object.specs.declared.entries.Entry.{Entry}
-use Rattle.uvm_object.specs.declared.entries.Entry.TheVariants.{Did, End}
-use Rattle.bench_script.specs.Scripts.{ScriptValue}
-use Rattle.bench_history.specs.declared.stages.Stage.TheVariants.{During, Ended}
-use Rattle.bench_history.specs.Arbitration.{Wanted, mode_at, mode_in, modes_of, waits_by}
-use Rattle.bench_history.specs.History.{ended_of, nodes_of, running, stage_of}
-use Rattle.bench_history.specs.Laws.{LivingRun}
-use Rattle.bench_history.specs.Next.{EachIsNext}
-use Rattle.bench_history.specs.Sequences.{Beginning, begun_of, finished_of, is_live, is_over_phase, starts_in}
+use Rattle.uvm_object.specs.declared.entries.Entry.TheVariants.{Did}
+use Rattle.bench_history.specs.Arbitration.{Wanted, mode_at, mode_in, modes_of}
+use Rattle.bench_history.specs.History.{ended_of, nodes_of}
+use Rattle.bench_history.specs.Sequences.{Beginning, begun_of, finished_of, starts_in}
 use Rattle.world_sequencers.specs.declared.contests.Contest.{Contest}
-use Rattle.world_sequencers.specs.Contests.{AddsContest, ForgetsAll, IsKnown, known_at}
+use Rattle.world_sequencers.specs.Contests.{AddsContest, IsKnown, known_at}
 use Rattle.world_sequencers.proofs.Contested.{known-none}
-use Rattle.world_sequencers.specs.Arbiters.{AddsArbiter, ArbiterValue, ChangesEach, Kept, at_sequencer, lock_in, mode_of, new_arbiter, ready_in}
+use Rattle.world_sequencers.specs.Arbiters.{AddsArbiter, ArbiterValue, Kept, lock_in, mode_of, new_arbiter, ready_in}
 use Rattle.world_sequencers.specs.Arbitratings.{IsArbitrated, IsArbitrating, Ledger, arbiter_of, arbiter_with, ledger_at, queue_of, runs_on}
-use Rattle.world_sequences.specs.Sequencings.{live_by, lives_by}
-use Rattle.world_sequencers.proofs.Arbited.{added-is, alike-is, arbitrated-added, arbitrated-begun, arbitrated-grown, arbitrated-idle, ended-is, filter-empty, known-all}
+use Rattle.world_sequences.specs.Sequencings.{live_by}
+use Rattle.world_sequencers.proofs.Arbited.{added-is, alike-is, arbitrated-added, arbitrated-begun, arbitrated-grown, known-all}
 use Rattle.world_sequences.proofs.Numbered.{numbered-more}
 use Rattle.uvm_object.specs.declared.acts.What.TheVariants as what
 
@@ -248,87 +240,3 @@ module _ {count : ℕ} {nodes : List Node} {begun : List Beginning} {finished : 
       known = λ n. subst (λ (o : Option ArbiterValue). IsKnown (starts_in (x ∷ begun)) (known_at contest n) o) (sym (begun-same n)) (blocked-still n (known_at contest n) (ledger n).mode (a.contested_is.known n));
     };
   }
-
--- a phase ends: all sequences that live were started in it
-still-before : (f a b : Bool) → f && not (a || b) ≡ true → f && not b ≡ true
-still-before true true b e = cc
-still-before true false b e = e
-still-before false a b e = cc
-
-over-before : (f : Bool) (phase : Phase) (ended : List Phase) (started : Option Phase) → f && not (is_over_phase (phase ∷ ended) started) ≡ true → f && not (is_over_phase ended started) ≡ true
-over-before f phase ended None e = e
-over-before f phase ended (Some other) e = still-before f (same_phase other phase) (list_any (same_phase other) ended) e
-
-live-before : (begun : List Beginning) (finished : List Who) (ended : List Phase) (phase : Phase) (id : ℕ) → live_by begun finished (phase ∷ ended) id ≡ true → live_by begun finished ended id ≡ true
-live-before begun finished ended phase id e = by (numbered begun id) e
-  where
-    by : (found : Option Beginning) → option_map_or (lives_by finished (phase ∷ ended) id) found false ≡ true → option_map_or (lives_by finished ended id) found false ≡ true
-    by None e = cc
-    by (Some b) e = over-before _ phase ended b.phase e
-
-same-itself : (phase : Phase) → same_phase phase phase ≡ true
-same-itself phase = grind (arith, nat_tests)
-
-second : (a b : Bool) → a && b ≡ true → b ≡ true
-second true b e = e
-second false b e = cc
-
-module _ (script : ScriptValue) (history : List Entry) (phase : Phase) (run : LivingRun) (each : EachIsNext script history) (runs : stage_of history ≡ During phase) where
-  none-live : (node id : ℕ) → runs_on (begun_of history) node id → live_by (begun_of history) (finished_of history) (phase ∷ ended_of history) id ≡ false
-  unfolding is_live
-  none-live node id here = by (live_by (begun_of history) (finished_of history) (phase ∷ ended_of history) id) refl
-    where
-      goes : stage_of history ≡ Ended → ⊥
-      goes over = let clash : During phase ≡ Ended = sym runs ∙ over in cc
-
-      dead : (found : Option Beginning) → numbered (begun_of history) id ≡ found → option_and_then (λ beginning. beginning.phase) found ≡ Some phase → option_map_or (lives_by (finished_of history) (phase ∷ ended_of history) id) found false ≡ true → ⊥
-      dead None is ran e = cc
-      dead (Some b) is ran e =
-          let over : is_over_phase (phase ∷ ended_of history) b.phase ≡ true = rw (ran, same-itself phase) refl in
-          let clash = subst (λ (v : Bool). not v ≡ true) over (second _ _ e) in
-          cc
-
-      by : (b : Bool) → live_by (begun_of history) (finished_of history) (phase ∷ ended_of history) id ≡ b → b ≡ false
-      by false is = refl
-      by true is =
-          let lived = live-before (begun_of history) (finished_of history) (ended_of history) phase id is in
-          let ran = run script history id node each goes (record { lives = lived; home_is = here }) in
-          absurd (dead (numbered (begun_of history) id) refl (ran ∙ ap running runs) is)
-
-  nobody : (n : ℕ) (l : Ledger) → All (λ (w : Wanted). runs_on (begun_of history) n w.request.seq) l.wanted → queue_of (live_by (begun_of history) (finished_of history) (phase ∷ ended_of history)) l ≡ []
-  nobody n l here =
-      ap (map (λ (w : Wanted). w.request))
-      (filter-empty (waits_by (live_by (begun_of history) (finished_of history) (phase ∷ ended_of history)) l.grants l.locks) l.wanted
-      (All-weaker (λ (w : Wanted). runs_on (begun_of history) n w.request.seq) (λ w. waits_by (live_by (begun_of history) (finished_of history) (phase ∷ ended_of history)) l.grants l.locks w ≡ false) (λ w runs_here. rw (none-live n w.request.seq runs_here) refl) l.wanted here))
-
-  pub arbitrating-ended :
-      (steps : List (Option SeqStep)) → ((n : ℕ) → is_live_at steps n ≡ live_by (begun_of history) (finished_of history) (phase ∷ ended_of history) n) → {arbiters new : Kept} {contest after : Contest} → ChangesEach (at_sequencer (after_phase steps true)) arbiters new → after.nodes.items ≡ [] → ForgetsAll after
-      → IsArbitrating (length history) (nodes_of history) (begun_of history) (finished_of history) (ended_of history) (ledger_at history) arbiters contest
-      → IsArbitrating (suc (length history)) (nodes_of history) (begun_of history) (finished_of history) (phase ∷ ended_of history) (ledger_at (End phase ∷ history)) new after
-  arbitrating-ended steps known {after = after} changes nowhere forgets a = record {
-    arbiters_are = record {
-      each = λ n.
-          changes n ∙ ap (option_map (at_sequencer (after_phase steps true))) (a.arbiters_are.each n)
-          ∙ sym (ended-is (live_by (begun_of history) (finished_of history) (ended_of history)) (live_by (begun_of history) (finished_of history) (phase ∷ ended_of history)) (ledger_at history n) steps known (λ id. live-before (begun_of history) (finished_of history) (ended_of history) phase id));
-    };
-    arbitrated = record { each = λ n. arbitrated-idle (a.arbitrated.each n) };
-    contested_is = record {
-      unlocked = λ n other. locks n (ledger_at history n).mode;
-      unserved = λ n other. serves n (ledger_at history n).mode;
-      among = λ n. false;
-      kept_are = nowhere ∙ sym (filter-none (path_order (nodes_of history)));
-      held = λ n e. cc;
-      known = λ n. nothing n (known_at after n) (forgets n);
-    };
-  }
-    where
-      locks : (n : ℕ) (mode : Option Mode) → lock_in (starts_in (begun_of history)) (option_map (arbiter_with (live_by (begun_of history) (finished_of history) (phase ∷ ended_of history)) (ledger_at (End phase ∷ history) n)) mode) ≡ None
-      locks n None = refl
-      locks n (Some mode) = rw (nobody n (ledger_at history n) (a.arbitrated.each n).wanted_here) refl
-
-      nothing : (n known : ℕ) → known ≡ 0 → IsKnown (starts_in (begun_of history)) known (arbiter_of (live_by (begun_of history) (finished_of history) (phase ∷ ended_of history)) (ledger_at (End phase ∷ history) n))
-      nothing n known none = rw none (known-none (starts_in (begun_of history)) (arbiter_of (live_by (begun_of history) (finished_of history) (phase ∷ ended_of history)) (ledger_at (End phase ∷ history) n)))
-
-      serves : (n : ℕ) (mode : Option Mode) → ready_in (starts_in (begun_of history)) (option_map (arbiter_with (live_by (begun_of history) (finished_of history) (phase ∷ ended_of history)) (ledger_at (End phase ∷ history) n)) mode) ≡ None
-      serves n None = refl
-      serves n (Some mode) = refl

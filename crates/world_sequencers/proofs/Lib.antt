@@ -1,3 +1,4 @@
 pub mod Arbited
 pub mod Arbiting
 pub mod Contested
+pub mod Phased

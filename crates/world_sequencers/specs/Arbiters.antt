@@ -1,18 +1,25 @@
 -- The sequencers that a world keeps, with those who drive them, and what is done at them.
-use Rattle.std.specs.Prelude.{◌≡◌, ℕ, Bool, ◌==◌, nat_eq, List, Option, Some, None, option_map, option_and_then, Result, Ok, if◌then◌else◌}
+use Rattle.std.specs.Prelude.{◌≡◌, ℕ, Bool, ◌==◌, nat_eq, List, [], Option, Some, None, option_map, option_and_then, Result, Ok, if◌then◌else◌}
+use Rattle.std.specs.List.{flat_map}
 use Rattle.std.specs.Option.{option_or}
 use Rattle.std.specs.declared.hash.FoldHasher.{FoldHasher}
 use Rattle.std.specs.declared.hash.BuildHasherDefault.{BuildHasherDefault}
 use Rattle.std.specs.HashMap.{HashMap, get}
 use Rattle.uvm_glob.specs.Faults.{unless}
+use Rattle.uvm_phase.specs.declared.phases.Phase.{Phase}
+use Rattle.uvm_sequences.specs.declared.starts.SeqStep.{SeqStep}
 use Rattle.uvm_sequencer.specs.declared.modes.Mode.{Mode}
+use Rattle.uvm_sequencer.specs.Drivers.{loses_try}
 use Rattle.uvm_sequencer.specs.declared.drivers.Asked.{Asked}
 use Rattle.uvm_sequencer.specs.declared.drivers.How.{How}
 use Rattle.uvm_sequences.specs.Sequences.{Start}
-use Rattle.uvm_sequencer.specs.Sequencers.{SequencerValue, after_ask, after_send, answer, candidates_at, lock_at, new_sequencer, ready_at, unlocked, with_grab, with_item, with_lock}
+use Rattle.uvm_sequencer.specs.Sequencers.{SequencerValue, after_ask, after_phase, after_send, answer, candidates_at, is_live_at, lock_at, new_sequencer, ready_at, unlocked, with_grab, with_item, with_lock}
 use Rattle.uvm_object.specs.declared.acts.What.{What}
 use Rattle.uvm_object.specs.declared.fatals.Fatal.{Fatal}
 use Rattle.bench_history.specs.declared.askers.DriverPort.{DriverPort}
+use Rattle.bench_history.specs.declared.owners.Told.{Told}
+use Rattle.bench_history.specs.Arbitration.{ends_ask}
+use Rattle.bench_history.specs.Dues.{told_item}
 use Rattle.bench_history.specs.Refusals.{ask_refusal}
 use Rattle.uvm_sequencer.specs.declared.drivers.Asked.TheVariants as asked
 use Rattle.uvm_object.specs.declared.acts.What.TheVariants as what
@@ -75,6 +82,19 @@ unlocked_if (Some fatal) id a = a
 abbrev pub sent_if : Option How → ℕ → ArbiterValue → ArbiterValue
 sent_if None id a = a
 sent_if (Some how) id a = at_sequencer (after_send id how) a
+
+-- a phase ends: what sequences asked for and hold that live no longer is gone, and so is what the driver asked, if it asked in that phase
+abbrev pub ended_at : Phase → List (Option SeqStep) → ArbiterValue → ArbiterValue
+ended_at phase steps a = at_sequencer (after_phase steps (ends_ask phase a.driver)) a
+
+-- with that a `try` of the driver may lapse, which is then told that there is no item
+abbrev pub lapsed_in : Phase → List (Option SeqStep) → Option ArbiterValue → List Told
+lapsed_in phase steps None = []
+lapsed_in phase steps (Some a) = if loses_try (ends_ask phase a.driver) (is_live_at steps) a.sequencer.driver then told_item a.driver None else []
+
+-- of each node in an order
+abbrev pub lapsed_with : Phase → List (Option SeqStep) → Kept → List ℕ → List Told
+lapsed_with phase steps arbiters order = flat_map (λ node. lapsed_in phase steps (get nat_eq arbiters node)) order
 
 -- what comes of asking at a sequencer
 abbrev pub asked_in : List Start → How → Option ArbiterValue → Result Asked Fatal

@@ -1,5 +1,5 @@
 -- Where something may be granted, and what is known there.
-use Rattle.std.specs.Prelude.{◌≡◌, ℕ, ◌==◌, nat_eq, List, Bool, false, Option, None, Some, IfSome, IsSome, unwrap_or, if◌then◌else◌}
+use Rattle.std.specs.Prelude.{◌≡◌, ℕ, ◌==◌, nat_eq, List, false, Option, IfSome, IsSome, unwrap_or, if◌then◌else◌}
 use Rattle.std.specs.Option.{option_map_or}
 use Rattle.std.specs.HashMap.{get}
 use Rattle.uvm_sequencer.specs.declared.modes.Mode.{Mode}

@@ -1,25 +1,29 @@
 //! Sequencers with who drives them (IEEE 1800.2-2020, Clause 15).
 
-ghost use Rattle.std.specs.Prelude.{◌≡◌, true, nat_eq, length, map, Some, None, OnOk, OnErr, IfOk, IfErr, option_and_then, ◌<◌, IsSome, is_some};
+ghost use Rattle.std.specs.Prelude.{◌≡◌, ◌++◌, true, nat_eq, length, map, Some, None, OnOk, OnErr, IfOk, IfErr, option_and_then, ◌<◌, IsSome, is_some};
 ghost use Rattle.std.specs.HashMap.{get};
 ghost use Rattle.std.specs.Option.{option_map_or};
 ghost use Rattle.uvm_glob.specs.Faults.{unless};
 ghost use Rattle.uvm_glob.specs.Lists.{first_given};
-ghost use Rattle.uvm_sequencer.specs.Drivers.{grant_of, hand_of, is_try};
-ghost use Rattle.uvm_sequencer.specs.Sequencers.{after_leave, after_phase, answer, candidates_at, choice_at, granted, lock_at, locked, ready_at, with_idle};
+ghost use Rattle.uvm_sequencer.specs.Drivers.{grant_of, hand_of, is_try, loses_try};
+ghost use Rattle.uvm_sequencer.specs.Sequencers.{after_leave, answer, candidates_at, choice_at, granted, is_live_at, lock_at, locked, ready_at, with_idle};
+ghost use Rattle.bench_history.specs.Arbitration.{ends_ask};
+ghost use Rattle.bench_history.specs.Dues.{told_item};
 ghost use Rattle.bench_history.specs.Refusals.{ask_refusal, done_refusal, item_refusal, lock_refusal, unlock_refusal};
 ghost use Rattle.uvm_sequencer.specs.Passed.{IsPassed};
 ghost use Rattle.world_sequencers.specs.Contests.{AreKnown, IsKnown};
-ghost use Rattle.world_sequencers.specs.Arbiters.{AddsArbiter, ChangesAt, ChangesEach, at_sequencer, asked_at, asked_in, grabbed_if, locked_if, locked_in, lock_in, mode_of, new_arbiter, ready_in, requested_if, sent_if, served_in, unlocked_if};
+ghost use Rattle.world_sequencers.specs.Arbiters.{AddsArbiter, ChangesAt, ChangesEach, at_sequencer, asked_at, asked_in, ended_at, grabbed_if, lapsed_in, lapsed_with, locked_if, locked_in, lock_in, mode_of, new_arbiter, ready_in, requested_if, sent_if, served_in, unlocked_if};
 
 use crate::contests::Contest;
-use bench_history::DriverPort;
+use bench_history::{DriverPort, Told};
 use std::alloc::{AllocError, Global};
 use std::collections::HashMap;
 use std::marker::Model;
-use uvm_object::{Fatal, What};
+use uvm_object::{Call, Fatal, What};
+use uvm_phase::Phase;
 use uvm_sequencer::{Asked, How, Mode, SeqFault, Sequencer};
 use uvm_sequences::{SeqId, Sequences};
+use uvm_tlm::Item;
 use uvm_tree::NodeId;
 
 /// A port, and the sequencer that is reached through it.
@@ -164,11 +168,35 @@ impl Arbiter {
         self.sequencer.leave(id)
     }
 
-    // A phase ends, and with it all sequences that live no longer. Takes no memory.
-    fn end_phase(&mut self, sequences: &Sequences)
-        ensures { self.new ≡ at_sequencer (after_phase sequences.now.steps true) self.old }
+    // A phase ends, and with it all sequences that live no longer, and what the driver asked in it. Takes no memory.
+    fn end_phase(&mut self, sequences: &Sequences, phase: Phase)
+        ensures { self.new ≡ ended_at phase sequences.now.steps self.old }
     {
-        self.sequencer.end_phase(sequences, true);
+        let ends = self.ends_with(phase);
+        self.sequencer.end_phase(sequences, ends);
+    }
+
+    // Whether what the driver asked ends with a phase: it was asked in it, or nobody asked.
+    fn ends_with(&self, phase: Phase) -> bool
+        ensures { result ≡ ends_ask phase self.now.driver }
+    {
+        match self.driver {
+            Some(
+                DriverPort {
+                    phase: Some(asked),
+                    ..
+                },
+            ) => asked == phase,
+            Some(_) => false,
+            None => true,
+        }
+    }
+
+    // Whether the `try` of the driver lapses with a phase.
+    fn loses_try(&self, sequences: &Sequences, phase: Phase) -> bool
+        ensures { result ≡ loses_try (ends_ask phase self.now.driver) (is_live_at sequences.now.steps) self.now.sequencer.driver }
+    {
+        self.sequencer.loses_try(sequences, self.ends_with(phase))
     }
 
     // The lock that leads is granted. Takes no memory.
@@ -453,13 +481,65 @@ pub fn choose_at(
     }
 }
 
-/// Ends at each sequencer what sequences asked for and hold that live no longer, and what its driver asked. Takes no memory; the
-/// time is that of a look at each wait.
-pub fn end_phase(arbiters: &mut Arbiters, sequences: &Sequences)
-    ensures { ChangesEach (at_sequencer (after_phase sequences.now.steps true)) arbiters.old arbiters.new }
+/// Ends at each sequencer what sequences asked for and hold that live no longer, and what its driver asked in the phase that ends. Takes
+/// no memory; the time is that of a look at each wait.
+pub fn end_phase(arbiters: &mut Arbiters, sequences: &Sequences, phase: Phase)
+    ensures { ChangesEach (ended_at phase sequences.now.steps) arbiters.old arbiters.new }
 {
     arbiters.retain(|_, arbiter| {
-        arbiter.end_phase(sequences);
+        arbiter.end_phase(sequences, phase);
         true
     });
+}
+
+/// Answers what drivers are told whose `try` lapses with a phase, in the order of the nodes: that there is no item. Its error is want of
+/// memory.
+pub fn lapsed_with(
+    alloc: Global,
+    arbiters: &Arbiters,
+    sequences: &Sequences,
+    nodes: &[NodeId],
+    phase: Phase,
+) -> Result<Vec<Told>, AllocError>
+    ensures { IfOk result (λ calls. calls.items ≡ lapsed_with phase sequences.now.steps arbiters.now nodes.now) }
+{
+    let mut calls = Vec::new(alloc);
+    for node in nodes {
+        push_lapsed(arbiters, sequences, *node, phase, &mut calls)?;
+    }
+    Ok(calls)
+}
+
+// Appends what the driver of the sequencer at a node is told, if its `try` lapses with a phase.
+fn push_lapsed(
+    arbiters: &Arbiters,
+    sequences: &Sequences,
+    node: NodeId,
+    phase: Phase,
+    calls: &mut Vec<Told>,
+) -> Result<(), AllocError>
+    ensures { OnOk result (calls.new.items ≡ calls.old.items ++ lapsed_in phase sequences.now.steps (get nat_eq arbiters.now node)) }
+{
+    match arbiters.get(&node) {
+        Some(arbiter) if arbiter.loses_try(sequences, phase) => {
+            push_item(calls, arbiter.driver, None)
+        }
+        _ => Ok(()),
+    }
+}
+
+/// Appends the call that tells a driver of an item, or of none, in the phase in which it asked, where there is a driver. Its error is want
+/// of memory.
+pub fn push_item(
+    calls: &mut Vec<Told>,
+    driver: Option<DriverPort>,
+    item: Option<Item>,
+) -> Result<(), AllocError>
+    ensures { OnOk result (calls.new.items ≡ calls.old.items ++ told_item driver item) }
+{
+    if let Some(DriverPort { who, name, phase }) = driver {
+        let call = Call::NextItem { port: name, item };
+        calls.push(Told { who, call, phase })?;
+    }
+    Ok(())
 }

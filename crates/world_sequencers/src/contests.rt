@@ -85,15 +85,18 @@ impl Contest {
         }
     }
 
-    /// Keeps that it is known for none, as at the end of a phase, and that nothing can be granted. Takes no memory.
-    pub fn forget(&mut self)
-        ensures nodes { self.new.nodes.items ≡ [] }
-        ensures known { ForgetsAll self.new }
+    /// Keeps that it is known for none, as at the end of a phase, and that something may be granted at these sequencers, which are given
+    /// in path order, and at no other. Its error is want of memory.
+    pub fn reopen(&mut self, nodes: &[NodeId]) -> Result<(), AllocError>
+        ensures nodes { OnOk result (self.new.nodes.items ≡ nodes.now) }
+        ensures known { OnOk result (ForgetsAll self.new) }
     {
         self.nodes.clear();
+        self.nodes.extend_from_slice(nodes)?;
         self.passed.retain(|_, passed| {
             *passed = 0;
             true
         });
+        Ok(())
     }
 }

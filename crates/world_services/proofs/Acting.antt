@@ -5,11 +5,11 @@ use Rattle.uvm_glob.specs.Lists.{first_given}
 use Rattle.uvm_glob.specs.Paths.{path_fault}
 use Rattle.uvm_object.specs.declared.fatals.Fatal.{Fatal}
 use Rattle.uvm_object.specs.declared.fatals.Fatal.TheVariants.{OutsideTask, OutOfRange, InvalidType, NoSequencer, TreeLimit, OverrideLoop}
-use Rattle.bench_history.specs.Refusals.{Starting, in_task, is_none_at_all, sequence_made, sequence_named, starting_refusal}
+use Rattle.bench_history.specs.Refusals.{Starting, is_none_at_all, sequence_made, sequence_named, starting_refusal}
 use Rattle.uvm_object.specs.declared.acts.Act.{Act}
 use Rattle.uvm_object.specs.declared.entries.Entry.{Entry}
 use Rattle.bench_script.specs.Scripts.{ScriptValue}
-use Rattle.bench_history.specs.History.{left_of, head_of, rest_of, speaker_of}
+use Rattle.bench_history.specs.History.{left_of, head_of, rest_of, speaker_of, in_task}
 use Rattle.bench_history.specs.Cases.{by_act}
 use Rattle.bench_history.specs.Next.{next_of, need_in, IsAct}
 use Rattle.bench_history.specs.Laws.{ActsGoInOrder, IsSettled, NeedsAreWanted, IsWanted}

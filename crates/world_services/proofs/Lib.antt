@@ -9,6 +9,7 @@ pub mod Later
 pub mod Opened
 pub mod Overriding
 pub mod Passages
+pub mod Rounding
 pub mod Settling
 pub mod Waiting
 pub mod Walking

@@ -22,11 +22,11 @@ use Rattle.uvm_object.specs.declared.entries.Entry.{Entry}
 use Rattle.uvm_object.specs.declared.entries.Entry.TheVariants.{End, Passed}
 use Rattle.bench_script.specs.Scripts.{ScriptValue}
 use Rattle.bench_history.specs.declared.askers.Gate.{Gate}
-use Rattle.bench_history.specs.History.{nodes_of, ended_of}
+use Rattle.bench_history.specs.History.{nodes_of, ended_of, in_task}
 use Rattle.bench_history.specs.Ports.{fifo_size, gate_at, gate_below, if_fifo, port_below, size_of}
 use Rattle.bench_history.specs.Wires.{wiring_of, with_both}
 use Rattle.bench_history.specs.Passing.{Request, Station, answered_at, is_no_put, is_put, is_take, items_entered, items_left, next_passed, passage_in, passing_at, puts_asked, puts_waiting, station_at, station_of, station_with, takes_asked, takes_waiting, with_last}
-use Rattle.bench_history.specs.Refusals.{in_task, passing_refusal}
+use Rattle.bench_history.specs.Refusals.{passing_refusal}
 use Rattle.world_services.specs.declared.services.Services.{Services}
 use Rattle.world_wiring.specs.Connectings.{IsConnecting}
 use Rattle.world_fifos.specs.Passings.{AreAsked, AreStations, ArePassed, AreUnsettled, IsPassed}

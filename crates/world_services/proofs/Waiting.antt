@@ -13,9 +13,8 @@ use Rattle.std.specs.Ordering.{is_lt, ordering_reverse}
 use Rattle.uvm_glob.specs.Orders.{PathOrder, order_of}
 use Rattle.uvm_tree.specs.Cursors.{IsLeast, OrdersNodes, is_after, is_before, node_cmp}
 use Rattle.uvm_tree.specs.Nodes.{Node, top}
-use Rattle.bench_history.specs.declared.stages.Stage.{Stage}
-use Rattle.bench_history.specs.declared.stages.Stage.TheVariants.{Before}
-use Rattle.bench_history.specs.History.{had_call, phase_order, running}
+use Rattle.uvm_phase.specs.declared.phases.Phase.{Phase}
+use Rattle.bench_history.specs.History.{had_call, phase_order}
 use Rattle.world_services.specs.declared.turns.Turns.{Turns}
 use Rattle.world_services.specs.Turns.{AreSameTurns, AreTurns, IsHeardIn, IsMadeIn, last_heard, waits}
 
@@ -29,7 +28,7 @@ after-more : (order : PathOrder) (nodes : List Node) (x : Node) (last : Option �
 after-more order nodes x None n within lt = refl
 after-more order nodes x (Some last) n within lt = rw (get-before nodes (x ∷ []) last within, get-before nodes (x ∷ []) n lt) refl
 
-pub turns-same : {stage : Stage} {nodes : List Node} {components called : List ℕ} {old new : Turns} → AreSameTurns old new → AreTurns stage nodes components called old → AreTurns stage nodes components called new
+pub turns-same : {going : List Phase} {nodes : List Node} {components called : List ℕ} {old new : Turns} → AreSameTurns old new → AreTurns going nodes components called old → AreTurns going nodes components called new
 turns-same same turns = record {
   direction = rw same.direction turns.direction;
   waiting = rw (same.direction, same.last, same.late) turns.waiting;
@@ -41,9 +40,9 @@ turns-same same turns = record {
 }
 
 -- before any phase, and any component
-pub turns-none : {kept : Turns} → kept.last ≡ None → kept.late.items ≡ [] → AreTurns Before (top ∷ []) [] [] kept
+pub turns-none : {kept : Turns} → kept.last ≡ None → kept.late.items ≡ [] → AreTurns [] (top ∷ []) [] [] kept
 turns-none last late = record {
-  direction = tt;
+  direction = All-nil _;
   waiting = All-nil _;
   behind = rw late (All-nil _);
   known = rw late (All-nil _);
@@ -54,8 +53,8 @@ turns-none last late = record {
 
 -- a phase begins
 pub turns-begin :
-    {stage next : Stage} {nodes : List Node} {components called : List ℕ} {old new : Turns} → IfSome (running next) (λ phase. order_of new.direction ≡ phase_order phase) → new.last ≡ None → new.late.items ≡ []
-    → AreTurns stage nodes components called old → AreTurns next nodes components [] new
+    {going next : List Phase} {nodes : List Node} {components called : List ℕ} {old new : Turns} → All (λ phase. order_of new.direction ≡ phase_order phase) next → new.last ≡ None → new.late.items ≡ []
+    → AreTurns going nodes components called old → AreTurns next nodes components [] new
 turns-begin direction last late turns = record {
   direction = direction;
   waiting = λ k d lt. rw last refl;
@@ -66,10 +65,10 @@ turns-begin direction last late turns = record {
   called_within = All-nil _;
 }
 
--- none runs any more
-pub turns-ended : {stage next : Stage} {nodes : List Node} {components called : List ℕ} {kept : Turns} → running next ≡ None → AreTurns stage nodes components called kept → AreTurns next nodes components called kept
-turns-ended ends turns = record {
-  direction = rw ends tt;
+-- fewer are in progress, or others that go in the same order
+pub turns-going : {going next : List Phase} {nodes : List Node} {components called : List ℕ} {kept : Turns} → All (λ phase. order_of kept.direction ≡ phase_order phase) next → AreTurns going nodes components called kept → AreTurns next nodes components called kept
+turns-going direction turns = record {
+  direction = direction;
   waiting = turns.waiting;
   behind = turns.behind;
   known = turns.known;
@@ -78,7 +77,7 @@ turns-ended ends turns = record {
   called_within = turns.called_within;
 }
 
-module _ {stage : Stage} {nodes : List Node} {components called : List ℕ} {kept : Turns} (x : Node) (turns : AreTurns stage nodes components called kept) where
+module _ {going : List Phase} {nodes : List Node} {components called : List ℕ} {kept : Turns} (x : Node) (turns : AreTurns going nodes components called kept) where
   longer : length (nodes ++ x ∷ []) ≡ suc (length nodes)
   longer = omega (arith, length-append nodes (x ∷ []))
 
@@ -96,7 +95,7 @@ module _ {stage : Stage} {nodes : List Node} {components called : List ℕ} {kep
   behind-more = λ k d lt. after-more (order_of kept.direction) nodes x kept.last _ turns.last (late-within k d lt) ∙ turns.behind k d lt
 
   -- a node is added that is no component
-  pub turns-more : AreTurns stage (nodes ++ x ∷ []) components called kept
+  pub turns-more : AreTurns going (nodes ++ x ∷ []) components called kept
   turns-more = record {
     direction = turns.direction;
     waiting = λ k d lt. turns.waiting k d lt ∙ sym (waits-more _ (turns.within k d lt));
@@ -124,7 +123,7 @@ any-last (first ∷ late) node = or-true (first == node) _ (any-last late node)
     or-true false b is = is
 
 -- a component is made: it comes after the one that had its call last, or is late
-module _ {stage : Stage} {nodes : List Node} {components called : List ℕ} {kept new : Turns} (x : Node) (turns : AreTurns stage nodes components called kept) (made : IsMadeIn (nodes ++ x ∷ []) (length nodes) kept new) where
+module _ {going : List Phase} {nodes : List Node} {components called : List ℕ} {kept new : Turns} (x : Node) (turns : AreTurns going nodes components called kept) (made : IsMadeIn (nodes ++ x ∷ []) (length nodes) kept new) where
   abbrev more : List Node
   more = nodes ++ x ∷ []
 
@@ -162,7 +161,7 @@ module _ {stage : Stage} {nodes : List Node} {components called : List ℕ} {kep
   waiting-new : All IsWaiting (components ++ length nodes ∷ [])
   waiting-new = All-push IsWaiting components (length nodes) (λ k d lt. waiting-old _ (turns.within k d lt) (turns.waiting k d lt)) (ap not (fresh called (length nodes) turns.called_within) ∙ sym (waits-new after refl))
 
-  pub turns-made : AreTurns stage more (components ++ length nodes ∷ []) called new
+  pub turns-made : AreTurns going more (components ++ length nodes ∷ []) called new
   turns-made = record {
     direction = rw made.direction turns.direction;
     waiting = rw (made.direction, made.last, made.late) waiting-new;
@@ -245,7 +244,7 @@ same-node : (m n : ℕ) → (m == n) ≡ true → m ≡ n
 same-node m n is = eqb-true m n is
 
 -- the component whose turn it was had its call
-module _ {stage : Stage} {nodes : List Node} {components called : List ℕ} {kept new : Turns} (node : ℕ) (turns : AreTurns stage nodes components called kept) (heard : IsHeardIn node kept new)
+module _ {going : List Phase} {nodes : List Node} {components called : List ℕ} {kept new : Turns} (node : ℕ) (turns : AreTurns going nodes components called kept) (heard : IsHeardIn node kept new)
     (orders : OrdersNodes nodes (node_cmp (order_of kept.direction) nodes)) (turn : IsLeast (is_before (order_of kept.direction) nodes) (filter (λ n. not (had_call called n)) components) (Some node)) where
   abbrev order : PathOrder
   order = order_of kept.direction
@@ -343,7 +342,7 @@ module _ {stage : Stage} {nodes : List Node} {components called : List ℕ} {kep
             let stays = any-filter_same (λ late. late == c) (λ late. not (late == node)) true (λ k e. let other : (k == node) ≡ false = grind (arith, nat_tests) in rw other refl) kept.late.items in
             rw (is, stays) (waited c has)
 
-  heard-by : (late : List ℕ) → kept.late.items ≡ late → AreTurns stage nodes components (node ∷ called) new
+  heard-by : (late : List ℕ) → kept.late.items ≡ late → AreTurns going nodes components (node ∷ called) new
   heard-by [] none = record {
     direction = rw heard.direction turns.direction;
     waiting = rw (heard.direction, heard.last, heard.late, none) (λ k d lt. waiting-last none _ (Contains-get_or components k d lt));
@@ -365,7 +364,7 @@ module _ {stage : Stage} {nodes : List Node} {components called : List ℕ} {kep
         called_within = All-cons (λ n. n < length nodes) node called (inside node held) turns.called_within;
       }
 
-  pub turns-heard : AreTurns stage nodes components (node ∷ called) new
+  pub turns-heard : AreTurns going nodes components (node ∷ called) new
   turns-heard = heard-by kept.late.items refl
 
 -- where some are late the last stays

@@ -9,7 +9,7 @@ use Rattle.uvm_glob.specs.declared.orders.Direction.{Direction}
 use Rattle.uvm_glob.specs.Orders.{PathOrder, order_of}
 use Rattle.uvm_tree.specs.Cursors.{IsLeast, LeastIsLeast, OneIsLeast, OrdersNodes, is_after, is_before, least, node_cmp, nodes_after, numbers_of}
 use Rattle.uvm_tree.specs.Nodes.{Node}
-use Rattle.bench_history.specs.declared.stages.Stage.{Stage}
+use Rattle.uvm_phase.specs.declared.phases.Phase.{Phase}
 use Rattle.bench_history.specs.History.{had_call}
 use Rattle.bench_history.specs.Laws.{AreComponentNodes, IsComponentNode}
 use Rattle.world_services.specs.declared.turns.Turns.{Turns}
@@ -157,7 +157,7 @@ none-passes : (p : ℕ → Bool) (xs : List ℕ) → All (λ x. p x ≡ false) x
 none-passes p [] none = refl
 none-passes p (x ∷ xs) none = rw (All-head (λ x. p x ≡ false) x xs none) (none-passes p xs (All-tail (λ x. p x ≡ false) x xs none))
 
-module _ {stage : Stage} {nodes : List Node} {components called : List ℕ} {kept : Turns} (order : PathOrder) (turns : AreTurns stage nodes components called kept) (kinds : AreComponentNodes nodes components) where
+module _ {going : List Phase} {nodes : List Node} {components called : List ℕ} {kept : Turns} (order : PathOrder) (turns : AreTurns going nodes components called kept) (kinds : AreComponentNodes nodes components) where
   abbrev uncalled : ℕ → Bool
   uncalled n = not (had_call called n)
 

@@ -13,7 +13,7 @@ use Rattle.bench_script.specs.Scripts.{ScriptValue}
 use Rattle.world_services.specs.declared.attempts.Attempt.{Attempt}
 use Rattle.world_services.specs.declared.attempts.Attempt.TheVariants.{Became, Needed}
 use Rattle.world_services.specs.declared.services.Services.{Services}
-use Rattle.bench_history.specs.History.{opening, left_of, rest_of, speaker_of}
+use Rattle.bench_history.specs.History.{opening, left_of, rest_of, speaker_of, in_task}
 use Rattle.world_reports.specs.Reportings.{CanReport, IsReported}
 use Rattle.uvm_phase.specs.declared.phases.Phase.{Phase}
 use Rattle.world_objections.specs.Phased.{nodes_in}
@@ -22,7 +22,6 @@ use Rattle.uvm_objection.specs.Totals.{total}
 use Rattle.uvm_tlm.specs.Wirings.{end_at, is_closed, late_fault}
 use Rattle.world_sequencers.specs.Contests.{AreKnown}
 use Rattle.world_sequences.specs.Sequencings.{home_for}
-use Rattle.bench_history.specs.Refusals.{in_task}
 use Rattle.bench_history.specs.Cases.{Next, Exactly, Need, by_act, by_open}
 use Rattle.bench_history.specs.Next.{EachIsNext}
 use Rattle.bench_history.specs.Laws.{AreActsInPhase, IsDriving, IsSettled, IsThere}

@@ -8,9 +8,10 @@ use Rattle.uvm_object.specs.declared.entries.Outcome.{Outcome}
 use Rattle.uvm_object.specs.declared.entries.Outcome.TheVariants.{Made, Started}
 use Rattle.uvm_object.specs.Acts.{node_of}
 use Rattle.bench_history.specs.Sequences.{sequence_in}
-use Rattle.bench_history.specs.History.{created_name}
-use Rattle.bench_history.specs.Refusals.{child_refusal, in_task, is_none_at_all}
+use Rattle.bench_history.specs.History.{created_name, in_task}
+use Rattle.bench_history.specs.Refusals.{child_refusal, is_none_at_all}
 use Rattle.bench_history.specs.Laws.{IsCreation}
+use Rattle.world_services.specs.Rounds.{HaveRoom}
 use Rattle.world_services.specs.declared.services.Services.{Services}
 use Rattle.uvm_phase.specs.declared.phases.Phase.{Phase}
 use Rattle.world_objections.specs.Phased.{nodes_in, spare_in}
@@ -39,7 +40,7 @@ pub record CanGrow (act : Act) (services : Services) : Type 0 where
   pub speaks : node_of services.answer.speaker < length services.tree.nodes
   pub numbered : (phase : Phase) → AreNumbered (nodes_in services.objections phase) (length services.tree.nodes)
   pub objection_spare : (phase : Phase) → 0 < spare_in services.objections phase
-  pub turns : vec_len services.turns.late < vec_capacity services.turns.late
+  pub turns : HaveRoom services.turns
 
 -- the one or the other
 abbrev pub CanMake : Act → Option ℕ → Services → Type 0

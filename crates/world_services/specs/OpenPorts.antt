@@ -7,7 +7,8 @@ use Rattle.uvm_tlm.specs.Wirings.{IsWiring}
 use Rattle.uvm_object.specs.declared.fatals.Fatal.{Fatal}
 use Rattle.bench_history.specs.declared.askers.Gate.{Gate}
 use Rattle.bench_history.specs.Ports.{gate_at}
-use Rattle.bench_history.specs.Refusals.{in_task, passing_refusal}
+use Rattle.bench_history.specs.History.{in_task}
+use Rattle.bench_history.specs.Refusals.{passing_refusal}
 use Rattle.world_services.specs.declared.services.Services.{Services}
 use Rattle.world_wiring.specs.Ports.{port_in}
 

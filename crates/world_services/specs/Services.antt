@@ -20,7 +20,7 @@ use Rattle.uvm_object.specs.declared.entries.Entry.TheVariants.{Heard}
 use Rattle.bench_script.specs.Scripts.{ScriptValue}
 use Rattle.world_services.specs.declared.services.LastAnswer.{LastAnswer}
 use Rattle.world_services.specs.declared.services.Services.{Services}
-use Rattle.world_services.specs.Turns.{AreTurns}
+use Rattle.world_services.specs.Rounds.{AreRounds}
 use Rattle.bench_history.specs.Configuration.{settings_of}
 use Rattle.bench_history.specs.Dues.{caused_of, heard_of, due_events}
 use Rattle.bench_history.specs.History.{act_phase, stage_of, now_of, nodes_of, components_of, called_of, opening, left_of, speaker_of, overrides_of, ends_build, ended_of}
@@ -98,7 +98,7 @@ pub record ServicesMatch (script : ScriptValue) (history : List Entry) (services
   pub sequencing : IsSequencing (begun_of history) (finished_of history) (ended_of history) (enders_of history) services.sequences services.beginnings.items
   pub objections : AreObjecting (λ phase. objections_of phase history) (length (nodes_of history)) (length history) services.objections
   pub factory : IsFactory script.types (overrides_of script history) services.factory
-  pub turns : AreTurns (stage_of history) (nodes_of history) (components_of history) (called_of history) services.turns
+  pub turns : AreRounds (stage_of history) (nodes_of history) (components_of history) (λ phase. called_of phase history) services.turns
   pub answer : IsLastAnswer (opening script) history (left_of script history) (speaker_of history) (act_phase history) services.answer
   pub speaks : node_of (speaker_of history) < length (nodes_of history)
   pub built : services.built ≡ list_any ends_build history

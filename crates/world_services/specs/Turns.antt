@@ -1,12 +1,12 @@
--- Whose turn it is in the running phase.
+-- Whose turn it is in the phases of one sort, of which one at most is in progress.
 use Rattle.std.specs.Prelude.{◌≡◌, ◌<◌, ℕ, Bool, true, false, not, ◌||◌, ◌==◌, List, [], ◌∷◌, ◌++◌, length, filter, All, Contains, Option, Some, None, IfSome, IfNone, if◌then◌else◌}
 use Rattle.std.specs.List.{list_any}
 use Rattle.uvm_glob.specs.declared.orders.Direction.{Direction}
 use Rattle.uvm_glob.specs.Orders.{order_of}
 use Rattle.uvm_tree.specs.Cursors.{is_after}
 use Rattle.uvm_tree.specs.Nodes.{Node}
-use Rattle.bench_history.specs.declared.stages.Stage.{Stage}
-use Rattle.bench_history.specs.History.{had_call, phase_order, running}
+use Rattle.uvm_phase.specs.declared.phases.Phase.{Phase}
+use Rattle.bench_history.specs.History.{had_call, phase_order}
 use Rattle.bench_history.specs.Laws.{IsComponentNode}
 use Rattle.world_services.specs.declared.turns.Turns.{Turns}
 
@@ -43,8 +43,8 @@ pub record IsMadeIn (nodes : List Node) (node : ℕ) (old new : Turns) : Type 0 
   pub late : new.late.items ≡ (if is_after (order_of old.direction) nodes old.last node then old.late.items else old.late.items ++ node ∷ [])
 
 -- those that wait are the components that had no call since the phase began
-pub record AreTurns (stage : Stage) (nodes : List Node) (components called : List ℕ) (kept : Turns) : Type 0 where
-  pub direction : IfSome (running stage) (λ phase. order_of kept.direction ≡ phase_order phase)
+pub record AreTurns (going : List Phase) (nodes : List Node) (components called : List ℕ) (kept : Turns) : Type 0 where
+  pub direction : All (λ phase. order_of kept.direction ≡ phase_order phase) going
   pub waiting : All (λ node. not (had_call called node) ≡ waits nodes kept node) components
   pub behind : All (λ node. is_after (order_of kept.direction) nodes kept.last node ≡ false) kept.late.items
   pub known : All (Contains components) kept.late.items

@@ -5,6 +5,7 @@ pub mod attempts;
 pub mod creations;
 pub mod nodes;
 pub mod rooms;
+pub mod rounds;
 pub mod services;
 pub mod settings;
 pub mod tells;

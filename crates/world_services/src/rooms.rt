@@ -4,7 +4,7 @@ ghost use Rattle.std.specs.Prelude.{◌≡◌, ◌<◌, OnOk, IsSome, Some, vec_
 ghost use Rattle.uvm_tree.specs.Nodes.{node_at};
 ghost use Rattle.uvm_object.specs.Acts.{node_of};
 ghost use Rattle.world_objections.specs.Phased.{nodes_in, spare_in};
-ghost use Rattle.world_services.specs.Turns.{AreSameTurns};
+ghost use Rattle.world_services.specs.Rounds.{AreSameRounds, HaveRoom};
 
 use crate::services::Services;
 use std::alloc::AllocError;
@@ -15,14 +15,14 @@ pub fn reserve_component(services: &mut Services) -> Result<(), AllocError>
     ensures services { services.new ≡ record services.old { tree = services.new.tree; objections = services.new.objections; turns = services.new.turns } }
     ensures nodes { services.new.tree.nodes ≡ services.old.tree.nodes }
     ensures objections { (phase : Phase) → nodes_in services.new.objections phase ≡ nodes_in services.old.objections phase }
-    ensures turns { AreSameTurns services.old.turns services.new.turns }
+    ensures turns { AreSameRounds services.old.turns services.new.turns }
     ensures tree_spare { OnOk result (IsSome (node_at services.old.tree.nodes (node_of services.old.answer.speaker)) → services.new.tree.spare ≡ Some (node_of services.old.answer.speaker)) }
     ensures objection_spare { OnOk result ((phase : Phase) → 0 < spare_in services.new.objections phase) }
-    ensures late_spare { OnOk result (vec_len services.new.turns.late < vec_capacity services.new.turns.late) }
+    ensures late_spare { OnOk result (HaveRoom services.new.turns) }
 {
     services.tree.reserve(services.answer.speaker.node())?;
     services.objections.reserve()?;
-    services.turns.late.reserve(1)
+    services.turns.reserve()
 }
 
 /// Makes room for a sequence, with its first call. Its error is want of memory: nothing that counts has changed.

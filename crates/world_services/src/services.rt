@@ -12,8 +12,8 @@ ghost use Rattle.world_reports.specs.Reportings.{IsReporting};
 ghost use Rattle.world_sequencers.specs.Contests.{AreKnown};
 ghost use Rattle.world_services.specs.Services.{HasPassed, IsFactory, IsSettings, ServicesMatch};
 
+use crate::rounds::Rounds;
 use crate::settings::given_settings;
-use crate::turns::Turns;
 use bench_history::{Owner, Stage};
 use bench_script::Script;
 use std::alloc::{AllocError, Global};
@@ -74,7 +74,8 @@ pub struct Services {
     pub reporting: Reporting,
     /// The events that are due.
     pub agenda: Agenda<Owner, Option<Call>>,
-    pub turns: Turns,
+    /// Which components wait for their call.
+    pub turns: Rounds,
     pub answer: LastAnswer,
     pub built: bool,
     pub past_connect: bool,
@@ -122,7 +123,7 @@ impl Services {
             settings,
             reporting,
             agenda: Agenda::new(alloc),
-            turns: Turns::new(alloc),
+            turns: Rounds::new(alloc),
             answer: LastAnswer {
                 speaker: Who::Node(NodeId::TOP),
                 phase: None,

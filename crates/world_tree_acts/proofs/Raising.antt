@@ -12,10 +12,9 @@ use Rattle.uvm_object.specs.declared.acts.Act.TheVariants.{DropObjection, RaiseO
 use Rattle.uvm_object.specs.declared.entries.Entry.{Entry}
 use Rattle.uvm_object.specs.declared.entries.Entry.TheVariants.{Did}
 use Rattle.uvm_object.specs.declared.entries.Outcome.TheVariants.{Done}
-use Rattle.bench_history.specs.History.{act_phase, now_of}
-use Rattle.bench_history.specs.Objections.{is_of_phase, objections_after, objections_of}
+use Rattle.bench_history.specs.History.{act_phase, now_of, in_task, is_of_phase}
+use Rattle.bench_history.specs.Objections.{objections_after, objections_of}
 use Rattle.bench_history.specs.Owners.{Event}
-use Rattle.bench_history.specs.Refusals.{in_task}
 use Rattle.world_objections.specs.Phased.{nodes_in}
 use Rattle.world_agenda.specs.Objectings.{AreEvents, IsObjecting}
 use Rattle.world_agenda.proofs.Drained.{events-all, held-with-drain}

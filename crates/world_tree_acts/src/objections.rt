@@ -1,11 +1,10 @@
 //! The acts on objections (IEEE 1800.2-2020, 10.5).
 
-ghost use Rattle.std.specs.Prelude.{◌≡◌, ◌≤◌, ◌^◌, ◌||◌, ℕ, true, not, IsTrue, IfOk, Some, if◌then◌else◌};
+ghost use Rattle.std.specs.Prelude.{◌≡◌, ◌≤◌, ◌^◌, ◌||◌, ℕ, true, not, IsTrue, IfOk, OnOk, Some, if◌then◌else◌};
 ghost use Rattle.uvm_object.specs.declared.acts.Act.TheVariants.{RaiseObjection, DropObjection, SetDrain};
 ghost use Rattle.uvm_phase.specs.Phases.{is_task};
 ghost use Rattle.uvm_objection.specs.Nodes.{is_known, with_drain};
-ghost use Rattle.bench_history.specs.Objections.{is_of_phase};
-ghost use Rattle.bench_history.specs.Refusals.{in_task};
+ghost use Rattle.bench_history.specs.History.{in_task, is_of_phase};
 ghost use Rattle.world_objections.specs.Phased.{nodes_in};
 ghost use Rattle.world_services.specs.Attempts.{CanPerform, IsAttempt};
 
@@ -15,6 +14,7 @@ use uvm_objection::laws;
 use uvm_phase::Phase;
 use uvm_tree::NodeId;
 use world_agenda::events::MAX_TICKS;
+use world_objections::faults::DropFault;
 use world_objections::objections::Objections;
 use world_services::attempts::{Attempt, done, refused};
 use world_services::services::Services;
@@ -54,7 +54,7 @@ fn raise_in(
     laws::settled_go_by_totals();
     laws::begun_drains_are_held();
     let node = services.answer.speaker.node();
-    let ended = services.objections.raise(phase, node, count);
+    let ended = services.objections.raise(phase, node, count)?;
     move_drains(services, phase, place, None, ended)?;
     Ok(done(services))
 }
@@ -98,7 +98,8 @@ fn drop_in(
             move_drains(services, phase, place, began, None)?;
             Ok(done(services))
         }
-        Err(_) => refused(services, alloc, Fatal::ObjectionBelowZero),
+        Err(DropFault::BelowZero) => refused(services, alloc, Fatal::ObjectionBelowZero),
+        Err(DropFault::Memory) => Err(AllocError),
     }
 }
 
@@ -115,19 +116,27 @@ pub fn set_drain(services: &mut Services, alloc: Global, ticks: u64) -> Result<A
     laws::places_stay();
     laws::nodes_grow();
     let (node, phase) = (services.answer.speaker.node(), services.answer.phase);
-    set_drain_in(&mut services.objections, phase, node, ticks);
+    set_drain_in(&mut services.objections, phase, node, ticks)?;
     Ok(done(services))
 }
 
-// Sets it for the objection of a phase, where that takes time, and else for each.
-fn set_drain_in(objections: &mut Objections, phase: Option<Phase>, node: NodeId, ticks: u64)
+// Sets it for the objection of a phase, where that takes time, and else for each. Its error is want of memory.
+fn set_drain_in(
+    objections: &mut Objections,
+    phase: Option<Phase>,
+    node: NodeId,
+    ticks: u64,
+) -> Result<(), AllocError>
     requires known { (one : Phase) → IsTrue (is_known node (nodes_in objections.old one)) }
     requires limit { ticks ≤ 10 ^ 15 }
-    ensures { (one : Phase) → is_task one ≡ true → nodes_in objections.new one ≡
-        (if is_of_phase one phase || not (in_task phase) then with_drain node ticks (nodes_in objections.old one) else nodes_in objections.old one) }
+    ensures { OnOk result ((one : Phase) → is_task one ≡ true → nodes_in objections.new one ≡
+        (if is_of_phase one phase || not (in_task phase) then with_drain node ticks (nodes_in objections.old one) else nodes_in objections.old one)) }
 {
     match phase {
         Some(phase) if phase.is_task() => objections.set_drain(phase, node, ticks),
-        _ => objections.set_each_drain(node, ticks),
+        _ => {
+            objections.set_each_drain(node, ticks);
+            Ok(())
+        }
     }
 }

@@ -13,7 +13,7 @@ use Rattle.world_services.proofs.Answered.{length-snoc}
 use Rattle.world_services.proofs.Later.{acted}
 use Rattle.world_services.proofs.Settling.{objectings-more}
 use Rattle.world_wiring.proofs.Connected.{building-open, connecting-grown}
-use Rattle.world_services.proofs.Waiting.{turns-made}
+use Rattle.world_services.proofs.Rounding.{rounds-made}
 use Rattle.uvm_tree.specs.Sorted.{path_order}
 use Rattle.bench_history.specs.Passing.{passing_at}
 use Rattle.world_fifos.specs.Passings.{AreUnsettled}
@@ -33,7 +33,7 @@ returns-clause-kept c = λ type_name place. record {
       let made = child (nodes_of history) (node_of c.args.services.now.answer.speaker) (created_name c.args.act.now) Component in
       let tree = rw (c.node-parent.ensures, c.created_name-name.ensures, m.tree) at c.in-Ok.ensures.nodes in
       let grown = rw (tree, c.in-Ok.ensures.id, m.tree) at c.make.ensures in
-      let turns = turns-made made m.turns grown in
+      let turns = rounds-made made m.turns grown in
       let speaker = node_of c.args.services.now.answer.speaker in
       let longer = length-snoc (nodes_of history) made in
       let speaks : node_of (speaker_of history) < length (nodes_of history ++ made ∷ []) = omega (arith, m.speaks, longer) in

@@ -1,7 +1,7 @@
-use Rattle.std.proofs.Common.{◌≡◌, Some, refl, ap, ◌∙◌, slice_get, rules}
+use Rattle.std.proofs.Common.{◌≡◌, Some, refl, ap, ◌∙◌, slice_get, rules, arith}
 use Rattle.uvm_object.specs.declared.entries.Origin.{Origin}
 use Rattle.uvm_object.specs.declared.entries.Entry.TheVariants.{Heard}
-use Rattle.bench_history.specs.History.{opening, ended_of}
+use Rattle.bench_history.specs.History.{opening, ended_of, nodes_of}
 use Rattle.bench_history.specs.Sequences.{finished_of}
 use Rattle.bench_history.specs.Dues.{caused_of, heard_of}
 use Rattle.bench_history.specs.Objections.{objections_of}
@@ -11,6 +11,10 @@ use Rattle.world_services.proofs.Known.{known-better, known-there}
 use Rattle.world_services.proofs.Later.{later}
 use Rattle.world_entries.proofs.Heard.{there-within, heard-answer}
 use Rattle.world_entries.proofs.answers.hear_due.Goals as goal
+use Rattle.world_sequencers.specs.declared.contests.Contest.{Contest}
+use Rattle.world_sequencers.specs.Contests.{known_at}
+use Rattle.world_sequencers.proofs.Arbiting.{arbitrating-grown}
+use Rattle.world_sequencers.proofs.Contested.{none-locked, none-served}
 
 pub pass_blocked-requires : goal.pass_blocked-requires
 pass_blocked-requires c = known-there c.requires.1.known
@@ -29,4 +33,6 @@ returns c = λ call acts many script before coming known.
     let homes = c.homes_are_nodes.ensures script before coming.each in
     let speaks = there-within before c.args.who asked homes m.turns in
     let answer = rw (← c.last_answer-services.ensures) at (rw (coming.place_is, many) at (heard-answer (opening script) before c.args.who call (Some origin) acts (Some origin.phase) refl)) in
+    let settled = c.answers_are_settled.ensures script before c.args.who call (Some origin) coming.next in
+    let arbitrating = arbitrating-grown {after = c.close.new.self} (nodes_of before) (omega arith) c.close.ensures.nodes (λ n. ap (λ (one : Contest). known_at one n) c.close.ensures.rest) (none-locked before m.arbitrating.contested_is settled.unlocked) (none-served before m.arbitrating.contested_is settled.unserved) m.arbitrating in
     search (rules, later)

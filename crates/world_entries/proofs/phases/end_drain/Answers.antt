@@ -13,24 +13,24 @@ use Rattle.world_services.proofs.Later.{later}
 use Rattle.world_services.proofs.Settling.{drain-changes, settling}
 use Rattle.world_entries.proofs.phases.end_drain.Goals as goal
 
-pub drained-began-requires-clause-known : goal.drained-began-requires-clause-known
-drained-began-requires-clause-known c =
+pub drained-requires-clause-known : goal.drained-requires-clause-known
+drained-requires-clause-known c =
     let due = c.requires in
     let origin = c.args.origin in
     let m = due.known in
     let held = due-is-held (λ phase. objections_of phase due.history) due.history c.args.node origin c.order_keeps_all.ensures m.events (c.drains_go_in_order.ensures due.script due.history c.args.node origin due.coming.next) in
     rw (m.objections.each origin.phase held.task).are (known-held c.args.node (objections_of origin.phase due.history) held.held.held)
 
-pub drained-began-requires-clause-held : goal.drained-began-requires-clause-held
-drained-began-requires-clause-held c =
+pub drained-requires-clause-held : goal.drained-requires-clause-held
+drained-requires-clause-held c =
     let due = c.requires in
     let origin = c.args.origin in
     let m = due.known in
     let held = due-is-held (λ phase. objections_of phase due.history) due.history c.args.node origin c.order_keeps_all.ensures m.events (c.drains_go_in_order.ensures due.script due.history c.args.node origin due.coming.next) in
     rw (m.objections.each origin.phase held.task).are held.held.held
 
-pub drained-began-requires-clause-limit : goal.drained-began-requires-clause-limit
-drained-began-requires-clause-limit c =
+pub drained-requires-clause-limit : goal.drained-requires-clause-limit
+drained-requires-clause-limit c =
     let due = c.requires in
     let origin = c.args.origin in
     let m = due.known in
@@ -51,15 +51,15 @@ returns c = λ script before coming m.
     let others = settled (now_of before) (total nodes) changed in
     let stay = c.places_stay.ensures in
     let same = stay.settled (now_of before) (total nodes) changed ∙ stay.released c.args.node nodes in
-    let is : nodes_in c.drained-began.new.self phase ≡ others = rw (are, held.held.due) at c.drained-began.ensures.nodes in
-    let begun = rw (is, are) at c.drained-began.ensures.began in
-    let over = rw (is, are) at c.drained-began.ensures.ended in
+    let is : nodes_in c.drained.new.self phase ≡ others = rw (are, held.held.due) at c.in_ok-began.ensures.nodes in
+    let begun = rw (is, are) at c.in_ok-began.ensures.began in
+    let over = rw (is, are) at c.in_ok-began.ensures.ended in
     let grown = (c.nodes_grow.ensures.1 nodes was.are_nodes).released (now_of before) c.args.node in
     let low : 0 ≤ 65535 = omega arith in
     let unended = drain-unended before c.args.node origin c.order_keeps_all.ensures (c.drains_go_in_order.ensures script before c.args.node origin coming.next) in
     let dues = rw (← coming.place_is) at (due.dues (filter (is_open (heard_of before) (ended_of before) (finished_of before)) (caused_of before)) m.agenda.are) in
-    let drains = settling (Drained c.args.node origin) phase (Some phase) changed c.drained-began.result (Some c.args.node) c.drained-began.new.self _ 0
-    c.settled_go_by_totals.ensures stay c.begun_drains_are_held.ensures m refl held.task (drain-changes before c.args.node origin) same is c.drained-began.ensures.others low grown
+    let drains = settling (Drained c.args.node origin) phase (Some phase) changed c.in_ok-began.began (Some c.args.node) c.drained.new.self _ 0
+    c.settled_go_by_totals.ensures stay c.begun_drains_are_held.ensures m refl held.task (drain-changes before c.args.node origin) same is c.in_ok-began.ensures.others low grown
     (due-released c.args.node nodes) begun over unended dues in
     let agenda = drains.agenda in
     let events = drains.events in

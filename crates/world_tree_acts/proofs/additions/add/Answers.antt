@@ -11,7 +11,7 @@ use Rattle.bench_history.specs.Objections.{objections_of}
 use Rattle.world_agenda.proofs.Drained.{events-all, held-more}
 use Rattle.bench_history.specs.Refusals.{addition_refusal}
 use Rattle.world_services.proofs.Answered.{length-snoc}
-use Rattle.world_services.proofs.Waiting.{turns-more}
+use Rattle.world_services.proofs.Rounding.{rounds-more}
 use Rattle.world_services.proofs.Settling.{objectings-more}
 use Rattle.world_wiring.proofs.Connected.{connecting-more, closing-next}
 use Rattle.world_wiring.specs.Connectings.{IsClosedPast, IsClosing}
@@ -45,7 +45,7 @@ returns c = λ place. rw (c.done.ensures.attempt, c.done.ensures.services) (reco
         let added = child (nodes_of history) (node_of c.args.services.now.answer.speaker) c.args.name (kind_of c.args.what) in
         let speaker = node_of c.args.services.now.answer.speaker in
         let tree = rw (c.node-parent.ensures, c.kind_of.ensures, m.tree) at c.in_ok-node.ensures.nodes in
-        let turns = turns-more added m.turns in
+        let turns = rounds-more added m.turns in
         let longer = length-snoc (nodes_of history) added in
         let speaks : node_of (speaker_of history) < length (nodes_of history ++ added ∷ []) = omega (arith, m.speaks, longer) in
         let below : speaker < length (nodes_of history) = rw m.answer.speaker m.speaks in

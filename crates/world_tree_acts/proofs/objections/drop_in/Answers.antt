@@ -1,4 +1,4 @@
-use Rattle.std.proofs.Common.{◌≡◌, ◌≤◌, nat_lt, true, false, List, Some, None, refl, sym, subst, ◌∙◌, arith, rules, filter}
+use Rattle.std.proofs.Common.{◌≡◌, ◌≤◌, nat_lt, true, false, List, Some, None, Err, refl, sym, ap, subst, ◌∙◌, arith, rules, filter}
 use Rattle.std.specs.Result.{OnOk}
 use Rattle.std.proofs.lemmas.Bool.Decides.{nat_tests}
 use Rattle.uvm_object.specs.declared.acts.Act.TheVariants.{DropObjection}
@@ -13,6 +13,7 @@ use Rattle.bench_history.specs.Dues.{caused_of, heard_of, is_open}
 use Rattle.bench_history.specs.History.{act_phase, now_of, ended_of}
 use Rattle.bench_history.specs.Objections.{objections_of}
 use Rattle.bench_history.specs.Refusals.{drop_refusal}
+use Rattle.world_objections.specs.declared.faults.DropFault.TheVariants.{BelowZero}
 use Rattle.world_objections.specs.Phased.{nodes_in}
 use Rattle.world_agenda.proofs.Drained.{due-dropped}
 use Rattle.world_services.specs.Attempts.{IsRefusing}
@@ -21,16 +22,17 @@ use Rattle.world_services.proofs.Settling.{settling}
 use Rattle.world_tree_acts.proofs.Raising.{drop-changes}
 use Rattle.world_tree_acts.proofs.objections.drop_in.Goals as goal
 
-pub returns-in-Err : goal.returns-in-Err
+pub returns-in-Err-BelowZero : goal.returns-in-Err-BelowZero
 unfolding drop_refusal
-returns-in-Err c =
+returns-in-Err-BelowZero c =
+    let is : c.drop.result ≡ Err BelowZero = c.in-Err-BelowZero.is ∙ ap Err c.in-Err-BelowZero.field-0-is in
     let Refusing : List ObjectionValue → Type 0 = λ o. OnOk c.refused.result (IsRefusing ObjectionBelowZero (record c.args.services.now { objections = o }) c.refused.new.services) in
-    refused-here _ _ _ (DropObjection c.args.count) ObjectionBelowZero c.args.place c.refused.ensures.attempt (subst Refusing c.in-Err.ensures.unchanged c.refused.ensures.services) (λ script history m.
+    refused-here _ _ _ (DropObjection c.args.count) ObjectionBelowZero c.args.place c.refused.ensures.attempt (subst Refusing (c.drop.ensures.unchanged is) c.refused.ensures.services) (λ script history m.
     let phase = c.args.phase in
     let acts : act_phase history ≡ Some phase = sym m.answer.phase ∙ c.requires.phase in
     let speaker = node_of c.args.services.now.answer.speaker in
     let source = source_of speaker (objections_of phase history) in
-    let below = rw (c.node-node.ensures, (m.objections.each phase c.requires.task).are) at c.in-Err.ensures.err in
+    let below = rw (c.node-node.ensures, (m.objections.each phase c.requires.task).are) at (c.drop.ensures.below is) in
     let test : nat_lt source c.args.count ≡ true = grind (arith, nat_tests, below) in
     rw (acts, c.requires.task, test) refl)
 

@@ -1,8 +1,8 @@
 use Rattle.std.proofs.Common.{◌≡◌, false, refl, sym, ◌∙◌}
 use Rattle.uvm_object.specs.declared.acts.Act.TheVariants.{RaiseObjection}
 use Rattle.uvm_object.specs.declared.fatals.Fatal.TheVariants.{OutsideTask}
-use Rattle.bench_history.specs.History.{act_phase}
-use Rattle.bench_history.specs.Refusals.{in_task, raise_refusal}
+use Rattle.bench_history.specs.History.{act_phase, in_task}
+use Rattle.bench_history.specs.Refusals.{raise_refusal}
 use Rattle.world_services.proofs.Later.{refused-here}
 use Rattle.world_tree_acts.proofs.objections.raise.Goals.{in_default-via-in-Some+else-is_task, in_default-via-in_default}
 use Rattle.world_tree_acts.proofs.objections.raise.Goals as goal

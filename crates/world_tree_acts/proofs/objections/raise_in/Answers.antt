@@ -7,9 +7,9 @@ use Rattle.uvm_objection.specs.Nodes.{raised}
 use Rattle.uvm_objection.specs.Totals.{total, settled}
 use Rattle.bench_history.specs.Sequences.{finished_of}
 use Rattle.bench_history.specs.Dues.{caused_of, heard_of, is_open}
-use Rattle.bench_history.specs.History.{act_phase, now_of, ended_of}
+use Rattle.bench_history.specs.History.{act_phase, now_of, ended_of, in_task}
 use Rattle.bench_history.specs.Objections.{objections_of}
-use Rattle.bench_history.specs.Refusals.{in_task, raise_refusal}
+use Rattle.bench_history.specs.Refusals.{raise_refusal}
 use Rattle.world_objections.specs.Phased.{nodes_in}
 use Rattle.world_agenda.proofs.Drained.{due-raised}
 use Rattle.world_services.proofs.Later.{acted}
@@ -39,15 +39,15 @@ returns c =
             let stay = c.places_stay.ensures in
             let same = stay.settled (now_of history) (total nodes) changed ∙ stay.raised speaker c.args.count nodes in
             let are = (m.objections.each phase c.requires.task).are in
-            let is : nodes_in c.raise-ended.new.self phase ≡ others = rw (c.node-node.ensures, are) at (c.raise-ended.ensures.nodes (now_of history)) in
-            let begun = rw (is, are) at c.raise-ended.ensures.began in
-            let over = rw (is, are) at c.raise-ended.ensures.ended in
+            let is : nodes_in c.raise.new.self phase ≡ others = rw (c.node-node.ensures, are) at (c.in_ok-ended.ensures.nodes (now_of history)) in
+            let begun = rw (is, are) at c.in_ok-ended.ensures.began in
+            let over = rw (is, are) at c.in_ok-ended.ensures.ended in
             let grown = (c.nodes_grow.ensures.1 nodes (m.objections.each phase c.requires.task).are_nodes).raised (now_of history) speaker c.args.count in
             let low : c.args.count ≤ 65535 = omega arith in
             let dues = due.dues (filter (is_open (heard_of history) (ended_of history) (finished_of history)) (caused_of history)) m.agenda.are in
             let unended = rw acts at s.in_phase.unended in
-            let drains = settling (Did c.args.services.now.answer.speaker Done (RaiseObjection c.args.count)) phase (act_phase history) changed None c.raise-ended.result c.raise-ended.new.self _ c.args.count
-            c.settled_go_by_totals.ensures stay c.begun_drains_are_held.ensures m acts c.requires.task (raise-changes history phase c.args.services.now.answer.speaker acts c.args.count) same is c.raise-ended.ensures.others low grown
+            let drains = settling (Did c.args.services.now.answer.speaker Done (RaiseObjection c.args.count)) phase (act_phase history) changed None c.in_ok-ended.ended c.raise.new.self _ c.args.count
+            c.settled_go_by_totals.ensures stay c.begun_drains_are_held.ensures m acts c.requires.task (raise-changes history phase c.args.services.now.answer.speaker acts c.args.count) same is c.in_ok-ended.ensures.others low grown
             (λ k still. due-raised speaker c.args.count nodes k) begun over unended dues in
             let agenda = drains.agenda in
             let events = drains.events in

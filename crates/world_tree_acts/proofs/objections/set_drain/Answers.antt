@@ -6,10 +6,10 @@ use Rattle.uvm_phase.specs.declared.phases.Phase.{Phase}
 use Rattle.uvm_object.specs.Acts.{node_of}
 use Rattle.uvm_objection.specs.Nodes.{Node}
 use Rattle.bench_history.specs.Dues.{due_events}
-use Rattle.bench_history.specs.History.{act_phase}
-use Rattle.bench_history.specs.Objections.{is_of_phase, objections_of}
+use Rattle.bench_history.specs.History.{act_phase, in_task, is_of_phase}
+use Rattle.bench_history.specs.Objections.{objections_of}
 use Rattle.bench_history.specs.Limits.{most_ticks}
-use Rattle.bench_history.specs.Refusals.{drain_refusal, in_task}
+use Rattle.bench_history.specs.Refusals.{drain_refusal}
 use Rattle.world_services.proofs.Later.{acted, refused-attempt}
 use Rattle.world_tree_acts.proofs.Raising.{drained-events, drained-objections}
 use Rattle.world_tree_acts.proofs.objections.set_drain.Goals as goal
@@ -34,7 +34,7 @@ returns c = λ place. rw (c.done.ensures.attempt, c.done.ensures.services) (reco
         let speaker = node_of c.args.services.now.answer.speaker in
         let nodes : Phase → List Node = λ phase. objections_of phase history in
         let is_set : Phase → Bool = λ phase. is_of_phase phase (act_phase history) || not (in_task (act_phase history)) in
-        let is = rw (c.node-node.ensures, m.answer.phase) at c.set_drain_in.ensures in
+        let is = rw (c.node-node.ensures, m.answer.phase) at c.in_ok-set_drain_in.ensures in
         let objections = drained-objections speaker c.args.ticks nodes is_set c.set_drain_in.new.objections c.places_stay.ensures c.nodes_grow.ensures m.objections is in
         let events = drained-events speaker c.args.ticks nodes is_set (due_events history) m.events in
         search (rules, acted);

@@ -1,6 +1,6 @@
 use Rattle.std.proofs.Common.{◌≡◌, false, true, None, length, refl, sym, ◌∙◌, rules}
 use Rattle.uvm_tlm.specs.Wirings.{end_at, is_closed, late_fault}
-use Rattle.bench_history.specs.Refusals.{in_task}
+use Rattle.bench_history.specs.History.{in_task}
 use Rattle.bench_world.proofs.Going.{act-next, goes-still, performed}
 use Rattle.world_services.proofs.Answered.{answer-open}
 use Rattle.world_services.proofs.Known.{known-there}
@@ -23,7 +23,7 @@ carry_out-requires-clause-can c =
     let phases = c.acts_are_in_phase.ensures c.self.inside.script before c.args.deed each (act-next c.self.inside.script before c.args.deed r.next) r.left in
     let closed : in_task c.self.inside.services.answer.phase ≡ true → is_closed wiring ≡ true = λ task.
     let acts = rw m.answer.phase at task in
-    m.closed_past.is (c.tasks_follow_connect.ensures c.self.inside.script before each (goes-still before phases.runs acts) acts) in
+    m.closed_past.is (c.tasks_follow_connect.ensures c.self.inside.script before each (goes-still before phases.going acts) acts) in
     record {
       speaks = rw (m.tree, m.answer.speaker) m.speaks;
       numbered = rw m.tree (each-numbered m.objections);

@@ -1,6 +1,6 @@
 use Rattle.std.proofs.Common.{◌++◌, ◌∷◌, []}
 use Rattle.uvm_objection.specs.Nodes.{new_node}
-use Rattle.world_objections.proofs.Placed.{HaveChanged}
+use Rattle.world_objections.proofs.Listed.{HaveChanged}
 use Rattle.world_objections.proofs.objections.Objections.add.Given as goal
 
 -- each before this place has the node, and each from there on has room

@@ -1,4 +1,4 @@
-use Rattle.world_objections.proofs.Placed.{HaveRoom}
+use Rattle.world_objections.proofs.Listed.{HaveRoom}
 use Rattle.world_objections.proofs.objections.Objections.reserve.Given as goal
 
 -- each before this place has room

@@ -1,5 +1,5 @@
 use Rattle.uvm_objection.specs.Nodes.{with_drain}
-use Rattle.world_objections.proofs.Placed.{HaveChanged}
+use Rattle.world_objections.proofs.Listed.{HaveChanged}
 use Rattle.world_objections.proofs.objections.Objections.set_each_drain.Given as goal
 
 -- each before this place has its drain time

@@ -11,7 +11,7 @@ use Rattle.world_agenda.proofs.Objected.{objecting-first}
 use Rattle.world_services.proofs.Passages.{passed-first, stations-first, unsettled-none}
 use Rattle.world_sequences.specs.Sequencings.{IsSequencing}
 use Rattle.world_sequences.proofs.Sequenced.{sequencing-first}
-use Rattle.world_services.proofs.Waiting.{turns-none}
+use Rattle.world_services.proofs.Rounding.{rounds-first}
 use Rattle.world_services.proofs.services.Services.new.Goals as goal
 
 -- nothing is due
@@ -43,7 +43,7 @@ returns c = λ script factory settings reporting.
       sequencing = search (rules, sequencing);
       objections = record { each = λ phase task. objecting-first (nodes_in c.args.objections phase) c.nodes_grow.ensures.0 (c.requires phase) };
       factory = factory;
-      turns = turns-none c.new-10.ensures.last c.new-10.ensures.late;
+      turns = rounds-first c.new-10.ensures.last c.new-10.ensures.late;
       answer = search rules;
       speaks = omega arith;
       built = refl;

@@ -1,7 +1,7 @@
 use Rattle.std.proofs.Common.{◌≡◌, ℕ, Option, Some, None, option_map, unwrap_or, refl, ap, nat_eq, rules, ◌∙◌}
 use Rattle.std.specs.Map.{lookup}
 use Rattle.std.proofs.lemmas.Map.Made.{lookup-map_values, map_same_pairs}
-use Rattle.world_sequencers.proofs.contests.Contest.forget.Goals as goal
+use Rattle.world_sequencers.proofs.contests.Contest.reopen.Goals as goal
 
 none-left : (kept : Option ℕ) → unwrap_or (option_map {U = ℕ} (λ (known : ℕ). 0) kept) 0 ≡ 0
 none-left None = refl

@@ -1,0 +1,7 @@
+use Rattle.std.proofs.Common.{◌≡◌, ℕ, length}
+use Rattle.world_objections.specs.Phased.{nodes_at}
+use Rattle.world_objections.proofs.objections.Objections.part.Given as goal
+
+-- each place has the nodes that it had, and there are as many as the counter says
+abbrev pub invariant-loop : goal.invariant-loop
+invariant-loop l = ((place : ℕ) → nodes_at l.self place ≡ nodes_at l.initial.self place) × (length l.self ≡ l.counter)

@@ -227,7 +227,8 @@ impl Core {
         told::now(&self.world)
     }
 
-    /// The phase that runs, if one does (Clause 9). None once memory was refused.
+    /// The phase that was begun last and has not ended, if one is in progress: between two run-time phases that is run (Clause 9). None once
+    /// memory was refused.
     pub fn phase(&self) -> Option<Phase>
         ensures { result ≡ (if is_sound self.now.health then running (stage_of self.now.history) else None) }
     {

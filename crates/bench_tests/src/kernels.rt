@@ -224,6 +224,150 @@ none
 live 0
 ";
 
+// A sequence of main is granted, for a driver that asked in run, and sends nothing; the driver serves one of post_main then.
+const GRANTED_IN_MAIN: &[u8] = b"version = 1
+test = \"t\"
+runtime = true
+type = [{ name = \"t\", kind = \"component\" }, { name = \"a\", kind = \"sequence\" }, { name = \"b\", kind = \"sequence\" }]
+[answers.t]
+build = [\"add sqr sequencer FIFO\", \"add sqp port seq\"]
+connect = [\"connect (sqp) (sqr)\"]
+run = [\"ask sqp next\"]
+main = [\"raise 1\", \"start a a (sqr) none\", \"wait 3 1\"]
+post_main = [\"raise 1\", \"start b b (sqr) none\"]
+\"wake 1\" = [\"drop 1\"]
+\"next_item sqp *\" = [\"item_done sqp none\"]
+\"finished b *\" = [\"drop 1\"]
+[answers.a]
+pre_start = [\"end_step\"]
+post_start = [\"end_step\"]
+body = [\"request none\"]
+[answers.b]
+pre_start = [\"end_step\"]
+post_start = [\"end_step\"]
+body = [\"request none\"]
+grant = [\"send [1,0,10,0]\"]
+\"item_done *\" = [\"end_step\"]
+";
+
+#[test]
+fn object_of_a_granted_sequence_comes_back_with_main(rt: HostRuntime) {
+    assert!(rt;
+        shows(
+            rt.alloc(),
+            GRANTED_IN_MAIN,
+            Look::Run(NEVER, NEVER, GRANT_ENDED)
+        )
+    );
+}
+
+const GRANT_ENDED: &str = "did uvm_top create t uvm_test_top: made t
+begin build
+heard uvm_test_top build: 2
+did uvm_test_top add sqr sequencer FIFO: done
+did uvm_test_top add sqp port seq: done
+end build
+begin connect
+heard uvm_test_top connect: 1
+did uvm_test_top connect (sqp) (sqr): done
+end connect
+begin end_of_elaboration
+heard uvm_test_top end_of_elaboration: 0
+end end_of_elaboration
+begin start_of_simulation
+heard uvm_test_top start_of_simulation: 0
+end start_of_simulation
+begin run
+begin pre_reset
+heard uvm_test_top run: 1
+did uvm_test_top ask sqp next: done
+heard uvm_test_top pre_reset: 0
+end pre_reset
+begin reset
+heard uvm_test_top reset: 0
+end reset
+begin post_reset
+heard uvm_test_top post_reset: 0
+end post_reset
+begin pre_configure
+heard uvm_test_top pre_configure: 0
+end pre_configure
+begin configure
+heard uvm_test_top configure: 0
+end configure
+begin post_configure
+heard uvm_test_top post_configure: 0
+end post_configure
+begin pre_main
+heard uvm_test_top pre_main: 0
+end pre_main
+begin main
+heard uvm_test_top main: 3
+did uvm_test_top raise 1: done
+did uvm_test_top start a a (sqr) none: started 1
+did uvm_test_top wait 3 1: done
+heard uvm_test_top.sqr@@a#1 pre_start: 1
+did uvm_test_top.sqr@@a#1 end_step: done
+heard uvm_test_top.sqr@@a#1 body: 1
+did uvm_test_top.sqr@@a#1 request none: done
+granted uvm_test_top.sqr uvm_test_top.sqr@@a#1
+heard uvm_test_top.sqr@@a#1 grant: 0
+time 3
+heard uvm_test_top wake 1: 1
+did uvm_test_top drop 1: done
+end main
+back 1
+begin post_main
+heard uvm_test_top post_main: 2
+did uvm_test_top raise 1: done
+did uvm_test_top start b b (sqr) none: started 2
+heard uvm_test_top.sqr@@b#2 pre_start: 1
+did uvm_test_top.sqr@@b#2 end_step: done
+heard uvm_test_top.sqr@@b#2 body: 1
+did uvm_test_top.sqr@@b#2 request none: done
+granted uvm_test_top.sqr uvm_test_top.sqr@@b#2
+heard uvm_test_top.sqr@@b#2 grant: 1
+did uvm_test_top.sqr@@b#2 send [1,0,10,0]: done
+heard uvm_test_top next_item sqp [1,0,10,0]: 1
+did uvm_test_top item_done sqp none: done
+heard uvm_test_top.sqr@@b#2 item_done none: 1
+did uvm_test_top.sqr@@b#2 end_step: done
+heard uvm_test_top.sqr@@b#2 post_start: 1
+did uvm_test_top.sqr@@b#2 end_step: finished
+back 2
+heard uvm_test_top finished b 2: 1
+did uvm_test_top drop 1: done
+end post_main
+begin pre_shutdown
+heard uvm_test_top pre_shutdown: 0
+end pre_shutdown
+begin shutdown
+heard uvm_test_top shutdown: 0
+end shutdown
+begin post_shutdown
+heard uvm_test_top post_shutdown: 0
+end post_shutdown
+end run
+begin extract
+heard uvm_test_top extract: 0
+end extract
+begin check
+heard uvm_test_top check: 0
+end check
+begin report
+heard uvm_test_top report: 0
+end report
+begin final
+heard uvm_test_top final: 0
+end final
+over finished
+over
+live 1
+uvm_test_top
+none
+live 0
+";
+
 #[test]
 fn abandoned_run_gives_back_sequences_first(rt: HostRuntime) {
     let look = Look::Run(NEVER, b"uvm_test_top.sqr.b", ABANDONED_STARTS);

@@ -22,7 +22,7 @@ pub(crate) fn write_run<O: UvmObject, F: Fn(&Name) -> Result<Option<O>, AllocErr
 ) -> Option<()>
     requires { F.IsAlwaysCallable make.now }
 {
-    for _ in 0..100 {
+    for _ in 0..200 {
         if !go(kernel, declined, until, make, text)? {
             return close(kernel, text);
         }

@@ -142,6 +142,31 @@ fn waits_end_with_their_phase_alone(rt: HostRuntime) {
     );
 }
 
+// One sequence of run requests, and then two of main, which end with it.
+const REQUESTS_OF_TWO_PHASES: &[u8] = b"version = 1
+test = \"t\"
+runtime = true
+type = [{ name = \"t\", kind = \"component\" }, { name = \"q\", kind = \"sequence\" }]
+[answers.t]
+build = [\"add sqr sequencer FIFO\"]
+run = [\"start q a (sqr) none\"]
+main = [\"raise 1\", \"start q b (sqr) none\", \"start q c (sqr) none\", \"wait 2 1\"]
+\"wake 1\" = [\"drop 1\"]
+[answers.q]
+pre_start = [\"request none\"]
+";
+
+#[test]
+fn requests_end_with_the_phase_of_their_sequence(rt: HostRuntime) {
+    assert!(rt;
+        shows(
+            rt.alloc(),
+            REQUESTS_OF_TWO_PHASES,
+            Look::Counts(Count::Waiting, b"uvm_test_top.sqr", "12310")
+        )
+    );
+}
+
 #[test]
 fn objections_of_two_phases_are_counted_apart(rt: HostRuntime) {
     let top = b"uvm_test_top";

@@ -147,7 +147,7 @@ fn happening(due: &Due<Owner, Option<Call>>) -> Choice
 // The phase ends, or time passes while an objection keeps it.
 fn ending(world: &World, phase: Phase) -> Mark
     requires { world.now.sound ≡ true }
-    ensures { entry_of result ≡ (if is_kept phase world.now.history then time_passes world.now.script.time_limit (first_due world.now.history) else End phase) }
+    ensures { entry_of result ≡ (if is_kept world.now.script phase world.now.history then time_passes world.now.script.time_limit (first_due world.now.script world.now.history) else End phase) }
 {
     if told::is_kept(world, phase) {
         time_passes(world)
@@ -159,7 +159,7 @@ fn ending(world: &World, phase: Phase) -> Mark
 // Time passes to the first event that is due, unless none is, or only beyond the time limit.
 fn time_passes(world: &World) -> Mark
     requires { world.now.sound ≡ true }
-    ensures { entry_of result ≡ time_passes world.now.script.time_limit (first_due world.now.history) }
+    ensures { entry_of result ≡ time_passes world.now.script.time_limit (first_due world.now.script world.now.history) }
 {
     let limit = world.script().time_limit();
     match lent::agenda(world).first() {

@@ -286,7 +286,7 @@ impl Core {
     /// The count of objections to the end of run that stands at a node and below it, with what is held back below it (10.5). 0 where
     /// there is no such node, and once memory was refused.
     pub fn total(&self, node: NodeId) -> u64
-        ensures { result ≡ (if is_sound self.now.health && nat_lt node (length (nodes_of self.now.history)) then total (objections_of Run self.now.history) node else 0) }
+        ensures { result ≡ (if is_sound self.now.health && nat_lt node (length (nodes_of self.now.history)) then total (objections_of self.now.script Run self.now.history) node else 0) }
     {
         self.total_in(Phase::Run, node)
     }
@@ -294,7 +294,7 @@ impl Core {
     /// The count of objections to the end of a phase that stands at a node and below it, with what is held back below it (10.5). 0 for a
     /// phase that takes no time, where there is no such node, and once memory was refused. Takes no memory.
     pub fn total_in(&self, phase: Phase, node: NodeId) -> u64
-        ensures { result ≡ (if is_sound self.now.health && is_task phase && nat_lt node (length (nodes_of self.now.history)) then total (objections_of phase self.now.history) node else 0) }
+        ensures { result ≡ (if is_sound self.now.health && is_task phase && nat_lt node (length (nodes_of self.now.history)) then total (objections_of self.now.script phase self.now.history) node else 0) }
     {
         if !self.is_sound() {
             return 0;

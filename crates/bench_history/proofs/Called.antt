@@ -91,7 +91,7 @@ module _ (keeps : OrderKeepsAll Owner (Option Call)) (excludes : LockExcludes) w
             (numbered-owners (entry ∷ before) (now_of before) (length before) 0 (calls_told before performer outcome act) (told-owners script before performer outcome act known next on who))
             (All-append (IsCallTo (entry ∷ before)) (calls_from outcome act performer phase (now_of before) (length before)) _
             (due-owner (entry ∷ before) (told_by outcome act) performer phase (due_after (now_of before) act) (caused_at (length before)) (expected-unless script before performer outcome act next on known.acting (unless-opening (λ act. told_by outcome act ≡ None) script act (opening-tells script outcome) who)))
-            (moved-call (entry ∷ before) (moves_drains outcome act) phase entry before (caused_of before) (owners-more script before entry next on known)));
+            (moved-call script (entry ∷ before) (moves_drains outcome act) phase entry before (caused_of script before) (owners-more script before entry next on known)));
         acting = acting-more script before entry (act_phase before) next on known.acting;
         going = going-did script before performer outcome act known.going;
         starters = begun-starters script before performer outcome act known next on who;
@@ -117,7 +117,7 @@ module _ (keeps : OrderKeepsAll Owner (Option Call)) (excludes : LockExcludes) w
       let passes = passages_go_in_order script before fifo passage (passed-alone fifo passage (next_of script before) next) in
       let has : IsOneIn before passage.who passage.phase = subst (λ (passed : Option (ℕ × Passage)). IfSome passed (λ passed. IsOneIn before passed.1.who passed.1.phase)) passes (passing-holds (IsOneIn before) before (λ at. puts-wait (IsOneIn before) before at (known.putters at)) (λ at. takes-wait (IsOneIn before) before at (known.takers at))) in
       record {
-        owners = All-append (IsCallTo (entry ∷ before)) (due_from (Some (told_of passage.kind passage)) passage.who (Some passage.phase) (now_of before) (caused_at (length before))) (caused_of before)
+        owners = All-append (IsCallTo (entry ∷ before)) (due_from (Some (told_of passage.kind passage)) passage.who (Some passage.phase) (now_of before) (caused_at (length before))) (caused_of script before)
             (due-owner (entry ∷ before) (Some (told_of passage.kind passage)) passage.who (Some passage.phase) (now_of before) (caused_at (length before)) (inr (λ p is. let at : passage.phase ≡ p = cc in subst (λ (one : Phase). IsExpected (entry ∷ before) one passage.who) at (component-expected (entry ∷ before) passage.phase passage.who (component-more entry before passage.who has.0) (stands-more script before entry passage.phase next on has.1)))))
             (owners-more script before entry next on known);
         acting = acting-more script before entry (act_phase before) next on known.acting;
@@ -170,7 +170,7 @@ module _ (keeps : OrderKeepsAll Owner (Option Call)) (excludes : LockExcludes) w
       let entry = Locked node id in
       let s : IsRequester before node id = subst (λ (led : Option (ℕ × ℕ)). IfSome led (λ led. IsRequester before led.0 led.1)) (lock-next script before node id next) (locking-holds (IsRequester before) before (λ at. queue-served script before at known)) in
       record {
-        owners = All-append (IsCallTo (entry ∷ before)) (due_from (Some call.Held) (Sequence id node) (phase_begun before id) (now_of before) (caused_at (length before))) (caused_of before)
+        owners = All-append (IsCallTo (entry ∷ before)) (due_from (Some call.Held) (Sequence id node) (phase_begun before id) (now_of before) (caused_at (length before))) (caused_of script before)
             (due-owner (entry ∷ before) (Some call.Held) (Sequence id node) (phase_begun before id) (now_of before) (caused_at (length before)) (inr (λ p runs. sequence-more script before entry p id node next on (requester-expected before node id p runs s))))
             (owners-more script before entry next on known);
         acting = acting-more script before entry (act_phase before) next on known.acting;
@@ -191,7 +191,7 @@ module _ (keeps : OrderKeepsAll Owner (Option Call)) (excludes : LockExcludes) w
       let id = grant.id in
       let s = chosen-holds (IsRequester before node) before node id grant.word (queue-served script before node known) (grant-next script before node grant next) in
       record {
-        owners = All-append (IsCallTo (entry ∷ before)) (due_from (Some call.Grant) (Sequence id node) (phase_begun before id) (now_of before) (caused_at (length before))) (caused_of before)
+        owners = All-append (IsCallTo (entry ∷ before)) (due_from (Some call.Grant) (Sequence id node) (phase_begun before id) (now_of before) (caused_at (length before))) (caused_of script before)
             (due-owner (entry ∷ before) (Some call.Grant) (Sequence id node) (phase_begun before id) (now_of before) (caused_at (length before)) (inr (λ p runs. sequence-more script before entry p id node next on (requester-expected before node id p runs s))))
             (owners-more script before entry next on known);
         acting = acting-more script before entry (act_phase before) next on known.acting;
@@ -211,7 +211,7 @@ module _ (keeps : OrderKeepsAll Owner (Option Call)) (excludes : LockExcludes) w
   known-more script before (Did performer outcome act) known next on = known-did script before performer outcome act known next on
   known-more script before (Passed fifo passage) known next on = known-passed script before fifo passage known next on
   known-more script before (Drained node origin) known next on = record {
-    owners = with-drains-call (Drained node origin ∷ before) (Some origin.phase) (Drained node origin) before (caused_of before) (owners-more script before (Drained node origin) next on known);
+    owners = with-drains-call script (Drained node origin ∷ before) (Some origin.phase) (Drained node origin) before (caused_of script before) (owners-more script before (Drained node origin) next on known);
     acting = acting-more script before (Drained node origin) (act_phase before) next on known.acting;
     going = known.going;
     starters = starters-more script before (Drained node origin) next on known;
@@ -240,7 +240,7 @@ module _ (keeps : OrderKeepsAll Owner (Option Call)) (excludes : LockExcludes) w
     askers = λ node. asker-more script before (Begin phase) (driver_asker before node) next on (known.askers node);
   }
   known-more script before (End phase) known next on = record {
-    owners = All-append (IsCallTo (End phase ∷ before)) (calls_numbered (now_of before) (length before) 0 (lapsed_with phase before)) (caused_of before)
+    owners = All-append (IsCallTo (End phase ∷ before)) (calls_numbered (now_of before) (length before) 0 (lapsed_with phase before)) (caused_of script before)
         (numbered-owners (End phase ∷ before) (now_of before) (length before) 0 (lapsed_with phase before) (lapsed-owners script before phase next on known)) (owners-more script before (End phase) next on known);
     acting = acting-more script before (End phase) (act_phase before) next on known.acting;
     going = inl (end-left script before phase next);

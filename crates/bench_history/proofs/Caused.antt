@@ -41,38 +41,38 @@ module _ (P : Event → Type 0) where
   all-right [] ys all = all
   all-right (x ∷ xs) ys all = all-right xs ys (All-tail P x (xs ++ ys) all)
 
-  both-drains : (phase : Option Phase) (entry : Entry) (before : List Entry) (caused : List Event) → All P (with_drains_of phase entry before []) → All P caused → All P (with_drains_of phase entry before caused)
-  both-drains None entry before caused new old = old
-  both-drains (Some phase) entry before caused new old =
-      let earlier = objections_of phase before in
-      let nodes = objections_of phase (entry ∷ before) in
+  both-drains : (script : ScriptValue) (phase : Option Phase) (entry : Entry) (before : List Entry) (caused : List Event) → All P (with_drains_of script phase entry before []) → All P caused → All P (with_drains_of script phase entry before caused)
+  both-drains script None entry before caused new old = old
+  both-drains script (Some phase) entry before caused new old =
+      let earlier = objections_of script phase before in
+      let nodes = objections_of script phase (entry ∷ before) in
       let begun = flat_map (drain_from phase (caused_at (length before))) (drains_begun earlier nodes) in
       All-append P begun _ (all-left begun [] new) (All-filter (λ (event : Event). not (is_drain_of phase (drains_ended earlier nodes) event.owner)) P caused old)
 
-  both-moved : (moves : Bool) (phase : Option Phase) (entry : Entry) (before : List Entry) (caused : List Event) → All P (if moves then with_drains_of phase entry before [] else []) → All P caused → All P (if moves then with_drains_of phase entry before caused else caused)
-  both-moved true phase entry before caused new old = both-drains phase entry before caused new old
-  both-moved false phase entry before caused new old = old
+  both-moved : (script : ScriptValue) (moves : Bool) (phase : Option Phase) (entry : Entry) (before : List Entry) (caused : List Event) → All P (if moves then with_drains_of script phase entry before [] else []) → All P caused → All P (if moves then with_drains_of script phase entry before caused else caused)
+  both-moved script true phase entry before caused new old = both-drains script phase entry before caused new old
+  both-moved script false phase entry before caused new old = old
 
-  both-all : (entry : Entry) (before : List Entry) (caused : List Event) → All P (events_from entry before) → All P caused → All P (with_events_from entry before caused)
-  both-all (Did performer outcome act) before caused new old =
+  both-all : (script : ScriptValue) (entry : Entry) (before : List Entry) (caused : List Event) → All P (events_from script entry before) → All P caused → All P (with_events_from script entry before caused)
+  both-all script (Did performer outcome act) before caused new old =
       let told = calls_numbered (now_of before) (length before) 0 (calls_told before performer outcome act) in
       let from = calls_from outcome act performer (act_phase before) (now_of before) (length before) in
       let rest = all-right told _ new in
-      All-append P told _ (all-left told _ new) (All-append P from _ (all-left from _ rest) (both-moved (moves_drains outcome act) (act_phase before) (Did performer outcome act) before caused (all-right from _ rest) old))
-  both-all (Passed fifo passage) before caused new old =
+      All-append P told _ (all-left told _ new) (All-append P from _ (all-left from _ rest) (both-moved script (moves_drains outcome act) (act_phase before) (Did performer outcome act) before caused (all-right from _ rest) old))
+  both-all script (Passed fifo passage) before caused new old =
       let told = due_from (Some (told_of passage.kind passage)) passage.who (Some passage.phase) (now_of before) (caused_at (length before)) in
       All-append P told caused (all-left told [] new) old
-  both-all (Locked node id) before caused new old =
+  both-all script (Locked node id) before caused new old =
       let told = due_from (Some call.Held) (who.Sequence id node) (phase_begun before id) (now_of before) (caused_at (length before)) in
       All-append P told caused (all-left told [] new) old
-  both-all (Granted node grant) before caused new old =
+  both-all script (Granted node grant) before caused new old =
       let told = due_from (Some call.Grant) (who.Sequence grant.id node) (phase_begun before grant.id) (now_of before) (caused_at (length before)) in
       All-append P told caused (all-left told [] new) old
-  both-all (End phase) before caused new old =
+  both-all script (End phase) before caused new old =
       let told = calls_numbered (now_of before) (length before) 0 (lapsed_with phase before) in
       All-append P told caused (all-left told [] new) old
-  both-all (Drained node origin) before caused new old = both-drains (Some origin.phase) (Drained node origin) before caused new old
-  both-all entry before caused new old = old
+  both-all script (Drained node origin) before caused new old = both-drains script (Some origin.phase) (Drained node origin) before caused new old
+  both-all script entry before caused new old = old
 
 -- what an entry causes has its place
 abbrev IsPlaced : ℕ → Event → Type 0
@@ -94,50 +94,50 @@ begun-placed : (phase : Phase) (place : ℕ) (begun : List drain.Due) → All (I
 begun-placed phase place [] = All-nil (IsPlaced place)
 begun-placed phase place (one ∷ begun) = All-append (IsPlaced place) (drain_from phase (caused_at place) one) _ (event-placed (Some phase) one.at place 0 (Drain one.node phase) None) (begun-placed phase place begun)
 
-drains-placed : (phase : Option Phase) (entry : Entry) (before : List Entry) → All (IsPlaced (length before)) (with_drains_of phase entry before [])
-drains-placed None entry before = All-nil (IsPlaced (length before))
-drains-placed (Some phase) entry before =
-    let begun = flat_map (drain_from phase (caused_at (length before))) (drains_begun (objections_of phase before) (objections_of phase (entry ∷ before))) in
-    All-append (IsPlaced (length before)) begun [] (begun-placed phase (length before) (drains_begun (objections_of phase before) (objections_of phase (entry ∷ before)))) (All-nil (IsPlaced (length before)))
+drains-placed : (script : ScriptValue) (phase : Option Phase) (entry : Entry) (before : List Entry) → All (IsPlaced (length before)) (with_drains_of script phase entry before [])
+drains-placed script None entry before = All-nil (IsPlaced (length before))
+drains-placed script (Some phase) entry before =
+    let begun = flat_map (drain_from phase (caused_at (length before))) (drains_begun (objections_of script phase before) (objections_of script phase (entry ∷ before))) in
+    All-append (IsPlaced (length before)) begun [] (begun-placed phase (length before) (drains_begun (objections_of script phase before) (objections_of script phase (entry ∷ before)))) (All-nil (IsPlaced (length before)))
 
-moved-placed : (moves : Bool) (phase : Option Phase) (entry : Entry) (before : List Entry) → All (IsPlaced (length before)) (if moves then with_drains_of phase entry before [] else [])
-moved-placed true phase entry before = drains-placed phase entry before
-moved-placed false phase entry before = All-nil (IsPlaced (length before))
+moved-placed : (script : ScriptValue) (moves : Bool) (phase : Option Phase) (entry : Entry) (before : List Entry) → All (IsPlaced (length before)) (if moves then with_drains_of script phase entry before [] else [])
+moved-placed script true phase entry before = drains-placed script phase entry before
+moved-placed script false phase entry before = All-nil (IsPlaced (length before))
 
-placed-all : (entry : Entry) (before : List Entry) → All (IsPlaced (length before)) (events_from entry before)
-placed-all (Did performer outcome act) before =
+placed-all : (script : ScriptValue) (entry : Entry) (before : List Entry) → All (IsPlaced (length before)) (events_from script entry before)
+placed-all script (Did performer outcome act) before =
     let P = IsPlaced (length before) in
     All-append P (calls_numbered (now_of before) (length before) 0 (calls_told before performer outcome act)) _ (numbered-placed (now_of before) (length before) 0 (calls_told before performer outcome act))
     (All-append P (calls_from outcome act performer (act_phase before) (now_of before) (length before)) _ (due-placed (told_by outcome act) performer (act_phase before) (due_after (now_of before) act) (length before))
-    (moved-placed (moves_drains outcome act) (act_phase before) (Did performer outcome act) before))
-placed-all (Passed fifo passage) before = All-append (IsPlaced (length before)) (due_from (Some (told_of passage.kind passage)) passage.who (Some passage.phase) (now_of before) (caused_at (length before))) [] (due-placed (Some (told_of passage.kind passage)) passage.who (Some passage.phase) (now_of before) (length before)) (All-nil (IsPlaced (length before)))
-placed-all (Locked node id) before = All-append (IsPlaced (length before)) _ [] (due-placed (Some call.Held) (who.Sequence id node) (phase_begun before id) (now_of before) (length before)) (All-nil (IsPlaced (length before)))
-placed-all (Granted node grant) before = All-append (IsPlaced (length before)) _ [] (due-placed (Some call.Grant) (who.Sequence grant.id node) (phase_begun before grant.id) (now_of before) (length before)) (All-nil (IsPlaced (length before)))
-placed-all (End phase) before = All-append (IsPlaced (length before)) (calls_numbered (now_of before) (length before) 0 (lapsed_with phase before)) [] (numbered-placed (now_of before) (length before) 0 (lapsed_with phase before)) (All-nil (IsPlaced (length before)))
-placed-all (Drained node origin) before = drains-placed (Some origin.phase) (Drained node origin) before
-placed-all entry before = All-nil (IsPlaced (length before))
+    (moved-placed script (moves_drains outcome act) (act_phase before) (Did performer outcome act) before))
+placed-all script (Passed fifo passage) before = All-append (IsPlaced (length before)) (due_from (Some (told_of passage.kind passage)) passage.who (Some passage.phase) (now_of before) (caused_at (length before))) [] (due-placed (Some (told_of passage.kind passage)) passage.who (Some passage.phase) (now_of before) (length before)) (All-nil (IsPlaced (length before)))
+placed-all script (Locked node id) before = All-append (IsPlaced (length before)) _ [] (due-placed (Some call.Held) (who.Sequence id node) (phase_begun before id) (now_of before) (length before)) (All-nil (IsPlaced (length before)))
+placed-all script (Granted node grant) before = All-append (IsPlaced (length before)) _ [] (due-placed (Some call.Grant) (who.Sequence grant.id node) (phase_begun before grant.id) (now_of before) (length before)) (All-nil (IsPlaced (length before)))
+placed-all script (End phase) before = All-append (IsPlaced (length before)) (calls_numbered (now_of before) (length before) 0 (lapsed_with phase before)) [] (numbered-placed (now_of before) (length before) 0 (lapsed_with phase before)) (All-nil (IsPlaced (length before)))
+placed-all script (Drained node origin) before = drains-placed script (Some origin.phase) (Drained node origin) before
+placed-all script entry before = All-nil (IsPlaced (length before))
 
 -- the entry at the place of its cause causes an event
-record HasCause (history : List Entry) (event : Event) : Type 0 where
+record HasCause (script : ScriptValue) (history : List Entry) (event : Event) : Type 0 where
   entry : Entry
   before : List Entry
   at : IsAtCause history event.cause entry before
-  among : Contains (events_from entry before) event
+  among : Contains (events_from script entry before) event
 
-cause-later : (new : Entry) (history : List Entry) (event : Event) → HasCause history event → HasCause (new ∷ history) event
-cause-later new history event h = record { entry = h.entry; before = h.before; at = record { later = new ∷ h.at.later; splits = ap (λ log. new ∷ log) h.at.splits; place = h.at.place }; among = h.among }
+cause-later : (script : ScriptValue) (new : Entry) (history : List Entry) (event : Event) → HasCause script history event → HasCause script (new ∷ history) event
+cause-later script new history event h = record { entry = h.entry; before = h.before; at = record { later = new ∷ h.at.later; splits = ap (λ log. new ∷ log) h.at.splits; place = h.at.place }; among = h.among }
 
-cause-newest : (entry : Entry) (before : List Entry) (event : Event) → Contains (events_from entry before) event → HasCause (entry ∷ before) event
-cause-newest entry before event among =
-    let placed = All-contains (IsPlaced (length before)) (events_from entry before) event (placed-all entry before) among in
+cause-newest : (script : ScriptValue) (entry : Entry) (before : List Entry) (event : Event) → Contains (events_from script entry before) event → HasCause script (entry ∷ before) event
+cause-newest script entry before event among =
+    let placed = All-contains (IsPlaced (length before)) (events_from script entry before) event (placed-all script entry before) among in
     record { entry = entry; before = before; at = record { later = []; splits = refl; place = sym placed }; among = among }
 
-causes-of : (history : List Entry) → All (HasCause history) (caused_of history)
-causes-of [] = All-nil (HasCause [])
-causes-of (entry ∷ before) =
-    both-all (HasCause (entry ∷ before)) entry before (caused_of before)
-    (All-weaker (Contains (events_from entry before)) (HasCause (entry ∷ before)) (cause-newest entry before) (events_from entry before) (All-contains_itself (events_from entry before)))
-    (All-weaker (HasCause before) (HasCause (entry ∷ before)) (cause-later entry before) (caused_of before) (causes-of before))
+causes-of : (script : ScriptValue) (history : List Entry) → All (HasCause script history) (caused_of script history)
+causes-of script [] = All-nil (HasCause script [])
+causes-of script (entry ∷ before) =
+    both-all (HasCause script (entry ∷ before)) script entry before (caused_of script before)
+    (All-weaker (Contains (events_from script entry before)) (HasCause script (entry ∷ before)) (cause-newest script entry before) (events_from script entry before) (All-contains_itself (events_from script entry before)))
+    (All-weaker (HasCause script before) (HasCause script (entry ∷ before)) (cause-later script entry before) (caused_of script before) (causes-of script before))
 
 -- one entry stands at a place
 same-place : (later other : List Entry) (one two : Entry) (before past : List Entry) → later ++ one ∷ before ≡ other ++ two ∷ past → length before ≡ length past → one ∷ before ≡ two ∷ past
@@ -164,11 +164,11 @@ at-same history cause time entry before at timed =
 -- each call with a cause is heard at its time, as that entry causes it
 pub calls_on_time :
     SettledGoByTotals → BegunDrainsAreHeld → PlacesStay → NodesGrow → (script : ScriptValue) (later before : List Entry) (hearer : Who) (call : Call) (origin : Origin) (acts : List Act) → IsLegal script (later ++ Heard hearer call (Some origin) acts ∷ before)
-    → IsCaused before hearer call origin (now_of before)
+    → IsCaused script before hearer call origin (now_of before)
 calls_on_time goes held_are stay grow script later before hearer call origin acts legal =
     let each = older-each script later (Heard hearer call (Some origin) acts ∷ before) legal.each in
     let due = due_calls_go_in_order script before hearer call origin (heard-alone hearer call (Some origin) acts (next_of script before) (plain-next script before) each.0) in
-    let has = first-caused (HasCause before) before due.event (causes-of before) due.first in
+    let has = first-caused (HasCause script before) script before due.event (causes-of script before) due.first in
     let cause_is : due.event.cause ≡ origin.cause = ap (λ (one : Origin). one.cause) due.origin_is in
     let at : IsAtCause before origin.cause has.entry has.before = subst (λ (one : Cause). IsAtCause before one has.entry has.before) cause_is has.at in
     record {

@@ -27,7 +27,7 @@ nothing-comes script history e =
     ∷ passing (next_passed history)
     ∷ long_answer history (left_of script history)
     ∷ first_act script history (left_of script history)
-    ∷ event_due (due_now history)
+    ∷ event_due (due_now script history)
     ∷ phase_begin (phase_to_begin (has_runtime script) (stage_of history))
     ∷ phase_call history (in_progress (stage_of history))
     ∷ port_check history (running (stage_of history))

@@ -198,7 +198,7 @@ IsGoing history acting = (phase : Phase) → acting ≡ Some phase → list_any 
 pub record Known (script : ScriptValue) (history : List Entry) : Type 0 where
   pub acting : IsActing history (act_phase history)
   pub going : (left_of script history ≡ []) ⊎ IsGoing history (act_phase history)
-  pub owners : All (IsCallTo history) (caused_of history)
+  pub owners : All (IsCallTo history) (caused_of script history)
   pub starters : All (IsStartedBy history) (begun_of history)
   pub speaker : Speaking script history
   pub putters : (fifo : ℕ) → All (IsAskedBy {Wish = Item} (IsOneIn history)) (puts_asked history fifo)
@@ -347,10 +347,10 @@ pub both-hold : {A : Type 0} (P Q R : A → Type 0) (xs : List A) → ((x : A) �
 both-hold P Q R [] make ps qs = All-nil R
 both-hold P Q R (x ∷ xs) make ps qs = All-cons R x xs (make x (All-head P x xs ps) (All-head Q x xs qs)) (both-hold P Q R xs make (All-tail P x xs ps) (All-tail Q x xs qs))
 
-open-calls : (history : List Entry) → All (IsCallTo history) (caused_of history) → All (IsOpenCall history) (due_events history)
-open-calls history calls =
-    both-hold (IsCallTo history) (λ event. open_now history event ≡ true) (IsOpenCall history) (due_events history) (λ event call is. record { call = call; is = is })
-    (All-filter (open_now history) (IsCallTo history) (caused_of history) calls) (filter_passes (open_now history) (caused_of history))
+open-calls : (script : ScriptValue) (history : List Entry) → All (IsCallTo history) (caused_of script history) → All (IsOpenCall history) (due_events script history)
+open-calls script history calls =
+    both-hold (IsCallTo history) (λ event. open_now history event ≡ true) (IsOpenCall history) (due_events script history) (λ event call is. record { call = call; is = is })
+    (All-filter (open_now history) (IsCallTo history) (caused_of script history) calls) (filter_passes (open_now history) (caused_of script history))
 
 -- so that who is to hear it may act
 and-parts : (a b c : Bool) → a && b && c ≡ true → (b ≡ true) × (c ≡ true)
@@ -380,16 +380,16 @@ open-speaker history time cause phase (Object (Sequence id home)) notice s is =
 
 module _ (keeps : OrderKeepsAll Owner (Option Call)) where
   -- of the event that is due now
-  due-one : (history : List Entry) (P : Event → Type 0) → All P (due_events history) → IfSome (due_now history) P
+  due-one : (script : ScriptValue) (history : List Entry) (P : Event → Type 0) → All P (due_events script history) → IfSome (due_now script history) P
   unfolding due_now
-  due-one history P all =
-      due-holds P (now_of history) (first_due history)
-      (first-of P (in_order (due_events history)) (All-permutation P (due_events history) (in_order (due_events history)) (keeps (due_events history)) all))
+  due-one script history P all =
+      due-holds P (now_of history) (first_due script history)
+      (first-of P (in_order (due_events script history)) (All-permutation P (due_events script history) (in_order (due_events script history)) (keeps (due_events script history)) all))
 
   -- its owner may act
-  asks-due : (history : List Entry) (event : Event) (call : Call) → All (IsCallTo history) (caused_of history) → due_now history ≡ Some event → event.notice ≡ Some call → IsSpeaker history (Some event.phase) (who_of event.owner) × IsGoing history (Some event.phase)
-  asks-due history event call owners now is_call =
-      let here = subst (λ (found : Option Event). IfSome found (IsOpenCall history)) now (due-one history (IsOpenCall history) (open-calls history owners)) in
+  asks-due : (script : ScriptValue) (history : List Entry) (event : Event) (call : Call) → All (IsCallTo history) (caused_of script history) → due_now script history ≡ Some event → event.notice ≡ Some call → IsSpeaker history (Some event.phase) (who_of event.owner) × IsGoing history (Some event.phase)
+  asks-due script history event call owners now is_call =
+      let here = subst (λ (found : Option Event). IfSome found (IsOpenCall history)) now (due-one script history (IsOpenCall history) (open-calls script history owners)) in
       let expected = subst (λ (notice : Option Call). OnSome notice (IsExpected history event.phase (who_of event.owner))) is_call here.call in
       open-speaker history event.time event.cause event.phase event.owner event.notice expected here.is
 
@@ -399,7 +399,7 @@ module _ (keeps : OrderKeepsAll Owner (Option Call)) where
   asks-case script history next known (ByOwn entry own e) = subst (AsksOne history) (sym e) tt
   asks-case script history next known (ByNeed act need made left upshot e) = subst (AsksOne history) (sym e) tt
   asks-case script history next known (ByDeed act outcome left plain comes e) = subst (AsksOne history) (sym e) tt
-  asks-case script history next known (ByDue event call now is_call e) = subst (AsksOne history) (sym e) (asks-due history event call known.owners now is_call)
+  asks-case script history next known (ByDue event call now is_call e) = subst (AsksOne history) (sym e) (asks-due script history event call known.owners now is_call)
   asks-case script history next known (ByTurn phase node during turn e) = subst (AsksOne history) (sym e) (subst (λ (found : Option ℕ). IfSome found (Contains (components_of history))) turn (turn-one history phase), λ p same. let on : phase ≡ p = cc in subst (λ (q : Phase). list_any (same_phase q) (in_progress (stage_of history)) ≡ true) on during)
   asks-case script history next known (ByEnd phase runs e) = subst (AsksOne history) (sym e) tt
   asks-case script history next known (ByBegin phase may e) = subst (AsksOne history) (sym e) tt
@@ -442,19 +442,19 @@ drains-call history phase cause [] = All-nil _
 drains-call history phase cause (first ∷ begun) =
     All-append (IsCallTo history) (drain_from phase cause first) (flat_map (drain_from phase cause) begun) (one-owner history (Some phase) first.at cause (Drain first.node phase) None (λ p runs. tt)) (drains-call history phase cause begun)
 
-pub with-drains-call : (history : List Entry) (phase : Option Phase) (entry : Entry) (before : List Entry) (caused : List Event) → All (IsCallTo history) caused → All (IsCallTo history) (with_drains_of phase entry before caused)
-with-drains-call history None entry before caused owners = owners
-with-drains-call history (Some phase) entry before caused owners =
-    let earlier = objections_of phase before in
-    let nodes = objections_of phase (entry ∷ before) in
+pub with-drains-call : (script : ScriptValue) (history : List Entry) (phase : Option Phase) (entry : Entry) (before : List Entry) (caused : List Event) → All (IsCallTo history) caused → All (IsCallTo history) (with_drains_of script phase entry before caused)
+with-drains-call script history None entry before caused owners = owners
+with-drains-call script history (Some phase) entry before caused owners =
+    let earlier = objections_of script phase before in
+    let nodes = objections_of script phase (entry ∷ before) in
     All-append (IsCallTo history) (flat_map (drain_from phase (caused_at (length before))) (drains_begun earlier nodes)) (filter (λ event. not (is_drain_of phase (drains_ended earlier nodes) event.owner)) caused) (drains-call history phase (caused_at (length before)) (drains_begun earlier nodes))
     (All-filter (λ event. not (is_drain_of phase (drains_ended earlier nodes) event.owner)) (IsCallTo history) caused owners)
 
 pub moved-call :
-    (history : List Entry) (moves : Bool) (phase : Option Phase) (entry : Entry) (before : List Entry) (caused : List Event) → All (IsCallTo history) caused
-    → All (IsCallTo history) (if moves then with_drains_of phase entry before caused else caused)
-moved-call history true phase entry before caused owners = with-drains-call history phase entry before caused owners
-moved-call history false phase entry before caused owners = owners
+    (script : ScriptValue) (history : List Entry) (moves : Bool) (phase : Option Phase) (entry : Entry) (before : List Entry) (caused : List Event) → All (IsCallTo history) caused
+    → All (IsCallTo history) (if moves then with_drains_of script phase entry before caused else caused)
+moved-call script history true phase entry before caused owners = with-drains-call script history phase entry before caused owners
+moved-call script history false phase entry before caused owners = owners
 
 -- the opening of the run is a creation, which causes no call
 pub opening-tells : (script : ScriptValue) (outcome : Outcome) → told_by outcome (opening script) ≡ None
@@ -481,8 +481,8 @@ call-more script before entry event next on call = some-more event.notice call
     some-more None has = tt
     some-more (Some call) has = expected-more script before entry event.phase (who_of event.owner) next on has
 
-pub owners-more : (script : ScriptValue) (before : List Entry) (entry : Entry) → IsNext script before entry → GoesOn (entry ∷ before) → Known script before → All (IsCallTo (entry ∷ before)) (caused_of before)
-owners-more script before entry next on known = All-weaker (IsCallTo before) (IsCallTo (entry ∷ before)) (λ event. call-more script before entry event next on) (caused_of before) known.owners
+pub owners-more : (script : ScriptValue) (before : List Entry) (entry : Entry) → IsNext script before entry → GoesOn (entry ∷ before) → Known script before → All (IsCallTo (entry ∷ before)) (caused_of script before)
+owners-more script before entry next on known = All-weaker (IsCallTo before) (IsCallTo (entry ∷ before)) (λ event. call-more script before entry event next on) (caused_of script before) known.owners
 
 pub starters-more : (script : ScriptValue) (before : List Entry) (entry : Entry) → IsNext script before entry → GoesOn (entry ∷ before) → Known script before → All (IsStartedBy (entry ∷ before)) (begun_of before)
 starters-more script before entry next on known =

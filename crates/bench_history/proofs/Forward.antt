@@ -105,11 +105,11 @@ drains-ahead history now phase cause (first ∷ begun) all =
     All-append (IsAhead now) (drain_from phase cause first) (flat_map (drain_from phase cause) begun) (event-ahead now (Some phase) first.at cause (Drain first.node phase) None (All-head (λ (one : drain.Due). now ≤ one.at) first begun all))
     (drains-ahead history now phase cause begun (All-tail (λ (one : drain.Due). now ≤ one.at) first begun all))
 
-one-ahead : (entry : Entry) (before : List Entry) (phase : Option Phase) (told : Call) (hearer : Who) → now_of (entry ∷ before) ≡ now_of before → All (IsOpenAhead before) (caused_of before)
-    → All (IsOpenAhead (entry ∷ before)) (due_from (Some told) hearer phase (now_of before) (caused_at (length before)) ++ caused_of before)
-one-ahead entry before phase told hearer same all =
-    All-append (IsOpenAhead (entry ∷ before)) (due_from (Some told) hearer phase (now_of before) (caused_at (length before))) (caused_of before)
-    (new-ahead (entry ∷ before) _ (rw same (due-ahead (now_of before) (Some told) hearer phase (now_of before) (caused_at (length before)) (omega arith)))) (old-ahead entry before (caused_of before) same all)
+one-ahead : (script : ScriptValue) (entry : Entry) (before : List Entry) (phase : Option Phase) (told : Call) (hearer : Who) → now_of (entry ∷ before) ≡ now_of before → All (IsOpenAhead before) (caused_of script before)
+    → All (IsOpenAhead (entry ∷ before)) (due_from (Some told) hearer phase (now_of before) (caused_at (length before)) ++ caused_of script before)
+one-ahead script entry before phase told hearer same all =
+    All-append (IsOpenAhead (entry ∷ before)) (due_from (Some told) hearer phase (now_of before) (caused_at (length before))) (caused_of script before)
+    (new-ahead (entry ∷ before) _ (rw same (due-ahead (now_of before) (Some told) hearer phase (now_of before) (caused_at (length before)) (omega arith)))) (old-ahead entry before (caused_of script before) same all)
 
 unfiltered : (P : Event → Type 0) (p : Event → Bool) (events : List Event) → All P (filter p events) → All (λ event. p event ≡ true → P event) events
 unfiltered P p [] all = All-nil _
@@ -121,56 +121,56 @@ unfiltered P p (event ∷ events) all = tested (p event) refl all (unfiltered P 
 
 module _ (goes : SettledGoByTotals) (held_are : BegunDrainsAreHeld) where
   with-ahead :
-      (phase : Phase) (entry : Entry) (before : List Entry) (changed : List objection.Node) → now_of (entry ∷ before) ≡ now_of before → IsChanged (objections_of phase before) changed → objections_of phase (entry ∷ before) ≡ settled (now_of before) (total (objections_of phase before)) changed
-      → AreNodes (objections_of phase (entry ∷ before)) → All (IsOpenAhead before) (caused_of before)
-      → All (IsOpenAhead (entry ∷ before)) (with_drains phase (caused_at (length before)) (objections_of phase before) (objections_of phase (entry ∷ before)) (caused_of before))
-  with-ahead phase entry before changed same by is are all =
-      let earlier = objections_of phase before in
-      let after = objections_of phase (entry ∷ before) in
+      (script : ScriptValue) (phase : Phase) (entry : Entry) (before : List Entry) (changed : List objection.Node) → now_of (entry ∷ before) ≡ now_of before → IsChanged (objections_of script phase before) changed → objections_of script phase (entry ∷ before) ≡ settled (now_of before) (total (objections_of script phase before)) changed
+      → AreNodes (objections_of script phase (entry ∷ before)) → All (IsOpenAhead before) (caused_of script before)
+      → All (IsOpenAhead (entry ∷ before)) (with_drains phase (caused_at (length before)) (objections_of script phase before) (objections_of script phase (entry ∷ before)) (caused_of script before))
+  with-ahead script phase entry before changed same by is are all =
+      let earlier = objections_of script phase before in
+      let after = objections_of script phase (entry ∷ before) in
       All-append (IsOpenAhead (entry ∷ before)) (flat_map (drain_from phase (caused_at (length before))) (drains_begun earlier after)) _
-      (new-ahead (entry ∷ before) _ (rw same (drains-ahead before (now_of before) phase (caused_at (length before)) (drains_begun earlier after) (begun-ahead goes held_are phase entry before changed by is are))))
-      (All-filter (λ (event : Event). not (is_drain_of phase (drains_ended earlier after) event.owner)) (IsOpenAhead (entry ∷ before)) (caused_of before) (old-ahead entry before (caused_of before) same all))
+      (new-ahead (entry ∷ before) _ (rw same (drains-ahead before (now_of before) phase (caused_at (length before)) (drains_begun earlier after) (begun-ahead goes held_are script phase entry before changed by is are))))
+      (All-filter (λ (event : Event). not (is_drain_of phase (drains_ended earlier after) event.owner)) (IsOpenAhead (entry ∷ before)) (caused_of script before) (old-ahead entry before (caused_of script before) same all))
 
   moved-ahead :
-      (before : List Entry) (performer : Who) (outcome : Outcome) (act : Act) → ((phase : Phase) → AreNodes (objections_of phase (Did performer outcome act ∷ before))) → All (IsOpenAhead before) (caused_of before)
-      → All (IsOpenAhead (Did performer outcome act ∷ before)) (if moves_drains outcome act then with_drains_of (act_phase before) (Did performer outcome act) before (caused_of before) else caused_of before)
-  moved-ahead before performer Done (RaiseObjection count) are all = by (act_phase before) refl
+      (script : ScriptValue) (before : List Entry) (performer : Who) (outcome : Outcome) (act : Act) → ((phase : Phase) → AreNodes (objections_of script phase (Did performer outcome act ∷ before))) → All (IsOpenAhead before) (caused_of script before)
+      → All (IsOpenAhead (Did performer outcome act ∷ before)) (if moves_drains outcome act then with_drains_of script (act_phase before) (Did performer outcome act) before (caused_of script before) else caused_of script before)
+  moved-ahead script before performer Done (RaiseObjection count) are all = by (act_phase before) refl
     where
       entry : Entry
       entry = Did performer Done (RaiseObjection count)
 
-      by : (phase : Option Phase) → act_phase before ≡ phase → All (IsOpenAhead (entry ∷ before)) (with_drains_of phase entry before (caused_of before))
-      by None is = old-ahead entry before (caused_of before) refl all
-      by (Some phase) is = with-ahead phase entry before (raised (node_of performer) count (objections_of phase before)) refl (raised-is (node_of performer) count (objections_of phase before)) (rw (is, same-itself phase) refl) (are phase) all
-  moved-ahead before performer Done (DropObjection count) are all = by (act_phase before) refl
+      by : (phase : Option Phase) → act_phase before ≡ phase → All (IsOpenAhead (entry ∷ before)) (with_drains_of script phase entry before (caused_of script before))
+      by None is = old-ahead entry before (caused_of script before) refl all
+      by (Some phase) is = with-ahead script phase entry before (raised (node_of performer) count (objections_of script phase before)) refl (raised-is (node_of performer) count (objections_of script phase before)) (rw (is, same-itself phase) refl) (are phase) all
+  moved-ahead script before performer Done (DropObjection count) are all = by (act_phase before) refl
     where
       entry : Entry
       entry = Did performer Done (DropObjection count)
 
-      by : (phase : Option Phase) → act_phase before ≡ phase → All (IsOpenAhead (entry ∷ before)) (with_drains_of phase entry before (caused_of before))
-      by None is = old-ahead entry before (caused_of before) refl all
-      by (Some phase) is = with-ahead phase entry before (dropped (node_of performer) count (objections_of phase before)) refl (dropped-is (node_of performer) count (objections_of phase before)) (rw (is, same-itself phase) refl) (are phase) all
-  moved-ahead before performer outcome act are all = old-ahead (Did performer outcome act) before (caused_of before) refl all
+      by : (phase : Option Phase) → act_phase before ≡ phase → All (IsOpenAhead (entry ∷ before)) (with_drains_of script phase entry before (caused_of script before))
+      by None is = old-ahead entry before (caused_of script before) refl all
+      by (Some phase) is = with-ahead script phase entry before (dropped (node_of performer) count (objections_of script phase before)) refl (dropped-is (node_of performer) count (objections_of script phase before)) (rw (is, same-itself phase) refl) (are phase) all
+  moved-ahead script before performer outcome act are all = old-ahead (Did performer outcome act) before (caused_of script before) refl all
 
-  ahead-more : (script : ScriptValue) (before : List Entry) (entry : Entry) → IsNext script before entry → ((phase : Phase) → AreNodes (objections_of phase (entry ∷ before))) → All (IsOpenAhead before) (caused_of before) → All (IsOpenAhead (entry ∷ before)) (caused_of (entry ∷ before))
+  ahead-more : (script : ScriptValue) (before : List Entry) (entry : Entry) → IsNext script before entry → ((phase : Phase) → AreNodes (objections_of script phase (entry ∷ before))) → All (IsOpenAhead before) (caused_of script before) → All (IsOpenAhead (entry ∷ before)) (caused_of script (entry ∷ before))
   ahead-more script before (Did performer outcome act) next are all =
       let entry = Did performer outcome act in
       All-append (IsOpenAhead (entry ∷ before)) (calls_numbered (now_of before) (length before) 0 (calls_told before performer outcome act)) _
       (new-ahead (entry ∷ before) _ (numbered-ahead (now_of before) (length before) 0 (calls_told before performer outcome act)))
       (All-append (IsOpenAhead (entry ∷ before)) (calls_from outcome act performer (act_phase before) (now_of before) (length before)) _
       (new-ahead (entry ∷ before) _ (due-ahead (now_of before) (told_by outcome act) performer (act_phase before) (due_after (now_of before) act) (caused_at (length before)) (later-than (now_of before) act)))
-      (moved-ahead before performer outcome act are all))
-  ahead-more script before (Passed fifo passage) next are all = one-ahead (Passed fifo passage) before (Some passage.phase) (told_of passage.kind passage) passage.who refl all
-  ahead-more script before (Locked node id) next are all = one-ahead (Locked node id) before (phase_begun before id) call.Held (who.Sequence id node) refl all
-  ahead-more script before (Granted node grant) next are all = one-ahead (Granted node grant) before (phase_begun before grant.id) call.Grant (who.Sequence grant.id node) refl all
+      (moved-ahead script before performer outcome act are all))
+  ahead-more script before (Passed fifo passage) next are all = one-ahead script (Passed fifo passage) before (Some passage.phase) (told_of passage.kind passage) passage.who refl all
+  ahead-more script before (Locked node id) next are all = one-ahead script (Locked node id) before (phase_begun before id) call.Held (who.Sequence id node) refl all
+  ahead-more script before (Granted node grant) next are all = one-ahead script (Granted node grant) before (phase_begun before grant.id) call.Grant (who.Sequence grant.id node) refl all
   ahead-more script before (End phase) next are all =
-      All-append (IsOpenAhead (End phase ∷ before)) (calls_numbered (now_of before) (length before) 0 (lapsed_with phase before)) (caused_of before)
-      (new-ahead (End phase ∷ before) _ (numbered-ahead (now_of before) (length before) 0 (lapsed_with phase before))) (old-ahead (End phase) before (caused_of before) refl all)
-  ahead-more script before (Drained node origin) next are all = with-ahead origin.phase (Drained node origin) before (released node (objections_of origin.phase before)) refl (released-is node (objections_of origin.phase before)) (rw (same-itself origin.phase) refl) (are origin.phase) all
-  ahead-more script before (Time time) next are all = unfiltered (λ event. time ≤ event.time) (open_at before) (caused_of before) (passes-over script before time (time-next script before time next))
-  ahead-more script before entry next are all = old-ahead entry before (caused_of before) refl all
+      All-append (IsOpenAhead (End phase ∷ before)) (calls_numbered (now_of before) (length before) 0 (lapsed_with phase before)) (caused_of script before)
+      (new-ahead (End phase ∷ before) _ (numbered-ahead (now_of before) (length before) 0 (lapsed_with phase before))) (old-ahead (End phase) before (caused_of script before) refl all)
+  ahead-more script before (Drained node origin) next are all = with-ahead script origin.phase (Drained node origin) before (released node (objections_of script origin.phase before)) refl (released-is node (objections_of script origin.phase before)) (rw (same-itself origin.phase) refl) (are origin.phase) all
+  ahead-more script before (Time time) next are all = unfiltered (λ event. time ≤ event.time) (open_at before) (caused_of script before) (passes-over script before time (time-next script before time next))
+  ahead-more script before entry next are all = old-ahead entry before (caused_of script before) refl all
 
-  ahead-of : PlacesStay → NodesGrow → (script : ScriptValue) (history : List Entry) → EachIsNext script history → All (IsOpenAhead history) (caused_of history)
+  ahead-of : PlacesStay → NodesGrow → (script : ScriptValue) (history : List Entry) → EachIsNext script history → All (IsOpenAhead history) (caused_of script history)
   ahead-of stay grow script [] each = All-nil _
   ahead-of stay grow script (entry ∷ before) each = ahead-more script before entry each.0 (λ phase. (objections-are stay grow phase script (entry ∷ before) each).are_nodes) (ahead-of stay grow script before each.1)
 
@@ -185,8 +185,8 @@ module _ (goes : SettledGoByTotals) (held_are : BegunDrainsAreHeld) where
   pub goes-forward : PlacesStay → NodesGrow → (script : ScriptValue) (before : List Entry) (time : ℕ) → EachIsNext script before → IsNext script before (Time time) → now_of before ≤ time
   goes-forward stay grow script before time each next =
       let p = time-next script before time next in
-      let due = opened (λ (event : Event). now_of before ≤ event.time) (open_at before) (caused_of before) (ahead-of stay grow script before each) in
-      let first = first-of-all (λ (event : Event). now_of before ≤ event.time) (in_order (due_events before)) p.event (order-all (λ (event : Event). now_of before ≤ event.time) (due_events before) due) p.first in
+      let due = opened (λ (event : Event). now_of before ≤ event.time) (open_at before) (caused_of script before) (ahead-of stay grow script before each) in
+      let first = first-of-all (λ (event : Event). now_of before ≤ event.time) (in_order (due_events script before)) p.event (order-all (λ (event : Event). now_of before ≤ event.time) (due_events script before) due) p.first in
       subst (λ (n : ℕ). now_of before ≤ n) p.time_is first
 
   pub on_time : PlacesStay → NodesGrow → OnTime

@@ -43,14 +43,14 @@ use Rattle.bench_history.specs.Laws.{IsDue, IsDrainDue}
 pub record IsPassing (script : ScriptValue) (history : List Entry) (time : ℕ) : Type 0 where
   pub within : time ≤ script.time_limit
   pub event : Event
-  pub first : first_due history ≡ Some event
+  pub first : first_due script history ≡ Some event
   pub time_is : event.time ≡ time
 
 -- the phase that was begun last is at its end: none begins, and no objection keeps it
 pub record IsEnding (script : ScriptValue) (history : List Entry) (phase : Phase) : Type 0 where
   pub runs : running (stage_of history) ≡ Some phase
   pub last : phase_to_begin (has_runtime script) (stage_of history) ≡ None
-  pub quiet : is_kept phase history ≡ false
+  pub quiet : is_kept script phase history ≡ false
 
 -- what the machine writes by itself, outside a phase's course: neither a mark, nor an answer, nor an act. Time passes to what is due, what
 -- passes is next to pass, and a drain that ends is due
@@ -63,7 +63,7 @@ IsOwn script history (Time time) = IsPassing script history time
 IsOwn script history (Granted sequencer grant) = ⊥
 IsOwn script history (Locked sequencer id) = next_locked history ≡ Some (sequencer, id)
 IsOwn script history (Passed fifo passage) = next_passed history ≡ Some (fifo, passage)
-IsOwn script history (Drained node cause) = IsDrainDue history node cause
+IsOwn script history (Drained node cause) = IsDrainDue script history node cause
 IsOwn script history entry = Unit {0}
 
 -- no object was made, and no sequence started
@@ -84,7 +84,7 @@ pub data Case (script : ScriptValue) (history : List Entry) (next : Next) : Type
   -- or a sequencer grants an item
   ByGrant : (sequencer : ℕ) (drawn : Bool) → next_served history ≡ Some (sequencer, drawn) → next ≡ Grant sequencer drawn (chosen_at history sequencer) → Case script history next
   -- or a call is due
-  ByDue : (event : Event) (call : Call) → due_now history ≡ Some event → event.notice ≡ Some call → next ≡ Answer (who_of event.owner) call (Some (origin_of event)) → Case script history next
+  ByDue : (event : Event) (call : Call) → due_now script history ≡ Some event → event.notice ≡ Some call → next ≡ Answer (who_of event.owner) call (Some (origin_of event)) → Case script history next
   -- or it is somebody's turn in a phase in progress
   ByTurn : (phase : Phase) (node : ℕ) → list_any (same_phase phase) (in_progress (stage_of history)) ≡ true → next_call phase history ≡ Some node → next ≡ Answer (who.Node node) (call.Phase phase) None → Case script history next
   -- or that phase ends
@@ -101,22 +101,22 @@ phase_cases script history = phase_begin (phase_to_begin (has_runtime script) (s
 
 -- and from the acts on
 abbrev act_cases : ScriptValue → List Entry → List (Option Next)
-act_cases script history = event_due (due_now history) ∷ phase_cases script history
+act_cases script history = event_due (due_now script history) ∷ phase_cases script history
 
 -- where time would pass
-case-limit : (script : ScriptValue) (history : List Entry) (next : Next) (event : Event) (late : Bool) → first_due history ≡ Some event → nat_lt script.time_limit event.time ≡ late → next ≡ Exactly (if late then Note Timeout 0 else Time event.time) → Case script history next
+case-limit : (script : ScriptValue) (history : List Entry) (next : Next) (event : Event) (late : Bool) → first_due script history ≡ Some event → nat_lt script.time_limit event.time ≡ late → next ≡ Exactly (if late then Note Timeout 0 else Time event.time) → Case script history next
 case-limit script history next event true first is e = ByOwn (Note Timeout 0) tt e
 case-limit script history next event false first is e = ByOwn (Time event.time) (record { within = grind (arith, nat_tests); event = event; first = first; time_is = refl }) e
 
-case-time : (script : ScriptValue) (history : List Entry) (next : Next) (first : Option Event) → first_due history ≡ first → next ≡ Exactly (time_passes script.time_limit first) → Case script history next
+case-time : (script : ScriptValue) (history : List Entry) (next : Next) (first : Option Event) → first_due script history ≡ first → next ≡ Exactly (time_passes script.time_limit first) → Case script history next
 case-time script history next None is e = ByOwn (Note Stall 0) tt e
 case-time script history next (Some event) is e = case-limit script history next event (nat_lt script.time_limit event.time) is refl e
 
 -- where no port is unsound
 case-ended :
-    (script : ScriptValue) (history : List Entry) (next : Next) (phase : Phase) (kept : Bool) → (running (stage_of history) ≡ Some phase) × (phase_to_begin (has_runtime script) (stage_of history) ≡ None) → is_kept phase history ≡ kept
-    → next ≡ Exactly (if kept then time_passes script.time_limit (first_due history) else End phase) → Case script history next
-case-ended script history next phase true runs is e = case-time script history next (first_due history) refl e
+    (script : ScriptValue) (history : List Entry) (next : Next) (phase : Phase) (kept : Bool) → (running (stage_of history) ≡ Some phase) × (phase_to_begin (has_runtime script) (stage_of history) ≡ None) → is_kept script phase history ≡ kept
+    → next ≡ Exactly (if kept then time_passes script.time_limit (first_due script history) else End phase) → Case script history next
+case-ended script history next phase true runs is e = case-time script history next (first_due script history) refl e
 case-ended script history next phase false runs is e = ByEnd phase (record { runs = runs.0; last = runs.1; quiet = is }) e
 
 -- where each component had its call
@@ -124,8 +124,8 @@ case-check :
     (script : ScriptValue) (history : List Entry) (next : Next) (phase : Phase) (connects : Bool) (port : Option (ℕ × Fatal)) → (running (stage_of history) ≡ Some phase) × (phase_to_begin (has_runtime script) (stage_of history) ≡ None)
     → next ≡ first_next ((if connects then option_map (λ port. Exactly (Note port.1 port.0)) port else None) ∷ phase_end script history (Some phase) ∷ finish ∷ []) → Case script history next
 case-check script history next phase true (Some port) runs e = ByOwn (Note port.1 port.0) tt e
-case-check script history next phase true None runs e = case-ended script history next phase (is_kept phase history) runs refl e
-case-check script history next phase false port runs e = case-ended script history next phase (is_kept phase history) runs refl e
+case-check script history next phase true None runs e = case-ended script history next phase (is_kept script phase history) runs refl e
+case-check script history next phase false port runs e = case-ended script history next phase (is_kept script phase history) runs refl e
 
 case-running :
     (script : ScriptValue) (history : List Entry) (next : Next) (phase : Option Phase) → running (stage_of history) ≡ phase → phase_to_begin (has_runtime script) (stage_of history) ≡ None
@@ -188,22 +188,22 @@ first-at now (Some other) event e = first-tested (other.time == now) refl e
     first-tested true at e = let same : other ≡ event = cc in record { first_is = e; time = rw (← same) (grind (arith, nat_tests)) }
     first-tested false at e = cc
 
-pub due-first : (history : List Entry) (event : Event) → due_now history ≡ Some event → IsDue history (who_of event.owner) event.notice (origin_of event)
+pub due-first : (script : ScriptValue) (history : List Entry) (event : Event) → due_now script history ≡ Some event → IsDue script history (who_of event.owner) event.notice (origin_of event)
 unfolding due_now
-due-first history event e =
-    let f = first-at (now_of history) (first_due history) event e in
+due-first script history event e =
+    let f = first-at (now_of history) (first_due script history) event e in
     record { event = event; first = f.first_is; time = f.time; hearer_is = refl; notice_is = refl; origin_is = refl }
 
 -- somebody hears its call, or a drain ends
 case-event :
-    (script : ScriptValue) (history : List Entry) (next : Next) (event : Event) (notice : Option Call) → due_now history ≡ Some event → event.notice ≡ notice
+    (script : ScriptValue) (history : List Entry) (next : Next) (event : Event) (notice : Option Call) → due_now script history ≡ Some event → event.notice ≡ notice
     → next ≡ by_call event.owner notice (origin_of event) → Case script history next
 case-event script history next event (Some call) now is e = ByDue event call now is e
 case-event script history next event None now is e =
-    let I : Option Call → Type 0 = λ notice. IsDue history (who_of event.owner) notice (origin_of event) in
-    ByOwn (Drained (node_of (who_of event.owner)) (origin_of event)) (record { hearer = who_of event.owner; stands = refl; due = subst I is (due-first history event now) }) e
+    let I : Option Call → Type 0 = λ notice. IsDue script history (who_of event.owner) notice (origin_of event) in
+    ByOwn (Drained (node_of (who_of event.owner)) (origin_of event)) (record { hearer = who_of event.owner; stands = refl; due = subst I is (due-first script history event now) }) e
 
-case-due : (script : ScriptValue) (history : List Entry) (next : Next) (due : Option Event) → due_now history ≡ due → next ≡ first_next (event_due due ∷ phase_cases script history) → Case script history next
+case-due : (script : ScriptValue) (history : List Entry) (next : Next) (due : Option Event) → due_now script history ≡ due → next ≡ first_next (event_due due ∷ phase_cases script history) → Case script history next
 case-due script history next (Some event) is e = case-event script history next event event.notice is refl e
 case-due script history next None is e = case-phase script history next (phase_to_begin (has_runtime script) (stage_of history)) refl e
 
@@ -230,7 +230,7 @@ case-many script history next act acts false left e = case-upshot script history
 case-left :
     (script : ScriptValue) (history : List Entry) (next : Next) (left : List Act) → left_of script history ≡ left
     → next ≡ first_next ((if nat_lt most_acts (length left) then Some (noted history) else None) ∷ first_act script history left ∷ act_cases script history) → Case script history next
-case-left script history next [] is e = case-due script history next (due_now history) refl e
+case-left script history next [] is e = case-due script history next (due_now script history) refl e
 case-left script history next (act ∷ acts) is e = case-many script history next act acts (nat_lt most_acts (length (act ∷ acts))) is e
 
 -- from the run that is given up on

@@ -92,13 +92,13 @@ act-case script history next is did (ByGrant sequencer drawn served e) = absurd 
 pub acts_go_in_order : ActsGoInOrder
 acts_go_in_order script history did = act-case script history (next_of script history) refl did (case-of script history)
 
-due-case : (script : ScriptValue) (history : List Entry) (hearer : Who) (call : Call) (origin : Origin) (next : Next) → next ≡ Answer hearer call (Some origin) → Case script history next → IsDue history hearer (Some call) origin
+due-case : (script : ScriptValue) (history : List Entry) (hearer : Who) (call : Call) (origin : Origin) (next : Next) → next ≡ Answer hearer call (Some origin) → Case script history next → IsDue script history hearer (Some call) origin
 due-case script history hearer call origin next asks (AtEnd ended e) = cc
 due-case script history hearer call origin next asks (ByOwn entry own e) = cc
 due-case script history hearer call origin next asks (ByNeed act need made left is e) = cc
 due-case script history hearer call origin next asks (ByDeed act outcome left plain comes e) = cc
 due-case script history hearer call origin next asks (ByDue event heard now is e) =
-    let d = due-first history event now in
+    let d = due-first script history event now in
     let same : Answer (who_of event.owner) heard (Some (origin_of event)) ≡ Answer hearer call (Some origin) = sym e ∙ asks in
     let hearer_is : who_of event.owner ≡ hearer = cc in
     let call_is : Some heard ≡ Some call = cc in
@@ -130,7 +130,7 @@ turn-case script history hearer call next asks (ByGrant sequencer drawn served e
 pub calls_go_in_turn : CallsGoInTurn
 calls_go_in_turn script history hearer call asks = turn-case script history hearer call _ asks (case-of script history)
 
-drain-case : (script : ScriptValue) (history : List Entry) (node : ℕ) (origin : Origin) (next : Next) → next ≡ Exactly (Drained node origin) → Case script history next → IsDrainDue history node origin
+drain-case : (script : ScriptValue) (history : List Entry) (node : ℕ) (origin : Origin) (next : Next) → next ≡ Exactly (Drained node origin) → Case script history next → IsDrainDue script history node origin
 drain-case script history node origin next ends (AtEnd ended e) = cc
 drain-case script history node origin next ends (ByOwn entry own e) = let same : entry ≡ Drained node origin = cc in subst (IsOwn script history) same own
 drain-case script history node origin next ends (ByNeed act need made left is e) = cc

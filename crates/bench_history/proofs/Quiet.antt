@@ -27,7 +27,7 @@ use Rattle.uvm_object.specs.declared.entries.Entry.{Entry}
 use Rattle.uvm_object.specs.declared.entries.Entry.TheVariants.{Did, Drained, End}
 use Rattle.bench_script.specs.Scripts.{ScriptValue}
 use Rattle.bench_history.specs.History.{act_phase, created_name, in_task, is_of_phase, kind_of, nodes_of, now_of}
-use Rattle.bench_history.specs.Objections.{is_kept, objections_of, stands}
+use Rattle.bench_history.specs.Objections.{is_kept, objections_of, stands, with_new}
 use Rattle.bench_history.specs.Refusals.{child_refusal}
 use Rattle.bench_history.specs.Cases.{Next, Exactly}
 use Rattle.bench_history.specs.Next.{next_of, IsNext, EachIsNext}
@@ -91,6 +91,14 @@ module _ (stay : PlacesStay) (grow : NodesGrow) where
             ∙ rw (was.known n, last) (less-more n count (nat_lt n count) (count == n) refl refl);
       }
 
+  -- with its drain time
+  made : (nodes : List Node) (count parent drain : ℕ) → parent < count → AreObjections nodes count → AreObjections (with_new parent drain nodes) (suc count)
+  made nodes count parent drain low was =
+      let more = nodes ++ new_node (length nodes) parent ∷ [] in
+      let new = added nodes count parent low was in
+      let same = stay.with_drain (length nodes) drain more in
+      kept more (with_drain (length nodes) drain more) (suc count) same (same-length more (with_drain (length nodes) drain more) same) ((grow.1 more new.are_nodes).with_drain (length nodes) drain).nodes new
+
   settled-kept : (time count : ℕ) (nodes changed : List Node) → places changed ≡ places nodes → AreNodes (settled time (total nodes) changed) → AreObjections nodes count → AreObjections (settled time (total nodes) changed) count
   settled-kept time count nodes changed same are was =
       let all = stay.settled time (total nodes) changed ∙ same in
@@ -108,30 +116,30 @@ module _ (stay : PlacesStay) (grow : NodesGrow) where
   either false new old = old
 
   objections-did :
-      (phase : Phase) (script : ScriptValue) (before : List Entry) (performer : Who) (outcome : Outcome) (act : Act) → IsNext script before (Did performer outcome act) → AreObjections (objections_of phase before) (length (nodes_of before))
-      → AreObjections (objections_of phase (Did performer outcome act ∷ before)) (length (nodes_of (Did performer outcome act ∷ before)))
+      (phase : Phase) (script : ScriptValue) (before : List Entry) (performer : Who) (outcome : Outcome) (act : Act) → IsNext script before (Did performer outcome act) → AreObjections (objections_of script phase before) (length (nodes_of before))
+      → AreObjections (objections_of script phase (Did performer outcome act ∷ before)) (length (nodes_of (Did performer outcome act ∷ before)))
   objections-did phase script before performer (Made type_name) act next was =
       let low = parent-known (nodes_of before) (node_of performer) (created_name act) (made-free script before performer type_name act (next_of script before) refl next) in
-      grown (nodes_of before) (child (nodes_of before) (node_of performer) (created_name act) kind.Component) _ (added (objections_of phase before) (length (nodes_of before)) (node_of performer) low was)
+      grown (nodes_of before) (child (nodes_of before) (node_of performer) (created_name act) kind.Component) _ (made (objections_of script phase before) (length (nodes_of before)) (node_of performer) _ low was)
   objections-did phase script before performer Done (Add name what) next was =
       let low = parent-known (nodes_of before) (node_of performer) name (added-next script before performer name what next) in
-      grown (nodes_of before) (child (nodes_of before) (node_of performer) name (kind_of what)) _ (added (objections_of phase before) (length (nodes_of before)) (node_of performer) low was)
+      grown (nodes_of before) (child (nodes_of before) (node_of performer) name (kind_of what)) _ (made (objections_of script phase before) (length (nodes_of before)) (node_of performer) _ low was)
   objections-did phase script before performer Done (RaiseObjection count) next was =
-      either (is_of_phase phase (act_phase before)) (settled-kept (now_of before) _ (objections_of phase before) (raised (node_of performer) count (objections_of phase before)) (stay.raised (node_of performer) count (objections_of phase before)) ((grow.1 (objections_of phase before) was.are_nodes).raised (now_of before) (node_of performer) count).nodes was) was
+      either (is_of_phase phase (act_phase before)) (settled-kept (now_of before) _ (objections_of script phase before) (raised (node_of performer) count (objections_of script phase before)) (stay.raised (node_of performer) count (objections_of script phase before)) ((grow.1 (objections_of script phase before) was.are_nodes).raised (now_of before) (node_of performer) count).nodes was) was
   objections-did phase script before performer Done (DropObjection count) next was =
-      either (is_of_phase phase (act_phase before)) (settled-kept (now_of before) _ (objections_of phase before) (dropped (node_of performer) count (objections_of phase before)) (stay.dropped (node_of performer) count (objections_of phase before)) ((grow.1 (objections_of phase before) was.are_nodes).dropped (now_of before) (node_of performer) count).nodes was) was
+      either (is_of_phase phase (act_phase before)) (settled-kept (now_of before) _ (objections_of script phase before) (dropped (node_of performer) count (objections_of script phase before)) (stay.dropped (node_of performer) count (objections_of script phase before)) ((grow.1 (objections_of script phase before) was.are_nodes).dropped (now_of before) (node_of performer) count).nodes was) was
   objections-did phase script before performer Done (SetDrain ticks) next was =
-      let same = stay.with_drain (node_of performer) ticks (objections_of phase before) in
-      either (is_of_phase phase (act_phase before) || not (in_task (act_phase before))) (kept (objections_of phase before) (with_drain (node_of performer) ticks (objections_of phase before)) _ same (same-length (objections_of phase before) _ same) ((grow.1 (objections_of phase before) was.are_nodes).with_drain (node_of performer) ticks).nodes was) was
+      let same = stay.with_drain (node_of performer) ticks (objections_of script phase before) in
+      either (is_of_phase phase (act_phase before) || not (in_task (act_phase before))) (kept (objections_of script phase before) (with_drain (node_of performer) ticks (objections_of script phase before)) _ same (same-length (objections_of script phase before) _ same) ((grow.1 (objections_of script phase before) was.are_nodes).with_drain (node_of performer) ticks).nodes was) was
   objections-did phase script before performer outcome act next was = was
 
-  objections-more : (phase : Phase) (script : ScriptValue) (before : List Entry) (entry : Entry) → IsNext script before entry → AreObjections (objections_of phase before) (length (nodes_of before)) → AreObjections (objections_of phase (entry ∷ before)) (length (nodes_of (entry ∷ before)))
+  objections-more : (phase : Phase) (script : ScriptValue) (before : List Entry) (entry : Entry) → IsNext script before entry → AreObjections (objections_of script phase before) (length (nodes_of before)) → AreObjections (objections_of script phase (entry ∷ before)) (length (nodes_of (entry ∷ before)))
   objections-more phase script before (Did performer outcome act) next was = objections-did phase script before performer outcome act next was
   objections-more phase script before (Drained node origin) next was =
-      either (same_phase origin.phase phase) (settled-kept (now_of before) _ (objections_of phase before) (released node (objections_of phase before)) (stay.released node (objections_of phase before)) ((grow.1 (objections_of phase before) was.are_nodes).released (now_of before) node).nodes was) was
+      either (same_phase origin.phase phase) (settled-kept (now_of before) _ (objections_of script phase before) (released node (objections_of script phase before)) (stay.released node (objections_of script phase before)) ((grow.1 (objections_of script phase before) was.are_nodes).released (now_of before) node).nodes was) was
   objections-more phase script before entry next was = was
 
-  pub objections-are : (phase : Phase) (script : ScriptValue) (history : List Entry) → EachIsNext script history → AreObjections (objections_of phase history) (length (nodes_of history))
+  pub objections-are : (phase : Phase) (script : ScriptValue) (history : List Entry) → EachIsNext script history → AreObjections (objections_of script phase history) (length (nodes_of history))
   objections-are phase script [] each = record { are_nodes = grow.0; all = refl; known = λ n. one n (0 == n) refl }
     where
       one : (n : ℕ) (b : Bool) → (0 == n) ≡ b → is_known n (top ∷ []) ≡ nat_lt n 1
@@ -268,17 +276,17 @@ first-none : (a b : Bool) → (a || b) ≡ false → a ≡ false
 first-none true b e = cc
 first-none false b e = refl
 
-own-quiet : (phase : Phase) (history : List Entry) → is_task phase ≡ true → is_kept phase history ≡ false → stands (objections_of phase history) ≡ false
+own-quiet : (script : ScriptValue) (phase : Phase) (history : List Entry) → is_task phase ≡ true → is_kept script phase history ≡ false → stands (objections_of script phase history) ≡ false
 unfolding is_kept
-own-quiet Build history task quiet = cc
-own-quiet Connect history task quiet = cc
-own-quiet EndOfElaboration history task quiet = cc
-own-quiet StartOfSimulation history task quiet = cc
-own-quiet Extract history task quiet = cc
-own-quiet Check history task quiet = cc
-own-quiet Report history task quiet = cc
-own-quiet Final history task quiet = cc
-own-quiet phase history task quiet = first-none (stands (objections_of phase history)) _ quiet
+own-quiet script Build history task quiet = cc
+own-quiet script Connect history task quiet = cc
+own-quiet script EndOfElaboration history task quiet = cc
+own-quiet script StartOfSimulation history task quiet = cc
+own-quiet script Extract history task quiet = cc
+own-quiet script Check history task quiet = cc
+own-quiet script Report history task quiet = cc
+own-quiet script Final history task quiet = cc
+own-quiet script phase history task quiet = first-none (stands (objections_of script phase history)) _ quiet
 
 -- so none stands where it ends
 ending-case : (script : ScriptValue) (history : List Entry) (phase : Phase) (next : Next) → next ≡ Exactly (End phase) → Case script history next → IsEnding script history phase
@@ -296,6 +304,6 @@ pub quiet_end : PlacesStay → NodesGrow → TotalIsSum → QuietEnd
 quiet_end stay grow sums script later before phase node legal takes =
     let each = older-each script later (End phase ∷ before) legal.each in
     let ending = ending-case script before phase (next_of script before) (end-alone phase (next_of script before) each.0) (case-of script before) in
-    let quiet : stands (objections_of phase before) ≡ false = own-quiet phase before takes ending.quiet in
-    let none : standing (objections_of phase before) ≡ 0 = grind (arith, nat_tests, quiet) in
-    quiet-at sums (objections_of phase before) (objections-are stay grow phase script before each.1).are_nodes none node
+    let quiet : stands (objections_of script phase before) ≡ false = own-quiet script phase before takes ending.quiet in
+    let none : standing (objections_of script phase before) ≡ 0 = grind (arith, nat_tests, quiet) in
+    quiet-at sums (objections_of script phase before) (objections-are stay grow phase script before each.1).are_nodes none node

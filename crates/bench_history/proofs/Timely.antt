@@ -54,25 +54,25 @@ pub record IsCallTime (history : List Entry) (cause : Cause) (time : ℕ) : Type
   pub time_is : time ≡ call_time entry (now_of before)
 
 -- an event is due at the time that its cause gave it
-abbrev IsTimedBy : List Entry → Phase → Cause → ℕ → Owner → Option Call → Type 0
-IsTimedBy history phase cause time owner (Some call) = IsCallTime history cause time
-IsTimedBy history phase cause time (Drain node of) None = IsDrainTime history phase node cause time
-IsTimedBy history phase cause time (Object who) None = ⊥
+abbrev IsTimedBy : ScriptValue → List Entry → Phase → Cause → ℕ → Owner → Option Call → Type 0
+IsTimedBy script history phase cause time owner (Some call) = IsCallTime history cause time
+IsTimedBy script history phase cause time (Drain node of) None = IsDrainTime script history phase node cause time
+IsTimedBy script history phase cause time (Object who) None = ⊥
 
-abbrev IsTimed : List Entry → Event → Type 0
-IsTimed history event = IsTimedBy history event.phase event.cause event.time event.owner event.notice
+abbrev IsTimed : ScriptValue → List Entry → Event → Type 0
+IsTimed script history event = IsTimedBy script history event.phase event.cause event.time event.owner event.notice
 
 -- and so it stays
 at-later : (new : Entry) (history : List Entry) (cause : Cause) (entry : Entry) (before : List Entry) → IsAtCause history cause entry before → IsAtCause (new ∷ history) cause entry before
 at-later new history cause entry before at = record { later = new ∷ at.later; splits = ap (λ log. new ∷ log) at.splits; place = at.place }
 
-timed-later : (new : Entry) (history : List Entry) (phase : Phase) (cause : Cause) (time : ℕ) (owner : Owner) (notice : Option Call) → IsTimedBy history phase cause time owner notice → IsTimedBy (new ∷ history) phase cause time owner notice
-timed-later new history phase cause time owner (Some call) t = record { entry = t.entry; before = t.before; at = at-later new history cause t.entry t.before t.at; time_is = t.time_is }
-timed-later new history phase cause time (Drain node of) None t = record { entry = t.entry; before = t.before; at = at-later new history cause t.entry t.before t.at; none_held = t.none_held; holds = t.holds; time_is = t.time_is }
-timed-later new history phase cause time (Object who) None t = absurd t
+timed-later : (script : ScriptValue) (new : Entry) (history : List Entry) (phase : Phase) (cause : Cause) (time : ℕ) (owner : Owner) (notice : Option Call) → IsTimedBy script history phase cause time owner notice → IsTimedBy script (new ∷ history) phase cause time owner notice
+timed-later script new history phase cause time owner (Some call) t = record { entry = t.entry; before = t.before; at = at-later new history cause t.entry t.before t.at; time_is = t.time_is }
+timed-later script new history phase cause time (Drain node of) None t = record { entry = t.entry; before = t.before; at = at-later new history cause t.entry t.before t.at; none_held = t.none_held; holds = t.holds; time_is = t.time_is }
+timed-later script new history phase cause time (Object who) None t = absurd t
 
-all-later : (new : Entry) (history : List Entry) (events : List Event) → All (IsTimed history) events → All (IsTimed (new ∷ history)) events
-all-later new history events all = All-weaker (IsTimed history) (IsTimed (new ∷ history)) (λ event. timed-later new history event.phase event.cause event.time event.owner event.notice) events all
+all-later : (script : ScriptValue) (new : Entry) (history : List Entry) (events : List Event) → All (IsTimed script history) events → All (IsTimed script (new ∷ history)) events
+all-later script new history events all = All-weaker (IsTimed script history) (IsTimed script (new ∷ history)) (λ event. timed-later script new history event.phase event.cause event.time event.owner event.notice) events all
 
 -- what the newest entry causes
 at-newest : (entry : Entry) (before : List Entry) (number : ℕ) → IsAtCause (entry ∷ before) (record { place = length before; number = number }) entry before
@@ -81,25 +81,25 @@ at-newest entry before number = record { later = []; splits = refl; place = refl
 call-newest : (entry : Entry) (before : List Entry) (number time : ℕ) → time ≡ call_time entry (now_of before) → IsCallTime (entry ∷ before) (record { place = length before; number = number }) time
 call-newest entry before number time is = record { entry = entry; before = before; at = at-newest entry before number; time_is = is }
 
-event-timed : (history : List Entry) (phase : Option Phase) (time : ℕ) (cause : Cause) (owner : Owner) (notice : Option Call) → ((one : Phase) → IsTimedBy history one cause time owner notice) → All (IsTimed history) (event_in phase time cause owner notice)
-event-timed history None time cause owner notice t = All-nil (IsTimed history)
-event-timed history (Some phase) time cause owner notice t = All-cons (IsTimed history) _ [] (t phase) (All-nil (IsTimed history))
+event-timed : (script : ScriptValue) (history : List Entry) (phase : Option Phase) (time : ℕ) (cause : Cause) (owner : Owner) (notice : Option Call) → ((one : Phase) → IsTimedBy script history one cause time owner notice) → All (IsTimed script history) (event_in phase time cause owner notice)
+event-timed script history None time cause owner notice t = All-nil (IsTimed script history)
+event-timed script history (Some phase) time cause owner notice t = All-cons (IsTimed script history) _ [] (t phase) (All-nil (IsTimed script history))
 
-due-timed : (history : List Entry) (notice : Option Call) (performer : Who) (phase : Option Phase) (time : ℕ) (cause : Cause) → ((call : Call) → notice ≡ Some call → IsCallTime history cause time) → All (IsTimed history) (due_from notice performer phase time cause)
-due-timed history None performer phase time cause t = All-nil (IsTimed history)
-due-timed history (Some call) performer phase time cause t = event-timed history phase time cause (Object performer) (Some call) (λ one. t call refl)
+due-timed : (script : ScriptValue) (history : List Entry) (notice : Option Call) (performer : Who) (phase : Option Phase) (time : ℕ) (cause : Cause) → ((call : Call) → notice ≡ Some call → IsCallTime history cause time) → All (IsTimed script history) (due_from notice performer phase time cause)
+due-timed script history None performer phase time cause t = All-nil (IsTimed script history)
+due-timed script history (Some call) performer phase time cause t = event-timed script history phase time cause (Object performer) (Some call) (λ one. t call refl)
 
 numbered-timed :
-    (entry : Entry) (before : List Entry) (number : ℕ) (calls : List Told) → now_of before ≡ call_time entry (now_of before)
-    → All (IsTimed (entry ∷ before)) (calls_numbered (now_of before) (length before) number calls)
-numbered-timed entry before number [] is = All-nil _
-numbered-timed entry before number (told ∷ calls) is =
-    All-append (IsTimed (entry ∷ before)) (calls_numbered (now_of before) (length before) (suc number) calls) _ (numbered-timed entry before (suc number) calls is)
-    (event-timed (entry ∷ before) told.phase (now_of before) (record { place = length before; number = number }) (Object told.who) (Some told.call) (λ one. call-newest entry before number (now_of before) is))
+    (script : ScriptValue) (entry : Entry) (before : List Entry) (number : ℕ) (calls : List Told) → now_of before ≡ call_time entry (now_of before)
+    → All (IsTimed script (entry ∷ before)) (calls_numbered (now_of before) (length before) number calls)
+numbered-timed script entry before number [] is = All-nil _
+numbered-timed script entry before number (told ∷ calls) is =
+    All-append (IsTimed script (entry ∷ before)) (calls_numbered (now_of before) (length before) (suc number) calls) _ (numbered-timed script entry before (suc number) calls is)
+    (event-timed script (entry ∷ before) told.phase (now_of before) (record { place = length before; number = number }) (Object told.who) (Some told.call) (λ one. call-newest entry before number (now_of before) is))
 
-told-timed : (before : List Entry) (performer : Who) (outcome : Outcome) (act : Act) → All (IsTimed (Did performer outcome act ∷ before)) (calls_numbered (now_of before) (length before) 0 (calls_told before performer outcome act))
-told-timed before performer Done (Wait ticks tag) = All-nil _
-told-timed before performer outcome act = numbered-timed (Did performer outcome act) before 0 (calls_told before performer outcome act) refl
+told-timed : (script : ScriptValue) (before : List Entry) (performer : Who) (outcome : Outcome) (act : Act) → All (IsTimed script (Did performer outcome act ∷ before)) (calls_numbered (now_of before) (length before) 0 (calls_told before performer outcome act))
+told-timed script before performer Done (Wait ticks tag) = All-nil _
+told-timed script before performer outcome act = numbered-timed script (Did performer outcome act) before 0 (calls_told before performer outcome act) refl
 
 due-time : (performer : Who) (outcome : Outcome) (act : Act) (now : ℕ) (call : Call) → told_by outcome act ≡ Some call → due_after now act ≡ call_time (Did performer outcome act) now
 due-time performer Done (Wait ticks tag) now call e = refl
@@ -108,9 +108,9 @@ due-time performer (Waits false) (Wait ticks tag) now call e = cc
 due-time performer outcome (Wait ticks tag) now call e = cc
 due-time performer outcome act now call e = refl
 
-from-timed : (before : List Entry) (performer : Who) (outcome : Outcome) (act : Act) → All (IsTimed (Did performer outcome act ∷ before)) (calls_from outcome act performer (act_phase before) (now_of before) (length before))
-from-timed before performer outcome act =
-    due-timed (Did performer outcome act ∷ before) (told_by outcome act) performer (act_phase before) (due_after (now_of before) act) (caused_at (length before))
+from-timed : (script : ScriptValue) (before : List Entry) (performer : Who) (outcome : Outcome) (act : Act) → All (IsTimed script (Did performer outcome act ∷ before)) (calls_from outcome act performer (act_phase before) (now_of before) (length before))
+from-timed script before performer outcome act =
+    due-timed script (Did performer outcome act ∷ before) (told_by outcome act) performer (act_phase before) (due_after (now_of before) act) (caused_at (length before))
     (λ call e. call-newest (Did performer outcome act) before 0 (due_after (now_of before) act) (due-time performer outcome act (now_of before) call e))
 
 -- a drain that begins is due once its drain time is over
@@ -184,104 +184,104 @@ module _ (goes : SettledGoByTotals) (held_are : BegunDrainsAreHeld) where
       tested true false is rest = rest
       tested false holds is rest = rest
 
-  abbrev IsBegun : Phase → Entry → List Entry → drain.Due → Type 0
-  IsBegun phase entry before begun = IsDrainTime (entry ∷ before) phase begun.node (caused_at (length before)) begun.at
+  abbrev IsBegun : ScriptValue → Phase → Entry → List Entry → drain.Due → Type 0
+  IsBegun script phase entry before begun = IsDrainTime script (entry ∷ before) phase begun.node (caused_at (length before)) begun.at
 
   begun-at :
-      (phase : Phase) (entry : Entry) (before : List Entry) (changed : List objection.Node) → IsChanged (objections_of phase before) changed → objections_of phase (entry ∷ before) ≡ settled (now_of before) (total (objections_of phase before)) changed
-      → (begun : drain.Due) → IsHeldUntilDue (objections_of phase (entry ∷ before)) begun → held_of begun.node (objections_of phase before) ≡ 0 → begun.at ≡ now_of before + drain_of begun.node (objections_of phase before)
-  begun-at phase entry before changed by is begun h none =
-      let g = goes (now_of before) (total (objections_of phase before)) changed begun.node in
+      (script : ScriptValue) (phase : Phase) (entry : Entry) (before : List Entry) (changed : List objection.Node) → IsChanged (objections_of script phase before) changed → objections_of script phase (entry ∷ before) ≡ settled (now_of before) (total (objections_of script phase before)) changed
+      → (begun : drain.Due) → IsHeldUntilDue (objections_of script phase (entry ∷ before)) begun → held_of begun.node (objections_of script phase before) ≡ 0 → begun.at ≡ now_of before + drain_of begun.node (objections_of script phase before)
+  begun-at script phase entry before changed by is begun h none =
+      let g = goes (now_of before) (total (objections_of script phase before)) changed begun.node in
       let held_is = rw is at h.held in
       let due_is = rw is at h.due in
       let holds = rw g.held at held_is in
-      let due = begins-due (now_of before) (total (objections_of phase before) begun.node) (total (settled (now_of before) (total (objections_of phase before)) changed) begun.node) (drain_of begun.node changed) (due_of begun.node changed) (held_of begun.node changed) (by.none begun.node none) holds in
+      let due = begins-due (now_of before) (total (objections_of script phase before) begun.node) (total (settled (now_of before) (total (objections_of script phase before)) changed) begun.node) (drain_of begun.node changed) (due_of begun.node changed) (held_of begun.node changed) (by.none begun.node none) holds in
       sym due_is ∙ g.due ∙ due ∙ ap (λ (n : ℕ). now_of before + n) (by.drains begun.node)
 
   begun-each :
-      (phase : Phase) (entry : Entry) (before : List Entry) (P : drain.Due → Type 0) → ((begun : drain.Due) → IsHeldUntilDue (objections_of phase (entry ∷ before)) begun → held_of begun.node (objections_of phase before) ≡ 0 → P begun)
-      → AreNodes (objections_of phase (entry ∷ before)) → All P (drains_begun (objections_of phase before) (objections_of phase (entry ∷ before)))
-  begun-each phase entry before P one are =
-      both-hold (IsHeldUntilDue (objections_of phase (entry ∷ before))) (λ (begun : drain.Due). held_of begun.node (objections_of phase before) ≡ 0) P (drains_begun (objections_of phase before) (objections_of phase (entry ∷ before)))
-      one (held_are (objections_of phase before) (objections_of phase (entry ∷ before)) are) (begun-none (objections_of phase before) (objections_of phase (entry ∷ before)))
+      (script : ScriptValue) (phase : Phase) (entry : Entry) (before : List Entry) (P : drain.Due → Type 0) → ((begun : drain.Due) → IsHeldUntilDue (objections_of script phase (entry ∷ before)) begun → held_of begun.node (objections_of script phase before) ≡ 0 → P begun)
+      → AreNodes (objections_of script phase (entry ∷ before)) → All P (drains_begun (objections_of script phase before) (objections_of script phase (entry ∷ before)))
+  begun-each script phase entry before P one are =
+      both-hold (IsHeldUntilDue (objections_of script phase (entry ∷ before))) (λ (begun : drain.Due). held_of begun.node (objections_of script phase before) ≡ 0) P (drains_begun (objections_of script phase before) (objections_of script phase (entry ∷ before)))
+      one (held_are (objections_of script phase before) (objections_of script phase (entry ∷ before)) are) (begun-none (objections_of script phase before) (objections_of script phase (entry ∷ before)))
 
   begun-timed :
-      (phase : Phase) (entry : Entry) (before : List Entry) (changed : List objection.Node) → IsChanged (objections_of phase before) changed → objections_of phase (entry ∷ before) ≡ settled (now_of before) (total (objections_of phase before)) changed
-      → AreNodes (objections_of phase (entry ∷ before)) → All (IsBegun phase entry before) (drains_begun (objections_of phase before) (objections_of phase (entry ∷ before)))
-  begun-timed phase entry before changed by is are =
-      begun-each phase entry before (IsBegun phase entry before)
-      (λ begun h none. record { entry = entry; before = before; at = at-newest entry before 0; none_held = none; holds = h.held; time_is = begun-at phase entry before changed by is begun h none }) are
+      (script : ScriptValue) (phase : Phase) (entry : Entry) (before : List Entry) (changed : List objection.Node) → IsChanged (objections_of script phase before) changed → objections_of script phase (entry ∷ before) ≡ settled (now_of before) (total (objections_of script phase before)) changed
+      → AreNodes (objections_of script phase (entry ∷ before)) → All (IsBegun script phase entry before) (drains_begun (objections_of script phase before) (objections_of script phase (entry ∷ before)))
+  begun-timed script phase entry before changed by is are =
+      begun-each script phase entry before (IsBegun script phase entry before)
+      (λ begun h none. record { entry = entry; before = before; at = at-newest entry before 0; none_held = none; holds = h.held; time_is = begun-at script phase entry before changed by is begun h none }) are
 
   -- so it is due no earlier than now
   pub begun-ahead :
-      (phase : Phase) (entry : Entry) (before : List Entry) (changed : List objection.Node) → IsChanged (objections_of phase before) changed → objections_of phase (entry ∷ before) ≡ settled (now_of before) (total (objections_of phase before)) changed
-      → AreNodes (objections_of phase (entry ∷ before)) → All (λ (begun : drain.Due). now_of before ≤ begun.at) (drains_begun (objections_of phase before) (objections_of phase (entry ∷ before)))
-  begun-ahead phase entry before changed by is are =
-      begun-each phase entry before (λ (begun : drain.Due). now_of before ≤ begun.at) (λ begun h none. let at = begun-at phase entry before changed by is begun h none in omega (arith, at)) are
+      (script : ScriptValue) (phase : Phase) (entry : Entry) (before : List Entry) (changed : List objection.Node) → IsChanged (objections_of script phase before) changed → objections_of script phase (entry ∷ before) ≡ settled (now_of before) (total (objections_of script phase before)) changed
+      → AreNodes (objections_of script phase (entry ∷ before)) → All (λ (begun : drain.Due). now_of before ≤ begun.at) (drains_begun (objections_of script phase before) (objections_of script phase (entry ∷ before)))
+  begun-ahead script phase entry before changed by is are =
+      begun-each script phase entry before (λ (begun : drain.Due). now_of before ≤ begun.at) (λ begun h none. let at = begun-at script phase entry before changed by is begun h none in omega (arith, at)) are
 
-  abbrev IsDrainedBy : Phase → List Entry → Cause → drain.Due → Type 0
-  IsDrainedBy phase history cause begun = IsDrainTime history phase begun.node cause begun.at
+  abbrev IsDrainedBy : ScriptValue → Phase → List Entry → Cause → drain.Due → Type 0
+  IsDrainedBy script phase history cause begun = IsDrainTime script history phase begun.node cause begun.at
 
-  drains-timed : (history : List Entry) (phase : Phase) (cause : Cause) (begun : List drain.Due) → All (IsDrainedBy phase history cause) begun → All (IsTimed history) (flat_map (drain_from phase cause) begun)
-  drains-timed history phase cause [] all = All-nil _
-  drains-timed history phase cause (first ∷ begun) all =
-      All-append (IsTimed history) (drain_from phase cause first) (flat_map (drain_from phase cause) begun) (All-cons (IsTimed history) _ [] (All-head (IsDrainedBy phase history cause) first begun all) (All-nil (IsTimed history)))
-      (drains-timed history phase cause begun (All-tail (IsDrainedBy phase history cause) first begun all))
+  drains-timed : (script : ScriptValue) (history : List Entry) (phase : Phase) (cause : Cause) (begun : List drain.Due) → All (IsDrainedBy script phase history cause) begun → All (IsTimed script history) (flat_map (drain_from phase cause) begun)
+  drains-timed script history phase cause [] all = All-nil _
+  drains-timed script history phase cause (first ∷ begun) all =
+      All-append (IsTimed script history) (drain_from phase cause first) (flat_map (drain_from phase cause) begun) (All-cons (IsTimed script history) _ [] (All-head (IsDrainedBy script phase history cause) first begun all) (All-nil (IsTimed script history)))
+      (drains-timed script history phase cause begun (All-tail (IsDrainedBy script phase history cause) first begun all))
 
   with-timed :
-      (phase : Phase) (entry : Entry) (before : List Entry) (changed : List objection.Node) → IsChanged (objections_of phase before) changed → objections_of phase (entry ∷ before) ≡ settled (now_of before) (total (objections_of phase before)) changed → AreNodes (objections_of phase (entry ∷ before))
-      → All (IsTimed before) (caused_of before) → All (IsTimed (entry ∷ before)) (with_drains phase (caused_at (length before)) (objections_of phase before) (objections_of phase (entry ∷ before)) (caused_of before))
-  with-timed phase entry before changed by is are all =
-      let earlier = objections_of phase before in
-      let after = objections_of phase (entry ∷ before) in
-      All-append (IsTimed (entry ∷ before)) (flat_map (drain_from phase (caused_at (length before))) (drains_begun earlier after)) _
-      (drains-timed (entry ∷ before) phase (caused_at (length before)) (drains_begun earlier after) (begun-timed phase entry before changed by is are))
-      (All-filter (λ (event : Event). not (is_drain_of phase (drains_ended earlier after) event.owner)) (IsTimed (entry ∷ before)) (caused_of before) (all-later entry before (caused_of before) all))
+      (script : ScriptValue) (phase : Phase) (entry : Entry) (before : List Entry) (changed : List objection.Node) → IsChanged (objections_of script phase before) changed → objections_of script phase (entry ∷ before) ≡ settled (now_of before) (total (objections_of script phase before)) changed → AreNodes (objections_of script phase (entry ∷ before))
+      → All (IsTimed script before) (caused_of script before) → All (IsTimed script (entry ∷ before)) (with_drains phase (caused_at (length before)) (objections_of script phase before) (objections_of script phase (entry ∷ before)) (caused_of script before))
+  with-timed script phase entry before changed by is are all =
+      let earlier = objections_of script phase before in
+      let after = objections_of script phase (entry ∷ before) in
+      All-append (IsTimed script (entry ∷ before)) (flat_map (drain_from phase (caused_at (length before))) (drains_begun earlier after)) _
+      (drains-timed script (entry ∷ before) phase (caused_at (length before)) (drains_begun earlier after) (begun-timed script phase entry before changed by is are))
+      (All-filter (λ (event : Event). not (is_drain_of phase (drains_ended earlier after) event.owner)) (IsTimed script (entry ∷ before)) (caused_of script before) (all-later script entry before (caused_of script before) all))
 
   moved-timed :
-      (before : List Entry) (performer : Who) (outcome : Outcome) (act : Act) → ((phase : Phase) → AreNodes (objections_of phase (Did performer outcome act ∷ before))) → All (IsTimed before) (caused_of before)
-      → All (IsTimed (Did performer outcome act ∷ before)) (if moves_drains outcome act then with_drains_of (act_phase before) (Did performer outcome act) before (caused_of before) else caused_of before)
-  moved-timed before performer Done (RaiseObjection count) are all = by (act_phase before) refl
+      (script : ScriptValue) (before : List Entry) (performer : Who) (outcome : Outcome) (act : Act) → ((phase : Phase) → AreNodes (objections_of script phase (Did performer outcome act ∷ before))) → All (IsTimed script before) (caused_of script before)
+      → All (IsTimed script (Did performer outcome act ∷ before)) (if moves_drains outcome act then with_drains_of script (act_phase before) (Did performer outcome act) before (caused_of script before) else caused_of script before)
+  moved-timed script before performer Done (RaiseObjection count) are all = by (act_phase before) refl
     where
       entry : Entry
       entry = Did performer Done (RaiseObjection count)
 
-      by : (phase : Option Phase) → act_phase before ≡ phase → All (IsTimed (entry ∷ before)) (with_drains_of phase entry before (caused_of before))
-      by None is = all-later entry before (caused_of before) all
-      by (Some phase) is = with-timed phase entry before (raised (node_of performer) count (objections_of phase before)) (raised-is (node_of performer) count (objections_of phase before)) (rw (is, same-itself phase) refl) (are phase) all
-  moved-timed before performer Done (DropObjection count) are all = by (act_phase before) refl
+      by : (phase : Option Phase) → act_phase before ≡ phase → All (IsTimed script (entry ∷ before)) (with_drains_of script phase entry before (caused_of script before))
+      by None is = all-later script entry before (caused_of script before) all
+      by (Some phase) is = with-timed script phase entry before (raised (node_of performer) count (objections_of script phase before)) (raised-is (node_of performer) count (objections_of script phase before)) (rw (is, same-itself phase) refl) (are phase) all
+  moved-timed script before performer Done (DropObjection count) are all = by (act_phase before) refl
     where
       entry : Entry
       entry = Did performer Done (DropObjection count)
 
-      by : (phase : Option Phase) → act_phase before ≡ phase → All (IsTimed (entry ∷ before)) (with_drains_of phase entry before (caused_of before))
-      by None is = all-later entry before (caused_of before) all
-      by (Some phase) is = with-timed phase entry before (dropped (node_of performer) count (objections_of phase before)) (dropped-is (node_of performer) count (objections_of phase before)) (rw (is, same-itself phase) refl) (are phase) all
-  moved-timed before performer outcome act are all = all-later (Did performer outcome act) before (caused_of before) all
+      by : (phase : Option Phase) → act_phase before ≡ phase → All (IsTimed script (entry ∷ before)) (with_drains_of script phase entry before (caused_of script before))
+      by None is = all-later script entry before (caused_of script before) all
+      by (Some phase) is = with-timed script phase entry before (dropped (node_of performer) count (objections_of script phase before)) (dropped-is (node_of performer) count (objections_of script phase before)) (rw (is, same-itself phase) refl) (are phase) all
+  moved-timed script before performer outcome act are all = all-later script (Did performer outcome act) before (caused_of script before) all
 
   -- each entry keeps it so
-  timed-more : (entry : Entry) (before : List Entry) → ((phase : Phase) → AreNodes (objections_of phase (entry ∷ before))) → All (IsTimed before) (caused_of before) → All (IsTimed (entry ∷ before)) (caused_of (entry ∷ before))
-  timed-more (Did performer outcome act) before are all =
-      All-append (IsTimed (Did performer outcome act ∷ before)) (calls_numbered (now_of before) (length before) 0 (calls_told before performer outcome act)) _ (told-timed before performer outcome act)
-      (All-append (IsTimed (Did performer outcome act ∷ before)) (calls_from outcome act performer (act_phase before) (now_of before) (length before)) _ (from-timed before performer outcome act) (moved-timed before performer outcome act are all))
-  timed-more (Passed fifo passage) before are all =
-      All-append (IsTimed (Passed fifo passage ∷ before)) (due_from (Some (told_of passage.kind passage)) passage.who (Some passage.phase) (now_of before) (caused_at (length before))) (caused_of before)
-      (due-timed (Passed fifo passage ∷ before) (Some (told_of passage.kind passage)) passage.who (Some passage.phase) (now_of before) (caused_at (length before)) (λ call e. call-newest (Passed fifo passage) before 0 (now_of before) refl)) (all-later (Passed fifo passage) before (caused_of before) all)
-  timed-more (Locked node id) before are all =
-      All-append (IsTimed (Locked node id ∷ before)) (due_from (Some call.Held) (who.Sequence id node) (phase_begun before id) (now_of before) (caused_at (length before))) (caused_of before)
-      (due-timed (Locked node id ∷ before) (Some call.Held) (who.Sequence id node) (phase_begun before id) (now_of before) (caused_at (length before)) (λ call e. call-newest (Locked node id) before 0 (now_of before) refl)) (all-later (Locked node id) before (caused_of before) all)
-  timed-more (Granted node grant) before are all =
-      All-append (IsTimed (Granted node grant ∷ before)) (due_from (Some call.Grant) (who.Sequence grant.id node) (phase_begun before grant.id) (now_of before) (caused_at (length before))) (caused_of before)
-      (due-timed (Granted node grant ∷ before) (Some call.Grant) (who.Sequence grant.id node) (phase_begun before grant.id) (now_of before) (caused_at (length before)) (λ call e. call-newest (Granted node grant) before 0 (now_of before) refl)) (all-later (Granted node grant) before (caused_of before) all)
-  timed-more (End phase) before are all =
-      All-append (IsTimed (End phase ∷ before)) (calls_numbered (now_of before) (length before) 0 (lapsed_with phase before)) (caused_of before)
-      (numbered-timed (End phase) before 0 (lapsed_with phase before) refl) (all-later (End phase) before (caused_of before) all)
-  timed-more (Drained node origin) before are all = with-timed origin.phase (Drained node origin) before (released node (objections_of origin.phase before)) (released-is node (objections_of origin.phase before)) (rw (same-itself origin.phase) refl) (are origin.phase) all
-  timed-more entry before are all = all-later entry before (caused_of before) all
+  timed-more : (script : ScriptValue) (entry : Entry) (before : List Entry) → ((phase : Phase) → AreNodes (objections_of script phase (entry ∷ before))) → All (IsTimed script before) (caused_of script before) → All (IsTimed script (entry ∷ before)) (caused_of script (entry ∷ before))
+  timed-more script (Did performer outcome act) before are all =
+      All-append (IsTimed script (Did performer outcome act ∷ before)) (calls_numbered (now_of before) (length before) 0 (calls_told before performer outcome act)) _ (told-timed script before performer outcome act)
+      (All-append (IsTimed script (Did performer outcome act ∷ before)) (calls_from outcome act performer (act_phase before) (now_of before) (length before)) _ (from-timed script before performer outcome act) (moved-timed script before performer outcome act are all))
+  timed-more script (Passed fifo passage) before are all =
+      All-append (IsTimed script (Passed fifo passage ∷ before)) (due_from (Some (told_of passage.kind passage)) passage.who (Some passage.phase) (now_of before) (caused_at (length before))) (caused_of script before)
+      (due-timed script (Passed fifo passage ∷ before) (Some (told_of passage.kind passage)) passage.who (Some passage.phase) (now_of before) (caused_at (length before)) (λ call e. call-newest (Passed fifo passage) before 0 (now_of before) refl)) (all-later script (Passed fifo passage) before (caused_of script before) all)
+  timed-more script (Locked node id) before are all =
+      All-append (IsTimed script (Locked node id ∷ before)) (due_from (Some call.Held) (who.Sequence id node) (phase_begun before id) (now_of before) (caused_at (length before))) (caused_of script before)
+      (due-timed script (Locked node id ∷ before) (Some call.Held) (who.Sequence id node) (phase_begun before id) (now_of before) (caused_at (length before)) (λ call e. call-newest (Locked node id) before 0 (now_of before) refl)) (all-later script (Locked node id) before (caused_of script before) all)
+  timed-more script (Granted node grant) before are all =
+      All-append (IsTimed script (Granted node grant ∷ before)) (due_from (Some call.Grant) (who.Sequence grant.id node) (phase_begun before grant.id) (now_of before) (caused_at (length before))) (caused_of script before)
+      (due-timed script (Granted node grant ∷ before) (Some call.Grant) (who.Sequence grant.id node) (phase_begun before grant.id) (now_of before) (caused_at (length before)) (λ call e. call-newest (Granted node grant) before 0 (now_of before) refl)) (all-later script (Granted node grant) before (caused_of script before) all)
+  timed-more script (End phase) before are all =
+      All-append (IsTimed script (End phase ∷ before)) (calls_numbered (now_of before) (length before) 0 (lapsed_with phase before)) (caused_of script before)
+      (numbered-timed script (End phase) before 0 (lapsed_with phase before) refl) (all-later script (End phase) before (caused_of script before) all)
+  timed-more script (Drained node origin) before are all = with-timed script origin.phase (Drained node origin) before (released node (objections_of script origin.phase before)) (released-is node (objections_of script origin.phase before)) (rw (same-itself origin.phase) refl) (are origin.phase) all
+  timed-more script entry before are all = all-later script entry before (caused_of script before) all
 
-  timed-of : PlacesStay → NodesGrow → (script : ScriptValue) (history : List Entry) → EachIsNext script history → All (IsTimed history) (caused_of history)
+  timed-of : PlacesStay → NodesGrow → (script : ScriptValue) (history : List Entry) → EachIsNext script history → All (IsTimed script history) (caused_of script history)
   timed-of stay grow script [] each = All-nil _
-  timed-of stay grow script (entry ∷ before) each = timed-more entry before (λ phase. (objections-are stay grow phase script (entry ∷ before) each).are_nodes) (timed-of stay grow script before each.1)
+  timed-of stay grow script (entry ∷ before) each = timed-more script entry before (λ phase. (objections-are stay grow phase script (entry ∷ before) each).are_nodes) (timed-of stay grow script before each.1)
 
 -- the first that is due is due no later than any
 before-or-at : (a b : ℕ) (less same : Bool) (rest : Bool) → nat_lt a b ≡ less → (a == b) ≡ same → (less || (same && rest)) ≡ true → a ≤ b
@@ -326,8 +326,8 @@ first-least : (sorted events : List Event) (first : Event) → IsLeast sorted ev
 first-least [] events first least is = cc
 first-least (event ∷ others) events first least is = let same : event ≡ first = cc in subst (λ (one : Event). All (IsFrom one) events) same least
 
-pub passes-over : (script : ScriptValue) (before : List Entry) (time : ℕ) → IsPassing script before time → All (λ event. time ≤ event.time) (due_events before)
-passes-over script before time p = subst (λ (n : ℕ). All (λ (event : Event). n ≤ event.time) (due_events before)) p.time_is (first-least (in_order (due_events before)) (due_events before) p.event (least-of (due_events before)) p.first)
+pub passes-over : (script : ScriptValue) (before : List Entry) (time : ℕ) → IsPassing script before time → All (λ event. time ≤ event.time) (due_events script before)
+passes-over script before time p = subst (λ (n : ℕ). All (λ (event : Event). n ≤ event.time) (due_events script before)) p.time_is (first-least (in_order (due_events script before)) (due_events script before) p.event (least-of (due_events script before)) p.first)
 
 -- what happens is one of those that were caused
 module _ (P : Event → Type 0) where
@@ -347,8 +347,8 @@ module _ (P : Event → Type 0) where
   first-of-all [] first all is = cc
   first-of-all (event ∷ others) first all is = let same : event ≡ first = cc in subst P same (All-head P event others all)
 
-  pub first-caused : (history : List Entry) (first : Event) → All P (caused_of history) → first_due history ≡ Some first → P first
-  first-caused history first all is = first-of-all (in_order (due_events history)) first (order-all (due_events history) (All-filter (is_open (heard_of history) (ended_of history) (finished_of history)) P (caused_of history) all)) is
+  pub first-caused : (script : ScriptValue) (history : List Entry) (first : Event) → All P (caused_of script history) → first_due script history ≡ Some first → P first
+  first-caused script history first all is = first-of-all (in_order (due_events script history)) first (order-all (due_events script history) (All-filter (is_open (heard_of history) (ended_of history) (finished_of history)) P (caused_of script history) all)) is
 
 pub heard-alone : (hearer : Who) (call : Call) (origin : Option Origin) (acts : List Act) (next : Next) → IsPlainNext next → Allows next (Heard hearer call origin acts) → next ≡ Answer hearer call origin
 heard-alone hearer call origin acts (Exactly entry) plain allows = absurd (subst IsPlain (sym allows) plain)
@@ -366,13 +366,13 @@ drained-alone node origin (Need need made performer act) (inr declined) = cc
 drained-alone node origin (Grant sequencer drawn chosen) allows = let e : Drained node origin ≡ Granted sequencer allows.0 = allows.3 in cc
 drained-alone node origin Nothing allows = absurd allows
 
-call-timed : (history : List Entry) (cause : Cause) (call : Call) (time : ℕ) (event : Event) → IsTimed history event → event.notice ≡ Some call → event.cause ≡ cause → event.time ≡ time → IsCallTime history cause time
-call-timed history cause call time event t notice at now = rw (← at, ← now) (subst (IsTimedBy history event.phase event.cause event.time event.owner) notice t)
+call-timed : (script : ScriptValue) (history : List Entry) (cause : Cause) (call : Call) (time : ℕ) (event : Event) → IsTimed script history event → event.notice ≡ Some call → event.cause ≡ cause → event.time ≡ time → IsCallTime history cause time
+call-timed script history cause call time event t notice at now = rw (← at, ← now) (subst (IsTimedBy script history event.phase event.cause event.time event.owner) notice t)
 
-drain-timed : (history : List Entry) (node : ℕ) (cause : Cause) (time : ℕ) (event : Event) (owner : Owner) → IsTimed history event → event.owner ≡ owner → event.notice ≡ None → event.cause ≡ cause → event.time ≡ time → node_of (who_of owner) ≡ node → IsDrainTime history event.phase node cause time
-drain-timed history node cause time event owner t owner_is notice at now stands = by owner (subst (λ (o : Owner). IsTimedBy history event.phase event.cause event.time o None) owner_is (subst (IsTimedBy history event.phase event.cause event.time event.owner) notice t)) stands
+drain-timed : (script : ScriptValue) (history : List Entry) (node : ℕ) (cause : Cause) (time : ℕ) (event : Event) (owner : Owner) → IsTimed script history event → event.owner ≡ owner → event.notice ≡ None → event.cause ≡ cause → event.time ≡ time → node_of (who_of owner) ≡ node → IsDrainTime script history event.phase node cause time
+drain-timed script history node cause time event owner t owner_is notice at now stands = by owner (subst (λ (o : Owner). IsTimedBy script history event.phase event.cause event.time o None) owner_is (subst (IsTimedBy script history event.phase event.cause event.time event.owner) notice t)) stands
   where
-    by : (one : Owner) → IsTimedBy history event.phase event.cause event.time one None → node_of (who_of one) ≡ node → IsDrainTime history event.phase node cause time
+    by : (one : Owner) → IsTimedBy script history event.phase event.cause event.time one None → node_of (who_of one) ≡ node → IsDrainTime script history event.phase node cause time
     by (Object who) t stands = absurd t
     by (Drain other of) t stands = rw (← at, ← now, ← stands) t
 
@@ -383,23 +383,23 @@ pub call-times :
 call-times goes held_are stay grow script later before hearer call origin acts legal =
     let each = older-each script later (Heard hearer call (Some origin) acts ∷ before) legal.each in
     let due = due_calls_go_in_order script before hearer call origin (heard-alone hearer call (Some origin) acts (next_of script before) (plain-next script before) each.0) in
-    call-timed before origin.cause call (now_of before) due.event (first-caused (IsTimed before) before due.event (timed-of goes held_are stay grow script before each.1) due.first) due.notice_is (ap (λ (one : Origin). one.cause) due.origin_is) due.time
+    call-timed script before origin.cause call (now_of before) due.event (first-caused (IsTimed script before) script before due.event (timed-of goes held_are stay grow script before each.1) due.first) due.notice_is (ap (λ (one : Origin). one.cause) due.origin_is) due.time
 
 pub wakes_on_time : (script : ScriptValue) (later before : List Entry) (hearer : Who) (tag : ℕ) (origin : Origin) (acts : List Act) → IsLegal script (later ++ Heard hearer (call.Wake tag) (Some origin) acts ∷ before) → IsWakeTime before hearer tag origin.cause (now_of before)
 wakes_on_time script later before hearer tag origin acts legal =
     let each = older-each script later (Heard hearer (call.Wake tag) (Some origin) acts ∷ before) legal.each in
     let due = due_calls_go_in_order script before hearer (call.Wake tag) origin (heard-alone hearer (call.Wake tag) (Some origin) acts (next_of script before) (plain-next script before) each.0) in
     let cause_is : due.event.cause ≡ origin.cause = ap (λ (one : Origin). one.cause) due.origin_is in
-    rw (← cause_is, ← due.time) (first-caused (IsWoken before) before due.event (woken-of before) due.first hearer tag due.hearer_is due.notice_is)
+    rw (← cause_is, ← due.time) (first-caused (IsWoken before) script before due.event (woken-of script before) due.first hearer tag due.hearer_is due.notice_is)
 
 -- and each drain ends at its time
 pub drains_on_time :
     SettledGoByTotals → BegunDrainsAreHeld → PlacesStay → NodesGrow → (script : ScriptValue) (later before : List Entry) (node : ℕ) (origin : Origin) → IsLegal script (later ++ Drained node origin ∷ before)
-    → IsDrainTime before origin.phase node origin.cause (now_of before)
+    → IsDrainTime script before origin.phase node origin.cause (now_of before)
 drains_on_time goes held_are stay grow script later before node origin legal =
     let each = older-each script later (Drained node origin ∷ before) legal.each in
     let d = drains_go_in_order script before node origin (drained-alone node origin (next_of script before) each.0) in
     let due = d.due in
     let cause_is : due.event.cause ≡ origin.cause = ap (λ (one : Origin). one.cause) due.origin_is in
     let phase_is : due.event.phase ≡ origin.phase = ap (λ (one : Origin). one.phase) due.origin_is in
-    rw (← phase_is) (drain-timed before node origin.cause (now_of before) due.event due.event.owner (first-caused (IsTimed before) before due.event (timed-of goes held_are stay grow script before each.1) due.first) refl due.notice_is cause_is due.time (ap node_of due.hearer_is ∙ d.stands))
+    rw (← phase_is) (drain-timed script before node origin.cause (now_of before) due.event due.event.owner (first-caused (IsTimed script before) script before due.event (timed-of goes held_are stay grow script before each.1) due.first) refl due.notice_is cause_is due.time (ap node_of due.hearer_is ∙ d.stands))

@@ -1,5 +1,6 @@
 -- Who is called again after a wait.
 use Rattle.std.proofs.Common.{◌≡◌, ◌+◌, ℕ, suc, Bool, true, false, not, List, [], ◌∷◌, ◌++◌, length, Option, Some, None, refl, ap, if◌then◌else◌, option_map, option_and_then}
+use Rattle.bench_script.specs.Scripts.{ScriptValue}
 use Rattle.std.specs.List.{All, flat_map, filter_map, cons_option}
 use Rattle.std.proofs.lemmas.List.Elements.{All-nil, All-cons, All-append, All-filter, All-weaker, All-push, All-head, All-tail}
 use Rattle.uvm_phase.specs.declared.phases.Phase.{Phase}
@@ -179,44 +180,44 @@ drains-plain : (phase : Phase) (cause : Cause) (begun : List drain.Due) → All 
 drains-plain phase cause [] = All-nil IsPlainEvent
 drains-plain phase cause (first ∷ begun) = All-append IsPlainEvent (drain_from phase cause first) (flat_map (drain_from phase cause) begun) (event-plain (Some phase) first.at cause (Drain first.node phase) None refl) (drains-plain phase cause begun)
 
-with-woken : (phase : Option Phase) (entry : Entry) (before : List Entry) → All (IsWoken before) (caused_of before) → All (IsWoken (entry ∷ before)) (with_drains_of phase entry before (caused_of before))
-with-woken None entry before all = all-later entry before (caused_of before) all
-with-woken (Some phase) entry before all =
-    let earlier = objections_of phase before in
-    let nodes = objections_of phase (entry ∷ before) in
+with-woken : (script : ScriptValue) (phase : Option Phase) (entry : Entry) (before : List Entry) → All (IsWoken before) (caused_of script before) → All (IsWoken (entry ∷ before)) (with_drains_of script phase entry before (caused_of script before))
+with-woken script None entry before all = all-later entry before (caused_of script before) all
+with-woken script (Some phase) entry before all =
+    let earlier = objections_of script phase before in
+    let nodes = objections_of script phase (entry ∷ before) in
     All-append (IsWoken (entry ∷ before)) (flat_map (drain_from phase (caused_at (length before))) (drains_begun earlier nodes)) _
     (all-plain (entry ∷ before) _ (drains-plain phase (caused_at (length before)) (drains_begun earlier nodes)))
-    (All-filter (λ (event : Event). not (is_drain_of phase (drains_ended earlier nodes) event.owner)) (IsWoken (entry ∷ before)) (caused_of before) (all-later entry before (caused_of before) all))
+    (All-filter (λ (event : Event). not (is_drain_of phase (drains_ended earlier nodes) event.owner)) (IsWoken (entry ∷ before)) (caused_of script before) (all-later entry before (caused_of script before) all))
 
-moved-woken : (phase : Option Phase) (entry : Entry) (before : List Entry) (moves : Bool) → All (IsWoken before) (caused_of before) → All (IsWoken (entry ∷ before)) (if moves then with_drains_of phase entry before (caused_of before) else caused_of before)
-moved-woken phase entry before true all = with-woken phase entry before all
-moved-woken phase entry before false all = all-later entry before (caused_of before) all
+moved-woken : (script : ScriptValue) (phase : Option Phase) (entry : Entry) (before : List Entry) (moves : Bool) → All (IsWoken before) (caused_of script before) → All (IsWoken (entry ∷ before)) (if moves then with_drains_of script phase entry before (caused_of script before) else caused_of script before)
+moved-woken script phase entry before true all = with-woken script phase entry before all
+moved-woken script phase entry before false all = all-later entry before (caused_of script before) all
 
 passed-plain : (kind : MoveKind) (passage : Passage) → is_wake (told_of kind passage) ≡ false
 passed-plain move.Put passage = refl
 passed-plain move.Take passage = refl
 passed-plain move.Peek passage = refl
 
-one-woken : (entry : Entry) (before : List Entry) (phase : Option Phase) (told : Call) (hearer : Who) → is_wake told ≡ false → All (IsWoken before) (caused_of before) → All (IsWoken (entry ∷ before)) (due_from (Some told) hearer phase (now_of before) (caused_at (length before)) ++ caused_of before)
-one-woken entry before phase told hearer plain all =
-    All-append (IsWoken (entry ∷ before)) (due_from (Some told) hearer phase (now_of before) (caused_at (length before))) (caused_of before)
-    (all-plain (entry ∷ before) _ (due-plain (Some told) hearer phase (now_of before) (caused_at (length before)) plain)) (all-later entry before (caused_of before) all)
+one-woken : (script : ScriptValue) (entry : Entry) (before : List Entry) (phase : Option Phase) (told : Call) (hearer : Who) → is_wake told ≡ false → All (IsWoken before) (caused_of script before) → All (IsWoken (entry ∷ before)) (due_from (Some told) hearer phase (now_of before) (caused_at (length before)) ++ caused_of script before)
+one-woken script entry before phase told hearer plain all =
+    All-append (IsWoken (entry ∷ before)) (due_from (Some told) hearer phase (now_of before) (caused_at (length before))) (caused_of script before)
+    (all-plain (entry ∷ before) _ (due-plain (Some told) hearer phase (now_of before) (caused_at (length before)) plain)) (all-later entry before (caused_of script before) all)
 
-woken-more : (entry : Entry) (before : List Entry) → All (IsWoken before) (caused_of before) → All (IsWoken (entry ∷ before)) (caused_of (entry ∷ before))
-woken-more (Did performer outcome act) before all =
+woken-more : (script : ScriptValue) (entry : Entry) (before : List Entry) → All (IsWoken before) (caused_of script before) → All (IsWoken (entry ∷ before)) (caused_of script (entry ∷ before))
+woken-more script (Did performer outcome act) before all =
     let entry = Did performer outcome act in
     All-append (IsWoken (entry ∷ before)) (calls_numbered (now_of before) (length before) 0 (calls_told before performer outcome act)) _
     (all-plain (entry ∷ before) _ (numbered-plain (now_of before) (length before) 0 (calls_told before performer outcome act) (told-plain before performer outcome act)))
-    (All-append (IsWoken (entry ∷ before)) (calls_from outcome act performer (act_phase before) (now_of before) (length before)) _ (from-woken before performer outcome act) (moved-woken (act_phase before) entry before (moves_drains outcome act) all))
-woken-more (Passed fifo passage) before all = one-woken (Passed fifo passage) before (Some passage.phase) (told_of passage.kind passage) passage.who (passed-plain passage.kind passage) all
-woken-more (Locked node id) before all = one-woken (Locked node id) before (phase_begun before id) call.Held (who.Sequence id node) refl all
-woken-more (Granted node grant) before all = one-woken (Granted node grant) before (phase_begun before grant.id) call.Grant (who.Sequence grant.id node) refl all
-woken-more (End phase) before all =
-    All-append (IsWoken (End phase ∷ before)) (calls_numbered (now_of before) (length before) 0 (lapsed_with phase before)) (caused_of before)
-    (all-plain (End phase ∷ before) _ (numbered-plain (now_of before) (length before) 0 (lapsed_with phase before) (each-lapsed phase before (path_order (nodes_of before))))) (all-later (End phase) before (caused_of before) all)
-woken-more (Drained node origin) before all = with-woken (Some origin.phase) (Drained node origin) before all
-woken-more entry before all = all-later entry before (caused_of before) all
+    (All-append (IsWoken (entry ∷ before)) (calls_from outcome act performer (act_phase before) (now_of before) (length before)) _ (from-woken before performer outcome act) (moved-woken script (act_phase before) entry before (moves_drains outcome act) all))
+woken-more script (Passed fifo passage) before all = one-woken script (Passed fifo passage) before (Some passage.phase) (told_of passage.kind passage) passage.who (passed-plain passage.kind passage) all
+woken-more script (Locked node id) before all = one-woken script (Locked node id) before (phase_begun before id) call.Held (who.Sequence id node) refl all
+woken-more script (Granted node grant) before all = one-woken script (Granted node grant) before (phase_begun before grant.id) call.Grant (who.Sequence grant.id node) refl all
+woken-more script (End phase) before all =
+    All-append (IsWoken (End phase ∷ before)) (calls_numbered (now_of before) (length before) 0 (lapsed_with phase before)) (caused_of script before)
+    (all-plain (End phase ∷ before) _ (numbered-plain (now_of before) (length before) 0 (lapsed_with phase before) (each-lapsed phase before (path_order (nodes_of before))))) (all-later (End phase) before (caused_of script before) all)
+woken-more script (Drained node origin) before all = with-woken script (Some origin.phase) (Drained node origin) before all
+woken-more script entry before all = all-later entry before (caused_of script before) all
 
-pub woken-of : (history : List Entry) → All (IsWoken history) (caused_of history)
-woken-of [] = All-nil _
-woken-of (entry ∷ before) = woken-more entry before (woken-of before)
+pub woken-of : (script : ScriptValue) (history : List Entry) → All (IsWoken history) (caused_of script history)
+woken-of script [] = All-nil _
+woken-of script (entry ∷ before) = woken-more script entry before (woken-of script before)

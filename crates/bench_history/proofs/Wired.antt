@@ -44,13 +44,13 @@ record IsIdle (script : ScriptValue) (history : List Entry) : Type 0 where
   none_served : next_served history ≡ None
   none_passes : next_passed history ≡ None
   left : left_of script history ≡ []
-  none_due : due_now history ≡ None
+  none_due : due_now script history ≡ None
   no_call : next_call Connect history ≡ None
 
 module _ (script : ScriptValue) (history : List Entry) where
   idle-passed :
       (passed : Option (ℕ × Passage)) (left : List Act) (due : Option Event) (call : Option ℕ) → next_locked history ≡ None → next_served history ≡ None
-      → next_passed history ≡ passed → left_of script history ≡ left → due_now history ≡ due → next_call Connect history ≡ call
+      → next_passed history ≡ passed → left_of script history ≡ left → due_now script history ≡ due → next_call Connect history ≡ call
       → is_none passed && is_none (head_of left) && is_none due && is_none call ≡ true → IsIdle script history
   idle-passed None [] None None led served passes left due call e = record { none_led = led; none_served = served; none_passes = passes; left = left; none_due = due; no_call = call }
   idle-passed None [] None (Some node) led served passes left due call e = cc
@@ -61,7 +61,7 @@ module _ (script : ScriptValue) (history : List Entry) where
 
   idle-of :
       (led : Option (ℕ × ℕ)) (served : Option (ℕ × Bool)) (passed : Option (ℕ × Passage)) (left : List Act) (due : Option Event) (call : Option ℕ) → next_locked history ≡ led → next_served history ≡ served
-      → next_passed history ≡ passed → left_of script history ≡ left → due_now history ≡ due → next_call Connect history ≡ call
+      → next_passed history ≡ passed → left_of script history ≡ left → due_now script history ≡ due → next_call Connect history ≡ call
       → is_none led && is_none served && is_none passed && is_none (head_of left) && is_none due && is_none call ≡ true → IsIdle script history
   idle-of None None passed left due call led served passes is now turn e = idle-passed passed left due call led served passes is now turn e
   idle-of (Some one) None passed left due call led served passes is now turn e = cc
@@ -115,7 +115,7 @@ quiet-more : (script : ScriptValue) (history : List Entry) (entry : Entry) (stag
     → is_connect_last (stage_of (entry ∷ history)) && has_nothing_left script (entry ∷ history) ≡ true
 quiet-more script history entry Ended is last nothing next past = absurd (subst (λ (comes : Next). Allows comes entry) (nothing-comes script history is) next)
 quiet-more script history entry (During Connect) is last nothing next past =
-    let idle = idle-of script history (next_locked history) (next_served history) (next_passed history) (left_of script history) (due_now history) (next_call Connect history) refl refl refl refl refl refl nothing in
+    let idle = idle-of script history (next_locked history) (next_served history) (next_passed history) (left_of script history) (due_now script history) (next_call Connect history) refl refl refl refl refl refl nothing in
     let comes = idle-next script history is idle (reason_of script history) refl (next_unsound history) refl in
     let entry_is : entry ≡ end_or (reason_of script history) (next_unsound history) = subst (λ (comes : Next). Allows comes entry) comes next in
     let past' : is_past_connect (end_or (reason_of script history) (next_unsound history) ∷ history) ≡ false = rw (← entry_is) past in

@@ -132,7 +132,7 @@ time_passes limit (Some event) = if nat_lt limit event.time then Note Timeout 0 
 -- the phase that was begun last ends: each component had its call. In one that takes time, time passes while an objection keeps it
 abbrev pub phase_end : ScriptValue → List Entry → Option Phase → Option Next
 phase_end script history None = None
-phase_end script history (Some phase) = Some (Exactly (if is_kept phase history then time_passes script.time_limit (first_due history) else End phase))
+phase_end script history (Some phase) = Some (Exactly (if is_kept script phase history then time_passes script.time_limit (first_due script history) else End phase))
 
 -- a phase begins: the first, or the one after that which has ended; with run begins the first of the run-time phases, if they are to run, and after the
 -- last of them run goes on

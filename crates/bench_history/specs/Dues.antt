@@ -1,5 +1,6 @@
 -- The events that a log has caused and that have not happened yet: calls, and the ends of drains.
 use Rattle.std.specs.Prelude.{ℕ, Bool, true, false, not, ◌+◌, suc, ◌&&◌, ◌==◌, List, [], ◌∷◌, ◌++◌, length, filter, slice_get, Option, Some, None, option_map, option_and_then, option_to_list, if◌then◌else◌}
+use Rattle.bench_script.specs.Scripts.{ScriptValue}
 use Rattle.std.specs.List.{filter_map, flat_map, list_any}
 use Rattle.uvm_phase.specs.declared.phases.Phase.{Phase}
 use Rattle.uvm_phase.specs.declared.agendas.Cause.{Cause}
@@ -170,9 +171,9 @@ with_drains phase cause earlier nodes caused =
     flat_map (drain_from phase cause) (drains_begun earlier nodes) ++ filter (λ event. not (is_drain_of phase (drains_ended earlier nodes) event.owner)) caused
 
 -- an entry has changed it, if it is of a phase
-abbrev pub with_drains_of : Option Phase → Entry → List Entry → List Event → List Event
-with_drains_of None entry before caused = caused
-with_drains_of (Some phase) entry before caused = with_drains phase (caused_at (length before)) (objections_of phase before) (objections_of phase (entry ∷ before)) caused
+abbrev pub with_drains_of : ScriptValue → Option Phase → Entry → List Entry → List Event → List Event
+with_drains_of script None entry before caused = caused
+with_drains_of script (Some phase) entry before caused = with_drains phase (caused_at (length before)) (objections_of script phase before) (objections_of script phase (entry ∷ before)) caused
 
 -- whether an act may have: a raise or a drop, and no other
 abbrev pub moves_drains : Outcome → Act → Bool
@@ -181,26 +182,26 @@ moves_drains Done (DropObjection count) = true
 moves_drains outcome act = false
 
 -- some events with those that an entry causes before them, and without the drains that it ends. The place of an entry is the number of those before it
-abbrev pub with_events_from : Entry → List Entry → List Event → List Event
-with_events_from (Did performer outcome act) before caused =
+abbrev pub with_events_from : ScriptValue → Entry → List Entry → List Event → List Event
+with_events_from script (Did performer outcome act) before caused =
     calls_numbered (now_of before) (length before) 0 (calls_told before performer outcome act)
     ++ (calls_from outcome act performer (act_phase before) (now_of before) (length before)
-    ++ (if moves_drains outcome act then with_drains_of (act_phase before) (Did performer outcome act) before caused else caused))
-with_events_from (Passed fifo passage) before caused = due_from (Some (told_of passage.kind passage)) passage.who (Some passage.phase) (now_of before) (caused_at (length before)) ++ caused
-with_events_from (Locked node id) before caused = due_from (Some call.Held) (who.Sequence id node) (phase_begun before id) (now_of before) (caused_at (length before)) ++ caused
-with_events_from (Granted node grant) before caused = due_from (Some call.Grant) (who.Sequence grant.id node) (phase_begun before grant.id) (now_of before) (caused_at (length before)) ++ caused
-with_events_from (End phase) before caused = calls_numbered (now_of before) (length before) 0 (lapsed_with phase before) ++ caused
-with_events_from (Drained node origin) before caused = with_drains_of (Some origin.phase) (Drained node origin) before caused
-with_events_from entry before caused = caused
+    ++ (if moves_drains outcome act then with_drains_of script (act_phase before) (Did performer outcome act) before caused else caused))
+with_events_from script (Passed fifo passage) before caused = due_from (Some (told_of passage.kind passage)) passage.who (Some passage.phase) (now_of before) (caused_at (length before)) ++ caused
+with_events_from script (Locked node id) before caused = due_from (Some call.Held) (who.Sequence id node) (phase_begun before id) (now_of before) (caused_at (length before)) ++ caused
+with_events_from script (Granted node grant) before caused = due_from (Some call.Grant) (who.Sequence grant.id node) (phase_begun before grant.id) (now_of before) (caused_at (length before)) ++ caused
+with_events_from script (End phase) before caused = calls_numbered (now_of before) (length before) 0 (lapsed_with phase before) ++ caused
+with_events_from script (Drained node origin) before caused = with_drains_of script (Some origin.phase) (Drained node origin) before caused
+with_events_from script entry before caused = caused
 
 -- the events that an entry causes
-abbrev pub events_from : Entry → List Entry → List Event
-events_from entry before = with_events_from entry before []
+abbrev pub events_from : ScriptValue → Entry → List Entry → List Event
+events_from script entry before = with_events_from script entry before []
 
 -- all events that were caused, without the drains that have ended
-abbrev pub caused_of : List Entry → List Event
-caused_of [] = []
-caused_of (entry ∷ before) = with_events_from entry before (caused_of before)
+abbrev pub caused_of : ScriptValue → List Entry → List Event
+caused_of script [] = []
+caused_of script (entry ∷ before) = with_events_from script entry before (caused_of script before)
 
 abbrev pub heard_in : Entry → List Cause
 heard_in (Heard hearer call (Some origin) acts) = origin.cause ∷ []
@@ -220,12 +221,12 @@ abbrev pub is_open : List Cause → List Phase → List Who → Event → Bool
 is_open heard ended finished event = not (list_any (same_cause event.cause) heard) && not (list_any (same_phase event.phase) ended) && not (is_of_one finished event.owner)
 
 -- the events that are due: those that were caused and are open
-abbrev pub due_events : List Entry → List Event
-due_events history = filter (is_open (heard_of history) (ended_of history) (finished_of history)) (caused_of history)
+abbrev pub due_events : ScriptValue → List Entry → List Event
+due_events script history = filter (is_open (heard_of history) (ended_of history) (finished_of history)) (caused_of script history)
 
 -- of the events that are due the first, by time, then by the place of the entry that caused it, then by its number among the events of that entry
-abbrev pub first_due : List Entry → Option Event
-first_due history = slice_get (in_order (due_events history)) 0
+abbrev pub first_due : ScriptValue → List Entry → Option Event
+first_due script history = slice_get (in_order (due_events script history)) 0
 
 -- an event, if it is due at the present time
 abbrev pub due_at : ℕ → Option Event → Option Event
@@ -233,5 +234,5 @@ due_at now None = None
 due_at now (Some event) = if event.time == now then Some event else None
 
 -- the first event, if it is due now
-unfoldable pub due_now : List Entry → Option Event
-due_now history = due_at (now_of history) (first_due history)
+unfoldable pub due_now : ScriptValue → List Entry → Option Event
+due_now script history = due_at (now_of history) (first_due script history)

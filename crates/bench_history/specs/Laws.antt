@@ -172,19 +172,19 @@ abbrev pub HomesAreNodes : Type 0
 HomesAreNodes = (script : ScriptValue) (history : List Entry) → EachIsNext script history → All (λ beginning. beginning.start.home < length (nodes_of history)) (begun_of history)
 
 -- what happens is the event that is due first, at its time
-pub record IsDue (history : List Entry) (hearer : Who) (notice : Option Call) (origin : Origin) : Type 0 where
+pub record IsDue (script : ScriptValue) (history : List Entry) (hearer : Who) (notice : Option Call) (origin : Origin) : Type 0 where
   pub event : Event
-  pub first : first_due history ≡ Some event
+  pub first : first_due script history ≡ Some event
   pub time : event.time ≡ now_of history
   pub hearer_is : who_of event.owner ≡ hearer
   pub notice_is : event.notice ≡ notice
   pub origin_is : origin_of event ≡ origin
 
 -- so is what is due at a node without a call
-pub record IsDrainDue (history : List Entry) (node : ℕ) (origin : Origin) : Type 0 where
+pub record IsDrainDue (script : ScriptValue) (history : List Entry) (node : ℕ) (origin : Origin) : Type 0 where
   pub hearer : Who
   pub stands : node_of hearer ≡ node
-  pub due : IsDue history hearer None origin
+  pub due : IsDue script history hearer None origin
 
 -- it is the turn of whoever is called without an origin, in a phase in progress
 pub record HasTurn (history : List Entry) (hearer : Who) (call : Call) : Type 0 where
@@ -198,10 +198,10 @@ CallsGoInTurn = (script : ScriptValue) (history : List Entry) (hearer : Who) (ca
 
 -- a call with an origin happens so, and the end of a drain
 abbrev pub DueCallsGoInOrder : Type 0
-DueCallsGoInOrder = (script : ScriptValue) (history : List Entry) (hearer : Who) (call : Call) (origin : Origin) → next_of script history ≡ Answer hearer call (Some origin) → IsDue history hearer (Some call) origin
+DueCallsGoInOrder = (script : ScriptValue) (history : List Entry) (hearer : Who) (call : Call) (origin : Origin) → next_of script history ≡ Answer hearer call (Some origin) → IsDue script history hearer (Some call) origin
 
 abbrev pub DrainsGoInOrder : Type 0
-DrainsGoInOrder = (script : ScriptValue) (history : List Entry) (node : ℕ) (origin : Origin) → next_of script history ≡ Exactly (Drained node origin) → IsDrainDue history node origin
+DrainsGoInOrder = (script : ScriptValue) (history : List Entry) (node : ℕ) (origin : Origin) → next_of script history ≡ Exactly (Drained node origin) → IsDrainDue script history node origin
 
 -- what passes at a FIFO is what is next to pass
 abbrev pub PassagesGoInOrder : Type 0
@@ -329,7 +329,7 @@ is_connect_last Ended = true
 is_connect_last stage = false
 
 abbrev pub has_nothing_left : ScriptValue → List Entry → Bool
-has_nothing_left script history = is_none (next_locked history) && is_none (next_served history) && is_none (next_passed history) && is_none (head_of (left_of script history)) && is_none (due_now history) && is_none (next_call Connect history)
+has_nothing_left script history = is_none (next_locked history) && is_none (next_served history) && is_none (next_passed history) && is_none (head_of (left_of script history)) && is_none (due_now script history) && is_none (next_call Connect history)
 
 abbrev pub is_at_check : ScriptValue → List Entry → Bool
 is_at_check script history = runs_connect (stage_of history) && has_nothing_left script history

@@ -137,7 +137,7 @@ pub record IsQuiet (objections : List objection.Node) (node : ℕ) : Type 0 wher
 
 -- where a phase ends that takes time, each node is quiet
 abbrev pub QuietEnd : Type 0
-QuietEnd = (script : ScriptValue) (later before : List Entry) (phase : Phase) (node : ℕ) → IsLegal script (later ++ End phase ∷ before) → is_task phase ≡ true → IsQuiet (objections_of phase before) node
+QuietEnd = (script : ScriptValue) (later before : List Entry) (phase : Phase) (node : ℕ) → IsLegal script (later ++ End phase ∷ before) → is_task phase ≡ true → IsQuiet (objections_of script phase before) node
 
 -- the entry that a cause names: the one at its place, which is the number of entries before it
 pub record IsAtCause (history : List Entry) (cause : Cause) (entry : Entry) (before : List Entry) : Type 0 where
@@ -151,12 +151,12 @@ call_time (Did performer Done (Wait ticks tag)) now = now + ticks
 call_time entry now = now
 
 -- a call of somebody was caused: the entry at the place of its cause causes just this call to this hearer, in the phase of its origin, and it is due at this time
-pub record IsCaused (history : List Entry) (hearer : Who) (call : Call) (origin : Origin) (time : ℕ) : Type 0 where
+pub record IsCaused (script : ScriptValue) (history : List Entry) (hearer : Who) (call : Call) (origin : Origin) (time : ℕ) : Type 0 where
   pub entry : Entry
   pub before : List Entry
   pub at : IsAtCause history origin.cause entry before
   pub event : Event
-  pub among : Contains (events_from entry before) event
+  pub among : Contains (events_from script entry before) event
   pub origin_is : origin_of event ≡ origin
   pub hearer_is : who_of event.owner ≡ hearer
   pub call_is : event.notice ≡ Some call
@@ -171,21 +171,21 @@ pub record IsWakeTime (history : List Entry) (hearer : Who) (tag : ℕ) (cause :
 
 -- at this time a drain ends, of the objection of a phase: by the entry that is its cause its node came to hold something back, for as long as its drain time was
 -- then
-pub record IsDrainTime (history : List Entry) (phase : Phase) (node : ℕ) (cause : Cause) (time : ℕ) : Type 0 where
+pub record IsDrainTime (script : ScriptValue) (history : List Entry) (phase : Phase) (node : ℕ) (cause : Cause) (time : ℕ) : Type 0 where
   pub entry : Entry
   pub before : List Entry
   pub at : IsAtCause history cause entry before
-  pub none_held : held_of node (objections_of phase before) ≡ 0
-  pub holds : 0 < held_of node (objections_of phase (entry ∷ before))
-  pub time_is : time ≡ now_of before + drain_of node (objections_of phase before)
+  pub none_held : held_of node (objections_of script phase before) ≡ 0
+  pub holds : 0 < held_of node (objections_of script phase (entry ∷ before))
+  pub time_is : time ≡ now_of before + drain_of node (objections_of script phase before)
 
 -- a call with a cause that is heard, and a drain that ends, does so at exactly the time that its cause gave it; and time passes over nothing that is due, and never
 -- goes back. (What is due when its phase or its sequence ends is never heard, and no longer due.)
 pub record OnTime : Type 0 where
-  pub calls : (script : ScriptValue) (later before : List Entry) (hearer : Who) (call : Call) (origin : Origin) (acts : List Act) → IsLegal script (later ++ Heard hearer call (Some origin) acts ∷ before) → IsCaused before hearer call origin (now_of before)
+  pub calls : (script : ScriptValue) (later before : List Entry) (hearer : Who) (call : Call) (origin : Origin) (acts : List Act) → IsLegal script (later ++ Heard hearer call (Some origin) acts ∷ before) → IsCaused script before hearer call origin (now_of before)
   pub wakes : (script : ScriptValue) (later before : List Entry) (hearer : Who) (tag : ℕ) (origin : Origin) (acts : List Act) → IsLegal script (later ++ Heard hearer (call.Wake tag) (Some origin) acts ∷ before) → IsWakeTime before hearer tag origin.cause (now_of before)
-  pub drains : (script : ScriptValue) (later before : List Entry) (node : ℕ) (origin : Origin) → IsLegal script (later ++ Drained node origin ∷ before) → IsDrainTime before origin.phase node origin.cause (now_of before)
-  pub passes : (script : ScriptValue) (later before : List Entry) (time : ℕ) → IsLegal script (later ++ Time time ∷ before) → All (λ event. time ≤ event.time) (due_events before)
+  pub drains : (script : ScriptValue) (later before : List Entry) (node : ℕ) (origin : Origin) → IsLegal script (later ++ Drained node origin ∷ before) → IsDrainTime script before origin.phase node origin.cause (now_of before)
+  pub passes : (script : ScriptValue) (later before : List Entry) (time : ℕ) → IsLegal script (later ++ Time time ∷ before) → All (λ event. time ≤ event.time) (due_events script before)
   pub forward : (script : ScriptValue) (later before : List Entry) (time : ℕ) → IsLegal script (later ++ Time time ∷ before) → now_of before ≤ time
 
 -- a sequence is the one that was found

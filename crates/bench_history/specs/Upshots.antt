@@ -141,7 +141,7 @@ open_upshot script history performer (Verbosity which level) = Does
 open_upshot script history performer (Actions which actions) = Does
 open_upshot script history performer (Severity from id to) = Does
 open_upshot script history performer (RaiseObjection count) = unless_refused (raise_refusal (act_phase history)) Does
-open_upshot script history performer (DropObjection count) = unless_refused (drop_refusal (act_phase history) (source_of (node_of performer) (objection_now history)) count) Does
+open_upshot script history performer (DropObjection count) = unless_refused (drop_refusal (act_phase history) (source_of (node_of performer) (objection_now script history)) count) Does
 open_upshot script history performer (SetDrain ticks) = unless_refused (drain_refusal ticks) Does
 open_upshot script history performer (Wait ticks tag) = unless_refused (wait_refusal (act_phase history) ticks) Does
 

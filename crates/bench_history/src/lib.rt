@@ -5,6 +5,7 @@
 mod askers;
 pub mod laws;
 pub mod legal_logs;
+pub mod limits;
 mod needs;
 mod owners;
 mod stages;

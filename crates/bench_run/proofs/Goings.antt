@@ -1,5 +1,5 @@
 -- A run that is not over, and one that breaks off.
-use Rattle.std.proofs.Common.{◌≡◌, ◌≢◌, ◌<◌, ◌≤◌, ℕ, Bool, true, false, List, [], ◌∷◌, ◌++◌, length, Option, Some, None, Result, Ok, Err, ap, refl, sym, ◌∙◌, subst, if◌then◌else◌, append-nil, arith, suc, lit<, lit≤}
+use Rattle.std.proofs.Common.{◌≡◌, ◌≢◌, ◌<◌, ◌≤◌, ℕ, Bool, true, false, List, [], ◌∷◌, ◌++◌, length, Option, Some, None, Result, Ok, Err, ap, refl, sym, ◌∙◌, subst, if◌then◌else◌, append-nil, arith, suc, lit≤}
 use Rattle.std.specs.Result.{IsErrAnd}
 use Rattle.std.proofs.lemmas.List.{append_assoc}
 use Rattle.std.specs.Io.KnownBytes.{Appends}
@@ -18,6 +18,7 @@ use Rattle.bench_kernel.specs.Steps.{IsBack, IsSameLog}
 use Rattle.bench_run.specs.declared.endings.Ending.{Ending}
 use Rattle.bench_run.specs.declared.faults.RunFault.{RunFault}
 use Rattle.bench_run.specs.declared.faults.RunFault.TheVariants as fault
+use Rattle.bench_run.specs.Texts.{some-room}
 use Rattle.bench_run.specs.Running.{BrokeOffRun, Grows, HasTold, IsHalted, IsUnwritten, LeavesRun, transcript}
 
 -- what is written after what was written
@@ -69,7 +70,7 @@ breaks-off (Err given) why trace old new script first half last told grown same 
       log = ap (λ (core : CoreValue). core.history) grown.is;
       newest_alone = lit≤ tt;
       lost = λ some. subst (λ (s : ScriptValue). last_text trace s new.history ≢ []) same (missed refl);
-      room = λ going. omega (arith, one_more, more.few);
+      room = λ going. let few = subst (λ (s : ScriptValue). length new.history ≤ log_limit s) same more.few in omega (arith, one_more, few);
       wrote = record { legal = legal; wrote = Appends-kept first half last _ (rw append-nil wrote) kept };
     }
     go fault.LogFull bad missed = absurd bad
@@ -157,8 +158,8 @@ never-ran script trace held = record {
   log = refl;
   newest_alone = lit≤ tt;
   lost = λ some. absurd (some refl);
-  room = λ going. lit< tt;
-  wrote = record { legal = record { each = tt; few = lit≤ tt }; wrote = Appends-none held };
+  room = λ going. some-room script;
+  wrote = record { legal = record { each = tt; few = omega arith }; wrote = Appends-none held };
 }
 
 -- and its health

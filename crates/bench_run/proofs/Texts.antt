@@ -1,13 +1,11 @@
 -- How many texts a sink has taken of a run.
-use Rattle.std.proofs.Common.{◌≡◌, ◌≢◌, ◌<◌, ◌≤◌, ◌+◌, ℕ, Bool, true, false, List, [], ◌∷◌, length, Option, Some, None, Result, Ok, Err, ap, refl, sym, ◌∙◌, subst, arith, suc, lit<, lit≤}
+use Rattle.std.proofs.Common.{◌≡◌, ◌<◌, ◌≤◌, ◌+◌, ℕ, Bool, true, false, List, length, Option, Some, None, Result, Ok, Err, ap, refl, sym, ◌∙◌, subst, arith, suc}
 use Rattle.std.specs.Result.{IsErrAnd}
-use Rattle.uvm_object.specs.declared.entries.Entry.{Entry}
 use Rattle.bench_script.specs.Scripts.{ScriptValue}
 use Rattle.bench_history.specs.Limits.{log_limit}
 use Rattle.bench_history.specs.History.{is_over}
 use Rattle.bench_history.specs.Next.{IsLegal}
 use Rattle.bench_core.specs.Cores.{CoreValue}
-use Rattle.bench_kernel.specs.Steps.{IsSameLog}
 use Rattle.bench_run.specs.declared.endings.Ending.{Ending}
 use Rattle.bench_run.specs.declared.faults.RunFault.{RunFault}
 use Rattle.bench_run.specs.declared.faults.RunFault.TheVariants as fault
@@ -50,7 +48,7 @@ took-unwritten (Err given) why old new script held holds first half last told gr
     go fault.Memory unwritten kept = record {
       history = old.history;
       legal = legal;
-      room = λ going. omega (arith, one_more, more.few);
+      room = λ going. let few = subst (λ (s : ScriptValue). length new.history ≤ log_limit s) same more.few in omega (arith, one_more, few);
       took = rw (kept refl) some;
     }
     go fault.LogFull unwritten kept = absurd unwritten
@@ -79,8 +77,8 @@ took-halted (Err given) why failed old script first last told halted room legal 
       took = some;
     }
     go fault.LogFull halted =
-        let full : length old.history ≡ log_limit script = omega (arith, halted.0, legal.few) in
-        subst (λ (count : ℕ). TookMore count first last) full some
+        let full : length old.history ≡ log_limit old.script = omega (arith, halted.0, legal.few) in
+        subst (λ (count : ℕ). TookMore count first last) (full ∙ ap log_limit is) some
     go fault.Output halted = absurd halted
     go fault.NoTest halted = absurd halted
 

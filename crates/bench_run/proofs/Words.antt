@@ -1,5 +1,5 @@
 -- How the words of a run go on.
-use Rattle.std.proofs.Common.{◌≡◌, ◌∙◌, ◌+◌, ◌≤◌, ℕ, suc, true, List, [], ◌∷◌, length, Option, Some, None, Result, Ok, Err, refl, sym, ap, subst, arith, lit≤}
+use Rattle.std.proofs.Common.{◌≡◌, ◌∙◌, ◌+◌, ℕ, suc, true, List, [], ◌∷◌, length, Option, Some, None, Result, Ok, Err, refl, sym, ap, subst, arith, lit≤}
 use Rattle.std.specs.Result.{IsErrAnd}
 use Rattle.std.specs.List.{cons_option}
 use Rattle.rand_core.specs.Stream.{Stream, next_u64}

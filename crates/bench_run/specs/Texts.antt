@@ -1,5 +1,5 @@
 -- How many texts a run hands to its sink.
-use Rattle.std.specs.Prelude.{◌≡◌, ◌<◌, ◌+◌, ℕ, true, false, List, [], length, Option, Some, None, Result, Ok, Err}
+use Rattle.std.specs.Prelude.{◌≡◌, ◌<◌, ◌≤◌, ◌+◌, ◌==◌, ℕ, Bool, true, false, List, [], length, Option, Some, None, Result, Ok, Err, IfOk, if◌then◌else◌}
 use Rattle.std.proofs.Common.{add-zero, lit<, lit≤, sym}
 use Rattle.uvm_object.specs.declared.entries.Entry.{Entry}
 use Rattle.bench_script.specs.Scripts.{ScriptValue}
@@ -33,10 +33,32 @@ TookTexts script before after (Err LogFull) = TookMore (log_limit script) before
 TookTexts script before after (Err Output) = Unit {0}
 TookTexts script before after (Err NoTest) = after ≡ before
 
+-- a log has room for an entry, by either version of scripts
+pub some-room : (script : ScriptValue) → 0 < log_limit script
+unfolding log_limit
+some-room script = tested (script.version == 2)
+  where
+    tested : (later : Bool) → 0 < (if later then 8000000 else 1000000)
+    tested true = lit< tt
+    tested false = lit< tt
+
+no-entry : (script : ScriptValue) → 0 ≤ log_limit script
+unfolding log_limit
+no-entry script = tested (script.version == 2)
+  where
+    tested : (later : Bool) → 0 ≤ (if later then 8000000 else 1000000)
+    tested true = lit≤ tt
+    tested false = lit≤ tt
+
 -- before the first entry
 took-none : (count : Option ℕ) → TookMore 0 count count
 took-none None = tt
 took-none (Some before) = sym (add-zero before)
 
 pub took-nothing : (script : ScriptValue) (count : Option ℕ) → TookSome script count count
-took-nothing script count = record { history = []; legal = record { each = tt; few = lit≤ tt }; room = λ going. lit< tt; took = took-none count }
+took-nothing script count = record { history = []; legal = record { each = tt; few = no-entry script }; room = λ going. some-room script; took = took-none count }
+
+-- of whatever script is asked for
+pub took-nothing-of : {Fault : Type 0} (asked : Result ScriptValue Fault) (count : Option ℕ) → IfOk asked (λ script. TookSome script count count)
+took-nothing-of (Ok script) count = took-nothing script count
+took-nothing-of (Err fault) count = tt

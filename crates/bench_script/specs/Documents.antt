@@ -15,18 +15,25 @@ use Rattle.bench_script.specs.Limits.{most_time, most_quit_limit, most_script_by
 use Rattle.script_values.specs.Keys.{only_keys, required, optional, some_of}
 use Rattle.bench_script.specs.Scripts.{ScriptValue}
 use Rattle.script_tables.specs.Tables.{types_in, overrides_in, settings_in, probes_in}
+use Rattle.script_tables.specs.declared.drains.Drain.{Drain}
+use Rattle.script_tables.specs.Drains.{drains_in}
 use Rattle.script_tables.specs.ReportTables.{verbosities_in, actions_in, severities_in}
 
--- the version is 1
-abbrev pub version_one : ℤ → Result (Unit {0}) ScriptFault
-version_one (pos n) = if n == 1 then Ok tt else Err Version
-version_one (negsuc n) = Err Version
+-- the version is 1 or 2
+abbrev pub known_version : ℤ → Result ℕ ScriptFault
+known_version (pos n) = if n == 1 then Ok 1 else if n == 2 then Ok 2 else Err Version
+known_version (negsuc n) = Err Version
 
-abbrev pub version_in : Data → Result (Unit {0}) ScriptFault
-version_in value = and_then (integer_in value) version_one
+abbrev pub version_in : Data → Result ℕ ScriptFault
+version_in value = and_then (integer_in value) known_version
 
-abbrev pub root_keys : List (List ℕ)
-root_keys = codes "version" ∷ codes "test" ∷ codes "time_limit" ∷ codes "quit_limit" ∷ codes "runtime" ∷ codes "type" ∷ codes "override" ∷ codes "set" ∷ codes "verbosity" ∷ codes "action" ∷ codes "severity" ∷ codes "probe" ∷ []
+-- the keys of a script of version 1
+abbrev pub first_keys : List (List ℕ)
+first_keys = codes "version" ∷ codes "test" ∷ codes "time_limit" ∷ codes "quit_limit" ∷ codes "runtime" ∷ codes "type" ∷ codes "override" ∷ codes "set" ∷ codes "verbosity" ∷ codes "action" ∷ codes "severity" ∷ codes "probe" ∷ []
+
+-- the keys of a script: one of version 2 has one more
+unfoldable pub root_keys : ℕ → List (List ℕ)
+root_keys version = first_keys ++ (if version == 2 then codes "drain" ∷ [] else [])
 
 -- the test is a component
 abbrev pub component_at : ℕ → Option (List ℕ × Kind) → Result (Option ℕ) ScriptFault
@@ -39,16 +46,20 @@ abbrev pub test_among : Types → Option (List ℕ) → Result (Option ℕ) Scri
 test_among types None = Ok None
 test_among types (Some name) = and_then (ok_or (type_named types name) UnknownType) (λ place. component_at place (slice_get types place))
 
--- what stands before the arrays, in a tree that has some other keys beside the script's: the test's name, the two limits, and whether the run-time phases run
+-- what stands before the arrays, in a tree that has some other keys beside the script's: the version, the test's name, the two limits, and whether the run-time phases run
 abbrev pub head_in : List (List ℕ) → Members → Result Head ScriptFault
 head_in others root =
-    and_then (required (codes "version") version_in root) (λ _.
-    and_then (only_keys (others ++ root_keys) root) (λ _.
+    and_then (required (codes "version") version_in root) (λ version.
+    and_then (only_keys (others ++ root_keys version) root) (λ _.
     and_then (optional (codes "test") None (some_of name_in) root) (λ test.
     and_then (optional (codes "time_limit") most_time (number_in most_time) root) (λ time_limit.
     and_then (optional (codes "quit_limit") 0 (number_in most_quit_limit) root) (λ quit_limit.
     and_then (optional (codes "runtime") false flag_in root) (λ runtime.
-    Ok (record { test = test; time_limit = time_limit; quit_limit = quit_limit; runtime = runtime })))))))
+    Ok (record { version = version; test = test; time_limit = time_limit; quit_limit = quit_limit; runtime = runtime })))))))
+
+-- the drain times, which one of version 2 may give
+abbrev pub drains_given : ℕ → Members → Result (List Drain) ScriptFault
+drains_given version root = if version == 2 then drains_in root else Ok []
 
 -- the script that a tree stands for which has some other keys beside, or its first fault
 unfoldable pub script_beside : List (List ℕ) → Members → Result ScriptValue ScriptFault
@@ -61,8 +72,10 @@ script_beside others root =
     and_then (actions_in root) (λ actions.
     and_then (severities_in root) (λ severities.
     and_then (probes_in types root) (λ probes.
+    and_then (drains_given head.version root) (λ drains.
     and_then (test_among types head.test) (λ test.
     Ok (record {
+      version = head.version;
       test = test;
       time_limit = head.time_limit;
       quit_limit = head.quit_limit;
@@ -74,7 +87,8 @@ script_beside others root =
       actions = actions;
       severities = severities;
       probes = probes;
-    }))))))))))
+      drains = drains;
+    })))))))))))
 
 -- the bytes are a text, and not too many
 abbrev pub IsReadable : List ℕ → Type 0

@@ -2,15 +2,17 @@
 use Rattle.std.specs.Prelude.{ℕ, Bool, List, Option}
 use Rattle.uvm_factory.specs.declared.overrides.Override.{Override}
 use Rattle.uvm_factory.specs.Faults.{Types}
+use Rattle.script_tables.specs.declared.drains.Drain.{Drain}
 use Rattle.script_tables.specs.declared.rows.Probe.{Probe}
 use Rattle.script_tables.specs.declared.rows.Setting.{Setting}
 use Rattle.script_tables.specs.declared.report_settings.VerbositySetting.{VerbositySetting}
 use Rattle.script_tables.specs.declared.report_settings.ActionSetting.{ActionSetting}
 use Rattle.script_tables.specs.declared.report_settings.SeverityChange.{SeverityChange}
 
--- the test, a type's place, where there is one; the limits of a run; whether the run-time phases go beside run; the types in order, what replaces them, what
+-- the version; the test, a type's place, where there is one; the limits of a run; whether the run-time phases go beside run; the types in order, what replaces them, what
 -- is set, also for reports, and the questions to the factory
 pub record ScriptValue : Type 0 where
+  pub version : ℕ
   pub test : Option ℕ
   pub time_limit : ℕ
   pub quit_limit : ℕ
@@ -22,3 +24,4 @@ pub record ScriptValue : Type 0 where
   pub actions : List ActionSetting
   pub severities : List SeverityChange
   pub probes : List Probe
+  pub drains : List Drain

@@ -3,6 +3,7 @@ use Rattle.std.specs.Prelude.{◌≡◌, ℕ, ◌≤◌, [], length, Option, Som
 use Rattle.uvm_factory.specs.declared.types.Kind.TheVariants.{Component}
 use Rattle.uvm_factory.specs.Faults.{Types}
 use Rattle.uvm_config.specs.Answers.{most_settings}
+use Rattle.script_tables.specs.Drains.{CanDrain}
 use Rattle.script_tables.specs.Rows.{CanRegister, CanOverride, CanProbe, HasLevelInRange}
 use Rattle.bench_script.specs.Limits.{most_time, most_quit_limit}
 use Rattle.bench_script.specs.Scripts.{ScriptValue}
@@ -21,3 +22,4 @@ pub record IsSound (script : ScriptValue) : Type 0 where
   pub settings : length script.settings ≤ most_settings
   pub verbosities : All HasLevelInRange script.verbosities
   pub probes : All (CanProbe script.types) script.probes
+  pub drains : All CanDrain script.drains

@@ -6,7 +6,9 @@ ghost use Rattle.bench_script.specs.Documents.{test_among};
 ghost use Rattle.bench_script.specs.Sound.{IsComponentAt};
 
 use crate::scripts::Script;
-use script_tables::{ActionSetting, Probe, Setting, SeverityChange, VerbositySetting, type_among};
+use script_tables::{
+    ActionSetting, Drain, Probe, Setting, SeverityChange, VerbositySetting, type_among,
+};
 use script_values::ScriptFault;
 use std::alloc::{AllocError, Global};
 use uvm_factory::{Kind, Override, TypeId};
@@ -19,6 +21,7 @@ impl Script {
     {
         let alloc = *self.types.allocator();
         Ok(Script {
+            version: self.version,
             test: self.test,
             time_limit: self.time_limit,
             quit_limit: self.quit_limit,
@@ -30,6 +33,7 @@ impl Script {
             actions: copied_actions(alloc, self.actions.as_slice())?,
             severities: copied_severities(alloc, self.severities.as_slice())?,
             probes: copied_probes(alloc, self.probes.as_slice())?,
+            drains: copied_drains(alloc, self.drains.as_slice())?,
         })
     }
 
@@ -126,6 +130,16 @@ fn copied_probes(alloc: Global, probes: &[Probe]) -> Result<Vec<Probe>, AllocErr
     let mut copied = Vec::new(alloc);
     for probe in probes {
         copied.push(probe.copy()?)?;
+    }
+    Ok(copied)
+}
+
+fn copied_drains(alloc: Global, drains: &[Drain]) -> Result<Vec<Drain>, AllocError>
+    ensures { IfOk result (λ copied. copied.items ≡ drains.now) }
+{
+    let mut copied = Vec::new(alloc);
+    for drain in drains {
+        copied.push(drain.copy()?)?;
     }
     Ok(copied)
 }

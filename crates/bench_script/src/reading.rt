@@ -1,17 +1,18 @@
 //! Reads a script.
 
-ghost use Rattle.std.specs.Prelude.{◌≡◌, ◌≢◌, Ok, Err, IfOk, MatchResult, map};
+ghost use Rattle.std.specs.Prelude.{◌≡◌, ◌≢◌, Ok, Err, IfOk, MatchResult, All, map};
+ghost use Rattle.script_tables.specs.Drains.{CanDrain};
 ghost use Rattle.toml.specs.View.{table_view};
 ghost use Rattle.toml.specs.Parse.{parse_document};
 ghost use Rattle.script_values.specs.Reading.{IsReading};
 ghost use Rattle.bench_script.specs.Sound.{IsComponentAt};
-ghost use Rattle.bench_script.specs.Documents.{IsReadable, script_beside, script_of_bytes, test_among, tree_in, tree_of_bytes};
+ghost use Rattle.bench_script.specs.Documents.{IsReadable, drains_given, script_beside, script_of_bytes, test_among, tree_in, tree_of_bytes};
 
 use crate::heads::read_head;
 use crate::scripts::Script;
 use script_tables::{
-    TypeTable, read_actions, read_overrides, read_probes, read_settings, read_severities,
-    read_types, read_verbosities,
+    Drain, TypeTable, read_actions, read_drains, read_overrides, read_probes, read_settings,
+    read_severities, read_types, read_verbosities,
 };
 use script_values::ScriptFault;
 use std::alloc::Global;
@@ -79,8 +80,10 @@ pub fn read_table(alloc: Global, root: &Table, others: &[&str]) -> Result<Script
     let actions = read_actions(alloc, root)?;
     let severities = read_severities(alloc, root)?;
     let probes = read_probes(alloc, &types, root)?;
+    let drains = drains_given(alloc, head.version, root)?;
     let test = test_among(&types, head.test)?;
     Ok(Script {
+        version: head.version,
         test,
         time_limit: head.time_limit,
         quit_limit: head.quit_limit as u16,
@@ -92,7 +95,22 @@ pub fn read_table(alloc: Global, root: &Table, others: &[&str]) -> Result<Script
         actions,
         severities,
         probes,
+        drains,
     })
+}
+
+// The drain times, which a script of version 2 may give.
+fn drains_given(alloc: Global, version: u64, root: &Table) -> Result<Vec<Drain>, ScriptFault>
+    ensures sound { IfOk result (λ rows. All CanDrain rows.items) }
+    ensures rows { MatchResult result
+        (λ rows. drains_given version (table_view root.now) ≡ Ok rows.items)
+        (λ fault. fault ≢ ScriptFault.Memory → drains_given version (table_view root.now) ≡ Err fault) }
+{
+    if version == 2 {
+        read_drains(alloc, root)
+    } else {
+        Ok(Vec::new(alloc))
+    }
 }
 
 // The type that the test names, a component.

@@ -3,10 +3,11 @@
 ghost use Rattle.std.specs.Prelude.{◌≡◌, ◌≤◌, [], All, IfOk, length};
 ghost use Rattle.uvm_config.specs.Answers.{most_settings};
 ghost use Rattle.bench_script.specs.Limits.{most_time};
+ghost use Rattle.script_tables.specs.Drains.{CanDrain};
 ghost use Rattle.script_tables.specs.Rows.{CanRegister, CanOverride, CanProbe, HasLevelInRange};
 ghost use Rattle.bench_script.specs.Sound.{IsComponentAt};
 
-use script_tables::{ActionSetting, Probe, Setting, SeverityChange, VerbositySetting};
+use script_tables::{ActionSetting, Drain, Probe, Setting, SeverityChange, VerbositySetting};
 use std::marker::Model;
 use uvm_factory::{Kind, Override, TypeId};
 use uvm_glob::Name;
@@ -14,6 +15,7 @@ use uvm_glob::Name;
 /// A script. Contracts see what it says; a type is its place among the types of the script, from 0.
 #[derive(Drop)]
 pub struct Script {
+    pub(crate) version: u64,
     pub(crate) test: Option<TypeId>,
     pub(crate) time_limit: u64,
     pub(crate) quit_limit: u16,
@@ -25,6 +27,7 @@ pub struct Script {
     pub(crate) actions: Vec<ActionSetting>,
     pub(crate) severities: Vec<SeverityChange>,
     pub(crate) probes: Vec<Probe>,
+    pub(crate) drains: Vec<Drain>,
 }
 
 impl Model for Script {
@@ -33,6 +36,7 @@ impl Model for Script {
     ghost Value = { ScriptValue };
 
     ghost view = { λ s. record {
+      version = s.version;
       test = s.test;
       time_limit = s.time_limit;
       quit_limit = s.quit_limit;
@@ -44,11 +48,13 @@ impl Model for Script {
       actions = s.actions.items;
       severities = s.severities.items;
       probes = s.probes.items;
+      drains = s.drains.items;
     } };
 
     ghost use Rattle.bench_script.specs.Sound.{IsSound};
 
     ghost invariant = { λ s. IsSound (record {
+      version = s.version;
       test = s.test;
       time_limit = s.time_limit;
       quit_limit = s.quit_limit;
@@ -60,10 +66,18 @@ impl Model for Script {
       actions = s.actions.items;
       severities = s.severities.items;
       probes = s.probes.items;
+      drains = s.drains.items;
     }) };
 }
 
 impl Script {
+    /// The version of the script, 1 or 2.
+    pub fn version(&self) -> u64
+        ensures { result ≡ self.now.version }
+    {
+        self.version
+    }
+
     /// The type of the test, a component, if the script names one.
     pub fn test(&self) -> Option<TypeId>
         ensures test { result ≡ self.now.test }
@@ -147,5 +161,13 @@ impl Script {
         ensures sound { All (CanProbe self.now.types) self.now.probes }
     {
         self.probes.as_slice()
+    }
+
+    /// The drain times in the order in which they are given, each of a phase that takes time (IEEE 1800.2-2020, 10.5). None in version 1.
+    pub fn drains(&self) -> &[Drain]
+        ensures drains { result.now ≡ self.now.drains }
+        ensures sound { All CanDrain self.now.drains }
+    {
+        self.drains.as_slice()
     }
 }

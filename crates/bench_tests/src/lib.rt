@@ -16,6 +16,8 @@ mod plays;
 #[cfg(test)]
 mod runs;
 #[cfg(test)]
+mod scripts;
+#[cfg(test)]
 mod sinks;
 #[cfg(test)]
 mod views;

@@ -15,24 +15,29 @@ use uvm_tree::NodeId;
 
 const SCRIPT: &[u8] = b"version = 1\ntest = \"t\"\n[[type]]\nname = \"t\"\nkind = \"component\"\n";
 
+const SCRIPT_OF_VERSION_2: &[u8] =
+    b"version = 2\ntest = \"t\"\n[[type]]\nname = \"t\"\nkind = \"component\"\n";
+
 #[test]
 fn a_new_world_is_to_create_the_test(rt: HostRuntime) {
-    assert!(rt; begins(rt.alloc()));
+    assert!(rt; begins(rt.alloc(), SCRIPT, 1_000_000));
+    assert!(rt; begins(rt.alloc(), SCRIPT_OF_VERSION_2, 8_000_000));
 }
 
-fn begins(alloc: Global) -> bool {
-    match read(alloc, SCRIPT) {
-        Ok(script) if script.test().is_some() => world_begins(alloc, script),
+// Whether the world of a script begins so, with a log that may have so many entries.
+fn begins(alloc: Global, text: &[u8], limit: usize) -> bool {
+    match read(alloc, text) {
+        Ok(script) if script.test().is_some() => world_begins(alloc, script, limit),
         _ => false,
     }
 }
 
 // No other function holds a world.
-fn world_begins(alloc: Global, script: Script) -> bool
+fn world_begins(alloc: Global, script: Script, limit: usize) -> bool
     requires { IsSome script.test }
 {
     match World::new(alloc, script) {
-        Ok(world) => is_right(&world),
+        Ok(world) => world.log().limit() == limit && is_right(&world),
         Err(_) => false,
     }
 }

@@ -57,7 +57,7 @@ pub fn reports(world: &World) -> &Reports
 /// The agenda: the events that are due, in their order. For a sound world.
 pub fn agenda(world: &World) -> &Agenda<Owner, Option<Call>>
     requires { world.now.sound ≡ true }
-    ensures { result.now.dues ≡ in_order (due_events world.now.history) }
+    ensures { result.now.dues ≡ in_order (due_events world.now.script world.now.history) }
 {
     &world.services().agenda
 }
@@ -65,7 +65,7 @@ pub fn agenda(world: &World) -> &Agenda<Owner, Option<Call>>
 /// The objections of the phases that take time: what is raised at each node, and held back there (10.5). For a sound world.
 pub fn objections(world: &World) -> &Objections
     requires { world.now.sound ≡ true }
-    ensures { (phase : Phase) → is_task phase ≡ true → nodes_in result.now phase ≡ objections_of phase world.now.history }
+    ensures { (phase : Phase) → is_task phase ≡ true → nodes_in result.now phase ≡ objections_of world.now.script phase world.now.history }
 {
     &world.services().objections
 }

@@ -93,7 +93,7 @@ pub fn waiting(world: &World, node: NodeId) -> usize
 /// takes no time, and where there is no such node. For a sound world.
 pub fn total_in(world: &World, phase: Phase, node: NodeId) -> u64
     requires { world.now.sound ≡ true }
-    ensures { result ≡ (if is_task phase && nat_lt node (length (nodes_of world.now.history)) then total (objections_of phase world.now.history) node else 0) }
+    ensures { result ≡ (if is_task phase && nat_lt node (length (nodes_of world.now.history)) then total (objections_of world.now.script phase world.now.history) node else 0) }
 {
     if !phase.is_task() || !is_there(world, node) {
         return 0;
@@ -113,7 +113,7 @@ fn is_there(world: &World, node: NodeId) -> bool
 /// For a sound world.
 pub fn objection_stands(world: &World, phase: Phase) -> bool
     requires { world.now.sound ≡ true }
-    ensures { result ≡ (is_task phase && stands (objections_of phase world.now.history)) }
+    ensures { result ≡ (is_task phase && stands (objections_of world.now.script phase world.now.history)) }
 {
     phase.is_task() && world.services().objections.stands(phase)
 }
@@ -123,7 +123,7 @@ pub fn objection_stands(world: &World, phase: Phase) -> bool
 #[tactic(auto, unfolding(bench_history::specs::Objections::is_kept))]
 pub fn is_kept(world: &World, phase: Phase) -> bool
     requires { world.now.sound ≡ true }
-    ensures { result ≡ is_kept phase world.now.history }
+    ensures { result ≡ is_kept world.now.script phase world.now.history }
 {
     match phase {
         Phase::PostShutdown => objection_stands(world, phase)

@@ -25,7 +25,7 @@ use world_sequencers::arbiters::{first_locked, first_served};
 #[tactic(auto, unfolding(bench_history::specs::Dues::due_now))]
 pub fn due_now(world: &World) -> Option<&Due<Owner, Option<Call>>>
     requires { world.now.sound ≡ true }
-    ensures { option_copied result ≡ due_now world.now.history }
+    ensures { option_copied result ≡ due_now world.now.script world.now.history }
 {
     match world.services().agenda.first() {
         Some(due) if due.time == told::now(world) => Some(due),

@@ -1,5 +1,5 @@
 -- A world goes on with one more entry.
-use Rattle.std.proofs.Common.{◌≡◌, ◌<◌, true, List, ◌∷◌, length, Option, None, Some, refl, ap, subst, ◌∙◌, arith, sym, Bool}
+use Rattle.std.proofs.Common.{◌≡◌, ◌<◌, ◌≤◌, ◌==◌, if◌then◌else◌, false, true, List, ◌∷◌, length, Option, None, Some, refl, ap, subst, ◌∙◌, arith, sym, Bool}
 use Rattle.uvm_object.specs.declared.acts.Act.{Act}
 use Rattle.uvm_object.specs.declared.acts.Who.{Who}
 use Rattle.uvm_object.specs.declared.entries.Entry.{Entry}
@@ -29,6 +29,15 @@ use Rattle.std.specs.List.{list_any}
 -- a legal log goes on with an entry that is next
 pub legal-more : {script : ScriptValue} {before : List Entry} (entry : Entry) → IsNext script before entry → length before < log_limit script → IsLegal script before → IsLegal script (entry ∷ before)
 legal-more entry next room legal = record { each = (next, legal.each); few = omega arith }
+
+-- a log is short, by either version of scripts
+pub short : (script : ScriptValue) → log_limit script ≤ 8000000
+unfolding log_limit
+short script = tested (script.version == 2)
+  where
+    tested : (t : Bool) → (if t then 8000000 else 1000000) ≤ 8000000
+    tested true = omega arith
+    tested false = omega arith
 
 -- a world is sound again once its services match
 pub sound-again :

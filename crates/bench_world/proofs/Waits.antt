@@ -35,12 +35,12 @@ use Rattle.bench_history.specs.declared.needs.Need as needs
 same-match : {script : ScriptValue} {old new : Services} (log : LogValue) → GiveTheSame old new → ServicesMatch script log.entries old → ServicesMatch script log.entries new
 same-match {script} {old} {new} log same m =
     let history = log.entries in
-    let objections = objectings-same new.objections same.objections m.objections in
+    let objections = objectings-same new.objections same.objections same.drains m.objections in
     let reporting = same.reporting _ _ m.reporting in
     let tree = same.nodes ∙ m.tree in
     let turns = rounds-same same.turns m.turns in
     let sequencing = sequencing-same new.sequences new.beginnings.items same.sequences same.beginnings m.sequencing in
-    let agenda : IsAgenda (caused_of history) (heard_of history) (ended_of history) (finished_of history) (length history) new.agenda.dues = rw same.dues m.agenda in
+    let agenda : IsAgenda (caused_of script history) (heard_of history) (ended_of history) (finished_of history) (length history) new.agenda.dues = rw same.dues m.agenda in
     let match : ServicesMatch script history (record old { tree = new.tree; objections = new.objections; turns = new.turns; sequences = new.sequences; beginnings = new.beginnings; agenda = new.agenda; reporting = new.reporting }) = search (rules, tree, turns, objections, sequencing, agenda, reporting) in
     subst (ServicesMatch script history) (sym same.rest) match
 

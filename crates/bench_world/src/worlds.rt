@@ -8,6 +8,7 @@ ghost use Rattle.bench_history.specs.Next.{IsLegal};
 ghost use Rattle.bench_history.specs.Sequences.{leaving_of};
 ghost use Rattle.bench_world.specs.Worlds.{WorldValue};
 
+use bench_history::limits::log_limit;
 use bench_script::Script;
 use std::alloc::{AllocError, Global};
 use std::marker::Model;
@@ -44,9 +45,6 @@ impl Model for World {
 }
 
 impl World {
-    /// The most entries of a log.
-    pub const MAX_ENTRIES: usize = 1_000_000;
-
     /// The most acts of an answer.
     pub const MAX_ACTS: usize = 64;
 
@@ -67,10 +65,11 @@ impl World {
         requires services { ServicesMatch script [] services }
         ensures { result ≡ record { script = script; history = []; sound = true; waiting = None } }
     {
+        let log = Log::new(alloc, log_limit(&script));
         World {
             alloc,
             script,
-            log: Log::new(alloc, World::MAX_ENTRIES),
+            log,
             services,
             creation,
             waiting: None,

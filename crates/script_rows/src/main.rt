@@ -67,11 +67,16 @@ fn tell_script<R: Print>(rt: &R, script: &Script) -> io::Result<()> {
     if script.has_runtime() {
         rt.println("run-time phases")?;
     }
+    if script.version() > 1 {
+        put(rt, "version ", script.version())?;
+        rt.print("\n")?;
+    }
     tell_types(rt, script)?;
     tell_overrides(rt, script)?;
     tell_settings(rt, script)?;
     reports::tell(rt, script)?;
-    tell_probes(rt, script)
+    tell_probes(rt, script)?;
+    tell_drains(rt, script)
 }
 
 // Writes a value behind some words.
@@ -103,6 +108,16 @@ fn tell_probes<R: Print>(rt: &R, script: &Script) -> io::Result<()> {
         put(rt, "probe ", probe.type_id.place())?;
         put(rt, " at (", &probe.path)?;
         rt.println(")")?;
+    }
+    Ok(())
+}
+
+fn tell_drains<R: Print>(rt: &R, script: &Script) -> io::Result<()> {
+    for drain in script.drains() {
+        put(rt, "drain (", &drain.path)?;
+        put(rt, ") in ", drain.phase.name())?;
+        put(rt, " ", drain.ticks)?;
+        rt.print("\n")?;
     }
     Ok(())
 }

@@ -9,3 +9,4 @@ pub use Rattle.uvm_glob.specs.Globs
 pub use Rattle.uvm_glob.specs.Names
 pub use Rattle.uvm_glob.specs.Paths
 pub use Rattle.uvm_report.specs.Severities
+pub mod Drains

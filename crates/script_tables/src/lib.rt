@@ -1,12 +1,14 @@
 //! The arrays of tables of a script: what their rows say, and how they are read.
 #![tactic(auto)]
 
+mod drains;
 mod report_settings;
 mod report_tables;
 mod rows;
 mod tables;
 mod type_tables;
 
+pub use drains::{Drain, read_drains};
 pub use report_settings::{ActionSetting, SeverityChange, VerbositySetting};
 pub use report_tables::{read_actions, read_severities, read_verbosities};
 pub use rows::{Probe, Setting};

@@ -107,6 +107,13 @@ impl Log {
         }
     }
 
+    /// How many entries there may be, as `new` was told. Takes no memory.
+    pub fn limit(&self) -> usize
+        ensures { result ≡ self.now.limit }
+    {
+        self.limit
+    }
+
     /// Whether the limit is reached.
     pub fn is_full(&self) -> bool
         ensures { result ≡ nat_le self.now.limit (length self.now.entries) }

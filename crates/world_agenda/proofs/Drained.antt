@@ -1,5 +1,6 @@
 -- Drains that begin and end, with the events that are due.
-use Rattle.std.proofs.Common.{◌≡◌, ℕ, zero, suc, ◌+◌, ◌-◌, ◌<◌, Bool, true, false, not, ◌&&◌, ◌||◌, ◌==◌, nat_lt, List, [], ◌∷◌, ◌++◌, map, filter, find, slice_get, subst, Option, Some, None, All, refl, ap, ◌∙◌, sym, arith, if◌then◌else◌}
+use Rattle.std.proofs.Common.{length, ◌≡◌, ℕ, zero, suc, ◌+◌, ◌-◌, ◌<◌, Bool, true, false, not, ◌&&◌, ◌||◌, ◌==◌, nat_lt, List, [], ◌∷◌, ◌++◌, map, filter, find, slice_get, subst, Option, Some, None, All, refl, ap, ◌∙◌, sym, arith, if◌then◌else◌}
+use Rattle.bench_script.specs.Scripts.{ScriptValue}
 use Rattle.std.specs.List.{list_any, flat_map}
 use Rattle.std.specs.Option.{option_map_or, option_to_list}
 use Rattle.std.proofs.lemmas.Bool.Decides.{nat_tests}
@@ -12,6 +13,7 @@ use Rattle.uvm_phase.specs.declared.phases.Phase.TheVariants.{Build, Connect, En
 use Rattle.uvm_phase.specs.Phases.{is_task, phase_number, phases, same_phase}
 use Rattle.uvm_phase.specs.Dues.{same_cause, in_order}
 use Rattle.uvm_phase.specs.Laws.{OrderKeepsAll}
+use Rattle.bench_history.specs.Objections.{with_new}
 use Rattle.uvm_objection.specs.Nodes.{Node, is_known, drain_of, held_of, due_of, changed_at, new_node, raised, dropped, released, with_drain}
 use Rattle.uvm_objection.specs.Totals.{total, settled, held_after, drains_begun, drains_ended}
 use Rattle.uvm_objection.specs.Laws.{places, AreNodes, PlacesStay, SettledGoByTotals, IsHeldUntilDue}
@@ -331,7 +333,7 @@ at-front f k (e ∷ nodes) more known = tested (e.node == k) known (at-front f k
     tested true known rest = refl
     tested false known rest = rest known
 
-pub held-more : (node parent k at : ℕ) (nodes : List Node) → IsHeldUntilDue nodes (record { node = k; at = at }) → IsHeldUntilDue (nodes ++ new_node node parent ∷ []) (record { node = k; at = at })
+held-more : (node parent k at : ℕ) (nodes : List Node) → IsHeldUntilDue nodes (record { node = k; at = at }) → IsHeldUntilDue (nodes ++ new_node node parent ∷ []) (record { node = k; at = at })
 held-more node parent k at nodes held =
     let known = known-held k nodes held.held in
     let same = at-front (λ e. e.held) k nodes (new_node node parent ∷ []) known in
@@ -360,6 +362,10 @@ held-with-drain node ticks k at nodes held = record {
   held = rw (at-changed (λ e. e.held) (λ e. record e { drain = ticks }) node k nodes (λ e. refl) (λ e. refl)) held.held;
 }
 
+-- with a new node, whatever its drain time
+pub held-made : (parent drain k at : ℕ) (nodes : List Node) → IsHeldUntilDue nodes (record { node = k; at = at }) → IsHeldUntilDue (with_new parent drain nodes) (record { node = k; at = at })
+held-made parent drain k at nodes held = held-with-drain (length nodes) drain k at (nodes ++ new_node (length nodes) parent ∷ []) (held-more (length nodes) parent k at nodes held)
+
 -- where no drain has ended all events stay
 pub none-ended : (phase : Phase) (caused : List Event) → filter (λ event. not (is_drain_of phase [] event.owner)) caused ≡ caused
 none-ended phase [] = refl
@@ -375,13 +381,13 @@ none-ended phase (event ∷ caused) = rw (none event.owner, none-ended phase cau
 
 -- the drain that is due is of a phase that takes time, and its node holds something until now, in the objection of that phase
 pub due-is-held :
-    (nodes : Phase → List Node) (history : List Entry) (node : ℕ) (origin : Origin) → OrderKeepsAll Owner (Option Call) → AreEvents nodes (due_events history) → IsDrainDue history node origin
+    (script : ScriptValue) (nodes : Phase → List Node) (history : List Entry) (node : ℕ) (origin : Origin) → OrderKeepsAll Owner (Option Call) → AreEvents nodes (due_events script history) → IsDrainDue script history node origin
     → IsDrainEvent nodes origin.phase origin.phase node (now_of history)
-due-is-held nodes history node origin keeps all drained =
+due-is-held script nodes history node origin keeps all drained =
     let due = drained.due in
     let P : Event → Type 0 = λ event. IsEvent nodes event.phase event.owner event.notice event.time in
-    let ordered : All P (in_order (due_events history)) = All-permutation P (due_events history) (in_order (due_events history)) (keeps (due_events history)) all in
-    drain due.event.phase due.event.owner due.event.notice due.event.time (ap (λ (one : Origin). one.phase) due.origin_is) (rw due.hearer_is drained.stands) due.notice_is due.time (first-holds P (in_order (due_events history)) due.event ordered due.first)
+    let ordered : All P (in_order (due_events script history)) = All-permutation P (due_events script history) (in_order (due_events script history)) (keeps (due_events script history)) all in
+    drain due.event.phase due.event.owner due.event.notice due.event.time (ap (λ (one : Origin). one.phase) due.origin_is) (rw due.hearer_is drained.stands) due.notice_is due.time (first-holds P (in_order (due_events script history)) due.event ordered due.first)
   where
     drain :
         (phase : Phase) (owner : Owner) (notice : Option Call) (time : ℕ) → phase ≡ origin.phase → node_of (who_of owner) ≡ node → notice ≡ None → time ≡ now_of history → IsEvent nodes phase owner notice time

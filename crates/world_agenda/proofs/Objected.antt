@@ -2,8 +2,9 @@
 use Rattle.std.proofs.Common.{◌≡◌, ◌≤◌, ◌<◌, ◌||◌, ◌==◌, ℕ, suc, zero, Bool, true, false, nat_lt, List, [], ◌∷◌, ◌++◌, length, refl, ap, sym, ◌∙◌, arith, length-append}
 use Rattle.std.proofs.lemmas.Bool.Decides.{nat_tests}
 use Rattle.std.proofs.lemmas.List.{length-map}
-use Rattle.uvm_objection.specs.Nodes.{is_known, top, new_node}
+use Rattle.uvm_objection.specs.Nodes.{is_known, top, new_node, with_drain}
 use Rattle.uvm_objection.specs.Laws.{places, AreNodes, PlacesStay, NodesGrow, GrowsBy}
+use Rattle.bench_history.specs.Objections.{with_new}
 use Rattle.world_agenda.specs.Objectings.{AreNumbered, IsObjecting}
 use Rattle.uvm_objection.specs.Nodes as objection
 
@@ -50,6 +51,23 @@ objecting-more {nodes} {count} new parent grow below o is added =
       are_nodes = grown.nodes;
       few = omega (arith, o.few, grown.most);
     })
+
+-- with its drain time
+pub objecting-made :
+    {nodes : List objection.Node} {count entries more : ℕ} {old : List objection.Node} (new : List objection.Node) (parent drain : ℕ) → PlacesStay → NodesGrow → parent < count → IsObjecting nodes count entries old → more ≡ suc count
+    → new ≡ with_drain count drain (nodes ++ new_node count parent ∷ []) → IsObjecting (with_new parent drain nodes) more (suc entries) new
+objecting-made {nodes} {count} new parent drain stay grow below o is made =
+    let whole = nodes ++ new_node (length nodes) parent ∷ [] in
+    let added = objecting-more whole parent grow below o is (ap (λ (n : ℕ). nodes ++ new_node n parent ∷ []) o.count_is) in
+    let same = stay.with_drain (length nodes) drain whole in
+    let changed = (grow.1 whole added.are_nodes).with_drain (length nodes) drain in
+    record {
+      are = made ∙ ap (λ (n : ℕ). with_drain n drain (nodes ++ new_node n parent ∷ [])) (sym o.count_is);
+      numbered = λ node. stay.known node whole (with_drain (length nodes) drain whole) same ∙ added.numbered node;
+      count_is = length-map whole _ ∙ added.count_is;
+      are_nodes = changed.nodes;
+      few = omega (arith, added.few, changed.most);
+    }
 
 -- more is raised at a node, or some is dropped: the nodes stand where they stood
 pub objecting-changed :

@@ -15,6 +15,7 @@ pub record GiveTheSame (old new : Services) : Type 0 where
   pub rest : new ≡ record old { tree = new.tree; objections = new.objections; turns = new.turns; sequences = new.sequences; beginnings = new.beginnings; agenda = new.agenda; reporting = new.reporting }
   pub nodes : new.tree.nodes ≡ old.tree.nodes
   pub objections : (phase : Phase) → nodes_in new.objections phase ≡ nodes_in old.objections phase
+  pub drains : new.objections.given ≡ old.objections.given
   pub turns : AreSameRounds old.turns new.turns
   pub sequences : (new.sequences.started ≡ old.sequences.started) × (new.sequences.steps ≡ old.sequences.steps)
   pub beginnings : new.beginnings.items ≡ old.beginnings.items

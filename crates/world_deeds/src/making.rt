@@ -17,11 +17,11 @@ use std::alloc::{AllocError, Global};
 use uvm_factory::Factory;
 use uvm_glob::Name;
 use uvm_object::{Act, Deed, Fatal, Log, LoggedOutcome, Who};
-use uvm_objection::laws as objections;
+use uvm_objection::laws;
 use uvm_report::Report;
 use uvm_tree::{NodeId, NodeKind};
 use world_sequencer_acts::starts::begin;
-use world_services::nodes::add_child;
+use world_services::nodes::add_node;
 use world_services::rooms::{reserve_component, reserve_sequence};
 use world_services::services::Services;
 
@@ -114,13 +114,12 @@ fn grow(services: &mut Services, act: &Act) -> NodeId
     ensures node { result ≡ length services.old.tree.nodes }
     ensures kept { (type_name : List ℕ) (place : ℕ) → TakesIn act.now (Made type_name) place services.old services.new }
 {
-    objections::nodes_grow();
+    laws::nodes_grow();
+    laws::places_stay();
     let parent = services.answer.speaker.node();
     let name = created_name(act);
-    let Ok(node) = add_child(&mut services.tree, parent, name, NodeKind::Component) else {
-        unreachable!()
-    };
-    let Ok(()) = services.objections.add(node, parent) else {
+    let (tree, objections) = (&mut services.tree, &mut services.objections);
+    let Ok(node) = add_node(tree, objections, parent, name, NodeKind::Component) else {
         unreachable!()
     };
     services.turns.make(&services.tree, node);

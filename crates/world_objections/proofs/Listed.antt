@@ -5,7 +5,7 @@ use Rattle.std.proofs.lemmas.Bool.Decides.{nat_tests}
 use Rattle.std.proofs.lemmas.Option.{slice_get_past}
 use Rattle.uvm_phase.specs.declared.phases.Phase.{Phase}
 use Rattle.uvm_objection.specs.Nodes.{ObjectionValue, Node}
-use Rattle.world_objections.specs.Phased.{HasOwn, OthersStay, OthersStayAt, nodes_at, nodes_in, one_at, place_in, spare_at}
+use Rattle.world_objections.specs.Phased.{IsOwn, OthersStayAt, nodes_at, one_at, place_in, spare_at}
 use Rattle.world_objections.proofs.Placed.{within}
 
 -- where one stands, it is the one of that place
@@ -165,17 +165,20 @@ written (x ∷ xs) zero one (suc other) apart = refl
 written (x ∷ xs) (suc place) one zero apart = refl
 written (x ∷ xs) (suc place) one (suc other) apart = written xs place one other (grind (arith, nat_tests, apart))
 
--- where a phase has its own, no other changes with it
-alone : (phase : Phase) (old new : List ObjectionValue) → HasOwn phase old → OthersStayAt (place_in phase) old new → OthersStay phase old new
+-- where a phase has its own, the nodes of no other change with it
+abbrev pub Others : Phase → List ObjectionValue → List ObjectionValue → Type 0
+Others phase old new = (other : Phase) → (place_in phase == place_in other) ≡ false → nodes_at new (place_in other) ≡ nodes_at old (place_in other)
+
+pub alone : (phase : Phase) (old new : List ObjectionValue) → IsOwn (place_in phase) old → OthersStayAt (place_in phase) old new → Others phase old new
 alone phase old new (inl first) stay = λ other apart.
     let second : (place_in phase == 1) ≡ false = grind (arith, nat_tests, first) in
     λ i. option_map_or (λ o. o.nodes) (option_or (stay (place_in other) apart i) (stay 1 second i)) []
 alone phase old new (inr all) stay = λ other apart. let low = within other in same-nodes new old (place_in other) (omega (arith, low, all)) (stay (place_in other) apart)
 
 pub others-stay :
-    (phase : Phase) (place : ℕ) (old mid xs : List ObjectionValue) (one : ObjectionValue) → place ≡ place_in phase → xs ≡ mid → HasOwn phase mid → ((other : Phase) → nodes_in mid other ≡ nodes_in old other)
-    → OthersStay phase old (slice_set xs place one)
+    (phase : Phase) (place : ℕ) (old mid xs : List ObjectionValue) (one : ObjectionValue) → place ≡ place_in phase → xs ≡ mid → IsOwn (place_in phase) mid → ((other : Phase) → nodes_at mid (place_in other) ≡ nodes_at old (place_in other))
+    → Others phase old (slice_set xs place one)
 others-stay phase place old mid xs one here same own kept = λ other apart.
     let stay = subst (λ (n : ℕ). OthersStayAt n xs (slice_set xs place one)) here (written xs place one) in
-    let own' = subst (λ (o : List ObjectionValue). HasOwn phase o) (sym same) own in
-    alone phase xs (slice_set xs place one) own' stay other apart ∙ ap (λ (o : List ObjectionValue). nodes_in o other) same ∙ kept other
+    let own' = subst (λ (o : List ObjectionValue). IsOwn (place_in phase) o) (sym same) own in
+    alone phase xs (slice_set xs place one) own' stay other apart ∙ ap (λ (o : List ObjectionValue). nodes_at o (place_in other)) same ∙ kept other

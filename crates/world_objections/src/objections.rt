@@ -1,14 +1,18 @@
 //! The objections of the phases that take time, of which the run-time phases share one until they are parted.
 
-ghost use Rattle.std.specs.Prelude.{◌≡◌, ◌≢◌, ◌∷◌, ◌++◌, ◌+◌, ◌<◌, ◌≤◌, ◌^◌, ℕ, nat_lt, false, [], length, IsTrue, IsOk, IfOk, OnOk, OnErr};
+ghost use Rattle.std.specs.Prelude.{◌≡◌, ◌≢◌, ◌∷◌, ◌++◌, ◌+◌, ◌<◌, ◌≤◌, ◌^◌, ℕ, All, nat_lt, false, true, [], length, slice_get, IsTrue, IsOk, IfOk, OnOk, OnErr};
 ghost use Rattle.std.specs.Option.{option_to_list};
+ghost use Rattle.script_tables.specs.Drains.{CanDrain};
+ghost use Rattle.uvm_phase.specs.Phases.{is_task};
 ghost use Rattle.uvm_objection.specs.Nodes.{dropped, held_of, due_of, is_known, new_node, raised, released, source_of, top, with_drain};
 ghost use Rattle.uvm_objection.specs.Totals.{drains_begun, drains_ended, settled, standing, total};
-ghost use Rattle.world_objections.specs.Phased.{HasOwn, OthersStay, OthersStayAt, nodes_at, nodes_in, place_in, spare_at, spare_in};
+ghost use Rattle.world_objections.specs.Phased.{HasNode, HasOwn, OthersStay, OthersStayAt, given_by, nodes_at, nodes_in, place_in, spare_at, spare_in};
 
 use crate::faults::DropFault;
+use script_tables::Drain;
 use std::alloc::{AllocError, Global};
 use std::marker::Model;
+use uvm_glob::Path;
 use uvm_objection::{Due, Objection};
 use uvm_phase::Phase;
 use uvm_tree::NodeId;
@@ -19,33 +23,62 @@ const TASKS: usize = 13;
 /// The objections of the phases that take time, one for each (IEEE 1800.2-2020, 10.5): what is raised at the nodes of a tree, and what is
 /// held back there until a drain ends. A phase that takes no time has none: for such a phase each call goes to run's.
 ///
-/// Contracts see them as a list, run's first. The second stands for all run-time phases until a raise, a drop, the end of a drain or
+/// Contracts see them as a list, run's first, beside the drain times that the script gives. The second stands for all run-time phases until a raise, a drop, the end of a drain or
 /// `set_drain` in one of them, which parts them: from then on each has its own, in their order, made as a copy of the second. That takes
 /// memory once; where nothing is done in any of these phases, two objections are kept.
 #[derive(Drop)]
 pub struct Objections {
     // Run's, and behind it the one of all run-time phases, or one for each of them in their order.
     each: Vec<Objection>,
+    // The drain times that the script gives.
+    given: Vec<Drain>,
 }
 
 impl Model for Objections {
-    ghost use Rattle.std.specs.Prelude.{◌≤◌, List, length};
-    ghost use Rattle.uvm_objection.specs.Nodes.{ObjectionValue};
+    ghost use Rattle.world_objections.specs.Phased.{AreKept, ObjectionsValue};
 
-    ghost Value = { List ObjectionValue };
+    ghost Value = { ObjectionsValue };
 
-    ghost view = { λ o. o.each.items };
+    ghost view = { λ o. record { each = o.each.items; given = o.given.items } };
 
-    ghost invariant = { λ o. (2 ≤ length o.each.items) × (length o.each.items ≤ 13) };
+    ghost invariant = { λ o. AreKept o.each.items o.given.items };
 }
 
 impl Objections {
-    /// Makes the objections of no node but the top, at which nothing is raised. Its error is want of memory.
-    pub fn new(alloc: Global) -> Result<Objections, AllocError>
-        ensures { IfOk result (λ objections. (phase : Phase) → nodes_in objections phase ≡ top ∷ []) }
+    /// Makes the objections of no node but the top, at which nothing is raised, with the drain times that a script gives: a node that is added
+    /// has those that are given for its path. Its error is want of memory.
+    pub fn new(alloc: Global, given: &[Drain]) -> Result<Objections, AllocError>
+        requires { All CanDrain given.now }
+        ensures nodes { IfOk result (λ objections. (phase : Phase) → nodes_in objections phase ≡ top ∷ []) }
+        ensures given { IfOk result (λ objections. objections.given ≡ given.now) }
+    {
+        let mut objections = Objections::shared(alloc)?;
+        for drain in given {
+            objections.take_in(drain)?;
+        }
+        Ok(objections)
+    }
+
+    // Those of no node but the top, with no drain times.
+    fn shared(alloc: Global) -> Result<Objections, AllocError>
+        ensures nodes { IfOk result (λ objections. (phase : Phase) → nodes_in objections phase ≡ top ∷ []) }
+        ensures given { IfOk result (λ objections. objections.given ≡ []) }
     {
         let each = vec![in alloc; Objection::new(alloc), Objection::new(alloc)]?;
-        Ok(Objections { each })
+        let given = Vec::new(alloc);
+        Ok(Objections { each, given })
+    }
+
+    // Takes in one more drain time, and parts the run-time phases if it is of one of them. Its error is want of memory.
+    fn take_in(&mut self, drain: &Drain) -> Result<(), AllocError>
+        requires { CanDrain drain.now }
+        ensures nodes { (phase : Phase) → nodes_in self.new phase ≡ nodes_in self.old phase }
+        ensures given { OnOk result (self.new.given ≡ self.old.given ++ drain.now ∷ []) }
+    {
+        self.own_place(drain.phase)?;
+        let copied = drain.copy()?;
+        self.given.push(copied)?;
+        Ok(())
     }
 
     /// Makes room for a node in each objection: the next `add` then takes no memory. Its error is want of memory, which changes no node, and
@@ -55,6 +88,7 @@ impl Objections {
         ensures spare { OnOk result ((phase : Phase) → 0 < spare_in self.new phase) }
         ensures room { ((phase : Phase) → 0 < spare_in self.old phase) → IsOk result }
         ensures kept { (phase : Phase) → spare_in self.old phase ≤ spare_in self.new phase }
+        ensures given { self.new.given ≡ self.old.given }
     {
         for place in 0..self.each.len() {
             self.reserve_at(place)?;
@@ -62,27 +96,60 @@ impl Objections {
         Ok(())
     }
 
-    /// Adds a node that is not known, under a parent that is, to each objection: nothing is raised at it, and its drain time is 0. Its error
-    /// is want of memory, which adds nothing, and does not come where there is room.
-    pub fn add(&mut self, node: NodeId, parent: NodeId) -> Result<(), AllocError>
+    /// Adds a node that is not known, under a parent that is, to each objection: nothing is raised at it, and its drain time is the one that
+    /// the script gives for its path, else 0. Its error is want of memory, which adds nothing, and does not come where there is room.
+    pub fn add(&mut self, node: NodeId, parent: NodeId, path: &Path) -> Result<(), AllocError>
         requires unknown { (phase : Phase) → is_known node (nodes_in self.old phase) ≡ false }
         requires parent { (phase : Phase) → IsTrue (is_known parent (nodes_in self.old phase)) }
-        ensures ok { OnOk result ((phase : Phase) → nodes_in self.new phase ≡ nodes_in self.old phase ++ new_node node parent ∷ []) }
+        ensures ok { OnOk result (HasNode node parent path.now self.old self.new) }
         ensures err { OnErr result ((phase : Phase) → nodes_in self.new phase ≡ nodes_in self.old phase) }
         ensures room { ((phase : Phase) → 0 < spare_in self.old phase) → IsOk result }
+        ensures given { self.new.given ≡ self.old.given }
     {
         self.reserve()?;
+        self.add_to_each(node, parent);
+        for row in 0..self.given.len() {
+            self.give(row, node, path);
+        }
+        Ok(())
+    }
+
+    // Adds a node with no drain time to each, in the room for it.
+    fn add_to_each(&mut self, node: NodeId, parent: NodeId)
+        requires unknown { (phase : Phase) → is_known node (nodes_in self.old phase) ≡ false }
+        requires parent { (phase : Phase) → IsTrue (is_known parent (nodes_in self.old phase)) }
+        requires room { (phase : Phase) → 0 < spare_in self.old phase }
+        ensures nodes { (phase : Phase) → nodes_in self.new phase ≡ nodes_in self.old phase ++ new_node node parent ∷ [] }
+        ensures given { self.new.given ≡ self.old.given }
+    {
         for place in 0..self.each.len() {
             self.add_at(place, node, parent);
         }
-        Ok(())
+    }
+
+    // Sets the drain time of a node at a path to that of a row of the script, if the row is for that path.
+    fn give(&mut self, row: usize, node: NodeId, path: &Path)
+        requires within { row < length self.old.given }
+        requires known { (phase : Phase) → IsTrue (is_known node (nodes_in self.old phase)) }
+        ensures nodes { (phase : Phase) → is_task phase ≡ true → nodes_in self.new phase ≡ given_by (slice_get self.old.given row) phase path.now node (nodes_in self.old phase) }
+        ensures known { (phase : Phase) → IsTrue (is_known node (nodes_in self.new phase)) }
+        ensures given { self.new.given ≡ self.old.given }
+    {
+        let Some(drain) = self.given.get(row) else {
+            unreachable!()
+        };
+        if drain.path == *path {
+            let (place, ticks) = (place_in(drain.phase), drain.ticks);
+            self.set_drain_at(place, node, ticks);
+        }
     }
 
     /// Sets the drain time of a known node in each objection, in ticks. Takes no memory.
     pub fn set_each_drain(&mut self, node: NodeId, ticks: u64)
         requires known { (phase : Phase) → IsTrue (is_known node (nodes_in self.old phase)) }
         requires limit { ticks ≤ 10 ^ 15 }
-        ensures { (phase : Phase) → nodes_in self.new phase ≡ with_drain node ticks (nodes_in self.old phase) }
+        ensures nodes { (phase : Phase) → nodes_in self.new phase ≡ with_drain node ticks (nodes_in self.old phase) }
+        ensures given { self.new.given ≡ self.old.given }
     {
         for place in 0..self.each.len() {
             self.set_drain_at(place, node, ticks);
@@ -91,13 +158,14 @@ impl Objections {
 
     // Makes room for a node in the one at a place.
     fn reserve_at(&mut self, place: usize) -> Result<(), AllocError>
-        requires { place < length self.old }
-        ensures nodes { nodes_at self.new place ≡ nodes_at self.old place }
-        ensures spare { OnOk result (0 < spare_at self.new place) }
-        ensures room { 0 < spare_at self.old place → IsOk result }
-        ensures kept { spare_at self.old place ≤ spare_at self.new place }
-        ensures others { OthersStayAt place self.old self.new }
-        ensures count { length self.new ≡ length self.old }
+        requires { place < length self.old.each }
+        ensures nodes { nodes_at self.new.each place ≡ nodes_at self.old.each place }
+        ensures spare { OnOk result (0 < spare_at self.new.each place) }
+        ensures room { 0 < spare_at self.old.each place → IsOk result }
+        ensures kept { spare_at self.old.each place ≤ spare_at self.new.each place }
+        ensures others { OthersStayAt place self.old.each self.new.each }
+        ensures given { self.new.given ≡ self.old.given }
+        ensures count { length self.new.each ≡ length self.old.each }
     {
         let Some(objection) = self.each.get_mut(place) else {
             unreachable!()
@@ -107,13 +175,14 @@ impl Objections {
 
     // Adds a node to the one at a place, in the room for it.
     fn add_at(&mut self, place: usize, node: NodeId, parent: NodeId)
-        requires within { place < length self.old }
-        requires unknown { is_known node (nodes_at self.old place) ≡ false }
-        requires parent { IsTrue (is_known parent (nodes_at self.old place)) }
-        requires room { 0 < spare_at self.old place }
-        ensures nodes { nodes_at self.new place ≡ nodes_at self.old place ++ new_node node parent ∷ [] }
-        ensures others { OthersStayAt place self.old self.new }
-        ensures count { length self.new ≡ length self.old }
+        requires within { place < length self.old.each }
+        requires unknown { is_known node (nodes_at self.old.each place) ≡ false }
+        requires parent { IsTrue (is_known parent (nodes_at self.old.each place)) }
+        requires room { 0 < spare_at self.old.each place }
+        ensures nodes { nodes_at self.new.each place ≡ nodes_at self.old.each place ++ new_node node parent ∷ [] }
+        ensures others { OthersStayAt place self.old.each self.new.each }
+        ensures given { self.new.given ≡ self.old.given }
+        ensures count { length self.new.each ≡ length self.old.each }
     {
         let Some(objection) = self.each.get_mut(place) else {
             unreachable!()
@@ -125,12 +194,13 @@ impl Objections {
 
     // Sets the drain time of a node in the one at a place, in ticks.
     fn set_drain_at(&mut self, place: usize, node: NodeId, ticks: u64)
-        requires within { place < length self.old }
-        requires known { IsTrue (is_known node (nodes_at self.old place)) }
+        requires within { place < length self.old.each }
+        requires known { IsTrue (is_known node (nodes_at self.old.each place)) }
         requires limit { ticks ≤ 10 ^ 15 }
-        ensures nodes { nodes_at self.new place ≡ with_drain node ticks (nodes_at self.old place) }
-        ensures others { OthersStayAt place self.old self.new }
-        ensures count { length self.new ≡ length self.old }
+        ensures nodes { nodes_at self.new.each place ≡ with_drain node ticks (nodes_at self.old.each place) }
+        ensures others { OthersStayAt place self.old.each self.new.each }
+        ensures given { self.new.given ≡ self.old.given }
+        ensures count { length self.new.each ≡ length self.old.each }
     {
         let Some(objection) = self.each.get_mut(place) else {
             unreachable!()
@@ -152,6 +222,7 @@ impl Objections {
         ensures began { OnOk result (drains_begun (nodes_in self.old phase) (nodes_in self.new phase) ≡ []) }
         ensures ended { IfOk result (λ ended. drains_ended (nodes_in self.old phase) (nodes_in self.new phase) ≡ option_to_list ended) }
         ensures others { OthersStay phase self.old self.new }
+        ensures given { self.new.given ≡ self.old.given }
         ensures err { OnErr result ((one : Phase) → nodes_in self.new one ≡ nodes_in self.old one) }
         ensures room { HasOwn phase self.old → IsOk result }
     {
@@ -182,6 +253,7 @@ impl Objections {
         ensures unchanged { result ≡ Err DropFault.BelowZero → self.new ≡ self.old }
         ensures memory { result ≡ Err DropFault.Memory → count ≤ source_of node (nodes_in self.old phase) }
         ensures others { OthersStay phase self.old self.new }
+        ensures given { self.new.given ≡ self.old.given }
         ensures err { OnErr result ((one : Phase) → nodes_in self.new one ≡ nodes_in self.old one) }
         ensures room { HasOwn phase self.old → result ≢ Err DropFault.Memory }
     {
@@ -208,6 +280,7 @@ impl Objections {
         ensures began { IfOk result (λ due. drains_begun (nodes_in self.old phase) (nodes_in self.new phase) ≡ option_to_list due) }
         ensures ended { OnOk result (drains_ended (nodes_in self.old phase) (nodes_in self.new phase) ≡ node ∷ []) }
         ensures others { OthersStay phase self.old self.new }
+        ensures given { self.new.given ≡ self.old.given }
         ensures err { OnErr result ((one : Phase) → nodes_in self.new one ≡ nodes_in self.old one) }
         ensures room { HasOwn phase self.old → IsOk result }
     {
@@ -225,6 +298,7 @@ impl Objections {
         requires limit { ticks ≤ 10 ^ 15 }
         ensures nodes { OnOk result (nodes_in self.new phase ≡ with_drain node ticks (nodes_in self.old phase)) }
         ensures others { OthersStay phase self.old self.new }
+        ensures given { self.new.given ≡ self.old.given }
         ensures err { OnErr result ((one : Phase) → nodes_in self.new one ≡ nodes_in self.old one) }
         ensures room { HasOwn phase self.old → IsOk result }
     {
@@ -258,9 +332,10 @@ impl Objections {
     fn own_place(&mut self, phase: Phase) -> Result<usize, AllocError>
         ensures nodes { (one : Phase) → nodes_in self.new one ≡ nodes_in self.old one }
         ensures place { IfOk result (λ place. place ≡ place_in phase) }
-        ensures within { IfOk result (λ place. place < length self.new) }
+        ensures within { IfOk result (λ place. place < length self.new.each) }
         ensures own { OnOk result (HasOwn phase self.new) }
         ensures room { HasOwn phase self.old → IsOk result }
+        ensures given { self.new.given ≡ self.old.given }
     {
         let place = place_in(phase);
         if self.each.len() < TASKS && place > 0 {
@@ -271,8 +346,9 @@ impl Objections {
 
     // Gives each of the run-time phases its own. Its error is want of memory, which leaves fewer with their own, and changes no node.
     fn part(&mut self) -> Result<(), AllocError>
-        ensures nodes { (place : ℕ) → nodes_at self.new place ≡ nodes_at self.old place }
-        ensures count { OnOk result (length self.new ≡ 13) }
+        ensures nodes { (place : ℕ) → nodes_at self.new.each place ≡ nodes_at self.old.each place }
+        ensures count { OnOk result (length self.new.each ≡ 13) }
+        ensures given { self.new.given ≡ self.old.given }
     {
         for _ in self.each.len()..TASKS {
             self.copy_second()?;
@@ -282,9 +358,10 @@ impl Objections {
 
     // Puts a copy of the second behind the last. Its error is want of memory, which adds none.
     fn copy_second(&mut self) -> Result<(), AllocError>
-        requires { length self.old < 13 }
-        ensures nodes { (place : ℕ) → nodes_at self.new place ≡ nodes_at self.old place }
-        ensures count { OnOk result (length self.new ≡ length self.old + 1) }
+        requires { length self.old.each < 13 }
+        ensures nodes { (place : ℕ) → nodes_at self.new.each place ≡ nodes_at self.old.each place }
+        ensures count { OnOk result (length self.new.each ≡ length self.old.each + 1) }
+        ensures given { self.new.given ≡ self.old.given }
     {
         let Some(second) = self.each.get(1) else {
             unreachable!()

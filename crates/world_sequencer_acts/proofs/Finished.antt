@@ -69,9 +69,9 @@ scene-begun {script} {history} {act} {services = services} id s other is = by s.
     by (inr there) = there-begun history services.answer.speaker id (rw s.known.answer.speaker there) is
 
 -- what is due once it has finished
-pub record HasFinished (history : List Entry) (performer : Who) (more : List Event) : Type 0 where
-  pub agenda : IsAgenda (caused_of (Did performer Finished EndStep ∷ history)) (heard_of history) (ended_of history) (performer ∷ finished_of history) (suc (length history)) more
-  pub events : AreEvents (λ phase. objections_of phase history) (due_events (Did performer Finished EndStep ∷ history))
+pub record HasFinished (script : ScriptValue) (history : List Entry) (performer : Who) (more : List Event) : Type 0 where
+  pub agenda : IsAgenda (caused_of script (Did performer Finished EndStep ∷ history)) (heard_of history) (ended_of history) (performer ∷ finished_of history) (suc (length history)) more
+  pub events : AreEvents (λ phase. objections_of script phase history) (due_events script (Did performer Finished EndStep ∷ history))
 
 module _
     {script : ScriptValue} {history : List Entry} {services : Services} (m : ServicesMatch script history services) (alone : StepsChangeAlone) (id : ℕ) (beginning : Beginning) (found : numbered (begun_of history) id ≡ Some beginning) (lives : lives_by (finished_of history) (ended_of history) id beginning ≡ true)
@@ -87,12 +87,12 @@ module _
       → All (IsToldOpen (is_told (service.finished id services.sequences).steps) (ended_of history) (who.Sequence id beginning.start.home ∷ finished_of history)) (lapsed_by history beginning.start.home (Some id))
       → more ≡ in_order (living_numbered (is_told (service.finished id services.sequences).steps) (now_of history) (length history) 0
       (finished_calls (beginning_at services.beginnings.items id) (name_at services.sequences.started id) id ++ lapse)
-      ++ filter (λ event. not (is_of_one (who.Sequence id beginning.start.home ∷ []) event.owner)) (filter (is_open (heard_of history) (ended_of history) (finished_of history)) (caused_of history)))
-      → HasFinished history (who.Sequence id beginning.start.home) more
+      ++ filter (λ event. not (is_of_one (who.Sequence id beginning.start.home ∷ []) event.owner)) (filter (is_open (heard_of history) (ended_of history) (finished_of history)) (caused_of script history)))
+      → HasFinished script history (who.Sequence id beginning.start.home) more
   has-finished more lapsed is = record {
-    agenda = agenda-living (is_told (service.finished id services.sequences).steps) (heard_of history) (ended_of history) (who.Sequence id beginning.start.home ∷ finished_of history) (now_of history) (calls_told history (who.Sequence id beginning.start.home) Finished EndStep) (caused_of history) (length history) _ more told left (rw (calls-known, ← twice) at is);
-    events = events-calls (λ phase. objections_of phase history) (is_open (heard_of history) (ended_of history) (who.Sequence id beginning.start.home ∷ finished_of history)) (now_of history) (length history) 0 (calls_told history (who.Sequence id beginning.start.home) Finished EndStep) (caused_of history)
-        (events-finished (who.Sequence id beginning.start.home) (λ phase. objections_of phase history) (caused_of history) (heard_of history) (ended_of history) (finished_of history) m.events);
+    agenda = agenda-living (is_told (service.finished id services.sequences).steps) (heard_of history) (ended_of history) (who.Sequence id beginning.start.home ∷ finished_of history) (now_of history) (calls_told history (who.Sequence id beginning.start.home) Finished EndStep) (caused_of script history) (length history) _ more told left (rw (calls-known, ← twice) at is);
+    events = events-calls (λ phase. objections_of script phase history) (is_open (heard_of history) (ended_of history) (who.Sequence id beginning.start.home ∷ finished_of history)) (now_of history) (length history) 0 (calls_told history (who.Sequence id beginning.start.home) Finished EndStep) (caused_of script history)
+        (events-finished (who.Sequence id beginning.start.home) (λ phase. objections_of script phase history) (caused_of script history) (heard_of history) (ended_of history) (finished_of history) m.events);
   }
     where
       told : All (IsToldOpen (is_told (service.finished id services.sequences).steps) (ended_of history) (who.Sequence id beginning.start.home ∷ finished_of history)) (calls_told history (who.Sequence id beginning.start.home) Finished EndStep)
@@ -109,8 +109,8 @@ module _
           by None goes = tt
           by (Some one) goes = rw goes (starter-open m.sequencing alone id beginning found lives beginning.starter refl)
 
-      twice : filter (is_open (heard_of history) (ended_of history) (who.Sequence id beginning.start.home ∷ finished_of history)) (caused_of history) ≡ filter (λ event. not (is_of_one (who.Sequence id beginning.start.home ∷ []) event.owner)) (filter (is_open (heard_of history) (ended_of history) (finished_of history)) (caused_of history))
-      twice = filter-twice (λ event. not (is_of_one (who.Sequence id beginning.start.home ∷ []) event.owner)) (is_open (heard_of history) (ended_of history) (finished_of history)) (is_open (heard_of history) (ended_of history) (who.Sequence id beginning.start.home ∷ finished_of history)) (open-finished (who.Sequence id beginning.start.home) (heard_of history) (ended_of history) (finished_of history)) (caused_of history)
+      twice : filter (is_open (heard_of history) (ended_of history) (who.Sequence id beginning.start.home ∷ finished_of history)) (caused_of script history) ≡ filter (λ event. not (is_of_one (who.Sequence id beginning.start.home ∷ []) event.owner)) (filter (is_open (heard_of history) (ended_of history) (finished_of history)) (caused_of script history))
+      twice = filter-twice (λ event. not (is_of_one (who.Sequence id beginning.start.home ∷ []) event.owner)) (is_open (heard_of history) (ended_of history) (finished_of history)) (is_open (heard_of history) (ended_of history) (who.Sequence id beginning.start.home ∷ finished_of history)) (open-finished (who.Sequence id beginning.start.home) (heard_of history) (ended_of history) (finished_of history)) (caused_of script history)
 
-      left : IsAgenda (caused_of history) (heard_of history) (ended_of history) (who.Sequence id beginning.start.home ∷ finished_of history) (length history) (in_order (filter (λ event. not (is_of_one (who.Sequence id beginning.start.home ∷ []) event.owner)) (filter (is_open (heard_of history) (ended_of history) (finished_of history)) (caused_of history))))
-      left = agenda-finished (who.Sequence id beginning.start.home) (caused_of history) (heard_of history) (ended_of history) (finished_of history) (length history) services.agenda.dues m.agenda
+      left : IsAgenda (caused_of script history) (heard_of history) (ended_of history) (who.Sequence id beginning.start.home ∷ finished_of history) (length history) (in_order (filter (λ event. not (is_of_one (who.Sequence id beginning.start.home ∷ []) event.owner)) (filter (is_open (heard_of history) (ended_of history) (finished_of history)) (caused_of script history))))
+      left = agenda-finished (who.Sequence id beginning.start.home) (caused_of script history) (heard_of history) (ended_of history) (finished_of history) (length history) services.agenda.dues m.agenda

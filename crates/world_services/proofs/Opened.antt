@@ -83,12 +83,12 @@ unended-of true true c e = cc
 unended-of true false c e = refl
 unended-of false b c e = cc
 
-pub drain-unended : (history : List Entry) (node : ℕ) (origin : Origin) → OrderKeepsAll Owner (Option Call) → IsDrainDue history node origin → HasNotEnded (ended_of history) (Some origin.phase)
-drain-unended history node origin keeps drained =
+pub drain-unended : (script : ScriptValue) (history : List Entry) (node : ℕ) (origin : Origin) → OrderKeepsAll Owner (Option Call) → IsDrainDue script history node origin → HasNotEnded (ended_of history) (Some origin.phase)
+drain-unended script history node origin keeps drained =
     let due = drained.due in
     let P : Event → Type 0 = λ event. list_any (same_phase event.phase) (ended_of history) ≡ false in
     let opens : Event → Bool = is_open (heard_of history) (ended_of history) (finished_of history) in
-    let all : All P (due_events history) =
-    All-weaker (λ event. opens event ≡ true) P (λ event is. unended-of (not (list_any (same_cause event.cause) (heard_of history))) (list_any (same_phase event.phase) (ended_of history)) (not (is_of_one (finished_of history) event.owner)) is) (due_events history) (filter_passes opens (caused_of history)) in
-    let ordered : All P (in_order (due_events history)) = All-permutation P (due_events history) (in_order (due_events history)) (keeps (due_events history)) all in
-    subst (λ (phase : Phase). list_any (same_phase phase) (ended_of history) ≡ false) (ap (λ (one : Origin). one.phase) due.origin_is) (first-holds P (in_order (due_events history)) due.event ordered due.first)
+    let all : All P (due_events script history) =
+    All-weaker (λ event. opens event ≡ true) P (λ event is. unended-of (not (list_any (same_cause event.cause) (heard_of history))) (list_any (same_phase event.phase) (ended_of history)) (not (is_of_one (finished_of history) event.owner)) is) (due_events script history) (filter_passes opens (caused_of script history)) in
+    let ordered : All P (in_order (due_events script history)) = All-permutation P (due_events script history) (in_order (due_events script history)) (keeps (due_events script history)) all in
+    subst (λ (phase : Phase). list_any (same_phase phase) (ended_of history) ≡ false) (ap (λ (one : Origin). one.phase) due.origin_is) (first-holds P (in_order (due_events script history)) due.event ordered due.first)

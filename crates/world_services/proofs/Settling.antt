@@ -6,25 +6,26 @@ use Rattle.std.proofs.lemmas.Bool.Decides.{nat_tests}
 use Rattle.uvm_phase.specs.declared.phases.Phase.{Phase}
 use Rattle.uvm_phase.specs.Phases.{is_task, phase_number, same_phase}
 use Rattle.uvm_phase.specs.Dues.{in_order}
-use Rattle.uvm_objection.specs.Nodes.{Node, ObjectionValue, due_of, new_node, released}
+use Rattle.uvm_objection.specs.Nodes.{Node, due_of, new_node, released, with_drain}
 use Rattle.uvm_objection.specs.Totals.{total, settled, drains_begun, drains_ended}
 use Rattle.uvm_objection.specs.Laws.{BegunDrainsAreHeld, GrowsBy, IsHeldUntilDue, NodesGrow, PlacesStay, SettledGoByTotals, places}
 use Rattle.uvm_objection.specs.declared.objections.Due as drain
 use Rattle.uvm_object.specs.declared.entries.Entry.{Entry}
 use Rattle.uvm_object.specs.declared.entries.Entry.TheVariants.{Drained}
 use Rattle.uvm_object.specs.declared.entries.Origin.{Origin}
+use Rattle.script_tables.specs.declared.drains.Drain.{Drain}
 use Rattle.bench_script.specs.Scripts.{ScriptValue}
 use Rattle.bench_history.specs.Dues.{caused_at, caused_of, drain_from, heard_of, is_open, with_drains_of}
 use Rattle.bench_history.specs.History.{ended_of, nodes_of, now_of}
-use Rattle.bench_history.specs.Objections.{objections_of}
+use Rattle.bench_history.specs.Objections.{objections_of, with_new}
 use Rattle.bench_history.specs.Owners.{Event, is_drain_of}
 use Rattle.bench_history.specs.Sequences.{finished_of}
-use Rattle.world_objections.specs.Phased.{OthersStay, nodes_at, nodes_in}
+use Rattle.world_objections.specs.Phased.{ObjectionsValue, OthersStay, nodes_at, nodes_in}
 use Rattle.world_objections.proofs.Placed.{of-each, parted}
 use Rattle.world_agenda.specs.Agendas.{IsAgenda}
 use Rattle.world_agenda.specs.Objectings.{AreEvents, AreNumbered, IsObjecting}
 use Rattle.world_agenda.proofs.Drained.{moved, same-phase}
-use Rattle.world_agenda.proofs.Objected.{objecting-changed, objecting-later, objecting-more, objecting-same}
+use Rattle.world_agenda.proofs.Objected.{objecting-changed, objecting-later, objecting-made, objecting-same}
 use Rattle.world_services.specs.declared.services.Services.{Services}
 use Rattle.world_services.specs.Services.{AreObjecting, ServicesMatch}
 
@@ -39,54 +40,56 @@ either a b apart = tested (phase_number b == phase_number a) refl
     tested true is = let same : (phase_number a == phase_number b) ≡ true = grind (arith, nat_tests, is) in let no : true ≡ false = sym same ∙ apart in cc
 
 -- the objection of a phase is this with one more entry, and the others are as they were
-pub record ChangesOne (history : List Entry) (entry : Entry) (phase : Phase) (others : List Node) : Type 0 where
-  pub one : objections_of phase (entry ∷ history) ≡ others
-  pub rest : (other : Phase) → same_phase phase other ≡ false → objections_of other (entry ∷ history) ≡ objections_of other history
+pub record ChangesOne (script : ScriptValue) (history : List Entry) (entry : Entry) (phase : Phase) (others : List Node) : Type 0 where
+  pub one : objections_of script phase (entry ∷ history) ≡ others
+  pub rest : (other : Phase) → same_phase phase other ≡ false → objections_of script other (entry ∷ history) ≡ objections_of script other history
 
 -- the end of a drain does so
-pub drain-changes : (history : List Entry) (node : ℕ) (origin : Origin) → ChangesOne history (Drained node origin) origin.phase (settled (now_of history) (total (objections_of origin.phase history)) (released node (objections_of origin.phase history)))
-drain-changes history node origin = record {
-  one = ap (λ (b : Bool). if b then settled (now_of history) (total (objections_of origin.phase history)) (released node (objections_of origin.phase history)) else objections_of origin.phase history) (itself origin.phase);
-  rest = λ other apart. ap (λ (b : Bool). if b then settled (now_of history) (total (objections_of other history)) (released node (objections_of other history)) else objections_of other history) apart;
+pub drain-changes : (script : ScriptValue) (history : List Entry) (node : ℕ) (origin : Origin) → ChangesOne script history (Drained node origin) origin.phase (settled (now_of history) (total (objections_of script origin.phase history)) (released node (objections_of script origin.phase history)))
+drain-changes script history node origin = record {
+  one = ap (λ (b : Bool). if b then settled (now_of history) (total (objections_of script origin.phase history)) (released node (objections_of script origin.phase history)) else objections_of script origin.phase history) (itself origin.phase);
+  rest = λ other apart. ap (λ (b : Bool). if b then settled (now_of history) (total (objections_of script other history)) (released node (objections_of script other history)) else objections_of script other history) apart;
 }
 
 -- one more entry that changes none
-pub objectings-later : {nodes : Phase → List Node} {count entries : ℕ} {objections : List ObjectionValue} → AreObjecting nodes count entries objections → AreObjecting nodes count (suc entries) objections
-objectings-later o = record { each = λ phase task. objecting-later (o.each phase task) }
+pub objectings-later : {drains : List Drain} {nodes : Phase → List Node} {count entries : ℕ} {objections : ObjectionsValue} → AreObjecting drains nodes count entries objections → AreObjecting drains nodes count (suc entries) objections
+objectings-later o = record { given = o.given; each = λ phase task. objecting-later (o.each phase task) }
 
 -- what has the same nodes is as good
-pub objectings-same : {nodes : Phase → List Node} {count entries : ℕ} {old : List ObjectionValue} (new : List ObjectionValue) → ((phase : Phase) → nodes_in new phase ≡ nodes_in old phase) → AreObjecting nodes count entries old → AreObjecting nodes count entries new
-objectings-same new same o = record { each = λ phase task. objecting-same (nodes_in new phase) (same phase) (o.each phase task) }
+pub objectings-same : {drains : List Drain} {nodes : Phase → List Node} {count entries : ℕ} {old : ObjectionsValue} (new : ObjectionsValue) → ((phase : Phase) → nodes_in new phase ≡ nodes_in old phase) → new.given ≡ old.given → AreObjecting drains nodes count entries old → AreObjecting drains nodes count entries new
+objectings-same new same stays o = record { given = stays ∙ o.given; each = λ phase task. objecting-same (nodes_in new phase) (same phase) (o.each phase task) }
 
--- one more node
+-- one more node, with the drain time that is given in each phase
 pub objectings-more :
-    {nodes : Phase → List Node} {count entries more : ℕ} {old : List ObjectionValue} (new : List ObjectionValue) (parent : ℕ) → NodesGrow → parent < count → AreObjecting nodes count entries old → more ≡ suc count
-    → ((phase : Phase) → nodes_in new phase ≡ nodes_in old phase ++ new_node count parent ∷ [])
-    → AreObjecting (λ phase. nodes phase ++ new_node (length (nodes phase)) parent ∷ []) more (suc entries) new
-objectings-more {count = count} new parent grow below o is added = record {
+    {drains : List Drain} {nodes : Phase → List Node} {count entries more : ℕ} {old : ObjectionsValue} (new : ObjectionsValue) (parent : ℕ) (given : Phase → ℕ) → PlacesStay → NodesGrow → parent < count
+    → AreObjecting drains nodes count entries old → more ≡ suc count → new.given ≡ old.given
+    → ((phase : Phase) → is_task phase ≡ true → nodes_in new phase ≡ with_drain count (given phase) (nodes_in old phase ++ new_node count parent ∷ []))
+    → AreObjecting drains (λ phase. with_new parent (given phase) (nodes phase)) more (suc entries) new
+objectings-more {count = count} new parent given stay grow below o is stays made = record {
+  given = stays ∙ o.given;
   each = λ phase task.
       let was = o.each phase task in
-      objecting-more (nodes_in new phase) parent grow below was is (added phase ∙ ap (λ (nodes : List Node). nodes ++ new_node count parent ∷ []) was.are);
+      objecting-made (nodes_in new phase) parent (given phase) stay grow below was is (made phase task ∙ ap (λ (nodes : List Node). with_drain count (given phase) (nodes ++ new_node count parent ∷ [])) was.are);
 }
 
 -- a node is known in each of them, one that is not there in none; and one more count can be raised
-pub each-numbered : {nodes : Phase → List Node} {count entries : ℕ} {objections : List ObjectionValue} → AreObjecting nodes count entries objections → (phase : Phase) → AreNumbered (nodes_in objections phase) count
-each-numbered {count = count} {objections = objections} o = of-each (λ n. AreNumbered (nodes_at objections n) count) (λ phase task. let was = o.each phase task in subst (λ (nodes : List Node). AreNumbered nodes count) (sym was.are) was.numbered)
+pub each-numbered : {drains : List Drain} {nodes : Phase → List Node} {count entries : ℕ} {objections : ObjectionsValue} → AreObjecting drains nodes count entries objections → (phase : Phase) → AreNumbered (nodes_in objections phase) count
+each-numbered {count = count} {objections = objections} o = of-each (λ n. AreNumbered (nodes_at objections.each n) count) (λ phase task. let was = o.each phase task in subst (λ (nodes : List Node). AreNumbered nodes count) (sym was.are) was.numbered)
 
-pub each-few : {nodes : Phase → List Node} {count entries : ℕ} {objections : List ObjectionValue} → AreObjecting nodes count entries objections → (phase : Phase) → total (nodes_in objections phase) 0 ≤ 65535 * entries
-each-few {entries = entries} {objections = objections} o = of-each (λ n. total (nodes_at objections n) 0 ≤ 65535 * entries) (λ phase task. let was = o.each phase task in subst (λ (nodes : List Node). total nodes 0 ≤ 65535 * entries) (sym was.are) was.few)
+pub each-few : {drains : List Drain} {nodes : Phase → List Node} {count entries : ℕ} {objections : ObjectionsValue} → AreObjecting drains nodes count entries objections → (phase : Phase) → total (nodes_in objections phase) 0 ≤ 65535 * entries
+each-few {entries = entries} {objections = objections} o = of-each (λ n. total (nodes_at objections.each n) 0 ≤ 65535 * entries) (λ phase task. let was = o.each phase task in subst (λ (nodes : List Node). total nodes 0 ≤ 65535 * entries) (sym was.are) was.few)
 
 -- the one that changes, and the others
 objectings-one :
-    {history : List Entry} {entry : Entry} {phase : Phase} {others : List Node} {old : List ObjectionValue} (new : List ObjectionValue) → PlacesStay
-    → AreObjecting (λ p. objections_of p history) (length (nodes_of history)) (length history) old → is_task phase ≡ true
-    → ChangesOne history entry phase others → places others ≡ places (objections_of phase history) → nodes_in new phase ≡ others → OthersStay phase old new
-    → (raised : ℕ) → raised ≤ 65535 → GrowsBy raised (objections_of phase history) others
-    → AreObjecting (λ p. objections_of p (entry ∷ history)) (length (nodes_of history)) (suc (length history)) new
-objectings-one {history} {entry} {phase} {others} {old} new stay was task changes same is rest raised low grown = record { each = λ other is_one. tested other is_one (same_phase phase other) refl }
+    (script : ScriptValue) {history : List Entry} {entry : Entry} {phase : Phase} {others : List Node} {old : ObjectionsValue} (new : ObjectionsValue) → PlacesStay
+    → AreObjecting script.drains (λ p. objections_of script p history) (length (nodes_of history)) (length history) old → is_task phase ≡ true
+    → ChangesOne script history entry phase others → places others ≡ places (objections_of script phase history) → nodes_in new phase ≡ others → OthersStay phase old new → new.given ≡ old.given
+    → (raised : ℕ) → raised ≤ 65535 → GrowsBy raised (objections_of script phase history) others
+    → AreObjecting script.drains (λ p. objections_of script p (entry ∷ history)) (length (nodes_of history)) (suc (length history)) new
+objectings-one script {history} {entry} {phase} {others} {old} new stay was task changes same is rest stays raised low grown = record { given = stays ∙ was.given; each = λ other is_one. tested other is_one (same_phase phase other) refl }
   where
     P : Phase → Type 0
-    P p = IsObjecting (objections_of p (entry ∷ history)) (length (nodes_of history)) (suc (length history)) (nodes_in new p)
+    P p = IsObjecting (objections_of script p (entry ∷ history)) (length (nodes_of history)) (suc (length history)) (nodes_in new p)
 
     tested : (other : Phase) → is_task other ≡ true → (t : Bool) → same_phase phase other ≡ t → P other
     tested other is_one true at =
@@ -98,33 +101,33 @@ objectings-one {history} {entry} {phase} {others} {old} new stay was task change
         (objecting-later (objecting-same (nodes_in new other) (rest other (parted phase other task is_one at)) (was.each other is_one)))
 
 -- what is due with the entry, if it is of this phase, and what is kept of objections
-pub record HasSettled (history : List Entry) (entry : Entry) (acting : Option Phase) (objections : List ObjectionValue) (dues : List Event) : Type 0 where
-  pub agenda : IsAgenda (with_drains_of acting entry history (caused_of history)) (heard_of history) (ended_of history) (finished_of history) (suc (length history)) dues
-  pub events : AreEvents (λ phase. objections_of phase (entry ∷ history)) (filter (is_open (heard_of history) (ended_of history) (finished_of history)) (with_drains_of acting entry history (caused_of history)))
-  pub objecting : AreObjecting (λ phase. objections_of phase (entry ∷ history)) (length (nodes_of history)) (suc (length history)) objections
+pub record HasSettled (script : ScriptValue) (history : List Entry) (entry : Entry) (acting : Option Phase) (objections : ObjectionsValue) (dues : List Event) : Type 0 where
+  pub agenda : IsAgenda (with_drains_of script acting entry history (caused_of script history)) (heard_of history) (ended_of history) (finished_of history) (suc (length history)) dues
+  pub events : AreEvents (λ phase. objections_of script phase (entry ∷ history)) (filter (is_open (heard_of history) (ended_of history) (finished_of history)) (with_drains_of script acting entry history (caused_of script history)))
+  pub objecting : AreObjecting script.drains (λ phase. objections_of script phase (entry ∷ history)) (length (nodes_of history)) (suc (length history)) objections
 
 pub settling :
     {script : ScriptValue} {history : List Entry} {services : Services} (entry : Entry) (phase : Phase) (acting : Option Phase) (changed : List Node) (began : Option drain.Due) (ends : Option ℕ)
-    (new : List ObjectionValue) (more : List Event) (raised : ℕ)
+    (new : ObjectionsValue) (more : List Event) (raised : ℕ)
     → SettledGoByTotals → PlacesStay → BegunDrainsAreHeld → ServicesMatch script history services → acting ≡ Some phase → is_task phase ≡ true
-    → ChangesOne history entry phase (settled (now_of history) (total (objections_of phase history)) changed)
-    → places (settled (now_of history) (total (objections_of phase history)) changed) ≡ places (objections_of phase history)
-    → nodes_in new phase ≡ settled (now_of history) (total (objections_of phase history)) changed → OthersStay phase services.objections new
-    → raised ≤ 65535 → GrowsBy raised (objections_of phase history) (settled (now_of history) (total (objections_of phase history)) changed)
-    → ((k : ℕ) → list_any (λ other. other == k) (option_to_list ends) ≡ false → due_of k changed ≡ due_of k (objections_of phase history))
-    → drains_begun (objections_of phase history) (settled (now_of history) (total (objections_of phase history)) changed) ≡ option_to_list began
-    → drains_ended (objections_of phase history) (settled (now_of history) (total (objections_of phase history)) changed) ≡ option_to_list ends
+    → ChangesOne script history entry phase (settled (now_of history) (total (objections_of script phase history)) changed)
+    → places (settled (now_of history) (total (objections_of script phase history)) changed) ≡ places (objections_of script phase history)
+    → nodes_in new phase ≡ settled (now_of history) (total (objections_of script phase history)) changed → OthersStay phase services.objections new → new.given ≡ services.objections.given
+    → raised ≤ 65535 → GrowsBy raised (objections_of script phase history) (settled (now_of history) (total (objections_of script phase history)) changed)
+    → ((k : ℕ) → list_any (λ other. other == k) (option_to_list ends) ≡ false → due_of k changed ≡ due_of k (objections_of script phase history))
+    → drains_begun (objections_of script phase history) (settled (now_of history) (total (objections_of script phase history)) changed) ≡ option_to_list began
+    → drains_ended (objections_of script phase history) (settled (now_of history) (total (objections_of script phase history)) changed) ≡ option_to_list ends
     → list_any (same_phase phase) (ended_of history) ≡ false
-    → more ≡ in_order (flat_map (drain_from phase (caused_at (length history))) (option_to_list began) ++ filter (λ event. not (is_drain_of phase (option_to_list ends) event.owner)) (filter (is_open (heard_of history) (ended_of history) (finished_of history)) (caused_of history)))
-    → HasSettled history entry acting new more
-settling {script} {history} entry phase acting changed began ends new more raised settles stay begins m acts task changes same is rest low grown keeps begun over unended dues =
-    let nodes = objections_of phase history in
+    → more ≡ in_order (flat_map (drain_from phase (caused_at (length history))) (option_to_list began) ++ filter (λ event. not (is_drain_of phase (option_to_list ends) event.owner)) (filter (is_open (heard_of history) (ended_of history) (finished_of history)) (caused_of script history)))
+    → HasSettled script history entry acting new more
+settling {script} {history} entry phase acting changed began ends new more raised settles stay begins m acts task changes same is rest stays low grown keeps begun over unended dues =
+    let nodes = objections_of script phase history in
     let others = settled (now_of history) (total nodes) changed in
     let held : All (IsHeldUntilDue others) (option_to_list began) = rw (← begun) (begins nodes others grown.nodes) in
-    let drains = moved (now_of history) (λ p. objections_of p history) (λ p. objections_of p (entry ∷ history)) changed phase began ends (caused_of history) (heard_of history) (ended_of history) (finished_of history) (length history) _ more
+    let drains = moved (now_of history) (λ p. objections_of script p history) (λ p. objections_of script p (entry ∷ history)) changed phase began ends (caused_of script history) (heard_of history) (ended_of history) (finished_of history) (length history) _ more
     settles stay (m.objections.each phase task).are_nodes (rw changes.one same) changes.one (λ other apart. changes.rest other (either other phase apart)) keeps (rw changes.one begun) (rw changes.one over) task (rw changes.one held) unended m.agenda m.events dues in
-    subst (λ (a : Option Phase). HasSettled history entry a new more) (sym acts) (record {
+    subst (λ (a : Option Phase). HasSettled script history entry a new more) (sym acts) (record {
       agenda = drains.agenda;
       events = drains.events;
-      objecting = objectings-one {entry = entry} new stay m.objections task changes same is rest raised low grown;
+      objecting = objectings-one script {entry = entry} new stay m.objections task changes same is rest stays raised low grown;
     })

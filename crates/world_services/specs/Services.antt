@@ -10,8 +10,8 @@ use Rattle.uvm_factory.specs.Observed.{Kept, types_of, step_at}
 use Rattle.uvm_config.specs.Answers.{Setting, strongest_answer}
 use Rattle.uvm_phase.specs.declared.phases.Phase.{Phase}
 use Rattle.uvm_phase.specs.Phases.{is_task}
-use Rattle.uvm_objection.specs.Nodes.{ObjectionValue}
-use Rattle.world_objections.specs.Phased.{nodes_in}
+use Rattle.script_tables.specs.declared.drains.Drain.{Drain}
+use Rattle.world_objections.specs.Phased.{ObjectionsValue, nodes_in}
 use Rattle.uvm_object.specs.Acts.{node_of}
 use Rattle.uvm_object.specs.declared.acts.Who.{Who}
 use Rattle.uvm_object.specs.declared.acts.Act.{Act}
@@ -77,8 +77,9 @@ pub record IsSettings (settings : List Setting) (kept : config.Kept) : Type 0 wh
   pub answers : (path : List (List ℕ)) (asked : List ℕ) → config.answer_at kept path asked ≡ strongest_answer settings (path_text path) asked
   pub count : config.accepted kept ≡ length settings
 
--- in each phase that takes time, what is raised at the nodes of a tree is what is kept of that phase
-pub record AreObjecting (nodes : Phase → List objection.Node) (count entries : ℕ) (objections : List ObjectionValue) : Type 0 where
+-- in each phase that takes time, what is raised at the nodes of a tree is what is kept of that phase, and the drain times that the script gives are kept
+pub record AreObjecting (drains : List Drain) (nodes : Phase → List objection.Node) (count entries : ℕ) (objections : ObjectionsValue) : Type 0 where
+  pub given : objections.given ≡ drains
   pub each : (phase : Phase) → is_task phase ≡ true → IsObjecting (nodes phase) count entries (nodes_in objections phase)
 
 -- each thing that is kept is what the history says
@@ -96,7 +97,7 @@ pub record ServicesMatch (script : ScriptValue) (history : List Entry) (services
   pub unsettled : AreUnsettled (passing_at history) (path_order (nodes_of history)) services.unsettled.items
   pub arbitrating : IsArbitrating (length history) (nodes_of history) (begun_of history) (finished_of history) (ended_of history) (ledger_at history) services.arbiters services.contest
   pub sequencing : IsSequencing (begun_of history) (finished_of history) (ended_of history) (enders_of history) services.sequences services.beginnings.items
-  pub objections : AreObjecting (λ phase. objections_of phase history) (length (nodes_of history)) (length history) services.objections
+  pub objections : AreObjecting script.drains (λ phase. objections_of script phase history) (length (nodes_of history)) (length history) services.objections
   pub factory : IsFactory script.types (overrides_of script history) services.factory
   pub turns : AreRounds (stage_of history) (nodes_of history) (components_of history) (λ phase. called_of phase history) services.turns
   pub answer : IsLastAnswer (opening script) history (left_of script history) (speaker_of history) (act_phase history) services.answer
@@ -104,8 +105,8 @@ pub record ServicesMatch (script : ScriptValue) (history : List Entry) (services
   pub built : services.built ≡ list_any ends_build history
   pub reporting : IsReporting (report_commands script history) (newest_fate script history) services.reporting
   pub settings : IsSettings (settings_of script history) services.settings
-  pub agenda : IsAgenda (caused_of history) (heard_of history) (ended_of history) (finished_of history) (length history) services.agenda.dues
-  pub events : AreEvents (λ phase. objections_of phase history) (due_events history)
+  pub agenda : IsAgenda (caused_of script history) (heard_of history) (ended_of history) (finished_of history) (length history) services.agenda.dues
+  pub events : AreEvents (λ phase. objections_of script phase history) (due_events script history)
   pub test_refused : services.test_refused ≡ list_any refuses_test history
 
 -- more requests are passed over, each of which is blocked, and nothing else has changed

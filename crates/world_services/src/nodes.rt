@@ -5,10 +5,14 @@ ghost use Rattle.uvm_glob.specs.Limits.{most_names};
 ghost use Rattle.uvm_tree.specs.Nodes.{path_at, child};
 ghost use Rattle.uvm_glob.specs.Paths.{path_text, dotted};
 ghost use Rattle.bench_history.specs.Refusals.{child_refusal};
+ghost use Rattle.world_agenda.specs.Objectings.{AreNumbered};
+ghost use Rattle.world_objections.specs.Phased.{HasNode, nodes_in, spare_in};
 
 use std::alloc::{AllocError, Global};
-use uvm_glob::{Glob, Name};
+use uvm_glob::{Glob, Name, Path};
+use uvm_phase::Phase;
 use uvm_tree::{NodeId, NodeKind, Tree};
+use world_objections::objections::Objections;
 
 /// Answers how deep a node lies below the top.
 pub fn depth_of(tree: &Tree, node: NodeId) -> u8
@@ -36,10 +40,45 @@ pub fn scope_under(
     }
 }
 
-/// Adds a child whose name is free, and answers its node. Its error is want of memory. It does not come where there is room for a
-/// child of that node.
+/// Adds a child whose name is free, and answers its node: nothing is raised at it, and its drain times are those that the script gives for
+/// its path (IEEE 1800.2-2020, 10.5). Its error is want of memory. It does not come where there is room for a child of that node.
+pub fn add_node(
+    tree: &mut Tree,
+    objections: &mut Objections,
+    parent: NodeId,
+    name: Name,
+    kind: NodeKind,
+) -> Result<NodeId, AllocError>
+    requires free { child_refusal tree.old.nodes parent name ≡ None }
+    requires parent { parent < length tree.old.nodes }
+    requires numbered { (phase : Phase) → AreNumbered (nodes_in objections.old phase) (length tree.old.nodes) }
+    ensures id { IfOk result (λ id. id ≡ length tree.old.nodes) }
+    ensures nodes { OnOk result (tree.new.nodes ≡ tree.old.nodes ++ child tree.old.nodes parent name kind ∷ []) }
+    ensures objections { OnOk result (HasNode (length tree.old.nodes) parent (path_at tree.old.nodes parent ++ name ∷ []) objections.old objections.new) }
+    ensures given { objections.new.given ≡ objections.old.given }
+    ensures memory { tree.old.spare ≡ Some parent → ((phase : Phase) → 0 < spare_in objections.old phase) → IsOk result }
+{
+    let node = add_child(tree, parent, name, kind)?;
+    let path = path_of(tree, node);
+    objections.add(node, parent, path)?;
+    Ok(node)
+}
+
+// The path of a node that is there.
+fn path_of(tree: &Tree, node: NodeId) -> &Path
+    requires { node < length tree.now.nodes }
+    ensures { result.now ≡ path_at tree.now.nodes node }
+{
+    match tree.path(node) {
+        Some(path) => path,
+        None => unreachable!(),
+    }
+}
+
+// Adds a child whose name is free, and answers its node. Its error is want of memory. It does not come where there is room for a child of
+// that node.
 #[tactic(auto, unfolding(uvm_tree::specs::Nodes::add_fault))]
-pub fn add_child(
+fn add_child(
     tree: &mut Tree,
     parent: NodeId,
     name: Name,

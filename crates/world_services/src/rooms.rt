@@ -15,6 +15,7 @@ pub fn reserve_component(services: &mut Services) -> Result<(), AllocError>
     ensures services { services.new ≡ record services.old { tree = services.new.tree; objections = services.new.objections; turns = services.new.turns } }
     ensures nodes { services.new.tree.nodes ≡ services.old.tree.nodes }
     ensures objections { (phase : Phase) → nodes_in services.new.objections phase ≡ nodes_in services.old.objections phase }
+    ensures given { services.new.objections.given ≡ services.old.objections.given }
     ensures turns { AreSameRounds services.old.turns services.new.turns }
     ensures tree_spare { OnOk result (IsSome (node_at services.old.tree.nodes (node_of services.old.answer.speaker)) → services.new.tree.spare ≡ Some (node_of services.old.answer.speaker)) }
     ensures objection_spare { OnOk result ((phase : Phase) → 0 < spare_in services.new.objections phase) }

@@ -90,7 +90,7 @@ impl Services {
     {
         let settings = given_settings(alloc, script.settings())?;
         let reporting = given_reporting(alloc, script)?;
-        let objections = Objections::new(alloc)?;
+        let objections = Objections::new(alloc, script.drains())?;
         Ok(Services::new(alloc, factory, settings, reporting, objections))
     }
 
@@ -103,7 +103,7 @@ impl Services {
         objections: Objections,
     ) -> Services
         requires { (phase : Phase) → nodes_in objections phase ≡ top ∷ [] }
-        ensures { (script : ScriptValue) → IsFactory script.types (overrides_of script []) factory → IsSettings (settings_of script []) settings
+        ensures { (script : ScriptValue) → objections.given ≡ script.drains → IsFactory script.types (overrides_of script []) factory → IsSettings (settings_of script []) settings
             → IsReporting (script_commands script) None reporting → ServicesMatch script [] result }
     {
         objections::nodes_grow();

@@ -1,8 +1,10 @@
 -- What a raise, a drop and a drain time make of the objections.
 use Rattle.std.proofs.Common.{◌≡◌, ◌≤◌, ℕ, suc, Bool, true, false, not, List, ◌∷◌, Option, Some, refl, ap, ◌∙◌, arith, if◌then◌else◌}
+use Rattle.script_tables.specs.declared.drains.Drain.{Drain}
+use Rattle.bench_script.specs.Scripts.{ScriptValue}
 use Rattle.uvm_phase.specs.declared.phases.Phase.{Phase}
 use Rattle.uvm_phase.specs.Phases.{is_task, same_phase}
-use Rattle.uvm_objection.specs.Nodes.{Node, ObjectionValue, dropped, raised, with_drain}
+use Rattle.uvm_objection.specs.Nodes.{Node, dropped, raised, with_drain}
 use Rattle.uvm_objection.specs.Laws.{IsHeldUntilDue, NodesGrow, PlacesStay}
 use Rattle.uvm_objection.specs.Totals.{settled, total}
 use Rattle.uvm_object.specs.Acts.{node_of}
@@ -13,9 +15,9 @@ use Rattle.uvm_object.specs.declared.entries.Entry.{Entry}
 use Rattle.uvm_object.specs.declared.entries.Entry.TheVariants.{Did}
 use Rattle.uvm_object.specs.declared.entries.Outcome.TheVariants.{Done}
 use Rattle.bench_history.specs.History.{act_phase, now_of, in_task, is_of_phase}
-use Rattle.bench_history.specs.Objections.{objections_after, objections_of}
+use Rattle.bench_history.specs.Objections.{given_below, objections_after, objections_of}
 use Rattle.bench_history.specs.Owners.{Event}
-use Rattle.world_objections.specs.Phased.{nodes_in}
+use Rattle.world_objections.specs.Phased.{ObjectionsValue, nodes_in}
 use Rattle.world_agenda.specs.Objectings.{AreEvents, IsObjecting}
 use Rattle.world_agenda.proofs.Drained.{events-all, held-with-drain}
 use Rattle.world_agenda.proofs.Objected.{objecting-changed, objecting-later, objecting-same}
@@ -24,19 +26,19 @@ use Rattle.world_services.proofs.Settling.{ChangesOne, itself}
 
 -- where the act is of a phase
 module _ (history : List Entry) (phase : Phase) (performer : Who) (acts : act_phase history ≡ Some phase) where
-  after : (other : Phase) (act : Act) → objections_of other (Did performer Done act ∷ history) ≡ objections_after (now_of history) (same_phase phase other) (not (is_task phase)) (objections_of other history) performer Done act
-  after other act = ap (λ (acting : Option Phase). objections_after (now_of history) (is_of_phase other acting) (not (in_task acting)) (objections_of other history) performer Done act) acts
+  after : (script : ScriptValue) (other : Phase) (act : Act) → objections_of script other (Did performer Done act ∷ history) ≡ objections_after (now_of history) (same_phase phase other) (not (is_task phase)) (given_below script other history performer) (objections_of script other history) performer Done act
+  after script other act = ap (λ (acting : Option Phase). objections_after (now_of history) (is_of_phase other acting) (not (in_task acting)) (given_below script other history performer) (objections_of script other history) performer Done act) acts
 
-  pub raise-changes : (count : ℕ) → ChangesOne history (Did performer Done (RaiseObjection count)) phase (settled (now_of history) (total (objections_of phase history)) (raised (node_of performer) count (objections_of phase history)))
-  raise-changes count = record {
-    one = rw (after phase (RaiseObjection count), itself phase) refl;
-    rest = λ other apart. rw (after other (RaiseObjection count), apart) refl;
+  pub raise-changes : (script : ScriptValue) (count : ℕ) → ChangesOne script history (Did performer Done (RaiseObjection count)) phase (settled (now_of history) (total (objections_of script phase history)) (raised (node_of performer) count (objections_of script phase history)))
+  raise-changes script count = record {
+    one = rw (after script phase (RaiseObjection count), itself phase) refl;
+    rest = λ other apart. rw (after script other (RaiseObjection count), apart) refl;
   }
 
-  pub drop-changes : (count : ℕ) → ChangesOne history (Did performer Done (DropObjection count)) phase (settled (now_of history) (total (objections_of phase history)) (dropped (node_of performer) count (objections_of phase history)))
-  drop-changes count = record {
-    one = rw (after phase (DropObjection count), itself phase) refl;
-    rest = λ other apart. rw (after other (DropObjection count), apart) refl;
+  pub drop-changes : (script : ScriptValue) (count : ℕ) → ChangesOne script history (Did performer Done (DropObjection count)) phase (settled (now_of history) (total (objections_of script phase history)) (dropped (node_of performer) count (objections_of script phase history)))
+  drop-changes script count = record {
+    one = rw (after script phase (DropObjection count), itself phase) refl;
+    rest = λ other apart. rw (after script other (DropObjection count), apart) refl;
   }
 
 -- a drain time is set in the objection of some phases
@@ -53,10 +55,10 @@ module _ (node ticks : ℕ) (nodes : Phase → List Node) (is_set : Phase → Bo
       tested phase k at false held = held
 
   pub drained-objections :
-      {count entries : ℕ} {old : List ObjectionValue} (new : List ObjectionValue) → PlacesStay → NodesGrow → AreObjecting nodes count entries old
+      {drains : List Drain} {count entries : ℕ} {old : ObjectionsValue} (new : ObjectionsValue) → PlacesStay → NodesGrow → AreObjecting drains nodes count entries old → new.given ≡ old.given
       → ((phase : Phase) → is_task phase ≡ true → nodes_in new phase ≡ (if is_set phase then with_drain node ticks (nodes_in old phase) else nodes_in old phase))
-      → AreObjecting (λ phase. if is_set phase then with_drain node ticks (nodes phase) else nodes phase) count (suc entries) new
-  drained-objections {count} {entries} {old} new stay grow o is = record { each = λ phase task. tested phase (is_set phase) (o.each phase task) (is phase task) }
+      → AreObjecting drains (λ phase. if is_set phase then with_drain node ticks (nodes phase) else nodes phase) count (suc entries) new
+  drained-objections {count = count} {entries} {old} new stay grow o stays is = record { given = stays ∙ o.given; each = λ phase task. tested phase (is_set phase) (o.each phase task) (is phase task) }
     where
       tested :
           (phase : Phase) (t : Bool) → IsObjecting (nodes phase) count entries (nodes_in old phase) → nodes_in new phase ≡ (if t then with_drain node ticks (nodes_in old phase) else nodes_in old phase)

@@ -10,13 +10,13 @@ ghost use Rattle.world_services.specs.Attempts.{CanPerform, IsAttempt};
 use std::alloc::{AllocError, Global};
 use uvm_glob::Name;
 use uvm_object::{Fatal, What};
-use uvm_objection::laws as objections;
+use uvm_objection::laws;
 use uvm_tree::NodeKind;
 use world_fifos::stations::add_station;
 use world_sequencers::arbiters::add_arbiter;
 use world_services::attempts::{Attempt, done, refused};
 use world_services::creations::child_refusal;
-use world_services::nodes::add_child;
+use world_services::nodes::add_node;
 use world_services::services::Services;
 use world_wiring::connections::add_end;
 
@@ -33,10 +33,11 @@ pub fn add(
     if let Some(fatal) = addition_refusal(services, &name) {
         return refused(services, alloc, fatal);
     }
-    objections::nodes_grow();
+    laws::nodes_grow();
+    laws::places_stay();
     let parent = services.answer.speaker.node();
-    let node = add_child(&mut services.tree, parent, name, kind_of(what))?;
-    services.objections.add(node, parent)?;
+    let (tree, objections) = (&mut services.tree, &mut services.objections);
+    let node = add_node(tree, objections, parent, name, kind_of(what))?;
     add_end(&mut services.wiring, node, what)?;
     add_station(&mut services.stations, alloc, node, what)?;
     add_arbiter(&mut services.arbiters, alloc, node, what)?;

@@ -129,8 +129,9 @@ fn set_drain_in(
 ) -> Result<(), AllocError>
     requires known { (one : Phase) → IsTrue (is_known node (nodes_in objections.old one)) }
     requires limit { ticks ≤ 10 ^ 15 }
-    ensures { OnOk result ((one : Phase) → is_task one ≡ true → nodes_in objections.new one ≡
+    ensures nodes { OnOk result ((one : Phase) → is_task one ≡ true → nodes_in objections.new one ≡
         (if is_of_phase one phase || not (in_task phase) then with_drain node ticks (nodes_in objections.old one) else nodes_in objections.old one)) }
+    ensures given { objections.new.given ≡ objections.old.given }
 {
     match phase {
         Some(phase) if phase.is_task() => objections.set_drain(phase, node, ticks),

@@ -1,4 +1,4 @@
-use Rattle.std.proofs.Common.{◌≡◌, ◌∙◌, [], ap, lit≤, refl, subst}
+use Rattle.std.proofs.Common.{◌≡◌, ◌∙◌, [], ap, arith, lit≤, refl, subst}
 use Rattle.bench_script.specs.Scripts.{ScriptValue}
 use Rattle.bench_history.specs.Next.{IsLegal}
 use Rattle.bench_kernel.specs.Kernels.{KernelValue}
@@ -26,7 +26,7 @@ returns-clause-run g c =
 pub returns-in-Err-clause-run : goal.returns-in-Err-clause-run
 returns-in-Err-clause-run g c = record {
   history = [];
-  legal = record { each = tt; few = lit≤ tt };
+  legal = record { each = tt; few = omega arith };
   leaves = never-ran c.args.script c.args.trace (g.S.Sink.contents c.args.out.now);
   words = refl;
   given = record { lost = 0; few = lit≤ tt; left = refl };

@@ -1,4 +1,4 @@
-use Rattle.std.proofs.Common.{◌≡◌, ◌∙◌, ◌≤◌, ◌<◌, ◌+◌, ◌⊎◌, ℕ, Err, ap, sym, arith, inl, inr, rules}
+use Rattle.std.proofs.Common.{Err, ap, arith, inl, inr, rules}
 use Rattle.std.proofs.lemmas.List.{length-take}
 use Rattle.bus_jobs.specs.declared.files.TheConstants.{MOST_BYTES}
 use Rattle.bus_jobs.specs.declared.verdicts.Breakage.TheVariants.{Unread}

@@ -2,7 +2,8 @@ use Rattle.std.proofs.Common.{rules, Ok}
 use Rattle.std.specs.Prelude.{option_copied}
 use Rattle.toml.specs.View.{table_view}
 use Rattle.bus_jobs.specs.Runs.{words_of_seed}
-use Rattle.script_jobs.specs.Runs.{IsScriptRun, RanTo}
+use Rattle.bench_run.specs.Texts.{took-nothing-of}
+use Rattle.script_jobs.specs.Runs.{IsScriptRun, RanTo, script_to_run}
 use Rattle.script_jobs.proofs.Ran.{ran-to}
 use Rattle.script_jobs.proofs.runs.run_tree.Goals as goal
 
@@ -19,3 +20,10 @@ returns-in-Ok-run_objects-clause-run g c =
       run = run;
     } in
     ran-to (table_view c.args.root.now) (option_copied c.args.test) (words_of_seed c.args.seed) c.args.trace (contents c.args.out.now) (contents c.run_objects.new.out) c.in-Ok-run_objects.ending c.verdict_on.result ran c.verdict_on.ensures
+
+-- nothing was written before the first entry
+pub returns-in-Err-clause-room : goal.returns-in-Err-clause-room
+returns-in-Err-clause-room g c = λ same. took-nothing-of (script_to_run (table_view c.args.root.now) (option_copied c.args.test)) (g.S.Sink.taken c.args.out.now)
+
+pub returns-in-Err-answers_in-clause-room : goal.returns-in-Err-answers_in-clause-room
+returns-in-Err-answers_in-clause-room g c = λ same. took-nothing-of (script_to_run (table_view c.args.root.now) (option_copied c.args.test)) (g.S.Sink.taken c.args.out.now)

@@ -34,9 +34,9 @@ returns c = λ script before coming m.
     let living = c.lockers_are_there.ensures script before c.args.sequencer id coming.each coming.next in
     let phase = (rw c.as_slice.ensures.value at c.phase_at-phase.ensures) ∙ living-phase m id living in
     let unended = living-unended before id living.lives in
-    let dues = rw (phase, m.time, ← coming.place_is) at (told.dues (filter (is_open (heard_of before) (ended_of before) (finished_of before)) (caused_of before)) m.agenda.are) in
-    let events = events-told (λ phase. objections_of phase before) (is_open (heard_of before) (ended_of before) (finished_of before)) (phase_begun before id) (now_of before) (caused_at (length before)) (Sequence id c.args.sequencer) call (caused_of before) m.events in
-    let agenda = agenda-event (Object (Sequence id c.args.sequencer)) (Some call) (now_of before) (phase_begun before id) (caused_of before) (heard_of before) (ended_of before) (finished_of before) _ _ _ unended (there-open before (Sequence id c.args.sequencer) living) m.agenda dues in
+    let dues = rw (phase, m.time, ← coming.place_is) at (told.dues (filter (is_open (heard_of before) (ended_of before) (finished_of before)) (caused_of script before)) m.agenda.are) in
+    let events = events-told (λ phase. objections_of script phase before) (is_open (heard_of before) (ended_of before) (finished_of before)) (phase_begun before id) (now_of before) (caused_at (length before)) (Sequence id c.args.sequencer) call (caused_of script before) m.events in
+    let agenda = agenda-event (Object (Sequence id c.args.sequencer)) (Some call) (now_of before) (phase_begun before id) (caused_of script before) (heard_of before) (ended_of before) (finished_of before) _ _ _ unended (there-open before (Sequence id c.args.sequencer) living) m.agenda dues in
     let changes = rw told.rest at c.settle_at.ensures in
     let arbitrating = locked-kept m c.args.sequencer id c.settle_at.new.arbiters next living changes c.passed_at-passed.result c.learn.new.self (rw told.rest at c.passed_at-passed.ensures) (rw told.rest at c.learn.ensures.nodes) (rw told.rest at c.learn.ensures.known) in
     rw told.rest (search (rules, later))

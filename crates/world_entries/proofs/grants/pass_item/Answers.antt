@@ -21,9 +21,9 @@ returns c = λ script before coming m.
     let unended = c.passages_are_in_phase.ensures script before c.args.fifo passage coming.next in
     let waiter = c.waiters_are_components.ensures script before c.args.fifo passage coming.each coming.next in
     let call = told_of passage.kind passage in
-    let dues = rw (m.time, ← coming.place_is) at (told.dues (filter (is_open (heard_of before) (ended_of before) (finished_of before)) (caused_of before)) m.agenda.are) in
-    let events = events-told (λ phase. objections_of phase before) (is_open (heard_of before) (ended_of before) (finished_of before)) (Some passage.phase) (now_of before) (caused_at (length before)) passage.who call (caused_of before) m.events in
-    let agenda = agenda-event (Object passage.who) (Some call) (now_of before) (Some passage.phase) (caused_of before) (heard_of before) (ended_of before) (finished_of before) _ _ _ unended (component-open before passage.who waiter) m.agenda dues in
+    let dues = rw (m.time, ← coming.place_is) at (told.dues (filter (is_open (heard_of before) (ended_of before) (finished_of before)) (caused_of script before)) m.agenda.are) in
+    let events = events-told (λ phase. objections_of script phase before) (is_open (heard_of before) (ended_of before) (finished_of before)) (Some passage.phase) (now_of before) (caused_at (length before)) passage.who call (caused_of script before) m.events in
+    let agenda = agenda-event (Object passage.who) (Some call) (now_of before) (Some passage.phase) (caused_of script before) (heard_of before) (ended_of before) (finished_of before) _ _ _ unended (component-open before passage.who waiter) m.agenda dues in
     let pass = rw told.rest at c.pass.ensures in
     let stations = stations-changed c.args.fifo _ {new = c.pass.new.stations} (passed-changes before c.args.fifo passage m.passed passes) pass m.stations in
     let passed = passed-more before c.args.fifo passage m.passed passes in

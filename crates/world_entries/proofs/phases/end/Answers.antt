@@ -67,10 +67,10 @@ returns-clause-goes_on c = λ script before coming m.
     let arbitrating =
     arbitrating-ended script before phase c.living_run.ensures coming.each next steps sequencing.living {new = c.end_phase.new.arbiters} {after = c.reopen.new.self} (order-holds (nodes_of before) (c.path_order_is_in_order.ensures (nodes_of before))) c.end_phase.ensures (c.in_ok-reopen.ensures.nodes ∙ opens) c.in_ok-reopen.ensures.known m.arbitrating in
     let turns = rounds-ended (stage_of before) phase runs m.turns in
-    let cleared = agenda-ended (caused_of before) (heard_of before) (ended_of before) (finished_of before) _ _ _ phase c.order_keeps_filters.ensures m.agenda c.clear.ensures.dues in
+    let cleared = agenda-ended (caused_of script before) (heard_of before) (ended_of before) (finished_of before) _ _ _ phase c.order_keeps_filters.ensures m.agenda c.clear.ensures.dues in
     let told = lapsed-told script before phase c.living_run.ensures coming.each next steps sequencing.living m.arbitrating c.asks_are_in_phase.ensures runs c.phases_in_progress_are_open.ensures in
     let open_ = is_open (heard_of before) (phase ∷ ended_of before) (finished_of before) in
-    let dues_are = rw (c.as_slice-2.ensures.value, lapsed, ← coming.place_is, m.time) at (c.in_ok-tell_each.ensures (filter open_ (caused_of before)) cleared.are) in
-    let agenda = agenda-living (is_told steps) (heard_of before) (phase ∷ ended_of before) (finished_of before) (now_of before) (dues.lapsed_with phase before) (caused_of before) (length before) _ _ told cleared dues_are in
-    let events = events-calls (λ phase. objections_of phase before) open_ (now_of before) (length before) 0 (dues.lapsed_with phase before) (caused_of before) (events-ended phase (λ phase. objections_of phase before) (caused_of before) (heard_of before) (ended_of before) (finished_of before) m.events) in
+    let dues_are = rw (c.as_slice-2.ensures.value, lapsed, ← coming.place_is, m.time) at (c.in_ok-tell_each.ensures (filter open_ (caused_of script before)) cleared.are) in
+    let agenda = agenda-living (is_told steps) (heard_of before) (phase ∷ ended_of before) (finished_of before) (now_of before) (dues.lapsed_with phase before) (caused_of script before) (length before) _ _ told cleared dues_are in
+    let events = events-calls (λ phase. objections_of script phase before) open_ (now_of before) (length before) 0 (dues.lapsed_with phase before) (caused_of script before) (events-ended phase (λ phase. objections_of script phase before) (caused_of script before) (heard_of before) (ended_of before) (finished_of before) m.events) in
     search (rules, later)

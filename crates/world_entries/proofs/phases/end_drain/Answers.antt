@@ -18,15 +18,15 @@ drained-requires-clause-known c =
     let due = c.requires in
     let origin = c.args.origin in
     let m = due.known in
-    let held = due-is-held (λ phase. objections_of phase due.history) due.history c.args.node origin c.order_keeps_all.ensures m.events (c.drains_go_in_order.ensures due.script due.history c.args.node origin due.coming.next) in
-    rw (m.objections.each origin.phase held.task).are (known-held c.args.node (objections_of origin.phase due.history) held.held.held)
+    let held = due-is-held due.script (λ phase. objections_of due.script phase due.history) due.history c.args.node origin c.order_keeps_all.ensures m.events (c.drains_go_in_order.ensures due.script due.history c.args.node origin due.coming.next) in
+    rw (m.objections.each origin.phase held.task).are (known-held c.args.node (objections_of due.script origin.phase due.history) held.held.held)
 
 pub drained-requires-clause-held : goal.drained-requires-clause-held
 drained-requires-clause-held c =
     let due = c.requires in
     let origin = c.args.origin in
     let m = due.known in
-    let held = due-is-held (λ phase. objections_of phase due.history) due.history c.args.node origin c.order_keeps_all.ensures m.events (c.drains_go_in_order.ensures due.script due.history c.args.node origin due.coming.next) in
+    let held = due-is-held due.script (λ phase. objections_of due.script phase due.history) due.history c.args.node origin c.order_keeps_all.ensures m.events (c.drains_go_in_order.ensures due.script due.history c.args.node origin due.coming.next) in
     rw (m.objections.each origin.phase held.task).are held.held.held
 
 pub drained-requires-clause-limit : goal.drained-requires-clause-limit
@@ -34,7 +34,7 @@ drained-requires-clause-limit c =
     let due = c.requires in
     let origin = c.args.origin in
     let m = due.known in
-    let held = due-is-held (λ phase. objections_of phase due.history) due.history c.args.node origin c.order_keeps_all.ensures m.events (c.drains_go_in_order.ensures due.script due.history c.args.node origin due.coming.next) in
+    let held = due-is-held due.script (λ phase. objections_of due.script phase due.history) due.history c.args.node origin c.order_keeps_all.ensures m.events (c.drains_go_in_order.ensures due.script due.history c.args.node origin due.coming.next) in
     rw ((m.objections.each origin.phase held.task).are, held.held.due, ← m.time) m.early
 
 pub returns : goal.returns
@@ -43,8 +43,8 @@ returns c = λ script before coming m.
     let phase = origin.phase in
     let stays = c.wiring_stays.ensures script before (Drained c.args.node origin) (rw coming.next refl) in
     let due = c.in_ok-move_drains.ensures in
-    let nodes = objections_of phase before in
-    let held = due-is-held (λ p. objections_of p before) before c.args.node origin c.order_keeps_all.ensures m.events (c.drains_go_in_order.ensures script before c.args.node origin coming.next) in
+    let nodes = objections_of script phase before in
+    let held = due-is-held script (λ p. objections_of script p before) before c.args.node origin c.order_keeps_all.ensures m.events (c.drains_go_in_order.ensures script before c.args.node origin coming.next) in
     let was = m.objections.each phase held.task in
     let are = was.are in
     let changed = released c.args.node nodes in
@@ -56,10 +56,10 @@ returns c = λ script before coming m.
     let over = rw (is, are) at c.in_ok-began.ensures.ended in
     let grown = (c.nodes_grow.ensures.1 nodes was.are_nodes).released (now_of before) c.args.node in
     let low : 0 ≤ 65535 = omega arith in
-    let unended = drain-unended before c.args.node origin c.order_keeps_all.ensures (c.drains_go_in_order.ensures script before c.args.node origin coming.next) in
-    let dues = rw (← coming.place_is) at (due.dues (filter (is_open (heard_of before) (ended_of before) (finished_of before)) (caused_of before)) m.agenda.are) in
+    let unended = drain-unended script before c.args.node origin c.order_keeps_all.ensures (c.drains_go_in_order.ensures script before c.args.node origin coming.next) in
+    let dues = rw (← coming.place_is) at (due.dues (filter (is_open (heard_of before) (ended_of before) (finished_of before)) (caused_of script before)) m.agenda.are) in
     let drains = settling (Drained c.args.node origin) phase (Some phase) changed c.in_ok-began.began (Some c.args.node) c.drained.new.self _ 0
-    c.settled_go_by_totals.ensures stay c.begun_drains_are_held.ensures m refl held.task (drain-changes before c.args.node origin) same is c.in_ok-began.ensures.others low grown
+    c.settled_go_by_totals.ensures stay c.begun_drains_are_held.ensures m refl held.task (drain-changes script before c.args.node origin) same is c.in_ok-began.ensures.others c.in_ok-began.ensures.given low grown
     (due-released c.args.node nodes) begun over unended dues in
     let agenda = drains.agenda in
     let events = drains.events in

@@ -46,9 +46,9 @@ returns c =
             let stations = k.stations_are in
             let passed = k.passed in
             let unsettled = k.unsettled_are in
-            let dues = rw (m.answer.phase, m.time, ← s.place_is) at (told.dues (filter (is_open (heard_of history) (ended_of history) (finished_of history)) (caused_of history)) m.agenda.are) in
-            let events = events-told (λ phase. objections_of phase history) (is_open (heard_of history) (ended_of history) (finished_of history)) (act_phase history) (now_of history) (caused_at (length history)) speaker (call.TryStored c.args.name.now stored) (caused_of history) m.events in
-            let agenda = agenda-event (Object speaker) (Some (call.TryStored c.args.name.now stored)) (now_of history) (act_phase history) (caused_of history) (heard_of history) (ended_of history) (finished_of history) _ _ _ s.in_phase.unended (scene-open s (λ opens. cc)) m.agenda dues in
+            let dues = rw (m.answer.phase, m.time, ← s.place_is) at (told.dues (filter (is_open (heard_of history) (ended_of history) (finished_of history)) (caused_of script history)) m.agenda.are) in
+            let events = events-told (λ phase. objections_of script phase history) (is_open (heard_of history) (ended_of history) (finished_of history)) (act_phase history) (now_of history) (caused_at (length history)) speaker (call.TryStored c.args.name.now stored) (caused_of script history) m.events in
+            let agenda = agenda-event (Object speaker) (Some (call.TryStored c.args.name.now stored)) (now_of history) (act_phase history) (caused_of script history) (heard_of history) (ended_of history) (finished_of history) _ _ _ s.in_phase.unended (scene-open s (λ opens. cc)) m.agenda dues in
             search (rules, acted);
       };
     })

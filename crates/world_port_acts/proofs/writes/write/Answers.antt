@@ -52,9 +52,9 @@ returns c =
             let unsettled = k.unsettled_are in
             let written = calls_told history speaker Done (Write name item) in
             let calls : c.as_slice.result.now ≡ written = c.as_slice.ensures.value ∙ c.in_ok-calls.ensures ∙ rw reached.targets (calls-are item m o) in
-            let dues = rw (m.time, ← s.place_is, calls) at (c.in_ok-tell_all.ensures (filter (is_open (heard_of history) (ended_of history) (finished_of history)) (caused_of history)) m.agenda.are) in
-            let events = events-calls (λ phase. objections_of phase history) (is_open (heard_of history) (ended_of history) (finished_of history)) (now_of history) (length history) 0 written (caused_of history) m.events in
-            let agenda = agenda-written (now_of history) written (caused_of history) (heard_of history) (ended_of history) (finished_of history) (length history) _ _ (written-open (act_phase history) (nodes_of history) item (ended_of history) (finished_of history) (imps_below history speaker name) s.in_phase.unended) m.agenda dues in
+            let dues = rw (m.time, ← s.place_is, calls) at (c.in_ok-tell_all.ensures (filter (is_open (heard_of history) (ended_of history) (finished_of history)) (caused_of script history)) m.agenda.are) in
+            let events = events-calls (λ phase. objections_of script phase history) (is_open (heard_of history) (ended_of history) (finished_of history)) (now_of history) (length history) 0 written (caused_of script history) m.events in
+            let agenda = agenda-written (now_of history) written (caused_of script history) (heard_of history) (ended_of history) (finished_of history) (length history) _ _ (written-open (act_phase history) (nodes_of history) item (ended_of history) (finished_of history) (imps_below history speaker name) s.in_phase.unended) m.agenda dues in
             search (rules, acted);
       };
     })

@@ -50,9 +50,9 @@ returns-in_ok-tell_living-in-Ok-done_at c =
             let is = done-calls s name reached.sequencer r response id hand in
             let calls : c.as_slice-in-Ok-done_at.result.now ≡ calls_told history speaker Done (ItemDone name response) = c.as_slice-in-Ok-done_at.ensures.value ∙ c.in_ok-calls-in-Ok-done_at.ensures ∙ ap (λ (phase : Option Phase). told_in phase (Sequence id reached.sequencer) (call.ItemDone response) ∷ []) phase ∙ sym is in
             let told_living = subst (λ (calls : List Told). All (IsToldOpen (is_told services.sequences.steps) (ended_of history) (finished_of history)) calls) (sym is) (done-told s name reached.sequencer r response id hand) in
-            let dues = rw (m.time, ← s.place_is, calls) at (told.dues (filter (is_open (heard_of history) (ended_of history) (finished_of history)) (caused_of history)) m.agenda.are) in
-            let events = events-calls (λ phase. objections_of phase history) (is_open (heard_of history) (ended_of history) (finished_of history)) (now_of history) (length history) 0 (calls_told history speaker Done (ItemDone name response)) (caused_of history) m.events in
-            let agenda = agenda-living (is_told services.sequences.steps) (heard_of history) (ended_of history) (finished_of history) (now_of history) (calls_told history speaker Done (ItemDone name response)) (caused_of history) (length history) _ _ told_living m.agenda dues in
+            let dues = rw (m.time, ← s.place_is, calls) at (told.dues (filter (is_open (heard_of history) (ended_of history) (finished_of history)) (caused_of script history)) m.agenda.are) in
+            let events = events-calls (λ phase. objections_of script phase history) (is_open (heard_of history) (ended_of history) (finished_of history)) (now_of history) (length history) 0 (calls_told history speaker Done (ItemDone name response)) (caused_of script history) m.events in
+            let agenda = agenda-living (is_told services.sequences.steps) (heard_of history) (ended_of history) (finished_of history) (now_of history) (calls_told history speaker Done (ItemDone name response)) (caused_of script history) (length history) _ _ told_living m.agenda dues in
             search (rules, acted);
       };
     })

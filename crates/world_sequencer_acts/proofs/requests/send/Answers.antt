@@ -60,9 +60,9 @@ returns-in_ok-tell_living-in-Some-send_at c =
             let arbitrating = send-kept s id home seat item way c.send_at.new.arbiters granted after c.contested.new.services.contest did.nodes (λ n. did.knows n ∙ ap (λ (one : Services). known_at one.contest n) told.rest) in
             let calls : c.as_slice.result.now ≡ calls_told history speaker Done (Send item) = c.as_slice.ensures.value ∙ c.in_ok-calls-in-Some-send_at.ensures ∙ ap (λ (phase : Option Phase). told_sent phase speaker c.driver_at-driver.result item (Some way)) m.answer.phase ∙ ap (λ (driver : Option DriverPort). told_sent (act_phase history) speaker driver item (Some way)) (c.driver_at-driver.ensures ∙ driver-known m id home seat.moded) ∙ sym (sent-calls history speaker id home item way seat.speaker_is granted) in
             let told_living = rw (← sent-calls history speaker id home item way seat.speaker_is granted) at (sends-told s id home seat item way granted (scene-open s (λ opens. cc))) in
-            let dues = rw (m.time, ← s.place_is, calls) at (told.dues (filter (is_open (heard_of history) (ended_of history) (finished_of history)) (caused_of history)) m.agenda.are) in
-            let events = events-calls (λ phase. objections_of phase history) (is_open (heard_of history) (ended_of history) (finished_of history)) (now_of history) (length history) 0 (calls_told history speaker Done (Send item)) (caused_of history) m.events in
-            let agenda = agenda-living (is_told services.sequences.steps) (heard_of history) (ended_of history) (finished_of history) (now_of history) (calls_told history speaker Done (Send item)) (caused_of history) (length history) _ _ told_living m.agenda dues in
+            let dues = rw (m.time, ← s.place_is, calls) at (told.dues (filter (is_open (heard_of history) (ended_of history) (finished_of history)) (caused_of script history)) m.agenda.are) in
+            let events = events-calls (λ phase. objections_of script phase history) (is_open (heard_of history) (ended_of history) (finished_of history)) (now_of history) (length history) 0 (calls_told history speaker Done (Send item)) (caused_of script history) m.events in
+            let agenda = agenda-living (is_told services.sequences.steps) (heard_of history) (ended_of history) (finished_of history) (now_of history) (calls_told history speaker Done (Send item)) (caused_of script history) (length history) _ _ told_living m.agenda dues in
             search (rules, acted);
       };
     }))

@@ -47,9 +47,9 @@ returns-in_ok-tell-in-Some-step c =
             let m = s.known in
             let left = s.left in
             let next : next_step history speaker ≡ Some step = sym (next-known m speaker id is) ∙ steps in
-            let dues = rw (m.answer.phase, m.time, ← s.place_is, c.step_call.ensures) at (told.dues (filter (is_open (heard_of history) (ended_of history) (finished_of history)) (caused_of history)) m.agenda.are) in
-            let events : AreEvents (λ phase. objections_of phase history) (due_events (Did speaker Done EndStep ∷ history)) = rw next (events-told (λ phase. objections_of phase history) (is_open (heard_of history) (ended_of history) (finished_of history)) (act_phase history) (now_of history) (caused_at (length history)) speaker (step_call step) (caused_of history) m.events) in
-            let agenda : IsAgenda (caused_of (Did speaker Done EndStep ∷ history)) (heard_of history) (ended_of history) (finished_of history) (suc (length history)) c.tell.new.services.agenda.dues = rw next (agenda-event (Object speaker) (Some (step_call step)) (now_of history) (act_phase history) (caused_of history) (heard_of history) (ended_of history) (finished_of history) (length history) _ _ s.in_phase.unended (scene-open s (λ opens. cc)) m.agenda dues) in
+            let dues = rw (m.answer.phase, m.time, ← s.place_is, c.step_call.ensures) at (told.dues (filter (is_open (heard_of history) (ended_of history) (finished_of history)) (caused_of script history)) m.agenda.are) in
+            let events : AreEvents (λ phase. objections_of script phase history) (due_events script (Did speaker Done EndStep ∷ history)) = rw next (events-told (λ phase. objections_of script phase history) (is_open (heard_of history) (ended_of history) (finished_of history)) (act_phase history) (now_of history) (caused_at (length history)) speaker (step_call step) (caused_of script history) m.events) in
+            let agenda : IsAgenda (caused_of script (Did speaker Done EndStep ∷ history)) (heard_of history) (ended_of history) (finished_of history) (suc (length history)) c.tell.new.services.agenda.dues = rw next (agenda-event (Object speaker) (Some (step_call step)) (now_of history) (act_phase history) (caused_of script history) (heard_of history) (ended_of history) (finished_of history) (length history) _ _ s.in_phase.unended (scene-open s (λ opens. cc)) m.agenda dues) in
             let sequencing = sequencing-step m.sequencing c.steps_change_alone.ensures speaker id step is steps in
             search (rules, acted);
       };
@@ -76,7 +76,7 @@ returns-in_ok-finish-in-None c =
             let moded = numbered-holds (λ (one : Beginning). IsSome (mode_at history one.start.home)) (begun_of history) id b.beginning s.driving.homes b.found in
             let there = placed s b.beginning.start.home c.path_order_is_in_order.ensures moded in
             let home : node_of speaker ≡ b.beginning.start.home = ap node_of b.performer_is in
-            let dues = rw (c.in-None.ensures.after, m.time, ← s.place_is, b.performer_is) at (fin.dues (filter (is_open (heard_of history) (ended_of history) (finished_of history)) (caused_of history)) m.agenda.are) in
+            let dues = rw (c.in-None.ensures.after, m.time, ← s.place_is, b.performer_is) at (fin.dues (filter (is_open (heard_of history) (ended_of history) (finished_of history)) (caused_of script history)) m.agenda.are) in
             let lapse = lapsed_calls (get nat_eq services.arbiters b.beginning.start.home) id in
             let h = rw (← b.performer_is) at (has-finished m c.steps_change_alone.ensures id b.beginning b.found b.lives lapse (lapsed-known s id b.beginning b.found b.lives moded there) c.finish.new.services.agenda.dues (lapsed-told s id b.beginning b.found b.lives moded there (who.Sequence id b.beginning.start.home ∷ finished_of history) (finished id services.sequences).steps) dues) in
             let left_there = rw home at fin.arbiters in

@@ -1,14 +1,14 @@
-use Rattle.std.proofs.Common.{◌≡◌, ◌<◌, [], List, ◌∷◌, ◌++◌, length, arith, Some, None, sym, ◌∙◌, refl, rules}
+use Rattle.std.proofs.Common.{ℕ, true, ◌≡◌, ◌<◌, [], List, ◌∷◌, ◌++◌, length, arith, Some, None, sym, ◌∙◌, refl, rules}
 use Rattle.uvm_tree.specs.Nodes.{child}
 use Rattle.uvm_object.specs.Acts.{node_of}
 use Rattle.uvm_object.specs.declared.acts.Act.TheVariants.{Add}
 use Rattle.uvm_phase.specs.declared.phases.Phase.{Phase}
-use Rattle.uvm_objection.specs.Nodes.{new_node}
+use Rattle.uvm_phase.specs.Phases.{is_task}
 use Rattle.uvm_objection.specs.Nodes as objection
 use Rattle.bench_history.specs.History.{nodes_of, kind_of, is_built, speaker_of}
 use Rattle.bench_history.specs.Dues.{due_events}
-use Rattle.bench_history.specs.Objections.{objections_of}
-use Rattle.world_agenda.proofs.Drained.{events-all, held-more}
+use Rattle.bench_history.specs.Objections.{given_below, objections_of, with_new}
+use Rattle.world_agenda.proofs.Drained.{events-all, held-made}
 use Rattle.bench_history.specs.Refusals.{addition_refusal}
 use Rattle.world_services.proofs.Answered.{length-snoc}
 use Rattle.world_services.proofs.Rounding.{rounds-more}
@@ -49,15 +49,16 @@ returns c = λ place. rw (c.done.ensures.attempt, c.done.ensures.services) (reco
         let longer = length-snoc (nodes_of history) added in
         let speaks : node_of (speaker_of history) < length (nodes_of history ++ added ∷ []) = omega (arith, m.speaks, longer) in
         let below : speaker < length (nodes_of history) = rw m.answer.speaker m.speaks in
-        let is = λ (phase : Phase). rw (c.node-parent.ensures, c.in_ok-node.ensures.id, m.tree) at (c.in_ok-add.ensures.ok phase) in
-        let grown : Phase → List objection.Node = λ phase. objections_of phase history ++ new_node (length (objections_of phase history)) speaker ∷ [] in
-        let events = events-all (λ phase. objections_of phase history) grown (due_events history) (λ phase node at. held-more (length (objections_of phase history)) speaker node at (objections_of phase history)) m.events in
+        let given : Phase → ℕ = λ phase. given_below script phase history c.args.services.now.answer.speaker c.args.name in
+        let is = λ (phase : Phase) (task : is_task phase ≡ true). rw (c.node-parent.ensures, m.tree, m.objections.given) at (c.in_ok-node.ensures.objections phase task) in
+        let grown : Phase → List objection.Node = λ phase. with_new speaker (given phase) (objections_of script phase history) in
+        let events = events-all (λ phase. objections_of script phase history) grown (due_events script history) (λ phase node at. held-made speaker (given phase) node at (objections_of script phase history)) m.events in
         let open_ = c.requires.building c.in_default.ensures.building in
         let some : 0 < length (nodes_of history) = omega (arith, m.speaks) in
         let wired = rw (c.in_ok-node.ensures.id, m.tree) at c.in_ok-add_end.ensures in
         let connecting = connecting-more c.add_end.new.wiring added (end_of c.args.what) open_ some m.connecting wired in
         let closing : IsClosing script (Did c.args.services.now.answer.speaker Done (Add c.args.name c.args.what) ∷ history) (is_closed c.add_end.new.wiring) = rw wired (closing-next left m.closing) in
-        let objections = objectings-more c.add.new.self speaker c.nodes_grow.ensures below m.objections longer is in
+        let objections = objectings-more c.add_node.new.objections speaker given c.places_stay.ensures c.nodes_grow.ensures below m.objections longer c.in_ok-node.ensures.given is in
         let closed_past : IsClosedPast (list_any ends_connect history) (is_closed c.add_end.new.wiring) = rw wired m.closed_past in
         let unused : fifo_size (wiring_of history) (length (nodes_of history)) ≡ None = rw (← m.tree, ← m.connecting.ends, c.requires.unused) refl in
         let adds = rw (c.in_ok-node.ensures.id, m.tree) at c.in_ok-add_station.ensures in
@@ -66,8 +67,8 @@ returns c = λ place. rw (c.done.ensures.attempt, c.done.ensures.services) (reco
         let passed = kept.passed in
         let unsettled = kept.unsettled_are in
         let adding = rw (c.in_ok-node.ensures.id, m.tree) at c.in_ok-add_arbiter.ensures in
-        let contested = rw (c.in_ok-node.ensures.id, m.tree) at c.in_ok-add-2.ensures.added in
-        let arbitrating = arbitrating-added history c.args.services.now.answer.speaker c.args.name c.args.what {new = c.add_arbiter.new.arbiters} some longer adding (none-locked history m.arbitrating.contested_is s.settled.unlocked) (none-served history m.arbitrating.contested_is s.settled.unserved) c.in_ok-add-2.ensures.nodes contested m.arbitrating in
+        let contested = rw (c.in_ok-node.ensures.id, m.tree) at c.in_ok-add.ensures.added in
+        let arbitrating = arbitrating-added history c.args.services.now.answer.speaker c.args.name c.args.what {new = c.add_arbiter.new.arbiters} some longer adding (none-locked history m.arbitrating.contested_is s.settled.unlocked) (none-served history m.arbitrating.contested_is s.settled.unserved) c.in_ok-add.ensures.nodes contested m.arbitrating in
         search (rules, acted);
   };
 })

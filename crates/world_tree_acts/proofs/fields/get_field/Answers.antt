@@ -31,9 +31,9 @@ returns c =
         with_entry = λ script history s.
             let m = s.known in
             let left = s.left in
-            let dues = rw (m.answer.phase, m.time, ← s.place_is) at (told.dues (filter (is_open (heard_of history) (ended_of history) (finished_of history)) (caused_of history)) m.agenda.are) in
-            let events = events-told (λ phase. objections_of phase history) (is_open (heard_of history) (ended_of history) (finished_of history)) (act_phase history) (now_of history) (caused_at (length history)) c.args.services.now.answer.speaker (call.Config c.args.field value) (caused_of history) m.events in
-            let agenda = agenda-event (Object c.args.services.now.answer.speaker) (Some (call.Config c.args.field value)) (now_of history) (act_phase history) (caused_of history) (heard_of history) (ended_of history) (finished_of history) _ _ _ s.in_phase.unended (scene-open s (λ opens. cc)) m.agenda dues in
+            let dues = rw (m.answer.phase, m.time, ← s.place_is) at (told.dues (filter (is_open (heard_of history) (ended_of history) (finished_of history)) (caused_of script history)) m.agenda.are) in
+            let events = events-told (λ phase. objections_of script phase history) (is_open (heard_of history) (ended_of history) (finished_of history)) (act_phase history) (now_of history) (caused_at (length history)) c.args.services.now.answer.speaker (call.Config c.args.field value) (caused_of script history) m.events in
+            let agenda = agenda-event (Object c.args.services.now.answer.speaker) (Some (call.Config c.args.field value)) (now_of history) (act_phase history) (caused_of script history) (heard_of history) (ended_of history) (finished_of history) _ _ _ s.in_phase.unended (scene-open s (λ opens. cc)) m.agenda dues in
             search (rules, acted);
       };
     })

@@ -6,7 +6,7 @@ use Rattle.uvm_object.specs.declared.entries.Entry.TheVariants.{Did}
 use Rattle.uvm_object.specs.declared.entries.Outcome.TheVariants.{Done}
 use Rattle.uvm_object.specs.declared.fatals.Fatal.TheVariants.{ObjectionBelowZero}
 use Rattle.uvm_object.specs.Acts.{node_of}
-use Rattle.uvm_objection.specs.Nodes.{ObjectionValue, dropped, source_of}
+use Rattle.uvm_objection.specs.Nodes.{dropped, source_of}
 use Rattle.uvm_objection.specs.Totals.{total, settled}
 use Rattle.bench_history.specs.Sequences.{finished_of}
 use Rattle.bench_history.specs.Dues.{caused_of, heard_of, is_open}
@@ -17,6 +17,7 @@ use Rattle.world_objections.specs.declared.faults.DropFault.TheVariants.{BelowZe
 use Rattle.world_objections.specs.Phased.{nodes_in}
 use Rattle.world_agenda.proofs.Drained.{due-dropped}
 use Rattle.world_services.specs.Attempts.{IsRefusing}
+use Rattle.world_objections.specs.Phased.{ObjectionsValue}
 use Rattle.world_services.proofs.Later.{acted, refused-here}
 use Rattle.world_services.proofs.Settling.{settling}
 use Rattle.world_tree_acts.proofs.Raising.{drop-changes}
@@ -26,12 +27,12 @@ pub returns-in-Err-BelowZero : goal.returns-in-Err-BelowZero
 unfolding drop_refusal
 returns-in-Err-BelowZero c =
     let is : c.drop.result ≡ Err BelowZero = c.in-Err-BelowZero.is ∙ ap Err c.in-Err-BelowZero.field-0-is in
-    let Refusing : List ObjectionValue → Type 0 = λ o. OnOk c.refused.result (IsRefusing ObjectionBelowZero (record c.args.services.now { objections = o }) c.refused.new.services) in
+    let Refusing : ObjectionsValue → Type 0 = λ o. OnOk c.refused.result (IsRefusing ObjectionBelowZero (record c.args.services.now { objections = o }) c.refused.new.services) in
     refused-here _ _ _ (DropObjection c.args.count) ObjectionBelowZero c.args.place c.refused.ensures.attempt (subst Refusing (c.drop.ensures.unchanged is) c.refused.ensures.services) (λ script history m.
     let phase = c.args.phase in
     let acts : act_phase history ≡ Some phase = sym m.answer.phase ∙ c.requires.phase in
     let speaker = node_of c.args.services.now.answer.speaker in
-    let source = source_of speaker (objections_of phase history) in
+    let source = source_of speaker (objections_of script phase history) in
     let below = rw (c.node-node.ensures, (m.objections.each phase c.requires.task).are) at (c.drop.ensures.below is) in
     let test : nat_lt source c.args.count ≡ true = grind (arith, nat_tests, below) in
     rw (acts, c.requires.task, test) refl)
@@ -46,7 +47,7 @@ returns-in_ok-move_drains-in-Ok c =
       comes = λ script history s.
           let m = s.known in
           let acts : act_phase history ≡ Some phase = sym m.answer.phase ∙ c.requires.phase in
-          let source = source_of speaker (objections_of phase history) in
+          let source = source_of speaker (objections_of script phase history) in
           let enough = rw (c.node-node.ensures, (m.objections.each phase c.requires.task).are) at c.in-Ok.ensures.ok in
           let test : nat_lt source c.args.count ≡ false = grind (arith, nat_tests, enough) in
           rw (acts, c.requires.task, test) refl;
@@ -56,7 +57,7 @@ returns-in_ok-move_drains-in-Ok c =
             let m = s.known in
             let left = s.left in
             let acts : act_phase history ≡ Some phase = sym m.answer.phase ∙ c.requires.phase in
-            let nodes = objections_of phase history in
+            let nodes = objections_of script phase history in
             let changed = dropped speaker c.args.count nodes in
             let others = settled (now_of history) (total nodes) changed in
             let stay = c.places_stay.ensures in
@@ -67,10 +68,10 @@ returns-in_ok-move_drains-in-Ok c =
             let over = rw (is, are) at c.in-Ok.ensures.ended in
             let grown = (c.nodes_grow.ensures.1 nodes (m.objections.each phase c.requires.task).are_nodes).dropped (now_of history) speaker c.args.count in
             let low : 0 ≤ 65535 = omega arith in
-            let dues = rw (← s.place_is) at (due.dues (filter (is_open (heard_of history) (ended_of history) (finished_of history)) (caused_of history)) m.agenda.are) in
+            let dues = rw (← s.place_is) at (due.dues (filter (is_open (heard_of history) (ended_of history) (finished_of history)) (caused_of script history)) m.agenda.are) in
             let unended = rw acts at s.in_phase.unended in
             let drains = settling (Did c.args.services.now.answer.speaker Done (DropObjection c.args.count)) phase (act_phase history) changed c.in-Ok.began None c.drop.new.self _ 0
-            c.settled_go_by_totals.ensures stay c.begun_drains_are_held.ensures m acts c.requires.task (drop-changes history phase c.args.services.now.answer.speaker acts c.args.count) same is c.drop.ensures.others low grown
+            c.settled_go_by_totals.ensures stay c.begun_drains_are_held.ensures m acts c.requires.task (drop-changes history phase c.args.services.now.answer.speaker acts script c.args.count) same is c.drop.ensures.others c.drop.ensures.given low grown
             (λ k still. due-dropped speaker c.args.count nodes k) begun over unended dues in
             let agenda = drains.agenda in
             let events = drains.events in

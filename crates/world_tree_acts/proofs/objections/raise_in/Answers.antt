@@ -33,7 +33,7 @@ returns c =
             let m = s.known in
             let left = s.left in
             let acts : act_phase history ≡ Some phase = sym m.answer.phase ∙ c.requires.phase in
-            let nodes = objections_of phase history in
+            let nodes = objections_of script phase history in
             let changed = raised speaker c.args.count nodes in
             let others = settled (now_of history) (total nodes) changed in
             let stay = c.places_stay.ensures in
@@ -44,10 +44,10 @@ returns c =
             let over = rw (is, are) at c.in_ok-ended.ensures.ended in
             let grown = (c.nodes_grow.ensures.1 nodes (m.objections.each phase c.requires.task).are_nodes).raised (now_of history) speaker c.args.count in
             let low : c.args.count ≤ 65535 = omega arith in
-            let dues = due.dues (filter (is_open (heard_of history) (ended_of history) (finished_of history)) (caused_of history)) m.agenda.are in
+            let dues = due.dues (filter (is_open (heard_of history) (ended_of history) (finished_of history)) (caused_of script history)) m.agenda.are in
             let unended = rw acts at s.in_phase.unended in
             let drains = settling (Did c.args.services.now.answer.speaker Done (RaiseObjection c.args.count)) phase (act_phase history) changed None c.in_ok-ended.ended c.raise.new.self _ c.args.count
-            c.settled_go_by_totals.ensures stay c.begun_drains_are_held.ensures m acts c.requires.task (raise-changes history phase c.args.services.now.answer.speaker acts c.args.count) same is c.in_ok-ended.ensures.others low grown
+            c.settled_go_by_totals.ensures stay c.begun_drains_are_held.ensures m acts c.requires.task (raise-changes history phase c.args.services.now.answer.speaker acts script c.args.count) same is c.in_ok-ended.ensures.others c.in_ok-ended.ensures.given low grown
             (λ k still. due-raised speaker c.args.count nodes k) begun over unended dues in
             let agenda = drains.agenda in
             let events = drains.events in

@@ -32,11 +32,11 @@ returns c = λ place. rw (c.done.ensures.attempt, c.done.ensures.services) (reco
         let m = s.known in
         let left = s.left in
         let speaker = node_of c.args.services.now.answer.speaker in
-        let nodes : Phase → List Node = λ phase. objections_of phase history in
+        let nodes : Phase → List Node = λ phase. objections_of script phase history in
         let is_set : Phase → Bool = λ phase. is_of_phase phase (act_phase history) || not (in_task (act_phase history)) in
-        let is = rw (c.node-node.ensures, m.answer.phase) at c.in_ok-set_drain_in.ensures in
-        let objections = drained-objections speaker c.args.ticks nodes is_set c.set_drain_in.new.objections c.places_stay.ensures c.nodes_grow.ensures m.objections is in
-        let events = drained-events speaker c.args.ticks nodes is_set (due_events history) m.events in
+        let is = rw (c.node-node.ensures, m.answer.phase) at c.in_ok-set_drain_in.ensures.nodes in
+        let objections = drained-objections speaker c.args.ticks nodes is_set c.set_drain_in.new.objections c.places_stay.ensures c.nodes_grow.ensures m.objections c.in_ok-set_drain_in.ensures.given is in
+        let events = drained-events speaker c.args.ticks nodes is_set (due_events script history) m.events in
         search (rules, acted);
   };
 })

@@ -1,4 +1,4 @@
-use Rattle.std.proofs.Common.{[], arith}
+use Rattle.std.proofs.Common.{◌∙◌, [], arith}
 use Rattle.bench_history.specs.Next.{IsLegal}
 use Rattle.bench_world.proofs.Going.{sound-again}
 use Rattle.bench_world.proofs.worlds.World.before.Goals as goal
@@ -6,4 +6,4 @@ use Rattle.bench_world.proofs.worlds.World.before.Goals as goal
 pub invariant_of-result : goal.invariant_of-result
 invariant_of-result c =
     let legal : IsLegal c.args.script [] = record { each = tt; few = omega arith } in
-    (c.requires.creation, sound-again [] c.new.ensures.entries c.new.ensures.limit legal c.new-2.ensures.items c.requires.services)
+    (c.requires.creation, sound-again [] c.new-log.ensures.entries (c.new-log.ensures.limit ∙ c.log_limit.ensures) legal c.new.ensures.items c.requires.services)

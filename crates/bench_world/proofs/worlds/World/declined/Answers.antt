@@ -1,15 +1,20 @@
-use Rattle.std.proofs.Common.{inr, refl, ap, subst, ◌∙◌, sym}
+use Rattle.std.proofs.Common.{inr, refl, ap, rules, subst, ◌∙◌, sym}
 use Rattle.uvm_object.specs.declared.entries.Entry.TheVariants.{Did}
 use Rattle.uvm_object.specs.declared.entries.Outcome.TheVariants.{Refused}
 use Rattle.uvm_object.specs.declared.fatals.Fatal.TheVariants.{NoObject}
 use Rattle.bench_history.specs.History.{speaker_of}
 use Rattle.bench_history.specs.Next.{IsAct, IsNext}
-use Rattle.bench_world.proofs.Going.{acted-on}
+use Rattle.bench_world.proofs.Going.{acted-on, short}
 use Rattle.world_services.proofs.Later.{refused-taken-in}
 use Rattle.world_services.proofs.Acting.{ok-not-err, wanted}
 use Rattle.world_services.proofs.Answered.{answer-open}
 use Rattle.world_services.specs.declared.services.LastAnswer.{LastAnswer}
 use Rattle.bench_world.proofs.worlds.World.declined.Goals as goal
+
+pub refused_by-requires-clause-can : goal.refused_by-requires-clause-can
+refused_by-requires-clause-can c =
+    let low = short c.self.inside.script in
+    search (rules, low)
 
 pub refused_by-requires-clause-report : goal.refused_by-requires-clause-report
 refused_by-requires-clause-report c = (c.self.invariant.1.ready c.in-Some.waiting (sym c.take.ensures.value ∙ c.in-Some.is)).declined

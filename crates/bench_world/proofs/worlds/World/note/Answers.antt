@@ -1,8 +1,14 @@
-use Rattle.std.proofs.Common.{length, refl}
+use Rattle.std.proofs.Common.{length, refl, rules}
 use Rattle.uvm_object.specs.declared.entries.Entry.TheVariants.{Note}
 use Rattle.bench_history.specs.Cases.{Exactly}
-use Rattle.bench_world.proofs.Going.{entered}
+use Rattle.bench_world.proofs.Going.{entered, short}
 use Rattle.bench_world.proofs.worlds.World.note.Goals as goal
+
+pub note-requires : goal.note-requires
+note-requires c =
+    let r = rw (← c.self.view_is) at c.requires in
+    let low = short c.self.inside.script in
+    search (rules, low)
 
 pub invariant_of-self-2 : goal.invariant_of-self-2
 invariant_of-self-2 c =

@@ -1,7 +1,7 @@
 use Rattle.std.proofs.Common.{◌≡◌, false, true, None, length, refl, sym, ◌∙◌, rules}
 use Rattle.uvm_tlm.specs.Wirings.{end_at, is_closed, late_fault}
 use Rattle.bench_history.specs.History.{in_task}
-use Rattle.bench_world.proofs.Going.{act-next, goes-still, performed}
+use Rattle.bench_world.proofs.Going.{act-next, goes-still, performed, short}
 use Rattle.world_services.proofs.Answered.{answer-open}
 use Rattle.world_services.proofs.Known.{known-there}
 use Rattle.world_services.proofs.Later.{scene-of}
@@ -20,6 +20,7 @@ carry_out-requires-clause-can c =
     let unused : end_at wiring.ends (length c.self.inside.services.tree.nodes) ≡ None = rw m.tree (unused m.connecting) in
     let before = c.self.inside.log.entries in
     let each = c.self.invariant.1.legal.each in
+    let low = short c.self.inside.script in
     let phases = c.acts_are_in_phase.ensures c.self.inside.script before c.args.deed each (act-next c.self.inside.script before c.args.deed r.next) r.left in
     let closed : in_task c.self.inside.services.answer.phase ≡ true → is_closed wiring ≡ true = λ task.
     let acts = rw m.answer.phase at task in
@@ -27,8 +28,8 @@ carry_out-requires-clause-can c =
     record {
       speaks = rw (m.tree, m.answer.speaker) m.speaks;
       numbered = rw m.tree (each-numbered m.objections);
-      report = search rules;
-      few = λ phase. let raised = each-few m.objections phase in search (rules, raised);
+      report = search (rules, low);
+      few = λ phase. let raised = each-few m.objections phase in search (rules, raised, low);
       time = m.early;
       building = building;
       connectable = connectable;

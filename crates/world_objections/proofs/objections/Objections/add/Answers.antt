@@ -1,46 +1,38 @@
-use Rattle.std.proofs.Common.{◌≡◌, ◌<◌, ◌≤◌, ◌++◌, ◌∷◌, List, [], false, ap, ◌∙◌, arith, length}
-use Rattle.std.specs.Bool.{IsTrue}
-use Rattle.uvm_objection.specs.Nodes.{Node, is_known, new_node}
-use Rattle.world_objections.specs.Phased.{nodes_at, place_in, spare_at}
-use Rattle.world_objections.proofs.Placed.{at-place}
-use Rattle.world_objections.proofs.Listed.{changed-all, changed-more, same-nodes, same-spare}
+use Rattle.std.proofs.Common.{◌≤◌, ◌<◌, ◌++◌, ◌∷◌, ◌∙◌, [], List, ap, arith, sym, length, slice_get}
+use Rattle.std.proofs.lemmas.List.{take_all}
+use Rattle.script_tables.specs.declared.drains.Drain.{Drain}
+use Rattle.script_tables.specs.Drains.{drain_given}
+use Rattle.uvm_objection.specs.Nodes.{Node, new_node, with_drain}
+use Rattle.world_objections.specs.Phased.{ObjectionsValue, given_by, nodes_in}
+use Rattle.world_objections.proofs.Given.{drain-none, drain-step, new-known}
 use Rattle.world_objections.proofs.objections.Objections.add.Goals as goal
 
-pub add_at-requires-clause-unknown : goal.add_at-requires-clause-unknown
-add_at-requires-clause-unknown c =
-    let place = c.loop-place.place in
-    let here : place ≤ place = omega arith in
-    let bounds = c.self.invariant in
-    let less : place < length c.reserve.new.self = omega (arith, ap length c.self.view_is) in
-    let before : is_known c.args.node (nodes_at c.reserve.new.self place) ≡ false = at-place (λ n. is_known c.args.node (nodes_at c.reserve.new.self n) ≡ false) (λ phase. rw (c.in_ok-reserve.ensures.nodes phase) (c.requires.unknown phase)) place (omega (arith, bounds)) in
-    rw (same-nodes c.loop-place.self c.reserve.new.self place less (c.loop-place.invariant.rest place here)) before
+pub loop-row-init : goal.loop-row-init
+loop-row-init c =
+    let node = c.args.node in
+    let parent = c.args.parent in (
+      λ phase task. c.add_to_each.ensures.nodes phase ∙ ap (λ (nodes : List Node). nodes ++ new_node node parent ∷ []) (c.in_ok-reserve.ensures.nodes phase) ∙ sym (drain-none node parent (nodes_in c.args.self.now phase) (c.requires.unknown phase)),
+      λ phase. rw (c.add_to_each.ensures.nodes phase) (new-known node parent (nodes_in c.reserve.new.self phase)),
+      c.add_to_each.ensures.given ∙ c.in_ok-reserve.ensures.given,
+    )
 
-pub add_at-requires-clause-parent : goal.add_at-requires-clause-parent
-add_at-requires-clause-parent c =
-    let place = c.loop-place.place in
-    let here : place ≤ place = omega arith in
-    let bounds = c.self.invariant in
-    let less : place < length c.reserve.new.self = omega (arith, ap length c.self.view_is) in
-    let before : IsTrue (is_known c.args.parent (nodes_at c.reserve.new.self place)) = at-place (λ n. IsTrue (is_known c.args.parent (nodes_at c.reserve.new.self n))) (λ phase. rw (c.in_ok-reserve.ensures.nodes phase) (c.requires.parent phase)) place (omega (arith, bounds)) in
-    rw (same-nodes c.loop-place.self c.reserve.new.self place less (c.loop-place.invariant.rest place here)) before
-
-pub add_at-requires-clause-room : goal.add_at-requires-clause-room
-add_at-requires-clause-room c =
-    let place = c.loop-place.place in
-    let here : place ≤ place = omega arith in
-    let bounds = c.self.invariant in
-    let less : place < length c.reserve.new.self = omega (arith, ap length c.self.view_is) in
-    let before : 0 < spare_at c.reserve.new.self place = at-place (λ n. 0 < spare_at c.reserve.new.self n) c.in_ok-reserve.ensures.spare place (omega (arith, bounds)) in
-    rw (same-spare c.loop-place.self c.reserve.new.self place less (c.loop-place.invariant.rest place here)) before
-
-pub loop-place-preserved : goal.loop-place-preserved
-loop-place-preserved c =
-    let less : c.loop-place.place < length c.loop-place.self = omega (arith, ap length c.self.view_is, c.loop-place.invariant.count) in
-    changed-more (λ nodes. nodes ++ new_node c.args.node c.args.parent ∷ []) c.loop-place.place c.reserve.new.self c.loop-place.self c.add_at.new.self c.loop-place.invariant less c.add_at.ensures.nodes c.add_at.ensures.others c.add_at.ensures.count
+pub loop-row-preserved : goal.loop-row-preserved
+loop-row-preserved c =
+    let row = c.loop-row.row in
+    let rows = c.args.self.now.given in
+    let same = c.loop-row.invariant.2 in
+    let low : row < length rows = omega (arith, c.loop-row-test.true, c.len-row-end.ensures, ap (λ (o : ObjectionsValue). length o.given) c.self.view_is, ap length c.add_to_each.ensures.given, ap length c.in_ok-reserve.ensures.given) in (
+      λ phase task.
+          let base = nodes_in c.args.self.now phase ++ new_node c.args.node c.args.parent ∷ [] in
+          drain-step rows row phase c.args.path.now c.args.node base (nodes_in c.loop-row.self phase) (nodes_in c.give.new.self phase) low (c.loop-row.invariant.0 phase task)
+          (c.give.ensures.nodes phase task ∙ ap (λ (given : List Drain). given_by (slice_get given row) phase c.args.path.now c.args.node (nodes_in c.loop-row.self phase)) same),
+      c.give.ensures.known,
+      c.give.ensures.given ∙ same,
+    )
 
 pub returns-clause-ok : goal.returns-clause-ok
-returns-clause-ok c = λ phase.
-    let long : 2 ≤ length c.reserve.new.self = rw (← c.self.view_is) c.self.invariant.0 in
-    let far : length c.reserve.new.self ≤ c.loop-place.place = omega (arith, ap length c.self.view_is) in
-    changed-all (λ nodes. nodes ++ new_node c.args.node c.args.parent ∷ []) c.loop-place.place c.reserve.new.self c.loop-place.self long c.loop-place.invariant far (place_in phase)
-    ∙ ap (λ (nodes : List Node). nodes ++ new_node c.args.node c.args.parent ∷ []) (c.in_ok-reserve.ensures.nodes phase)
+returns-clause-ok c = λ phase task.
+    let row = c.loop-row.row in
+    let rows = c.args.self.now.given in
+    let far : length rows ≤ row = omega (arith, c.loop-row-test.false, c.len-row-end.ensures, ap (λ (o : ObjectionsValue). length o.given) c.self.view_is, ap length c.add_to_each.ensures.given, ap length c.in_ok-reserve.ensures.given) in
+    c.loop-row.invariant.0 phase task ∙ ap (λ (given : List Drain). with_drain c.args.node (drain_given given phase c.args.path.now) (nodes_in c.args.self.now phase ++ new_node c.args.node c.args.parent ∷ [])) (take_all row rows far)

@@ -4,4 +4,4 @@ use Rattle.world_objections.proofs.objections.Objections.part.Given as goal
 
 -- each place has the nodes that it had, and there are as many as the counter says
 abbrev pub invariant-loop : goal.invariant-loop
-invariant-loop l = ((place : ℕ) → nodes_at l.self place ≡ nodes_at l.initial.self place) × (length l.self ≡ l.counter)
+invariant-loop l = ((place : ℕ) → nodes_at l.self.each place ≡ nodes_at l.initial.self.each place) × (length l.self.each ≡ l.counter) × (l.self.given ≡ l.initial.self.given)

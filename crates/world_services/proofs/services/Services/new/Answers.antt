@@ -24,7 +24,7 @@ agenda-first dues none = record {
 }
 
 pub returns : goal.returns
-returns c = λ script factory settings reporting.
+returns c = λ script given factory settings reporting.
     let unsettled : AreUnsettled (passing_at []) (path_order (nodes_of [])) [] = unsettled-none (path_order (nodes_of [])) (λ n. refl) in
     let sequencing : IsSequencing [] [] [] [] c.new-7.result [] = sequencing-first c.new-7.ensures.started c.new-7.ensures.steps in
     record {
@@ -41,7 +41,7 @@ returns c = λ script factory settings reporting.
       unsettled = search (rules, unsettled);
       arbitrating = arbitrating-first (nodes_of []) c.new-5.ensures.empty c.new-6.ensures.nodes;
       sequencing = search (rules, sequencing);
-      objections = record { each = λ phase task. objecting-first (nodes_in c.args.objections phase) c.nodes_grow.ensures.0 (c.requires phase) };
+      objections = record { given = given; each = λ phase task. objecting-first (nodes_in c.args.objections phase) c.nodes_grow.ensures.0 (c.requires phase) };
       factory = factory;
       turns = rounds-first c.new-10.ensures.last c.new-10.ensures.late;
       answer = search rules;

@@ -1,0 +1,11 @@
+use Rattle.std.proofs.Common.{◌≡◌, drop, All}
+use Rattle.toml.specs.View.{table_view, items_view}
+use Rattle.script_values.specs.Elements.{rows_from}
+use Rattle.script_tables.specs.Drains.{CanDrain, drain_row, drains_in}
+use Rattle.script_tables.proofs.drains.read_drains.Given as goal
+
+-- the rows so far, and those of the elements that are left
+abbrev pub invariant-loop-element : goal.invariant-loop-element
+invariant-loop-element l =
+    (drains_in (table_view l.root) ≡ rows_from (λ _. drain_row) l.rows.items (items_view (drop l.element-index l.element-items)))
+    × All CanDrain l.rows.items

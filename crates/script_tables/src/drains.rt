@@ -1,0 +1,98 @@
+//! Drain times that a script gives (IEEE 1800.2-2020, 10.5).
+
+ghost use Rattle.std.specs.Prelude.{◌≡◌, ◌≢◌, ◌≤◌, Ok, Err, MatchResult, IfOk, IfSome, All, true};
+ghost use Rattle.toml.specs.View.{view, table_view};
+ghost use Rattle.uvm_phase.specs.Phases.{is_task};
+ghost use Rattle.script_values.specs.Reading.{IsReading};
+ghost use Rattle.script_tables.specs.Drains.{CanDrain, drain_row, drains_in, task_in, task_named};
+
+use script_values::ScriptFault;
+use script_values::keys::{elements, required, table};
+use script_values::values::{number, path, text};
+use std::alloc::{AllocError, Global};
+use toml::{Table, Value};
+use uvm_glob::Path;
+use uvm_phase::Phase;
+
+/// The greatest drain time in ticks.
+const MAX_TICKS: u64 = 1_000_000_000_000_000;
+
+/// The drain time of the node at a path, in a phase that takes time.
+#[derive(Drop)]
+pub struct Drain {
+    /// The path of the node.
+    pub path: Path,
+    /// The phase: run, or a run-time phase.
+    pub phase: Phase,
+    /// The drain time in ticks, at most 10^15.
+    pub ticks: u64,
+}
+
+impl Drain {
+    /// An equal drain time. The error is want of memory.
+    pub fn copy(&self) -> Result<Drain, AllocError>
+        ensures { IfOk result (λ drain. drain ≡ self.now) }
+    {
+        Ok(Drain {
+            path: self.path.copy()?,
+            phase: self.phase,
+            ticks: self.ticks,
+        })
+    }
+}
+
+/// Reads the drain times, of the key `drain` of a document. The error is the first fault of a row, or want of memory.
+pub fn read_drains(alloc: Global, root: &Table) -> Result<Vec<Drain>, ScriptFault>
+    ensures sound { IfOk result (λ rows. All CanDrain rows.items) }
+    ensures rows { MatchResult result
+        (λ rows. drains_in (table_view root.now) ≡ Ok rows.items)
+        (λ fault. fault ≢ ScriptFault.Memory → drains_in (table_view root.now) ≡ Err fault) }
+{
+    let mut rows = Vec::new(alloc);
+    for element in elements(root, "drain")? {
+        rows.push(drain_row(alloc, element)?)?;
+    }
+    Ok(rows)
+}
+
+#[tactic(auto, unfolding(crate::specs::Drains::CanDrain))]
+fn drain_row(alloc: Global, element: &Value) -> Result<Drain, ScriptFault>
+    ensures row { IsReading (drain_row (view element.now)) result }
+    ensures sound { IfOk result CanDrain }
+{
+    let table = table(element, &["path", "phase", "ticks"])?;
+    let path = path(alloc, required(table, "path")?)?;
+    let phase = task(required(table, "phase")?)?;
+    let ticks = number(required(table, "ticks")?, MAX_TICKS)?;
+    Ok(Drain { path, phase, ticks })
+}
+
+// The phase that a value names, which takes time.
+fn task(value: &Value) -> Result<Phase, ScriptFault>
+    ensures phase { result ≡ task_in (view value.now) }
+    ensures task { IfOk result (λ phase. is_task phase ≡ true) }
+{
+    task_named(text(value)?).ok_or(ScriptFault::OutOfRange)
+}
+
+fn task_named(word: &str) -> Option<Phase>
+    ensures phase { result ≡ task_named word.now }
+    ensures task { IfSome result (λ phase. is_task phase ≡ true) }
+{
+    match word {
+        "run" => Some(Phase::Run),
+        "pre_reset" => Some(Phase::PreReset),
+        "reset" => Some(Phase::Reset),
+        "post_reset" => Some(Phase::PostReset),
+        "pre_configure" => Some(Phase::PreConfigure),
+        "configure" => Some(Phase::Configure),
+        "post_configure" => Some(Phase::PostConfigure),
+        "pre_main" => Some(Phase::PreMain),
+        "main" => Some(Phase::Main),
+        "post_main" => Some(Phase::PostMain),
+        "pre_shutdown" => Some(Phase::PreShutdown),
+        "shutdown" => Some(Phase::Shutdown),
+        "post_shutdown" => Some(Phase::PostShutdown),
+        _ => None,
+    }
+}

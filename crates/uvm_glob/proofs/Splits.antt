@@ -54,17 +54,17 @@ unfolding matches
 last_part part text none = rw append-nil at (matches_part part [] text none)
 
 -- so it does not match a longer text
-last_part_longer : (part text : List ℕ) → list_any is_star part ≡ false → length part < length text → matches part text ≡ false
+pub last_part_longer : (part text : List ℕ) → list_any is_star part ≡ false → length part < length text → matches part text ≡ false
 last_part_longer part text none h =
     last_part part text none
     ∙ and_right (fits part text) _ (ne_eqb (length (drop (length part) text)) 0 (λ e. omega (arith, length-drop {A = ℕ})))
 
 -- nor a shorter one
-last_part_short : (part text : List ℕ) → list_any is_star part ≡ false → length text < length part → matches part text ≡ false
+pub last_part_short : (part text : List ℕ) → list_any is_star part ≡ false → length text < length part → matches part text ≡ false
 last_part_short part text none h = last_part part text none ∙ and_left (fits part text) _ (fits_short part text h)
 
 -- and one of its length where it fits
-last_part_whole : (part text : List ℕ) → list_any is_star part ≡ false → length part ≡ length text → matches part text ≡ fits part text
+pub last_part_whole : (part text : List ℕ) → list_any is_star part ≡ false → length part ≡ length text → matches part text ≡ fits part text
 last_part_whole part text none h =
     last_part part text none
     ∙ and_right_true (fits part text) _ (eq-eqb (length (drop (length part) text)) 0 (omega (arith, length-drop {A = ℕ})))

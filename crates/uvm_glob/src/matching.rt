@@ -1,15 +1,22 @@
 //! Matches globs with texts, over the parts of the glob between its stars. It takes no memory, and at most about as many
 //! steps as the two lengths multiplied, or added for a glob with one star.
 
-ghost use Rattle.std.specs.Prelude.{◌≡◌, ◌≤◌, ◌↔◌, ◌++◌, IsTrue, IsFalse, length, option_copied};
+ghost use Rattle.std.specs.Prelude.{◌≡◌, ◌≤◌, ◌↔◌, ◌-◌, ◌++◌, IsTrue, IsFalse, length, drop, option_copied};
 ghost use Rattle.std.specs.List.{list_any};
 ghost use Rattle.uvm_glob.specs.Globs.{Matches, matches};
 ghost use Rattle.uvm_glob.specs.Parts.{is_star, begins_with_star, fits, fits_at_end, after_first_fit, after_least};
 
-// Whether the glob matches the text. The part of the glob before its first star stands at the front of the text.
+// Whether the glob matches the text. The last part of the glob is compared first, for most texts that do not match end in another way.
 pub(crate) fn matches_text(glob: &[u8], text: &[u8]) -> bool
     ensures value { result ≡ matches glob.now text.now }
     ensures meaning { IsTrue result ↔ Matches glob.now text.now }
+{
+    fits_at_end(last_part(glob), text) && matches_parts(glob, text)
+}
+
+// Whether the glob matches the text. The part of the glob before its first star stands at the front of the text.
+fn matches_parts(glob: &[u8], text: &[u8]) -> bool
+    ensures { result ≡ matches glob.now text.now }
 {
     let (part, rest) = split_at_star(glob);
     fits(part, text) && matches_from_star(rest, &text[part.len()..])
@@ -54,6 +61,19 @@ fn after_least(star: u8, text: &[u8]) -> Option<&[u8]>
     } else {
         Some(text)
     }
+}
+
+// The part of the glob behind its last star, which is the whole glob where it has no star.
+fn last_part(glob: &[u8]) -> &[u8]
+    ensures part { IsFalse (list_any is_star result.now) }
+    ensures end { drop (length glob.now - length result.now) glob.now ≡ result.now }
+{
+    for i in (0..glob.len()).rev() {
+        if is_star(glob[i]) {
+            return &glob[i + 1..];
+        }
+    }
+    glob
 }
 
 // The part of the glob before its first star, and the rest.

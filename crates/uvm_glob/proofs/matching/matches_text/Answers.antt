@@ -1,26 +1,19 @@
--- The part before the first star stands at the front, and the rest of the glob after it.
-use Rattle.std.proofs.lemmas.List.{take_rest}
+-- The last part of the glob stands at the end of each text that it matches.
+use Rattle.std.proofs.Common.{◌≡◌, false, length, ◌-◌, sym, ◌∙◌}
+use Rattle.uvm_glob.specs.Globs.{matches}
+use Rattle.uvm_glob.proofs.Ends.{ends_otherwise}
 use Rattle.uvm_glob.proofs.Meaning.{matches_means}
-use Rattle.uvm_glob.proofs.Splits.{front_part}
 use Rattle.uvm_glob.proofs.matching.matches_text.Goals as goal
 
-pub returns-then-fits-clause-value : goal.returns-then-fits-clause-value
-returns-then-fits-clause-value c =
-    let (part, rest) = c.split_at_star.result in
-    let cut = c.split_at_star.ensures in
-    let front = rw (← c.if-fits.ensures.value) at (front_part c.args.glob.now part.now rest.now c.args.text.now cut.whole cut.part) in
-    let after = rw take_rest at c.matches_from_star.ensures in
-    cc
+pub returns-then-fits_at_end : goal.returns-then-fits_at_end
+returns-then-fits_at_end c =
+    record { value = c.matches_parts.ensures; meaning = rw c.matches_parts.ensures (matches_means c.args.glob.now c.args.text.now) }
 
-pub returns-then-fits-clause-meaning : goal.returns-then-fits-clause-meaning
-returns-then-fits-clause-meaning c = rw (returns-then-fits-clause-value c) (matches_means c.args.glob.now c.args.text.now)
-
-pub returns-else-fits-clause-value : goal.returns-else-fits-clause-value
-returns-else-fits-clause-value c =
-    let (part, rest) = c.split_at_star.result in
-    let cut = c.split_at_star.ensures in
-    let front = rw (← c.if-fits.ensures.value) at (front_part c.args.glob.now part.now rest.now c.args.text.now cut.whole cut.part) in
-    cc
-
-pub returns-else-fits-clause-meaning : goal.returns-else-fits-clause-meaning
-returns-else-fits-clause-meaning c = rw (returns-else-fits-clause-value c) (matches_means c.args.glob.now c.args.text.now)
+pub returns-else-fits_at_end : goal.returns-else-fits_at_end
+returns-else-fits_at_end c =
+    let part = c.last_part.result.now in
+    let cut = c.last_part.ensures in
+    let otherwise : matches c.args.glob.now c.args.text.now ≡ false =
+    ends_otherwise c.args.glob.now part c.args.text.now (length c.args.glob.now - length part) cut.end cut.part (sym c.fits_at_end.ensures ∙ c.if-fits_at_end.false) in
+    let value : c.fits_at_end.result ≡ matches c.args.glob.now c.args.text.now = c.if-fits_at_end.false ∙ sym otherwise in
+    record { value = value; meaning = rw value (matches_means c.args.glob.now c.args.text.now) }

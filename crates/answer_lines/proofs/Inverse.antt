@@ -19,10 +19,10 @@ use Rattle.uvm_sequencer.specs.declared.modes.Mode.{Mode}
 use Rattle.uvm_sequencer.specs.declared.modes.Mode.TheVariants as mode
 use Rattle.uvm_tlm.specs.declared.ends.PortKind.{PortKind}
 use Rattle.uvm_tlm.specs.declared.ends.PortKind.TheVariants as kind
-use Rattle.uvm_object.specs.declared.acts.What.{What}
-use Rattle.uvm_object.specs.declared.acts.What.TheVariants as what
-use Rattle.uvm_object.specs.declared.acts.Act.{Act}
-use Rattle.uvm_object.specs.declared.acts.Act.TheVariants as act
+use Rattle.uvm_acts.specs.declared.acts.What.{What}
+use Rattle.uvm_acts.specs.declared.acts.What.TheVariants as what
+use Rattle.uvm_acts.specs.declared.acts.Act.{Act}
+use Rattle.uvm_acts.specs.declared.acts.Act.TheVariants as act
 use Rattle.uvm_lines.specs.Lines.{how_text, mode_text, kind_text, actions_text}
 use Rattle.answer_lines.specs.Sound.{HasPlainId, IsNumber, IsSound, IsWhat}
 use Rattle.answer_lines.proofs.Parts.{number_in, number-back, signed_in, signed-back, inner, inner-back, path_in, path-back, item_in, item-back, is_word, given_in, some-item-back, priority-back}

@@ -2,8 +2,8 @@
 use Rattle.std.proofs.Common.{◌≡◌, ◌∙◌, ℕ, true, refl, ap, sym, List, [], ◌∷◌, ◌++◌, codes, get_or, append-nil, arith}
 use Rattle.std.proofs.lemmas.List.{append_cancel_left, append_cancel_right}
 use Rattle.uvm_lines.specs.Lines.{item_text}
-use Rattle.uvm_object.specs.declared.acts.Act.{Act}
-use Rattle.uvm_object.specs.declared.acts.Act.TheVariants as act
+use Rattle.uvm_acts.specs.declared.acts.Act.{Act}
+use Rattle.uvm_acts.specs.declared.acts.Act.TheVariants as act
 use Rattle.uvm_tlm.specs.declared.items.Item.{Item}
 use Rattle.answer_lines.specs.Laws.{LinesTellActs, RelaysReadSo, RepliesTell}
 use Rattle.answer_lines.specs.Lines.{act_line}

@@ -17,10 +17,10 @@ use Rattle.uvm_sequencer.specs.declared.modes.Mode.{Mode}
 use Rattle.uvm_sequencer.specs.declared.modes.Mode.TheVariants as mode
 use Rattle.uvm_tlm.specs.declared.ends.PortKind.{PortKind}
 use Rattle.uvm_tlm.specs.declared.ends.PortKind.TheVariants as kind
-use Rattle.uvm_object.specs.declared.acts.What.{What}
-use Rattle.uvm_object.specs.declared.acts.What.TheVariants as what
-use Rattle.uvm_object.specs.declared.acts.Act.{Act}
-use Rattle.uvm_object.specs.declared.acts.Act.TheVariants as act
+use Rattle.uvm_acts.specs.declared.acts.What.{What}
+use Rattle.uvm_acts.specs.declared.acts.What.TheVariants as what
+use Rattle.uvm_acts.specs.declared.acts.Act.{Act}
+use Rattle.uvm_acts.specs.declared.acts.Act.TheVariants as act
 use Rattle.uvm_lines.specs.Lines.{act_text, item_text, some_item_text, priority_text, id_text, actions_text, which_text, what_text, how_text, mode_text, kind_text}
 use Rattle.answer_lines.specs.Lines.{act_line, said_text}
 use Rattle.answer_lines.specs.Sound.{IsSound, IsWhich, IsWhat, IsName}

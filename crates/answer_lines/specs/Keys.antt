@@ -3,8 +3,8 @@ use Rattle.std.specs.Prelude.{◌≡◌, ℕ, ◌-◌, ◌==◌, Bool, true, Lis
 use Rattle.std.specs.List.{starts_with}
 use Rattle.uvm_tlm.specs.declared.items.Item.{Item}
 use Rattle.uvm_lines.specs.Lines.{call_text}
-use Rattle.uvm_object.specs.declared.acts.Call.{Call}
-use Rattle.uvm_object.specs.declared.acts.Call.TheVariants.{Taken, TryTaken, Peeked, Written, NextItem, ItemDone}
+use Rattle.uvm_acts.specs.declared.acts.Call.{Call}
+use Rattle.uvm_acts.specs.declared.acts.Call.TheVariants.{Taken, TryTaken, Peeked, Written, NextItem, ItemDone}
 
 -- whether a key has a `*` (42) at its end
 abbrev pub is_open : List ℕ → Bool

@@ -1,6 +1,6 @@
 -- What the lines of acts say, in other words.
 use Rattle.std.specs.Prelude.{◌≡◌, ◌++◌, ◌∷◌}
-use Rattle.uvm_object.specs.declared.acts.Act.{Act}
+use Rattle.uvm_acts.specs.declared.acts.Act.{Act}
 use Rattle.uvm_lines.specs.Lines.{item_text}
 use Rattle.uvm_tlm.specs.declared.items.Item.{Item}
 use Rattle.answer_lines.specs.Lines.{act_line}

@@ -2,8 +2,8 @@
 use Rattle.std.specs.Prelude.{ℕ, List, [], ◌∷◌, ◌++◌, ◌==◌, ◌&&◌, length, if◌then◌else◌}
 use Rattle.std.specs.Fmt.{decimal}
 use Rattle.uvm_lines.specs.Lines.{act_text}
-use Rattle.uvm_object.specs.declared.acts.Act.{Act}
-use Rattle.uvm_object.specs.declared.acts.Act.TheVariants as act
+use Rattle.uvm_acts.specs.declared.acts.Act.{Act}
+use Rattle.uvm_acts.specs.declared.acts.Act.TheVariants as act
 
 -- what a report says, behind its id: its verbosity and its text, where they are not 0 and empty
 abbrev pub text_behind : List ℕ → List ℕ

@@ -1,8 +1,8 @@
 -- The acts of an answer, and the text of each.
 use Rattle.std.specs.Prelude.{ℕ, Bool, true, false, pos, List, [], ◌∷◌, ◌++◌, Option, Some, None, codes}
 use Rattle.uvm_tlm.specs.declared.items.Item.{Item}
-use Rattle.uvm_object.specs.declared.acts.Act.{Act}
-use Rattle.uvm_object.specs.declared.acts.Act.TheVariants as act
+use Rattle.uvm_acts.specs.declared.acts.Act.{Act}
+use Rattle.uvm_acts.specs.declared.acts.Act.TheVariants as act
 use Rattle.answer_lines.specs.Lines.{act_line}
 use Rattle.answer_lines.specs.Sound.{HasPlainId, HasSoundPlaces, IsName, IsSound}
 use Rattle.answer_lines.specs.declared.relays.Relay.{Relay}

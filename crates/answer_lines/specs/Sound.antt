@@ -8,10 +8,10 @@ use Rattle.uvm_glob.specs.Paths.{path_fault}
 use Rattle.uvm_report.specs.declared.settings.Which.{Which}
 use Rattle.uvm_report.specs.declared.settings.Which.TheVariants as which
 use Rattle.uvm_tlm.specs.declared.items.Item.{Item}
-use Rattle.uvm_object.specs.declared.acts.What.{What}
-use Rattle.uvm_object.specs.declared.acts.What.TheVariants as what
-use Rattle.uvm_object.specs.declared.acts.Act.{Act}
-use Rattle.uvm_object.specs.declared.acts.Act.TheVariants as act
+use Rattle.uvm_acts.specs.declared.acts.What.{What}
+use Rattle.uvm_acts.specs.declared.acts.What.TheVariants as what
+use Rattle.uvm_acts.specs.declared.acts.Act.{Act}
+use Rattle.uvm_acts.specs.declared.acts.Act.TheVariants as act
 
 -- a text that is a name, the names of a path, and a text that is a glob
 abbrev pub IsName : List ℕ → Type 0

@@ -19,9 +19,9 @@ use Rattle.uvm_tree.specs.Sorted.{path_order}
 use Rattle.uvm_object.specs.declared.entries.Grant as entries
 use Rattle.uvm_object.specs.declared.entries.Entry.{Entry}
 use Rattle.uvm_object.specs.declared.entries.Entry.TheVariants.{Begin, End, Heard, Did, Granted, Locked}
-use Rattle.uvm_object.specs.declared.acts.Who.{Who}
-use Rattle.uvm_object.specs.declared.acts.Act.{Act}
-use Rattle.uvm_object.specs.declared.acts.Act.TheVariants.{Request as Requests, Lock, Grab}
+use Rattle.uvm_acts.specs.declared.acts.Who.{Who}
+use Rattle.uvm_acts.specs.declared.acts.Act.{Act}
+use Rattle.uvm_acts.specs.declared.acts.Act.TheVariants.{Request as Requests, Lock, Grab}
 use Rattle.uvm_object.specs.declared.entries.Outcome.TheVariants.{Done}
 use Rattle.uvm_object.specs.declared.entries.Outcome.{Outcome}
 use Rattle.bench_script.specs.Scripts.{ScriptValue}

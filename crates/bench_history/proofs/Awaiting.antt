@@ -10,10 +10,10 @@ use Rattle.uvm_sequencer.specs.declared.drivers.Driver.{Driver}
 use Rattle.uvm_sequencer.specs.declared.drivers.Driver.TheVariants as driver
 use Rattle.uvm_sequencer.specs.Drivers.{grant_of, granted_by, is_idle, left_by, kept_on}
 use Rattle.uvm_sequencer.specs.Laws.{LockExcludes}
-use Rattle.uvm_object.specs.declared.acts.Who.{Who}
-use Rattle.uvm_object.specs.declared.acts.Call.{Call}
-use Rattle.uvm_object.specs.declared.acts.Act.{Act}
-use Rattle.uvm_object.specs.declared.acts.Act.TheVariants.{Ask, ItemDone, Send}
+use Rattle.uvm_acts.specs.declared.acts.Who.{Who}
+use Rattle.uvm_acts.specs.declared.acts.Call.{Call}
+use Rattle.uvm_acts.specs.declared.acts.Act.{Act}
+use Rattle.uvm_acts.specs.declared.acts.Act.TheVariants.{Ask, ItemDone, Send}
 use Rattle.uvm_object.specs.declared.fatals.Fatal.{Fatal}
 use Rattle.uvm_object.specs.declared.fatals.Fatal.TheVariants.{NoPort, NotOpen, OutsideTask}
 use Rattle.uvm_object.specs.declared.entries.Outcome.{Outcome}

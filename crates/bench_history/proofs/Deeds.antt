@@ -2,11 +2,11 @@
 use Rattle.std.proofs.Common.{◌≡◌, ℕ, inl, inr, suc, false, not, List, ◌∷◌, length, Option, Some, None, refl, ◌∙◌, sym, subst, Bool}
 use Rattle.uvm_sequencer.specs.declared.drivers.How.TheVariants.{Try}
 use Rattle.uvm_sequencer.specs.declared.drivers.How.{How}
-use Rattle.uvm_object.specs.declared.acts.Who.{Who}
+use Rattle.uvm_acts.specs.declared.acts.Who.{Who}
 use Rattle.uvm_object.specs.declared.fatals.Fatal.{Fatal}
 use Rattle.uvm_object.specs.declared.fatals.Fatal.TheVariants.{NotOpen}
-use Rattle.uvm_object.specs.declared.acts.Act.{Act}
-use Rattle.uvm_object.specs.declared.acts.Act.TheVariants.{Start, EndStep, Ask}
+use Rattle.uvm_acts.specs.declared.acts.Act.{Act}
+use Rattle.uvm_acts.specs.declared.acts.Act.TheVariants.{Start, EndStep, Ask}
 use Rattle.uvm_object.specs.declared.entries.Outcome.{Outcome}
 use Rattle.uvm_object.specs.declared.entries.Outcome.TheVariants.{Started, Finished, Refused}
 use Rattle.uvm_object.specs.declared.entries.Entry.{Entry}

@@ -18,16 +18,16 @@ use Rattle.uvm_phase.specs.Laws.{OrderKeepsAll}
 use Rattle.uvm_tree.specs.Nodes as tree
 use Rattle.uvm_tree.specs.Nodes.{under_at}
 use Rattle.uvm_tree.specs.Cursors.{is_before}
-use Rattle.uvm_object.specs.Acts.{node_of}
+use Rattle.uvm_acts.specs.Acts.{node_of}
 use Rattle.uvm_object.specs.Objects.{same_who}
-use Rattle.uvm_object.specs.declared.acts.Who.{Who}
-use Rattle.uvm_object.specs.declared.acts.Who.TheVariants.{Node, Sequence}
+use Rattle.uvm_acts.specs.declared.acts.Who.{Who}
+use Rattle.uvm_acts.specs.declared.acts.Who.TheVariants.{Node, Sequence}
 use Rattle.uvm_sequences.specs.declared.starts.SeqStep.{SeqStep}
-use Rattle.uvm_object.specs.declared.acts.Call.{Call}
-use Rattle.uvm_object.specs.declared.acts.Call.TheVariants as call
+use Rattle.uvm_acts.specs.declared.acts.Call.{Call}
+use Rattle.uvm_acts.specs.declared.acts.Call.TheVariants as call
 use Rattle.uvm_object.specs.declared.fatals.Fatal.TheVariants.{NotOpen}
-use Rattle.uvm_object.specs.declared.acts.Act.{Act}
-use Rattle.uvm_object.specs.declared.acts.Act.TheVariants.{Put, Take, Peek, Write, EndStep, Send, ItemDone, Ask}
+use Rattle.uvm_acts.specs.declared.acts.Act.{Act}
+use Rattle.uvm_acts.specs.declared.acts.Act.TheVariants.{Put, Take, Peek, Write, EndStep, Send, ItemDone, Ask}
 use Rattle.uvm_object.specs.declared.entries.Outcome.{Outcome}
 use Rattle.uvm_object.specs.declared.entries.Outcome.TheVariants.{Done, Made, Started, Value, Finished, Refused, Waits}
 use Rattle.uvm_object.specs.declared.entries.Passage.{Passage}

@@ -14,10 +14,10 @@ use Rattle.uvm_sequencer.specs.Laws.{are_nested}
 use Rattle.uvm_sequencer.specs.Queues.{is_held, released}
 use Rattle.uvm_sequences.specs.Sequences.{Start, is_under, numbered}
 use Rattle.uvm_sequencer.specs.Sequencers.{candidates_at, choice_at, lock_at}
-use Rattle.uvm_object.specs.declared.acts.Who.{Who}
-use Rattle.uvm_object.specs.declared.acts.Call.{Call}
-use Rattle.uvm_object.specs.declared.acts.Act.{Act}
-use Rattle.uvm_object.specs.declared.acts.Act.TheVariants.{Unlock}
+use Rattle.uvm_acts.specs.declared.acts.Who.{Who}
+use Rattle.uvm_acts.specs.declared.acts.Call.{Call}
+use Rattle.uvm_acts.specs.declared.acts.Act.{Act}
+use Rattle.uvm_acts.specs.declared.acts.Act.TheVariants.{Unlock}
 use Rattle.uvm_object.specs.declared.entries.Outcome.{Outcome}
 use Rattle.uvm_object.specs.declared.entries.Outcome.TheVariants.{Done, Started}
 use Rattle.uvm_object.specs.declared.entries.Entry.{Entry}

@@ -3,13 +3,13 @@ use Rattle.std.proofs.Common.{◌≡◌, ℕ, Bool, true, false, List, [], ◌�
 use Rattle.std.proofs.lemmas.Bool.Decides.{nat_tests}
 use Rattle.uvm_phase.specs.declared.phases.Phase.{Phase}
 use Rattle.uvm_phase.specs.Phases.{is_runtime, same_phase}
-use Rattle.uvm_object.specs.declared.acts.Who.TheVariants as who
-use Rattle.uvm_object.specs.declared.acts.Call.{Call}
-use Rattle.uvm_object.specs.declared.acts.Call.TheVariants as call
-use Rattle.uvm_object.specs.declared.acts.Act.{Act}
+use Rattle.uvm_acts.specs.declared.acts.Who.TheVariants as who
+use Rattle.uvm_acts.specs.declared.acts.Call.{Call}
+use Rattle.uvm_acts.specs.declared.acts.Call.TheVariants as call
+use Rattle.uvm_acts.specs.declared.acts.Act.{Act}
 use Rattle.uvm_object.specs.declared.fatals.Fatal.{Fatal}
 use Rattle.uvm_object.specs.declared.fatals.Fatal.TheVariants.{TooManyActs, Timeout, Stall}
-use Rattle.uvm_object.specs.Acts.{node_of}
+use Rattle.uvm_acts.specs.Acts.{node_of}
 use Rattle.uvm_object.specs.declared.entries.Outcome.{Outcome}
 use Rattle.uvm_object.specs.declared.entries.Outcome.TheVariants.{Done, Made, Started, Value, Stored, Taken, Waits, Finished, Refused}
 use Rattle.uvm_object.specs.declared.entries.Reason.{Reason}

@@ -11,10 +11,10 @@ use Rattle.uvm_phase.specs.Laws.{OrderKeepsAll}
 use Rattle.uvm_sequences.specs.Sequences.{numbered}
 use Rattle.uvm_tree.specs.Nodes.{Node}
 use Rattle.uvm_object.specs.Objects.{same_who}
-use Rattle.uvm_object.specs.declared.acts.Who.{Who}
-use Rattle.uvm_object.specs.declared.acts.Who.TheVariants as who
-use Rattle.uvm_object.specs.declared.acts.Call.{Call}
-use Rattle.uvm_object.specs.declared.acts.Act.{Act}
+use Rattle.uvm_acts.specs.declared.acts.Who.{Who}
+use Rattle.uvm_acts.specs.declared.acts.Who.TheVariants as who
+use Rattle.uvm_acts.specs.declared.acts.Call.{Call}
+use Rattle.uvm_acts.specs.declared.acts.Act.{Act}
 use Rattle.uvm_object.specs.declared.entries.Outcome.{Outcome}
 use Rattle.uvm_object.specs.declared.entries.Outcome.TheVariants.{Started, Finished}
 use Rattle.uvm_object.specs.declared.entries.Entry.{Entry}

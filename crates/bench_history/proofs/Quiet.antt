@@ -17,10 +17,10 @@ use Rattle.uvm_objection.specs.Nodes.{Node, top, new_node, is_known, held_of, so
 use Rattle.uvm_objection.specs.Totals.{total, is_child, settled, standing}
 use Rattle.uvm_objection.specs.Laws.{AreNodes, AreUnder, IsTree, NodesGrow, PlacesStay, TotalIsSum, places}
 use Rattle.uvm_objection.specs.Nodes.{raised, dropped, released, with_drain}
-use Rattle.uvm_object.specs.Acts.{node_of}
-use Rattle.uvm_object.specs.declared.acts.Who.{Who}
-use Rattle.uvm_object.specs.declared.acts.Act.{Act}
-use Rattle.uvm_object.specs.declared.acts.Act.TheVariants.{Add, RaiseObjection, DropObjection, SetDrain}
+use Rattle.uvm_acts.specs.Acts.{node_of}
+use Rattle.uvm_acts.specs.declared.acts.Who.{Who}
+use Rattle.uvm_acts.specs.declared.acts.Act.{Act}
+use Rattle.uvm_acts.specs.declared.acts.Act.TheVariants.{Add, RaiseObjection, DropObjection, SetDrain}
 use Rattle.uvm_object.specs.declared.entries.Outcome.{Outcome}
 use Rattle.uvm_object.specs.declared.entries.Outcome.TheVariants.{Done, Made}
 use Rattle.uvm_object.specs.declared.entries.Entry.{Entry}

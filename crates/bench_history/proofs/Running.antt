@@ -5,7 +5,7 @@ use Rattle.std.specs.Option.{option_map_or}
 use Rattle.uvm_phase.specs.Laws.{OrderKeepsAll}
 use Rattle.uvm_sequencer.specs.Laws.{LockExcludes}
 use Rattle.bench_history.specs.declared.owners.Owner.{Owner}
-use Rattle.uvm_object.specs.declared.acts.Call.{Call}
+use Rattle.uvm_acts.specs.declared.acts.Call.{Call}
 use Rattle.uvm_phase.specs.declared.phases.Phase.{Phase}
 use Rattle.uvm_phase.specs.Phases.{same_phase}
 use Rattle.uvm_sequences.specs.Sequences.{numbered}

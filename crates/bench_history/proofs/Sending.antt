@@ -17,11 +17,11 @@ use Rattle.uvm_sequences.specs.Sequences.{numbered}
 use Rattle.uvm_tlm.specs.Wirings.{targets_of}
 use Rattle.uvm_tlm.specs.declared.ends.PortKind.TheVariants.{Seq}
 use Rattle.uvm_tlm.specs.declared.items.Item.{Item}
-use Rattle.uvm_object.specs.declared.acts.Who.{Who}
-use Rattle.uvm_object.specs.declared.acts.Who.TheVariants as who
-use Rattle.uvm_object.specs.declared.acts.Call.{Call}
-use Rattle.uvm_object.specs.declared.acts.Act.{Act}
-use Rattle.uvm_object.specs.declared.acts.Act.TheVariants.{Ask, ItemDone, Send}
+use Rattle.uvm_acts.specs.declared.acts.Who.{Who}
+use Rattle.uvm_acts.specs.declared.acts.Who.TheVariants as who
+use Rattle.uvm_acts.specs.declared.acts.Call.{Call}
+use Rattle.uvm_acts.specs.declared.acts.Act.{Act}
+use Rattle.uvm_acts.specs.declared.acts.Act.TheVariants.{Ask, ItemDone, Send}
 use Rattle.uvm_object.specs.declared.fatals.Fatal.{Fatal}
 use Rattle.uvm_object.specs.declared.fatals.Fatal.TheVariants.{AskedTwice, NoPort, NotGranted, NotOpen, NothingOut, OutsideTask}
 use Rattle.uvm_object.specs.declared.entries.Outcome.{Outcome}

@@ -6,11 +6,11 @@ use Rattle.std.proofs.lemmas.List.{length-append}
 use Rattle.uvm_tree.specs.Nodes.{Node, node_at}
 use Rattle.uvm_tree.specs.declared.nodes.NodeKind.{NodeKind}
 use Rattle.uvm_tree.specs.declared.nodes.NodeKind.TheVariants as kind
-use Rattle.uvm_object.specs.declared.acts.Act.{Act}
-use Rattle.uvm_object.specs.declared.acts.Act.TheVariants.{Add}
-use Rattle.uvm_object.specs.declared.acts.What.{What}
-use Rattle.uvm_object.specs.declared.acts.What.TheVariants as what
-use Rattle.uvm_object.specs.declared.acts.Who.{Who}
+use Rattle.uvm_acts.specs.declared.acts.Act.{Act}
+use Rattle.uvm_acts.specs.declared.acts.Act.TheVariants.{Add}
+use Rattle.uvm_acts.specs.declared.acts.What.{What}
+use Rattle.uvm_acts.specs.declared.acts.What.TheVariants as what
+use Rattle.uvm_acts.specs.declared.acts.Who.{Who}
 use Rattle.uvm_object.specs.declared.entries.Outcome.{Outcome}
 use Rattle.uvm_object.specs.declared.entries.Outcome.TheVariants.{Made, Done}
 use Rattle.uvm_object.specs.declared.entries.Entry.{Entry}

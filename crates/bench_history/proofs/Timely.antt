@@ -13,13 +13,13 @@ use Rattle.uvm_objection.specs.Nodes.{changed_at, held_of, drain_of, due_of, rai
 use Rattle.uvm_objection.specs.Totals.{begins, drains_begun, drains_ended, held_after, settled, total}
 use Rattle.uvm_objection.specs.Totals as totals
 use Rattle.uvm_objection.specs.Laws.{AreNodes, BegunDrainsAreHeld, IsHeldUntilDue, NodesGrow, PlacesStay, SettledGoByTotals}
-use Rattle.uvm_object.specs.Acts.{node_of}
-use Rattle.uvm_object.specs.declared.acts.Who.{Who}
-use Rattle.uvm_object.specs.declared.acts.Call.{Call}
-use Rattle.uvm_object.specs.declared.acts.Call.TheVariants as call
-use Rattle.uvm_object.specs.declared.acts.Who.TheVariants as who
-use Rattle.uvm_object.specs.declared.acts.Act.{Act}
-use Rattle.uvm_object.specs.declared.acts.Act.TheVariants.{Wait, RaiseObjection, DropObjection}
+use Rattle.uvm_acts.specs.Acts.{node_of}
+use Rattle.uvm_acts.specs.declared.acts.Who.{Who}
+use Rattle.uvm_acts.specs.declared.acts.Call.{Call}
+use Rattle.uvm_acts.specs.declared.acts.Call.TheVariants as call
+use Rattle.uvm_acts.specs.declared.acts.Who.TheVariants as who
+use Rattle.uvm_acts.specs.declared.acts.Act.{Act}
+use Rattle.uvm_acts.specs.declared.acts.Act.TheVariants.{Wait, RaiseObjection, DropObjection}
 use Rattle.uvm_object.specs.declared.entries.Outcome.{Outcome}
 use Rattle.uvm_object.specs.declared.entries.Outcome.TheVariants.{Done, Waits}
 use Rattle.uvm_object.specs.declared.entries.Origin.{Origin}

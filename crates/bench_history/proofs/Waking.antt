@@ -18,13 +18,13 @@ use Rattle.uvm_tlm.specs.declared.fifos.MoveKind.TheVariants as move
 use Rattle.uvm_tlm.specs.declared.items.Item.{Item}
 use Rattle.uvm_tree.specs.Nodes as tree
 use Rattle.uvm_tree.specs.Nodes.{under_at}
-use Rattle.uvm_object.specs.Acts.{node_of}
-use Rattle.uvm_object.specs.declared.acts.Who.{Who}
-use Rattle.uvm_object.specs.declared.acts.Who.TheVariants as who
-use Rattle.uvm_object.specs.declared.acts.Call.{Call}
-use Rattle.uvm_object.specs.declared.acts.Call.TheVariants as call
-use Rattle.uvm_object.specs.declared.acts.Act.{Act}
-use Rattle.uvm_object.specs.declared.acts.Act.TheVariants.{Ask, EndStep, Get, TryPut, TryTake, ItemDone, Send, Wait, Write}
+use Rattle.uvm_acts.specs.Acts.{node_of}
+use Rattle.uvm_acts.specs.declared.acts.Who.{Who}
+use Rattle.uvm_acts.specs.declared.acts.Who.TheVariants as who
+use Rattle.uvm_acts.specs.declared.acts.Call.{Call}
+use Rattle.uvm_acts.specs.declared.acts.Call.TheVariants as call
+use Rattle.uvm_acts.specs.declared.acts.Act.{Act}
+use Rattle.uvm_acts.specs.declared.acts.Act.TheVariants.{Ask, EndStep, Get, TryPut, TryTake, ItemDone, Send, Wait, Write}
 use Rattle.uvm_object.specs.declared.entries.Passage.{Passage}
 use Rattle.uvm_object.specs.declared.entries.Outcome.{Outcome}
 use Rattle.uvm_object.specs.declared.entries.Outcome.TheVariants.{Done, Started, Value, Stored, Taken, Waits, Finished}

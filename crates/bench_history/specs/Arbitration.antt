@@ -18,11 +18,11 @@ use Rattle.uvm_tlm.specs.declared.ends.PortKind.TheVariants.{Seq}
 use Rattle.uvm_tlm.specs.Wirings.{targets_of}
 use Rattle.uvm_tree.specs.Nodes.{Node}
 use Rattle.uvm_tree.specs.Sorted.{path_order}
-use Rattle.uvm_object.specs.declared.acts.Who.{Who}
-use Rattle.uvm_object.specs.declared.acts.Who.TheVariants as who
-use Rattle.uvm_object.specs.declared.acts.What.TheVariants as what
-use Rattle.uvm_object.specs.declared.acts.Act.{Act}
-use Rattle.uvm_object.specs.declared.acts.Act.TheVariants.{Add, Ask, ItemDone, Request as Requests, Lock, Grab, Unlock, Send}
+use Rattle.uvm_acts.specs.declared.acts.Who.{Who}
+use Rattle.uvm_acts.specs.declared.acts.Who.TheVariants as who
+use Rattle.uvm_acts.specs.declared.acts.What.TheVariants as what
+use Rattle.uvm_acts.specs.declared.acts.Act.{Act}
+use Rattle.uvm_acts.specs.declared.acts.Act.TheVariants.{Add, Ask, ItemDone, Request as Requests, Lock, Grab, Unlock, Send}
 use Rattle.uvm_object.specs.declared.entries.Outcome.{Outcome}
 use Rattle.uvm_object.specs.declared.entries.Outcome.TheVariants.{Done, Waits, Finished}
 use Rattle.uvm_object.specs.declared.entries.Entry.{Entry}

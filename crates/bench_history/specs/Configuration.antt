@@ -5,9 +5,9 @@ use Rattle.uvm_config.specs.Choice.{precedence_of}
 use Rattle.uvm_config.specs.Answers.{Setting}
 use Rattle.uvm_phase.specs.declared.phases.Phase.TheVariants.{Build}
 use Rattle.uvm_tree.specs.Nodes.{path_at}
-use Rattle.uvm_object.specs.Acts.{node_of}
-use Rattle.uvm_object.specs.declared.acts.Act.{Act}
-use Rattle.uvm_object.specs.declared.acts.Act.TheVariants.{Set}
+use Rattle.uvm_acts.specs.Acts.{node_of}
+use Rattle.uvm_acts.specs.declared.acts.Act.{Act}
+use Rattle.uvm_acts.specs.declared.acts.Act.TheVariants.{Set}
 use Rattle.uvm_object.specs.declared.entries.Outcome.{Outcome}
 use Rattle.uvm_object.specs.declared.entries.Outcome.TheVariants.{Done}
 use Rattle.uvm_object.specs.declared.entries.Entry.{Entry}

@@ -16,20 +16,20 @@ use Rattle.uvm_sequences.specs.Sequences.{numbered}
 use Rattle.uvm_sequencer.specs.declared.drivers.How.{How}
 use Rattle.uvm_sequencer.specs.declared.drivers.How.TheVariants.{Get as ByGet}
 use Rattle.uvm_sequencer.specs.Drivers.{grant_of, hand_of, is_try, loses_try}
-use Rattle.uvm_object.specs.Acts.{node_of}
+use Rattle.uvm_acts.specs.Acts.{node_of}
 use Rattle.uvm_tree.specs.Nodes as tree
 use Rattle.uvm_tree.specs.Nodes.{under_at}
 use Rattle.uvm_tree.specs.Sorted.{path_order}
 use Rattle.uvm_tlm.specs.declared.fifos.MoveKind.{MoveKind}
 use Rattle.uvm_tlm.specs.declared.fifos.MoveKind.TheVariants as move
 use Rattle.uvm_tlm.specs.declared.items.Item.{Item}
-use Rattle.uvm_object.specs.declared.acts.Who.{Who}
-use Rattle.uvm_object.specs.declared.acts.Who.TheVariants as who
+use Rattle.uvm_acts.specs.declared.acts.Who.{Who}
+use Rattle.uvm_acts.specs.declared.acts.Who.TheVariants as who
 use Rattle.uvm_object.specs.Objects.{same_who}
-use Rattle.uvm_object.specs.declared.acts.Call.{Call}
-use Rattle.uvm_object.specs.declared.acts.Call.TheVariants as call
-use Rattle.uvm_object.specs.declared.acts.Act.{Act}
-use Rattle.uvm_object.specs.declared.acts.Act.TheVariants.{Get, TryPut, TryTake, Write, Ask, ItemDone, Send, EndStep, RaiseObjection, DropObjection, Wait}
+use Rattle.uvm_acts.specs.declared.acts.Call.{Call}
+use Rattle.uvm_acts.specs.declared.acts.Call.TheVariants as call
+use Rattle.uvm_acts.specs.declared.acts.Act.{Act}
+use Rattle.uvm_acts.specs.declared.acts.Act.TheVariants.{Get, TryPut, TryTake, Write, Ask, ItemDone, Send, EndStep, RaiseObjection, DropObjection, Wait}
 use Rattle.uvm_object.specs.declared.entries.Outcome.{Outcome}
 use Rattle.uvm_object.specs.declared.entries.Outcome.TheVariants.{Done, Started, Value, Stored, Taken, Waits, Finished}
 use Rattle.uvm_object.specs.declared.entries.Passage.{Passage}

@@ -19,11 +19,11 @@ use Rattle.uvm_sequencer.specs.Drivers.{grant_of, hand_of}
 use Rattle.uvm_sequencer.specs.Laws.{IsFirst, is_as_urgent}
 use Rattle.uvm_sequencer.specs.Queues.{is_blocked, is_candidate, is_item_of, lock_request, priority_of}
 use Rattle.uvm_sequences.specs.Sequences.{is_under}
-use Rattle.uvm_object.specs.declared.acts.Who.{Who}
-use Rattle.uvm_object.specs.declared.acts.Call.{Call}
-use Rattle.uvm_object.specs.declared.acts.Call.TheVariants as call
-use Rattle.uvm_object.specs.declared.acts.Act.{Act}
-use Rattle.uvm_object.specs.declared.acts.Act.TheVariants.{ItemDone, Request as Requests, Send, Unlock, Wait}
+use Rattle.uvm_acts.specs.declared.acts.Who.{Who}
+use Rattle.uvm_acts.specs.declared.acts.Call.{Call}
+use Rattle.uvm_acts.specs.declared.acts.Call.TheVariants as call
+use Rattle.uvm_acts.specs.declared.acts.Act.{Act}
+use Rattle.uvm_acts.specs.declared.acts.Act.TheVariants.{ItemDone, Request as Requests, Send, Unlock, Wait}
 use Rattle.uvm_object.specs.declared.entries.Outcome.TheVariants.{Done}
 use Rattle.uvm_object.specs.declared.entries.Grant as entries
 use Rattle.uvm_object.specs.declared.entries.Origin.{Origin}

@@ -1,7 +1,7 @@
 -- What may come next in a log, and what a legal log is.
 use Rattle.std.specs.Prelude.{◌≡◌, ◌≤◌, ℕ, Bool, is_some, List, [], ◌∷◌, length, Option, Some, None, unwrap_or, ◌⊎◌}
 use Rattle.uvm_glob.specs.Lists.{first_given}
-use Rattle.uvm_object.specs.declared.acts.Act.{Act}
+use Rattle.uvm_acts.specs.declared.acts.Act.{Act}
 use Rattle.uvm_object.specs.declared.fatals.Fatal.TheVariants.{NoObject}
 use Rattle.uvm_object.specs.declared.entries.Outcome.TheVariants.{Refused}
 use Rattle.uvm_object.specs.declared.entries.Entry.{Entry}

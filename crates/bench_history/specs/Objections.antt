@@ -10,10 +10,10 @@ use Rattle.uvm_tree.specs.Nodes.{path_at}
 use Rattle.uvm_objection.specs.Nodes as objection
 use Rattle.uvm_objection.specs.Nodes.{top, new_node, raised, dropped, released, with_drain}
 use Rattle.uvm_objection.specs.Totals.{total, settled, standing}
-use Rattle.uvm_object.specs.Acts.{node_of}
-use Rattle.uvm_object.specs.declared.acts.Who.{Who}
-use Rattle.uvm_object.specs.declared.acts.Act.{Act}
-use Rattle.uvm_object.specs.declared.acts.Act.TheVariants.{Add, RaiseObjection, DropObjection, SetDrain}
+use Rattle.uvm_acts.specs.Acts.{node_of}
+use Rattle.uvm_acts.specs.declared.acts.Who.{Who}
+use Rattle.uvm_acts.specs.declared.acts.Act.{Act}
+use Rattle.uvm_acts.specs.declared.acts.Act.TheVariants.{Add, RaiseObjection, DropObjection, SetDrain}
 use Rattle.uvm_object.specs.declared.entries.Outcome.{Outcome}
 use Rattle.uvm_object.specs.declared.entries.Outcome.TheVariants.{Done, Made}
 use Rattle.uvm_object.specs.declared.entries.Entry.{Entry}

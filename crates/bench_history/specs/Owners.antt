@@ -4,9 +4,9 @@ use Rattle.std.specs.List.{list_any}
 use Rattle.uvm_phase.specs.declared.phases.Phase.{Phase}
 use Rattle.uvm_phase.specs.Phases.{same_phase}
 use Rattle.uvm_phase.specs.declared.agendas.Due.{Due}
-use Rattle.uvm_object.specs.declared.acts.Who.{Who}
-use Rattle.uvm_object.specs.declared.acts.Who.TheVariants as who
-use Rattle.uvm_object.specs.declared.acts.Call.{Call}
+use Rattle.uvm_acts.specs.declared.acts.Who.{Who}
+use Rattle.uvm_acts.specs.declared.acts.Who.TheVariants as who
+use Rattle.uvm_acts.specs.declared.acts.Call.{Call}
 use Rattle.bench_history.specs.declared.owners.Owner.{Owner}
 use Rattle.bench_history.specs.declared.owners.Owner.TheVariants.{Object, Drain}
 

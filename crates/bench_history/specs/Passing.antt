@@ -15,9 +15,9 @@ use Rattle.uvm_tlm.specs.declared.fifos.Owner.{Owner}
 use Rattle.uvm_tlm.specs.declared.fifos.WaitingPut.{WaitingPut}
 use Rattle.uvm_tlm.specs.declared.fifos.WaitingTake.{WaitingTake}
 use Rattle.uvm_tlm.specs.Fifos.{FifoValue, can_put, can_take, next_move}
-use Rattle.uvm_object.specs.declared.acts.Who.{Who}
-use Rattle.uvm_object.specs.declared.acts.Act.{Act}
-use Rattle.uvm_object.specs.declared.acts.Act.TheVariants.{Put, TryPut, Take, TryTake, Peek, Write}
+use Rattle.uvm_acts.specs.declared.acts.Who.{Who}
+use Rattle.uvm_acts.specs.declared.acts.Act.{Act}
+use Rattle.uvm_acts.specs.declared.acts.Act.TheVariants.{Put, TryPut, Take, TryTake, Peek, Write}
 use Rattle.uvm_object.specs.declared.entries.Outcome.{Outcome}
 use Rattle.uvm_object.specs.declared.entries.Outcome.TheVariants.{Done, Stored, Taken}
 use Rattle.uvm_object.specs.declared.entries.Passage.{Passage}

@@ -7,7 +7,7 @@ use Rattle.uvm_tlm.specs.declared.ends.PortKind.{PortKind}
 use Rattle.uvm_tlm.specs.declared.ends.PortKind.TheVariants.{Analysis}
 use Rattle.uvm_tlm.specs.Ends.{same_kind}
 use Rattle.uvm_tlm.specs.Wirings.{WiringValue, end_at, kind_at, targets_of, wire_fault}
-use Rattle.uvm_object.specs.declared.acts.Who.{Who}
+use Rattle.uvm_acts.specs.declared.acts.Who.{Who}
 use Rattle.uvm_object.specs.declared.entries.Entry.{Entry}
 use Rattle.bench_history.specs.declared.askers.Gate.{Gate}
 use Rattle.bench_history.specs.History.{nodes_of}

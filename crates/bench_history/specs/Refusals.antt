@@ -19,10 +19,10 @@ use Rattle.bench_history.specs.History.{in_task}
 use Rattle.uvm_tree.specs.declared.faults.TreeFault.{TreeFault}
 use Rattle.uvm_tree.specs.declared.faults.TreeFault.TheVariants.{NameTaken}
 use Rattle.uvm_tree.specs.Nodes.{Node, path_at, add_fault}
-use Rattle.uvm_object.specs.declared.acts.Who.{Who}
-use Rattle.uvm_object.specs.declared.acts.Who.TheVariants as who
-use Rattle.uvm_object.specs.declared.acts.Act.{Act}
-use Rattle.uvm_object.specs.declared.acts.Act.TheVariants.{Create, Add, Connect, Put, TryPut, Take, TryTake, Peek, Write, Ask, ItemDone, Request, Lock, Grab, Unlock, Send, EndStep}
+use Rattle.uvm_acts.specs.declared.acts.Who.{Who}
+use Rattle.uvm_acts.specs.declared.acts.Who.TheVariants as who
+use Rattle.uvm_acts.specs.declared.acts.Act.{Act}
+use Rattle.uvm_acts.specs.declared.acts.Act.TheVariants.{Create, Add, Connect, Put, TryPut, Take, TryTake, Peek, Write, Ask, ItemDone, Request, Lock, Grab, Unlock, Send, EndStep}
 use Rattle.uvm_object.specs.declared.fatals.Fatal.{Fatal}
 use Rattle.uvm_sequencer.specs.Drivers.{grant_of, hand_of, is_idle}
 use Rattle.uvm_sequencer.specs.Queues.{is_held, is_item_of, is_lock_of}

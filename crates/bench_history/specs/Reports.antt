@@ -11,9 +11,9 @@ use Rattle.uvm_report.specs.Commands.{Command, SetVerbosity, SetAction, SetSever
 use Rattle.uvm_report.specs.Lines.{report_line}
 use Rattle.uvm_sequences.specs.Sequences.{Start}
 use Rattle.uvm_tree.specs.Nodes.{Node, path_at}
-use Rattle.uvm_object.specs.Acts.{node_of}
-use Rattle.uvm_object.specs.declared.acts.Act.{Act}
-use Rattle.uvm_object.specs.declared.acts.Act.TheVariants as act
+use Rattle.uvm_acts.specs.Acts.{node_of}
+use Rattle.uvm_acts.specs.declared.acts.Act.{Act}
+use Rattle.uvm_acts.specs.declared.acts.Act.TheVariants as act
 use Rattle.uvm_object.specs.Fatals.{fatal_report}
 use Rattle.uvm_object.specs.declared.fatals.Fatal.TheVariants as fatal
 use Rattle.uvm_sources.specs.Sources.{shown_path, source_text}

@@ -11,11 +11,11 @@ use Rattle.uvm_sequences.specs.Sequences.{Start, names_of, numbered, step_after}
 use Rattle.uvm_tree.specs.declared.nodes.NodeKind.{NodeKind}
 use Rattle.uvm_tree.specs.declared.nodes.NodeKind.TheVariants as kind
 use Rattle.uvm_tree.specs.Nodes.{Node, node_at, path_at}
-use Rattle.uvm_object.specs.declared.acts.Who.{Who}
-use Rattle.uvm_object.specs.declared.acts.Who.TheVariants as who
+use Rattle.uvm_acts.specs.declared.acts.Who.{Who}
+use Rattle.uvm_acts.specs.declared.acts.Who.TheVariants as who
 use Rattle.uvm_object.specs.Objects.{same_who}
-use Rattle.uvm_object.specs.declared.acts.Act.{Act}
-use Rattle.uvm_object.specs.declared.acts.Act.TheVariants as act
+use Rattle.uvm_acts.specs.declared.acts.Act.{Act}
+use Rattle.uvm_acts.specs.declared.acts.Act.TheVariants as act
 use Rattle.uvm_object.specs.declared.entries.Outcome.{Outcome}
 use Rattle.uvm_object.specs.declared.entries.Outcome.TheVariants.{Done, Started, Finished}
 use Rattle.uvm_object.specs.declared.entries.Entry.{Entry}

@@ -14,10 +14,10 @@ use Rattle.uvm_tlm.specs.declared.ends.PortKind.TheVariants as through
 use Rattle.uvm_tlm.specs.declared.items.Item.{Item}
 use Rattle.uvm_tree.specs.Nodes.{path_at}
 use Rattle.uvm_objection.specs.Nodes.{source_of}
-use Rattle.uvm_object.specs.Acts.{node_of}
-use Rattle.uvm_object.specs.declared.acts.Who.{Who}
-use Rattle.uvm_object.specs.declared.acts.Act.{Act}
-use Rattle.uvm_object.specs.declared.acts.Act.TheVariants.{Create, Add, Set, Get, OverrideType, OverrideInst, Connect, Put, TryPut, Take, TryTake, Peek, Write, Ask, ItemDone, Start, Request, Lock, Grab, Unlock, Send, EndStep, Report, Verbosity, Actions, Severity, RaiseObjection, DropObjection, SetDrain, Wait}
+use Rattle.uvm_acts.specs.Acts.{node_of}
+use Rattle.uvm_acts.specs.declared.acts.Who.{Who}
+use Rattle.uvm_acts.specs.declared.acts.Act.{Act}
+use Rattle.uvm_acts.specs.declared.acts.Act.TheVariants.{Create, Add, Set, Get, OverrideType, OverrideInst, Connect, Put, TryPut, Take, TryTake, Peek, Write, Ask, ItemDone, Start, Request, Lock, Grab, Unlock, Send, EndStep, Report, Verbosity, Actions, Severity, RaiseObjection, DropObjection, SetDrain, Wait}
 use Rattle.uvm_object.specs.declared.fatals.Fatal.{Fatal}
 use Rattle.uvm_object.specs.declared.fatals.Fatal.TheVariants.{NotOpen}
 use Rattle.uvm_object.specs.declared.entries.Outcome.{Outcome}

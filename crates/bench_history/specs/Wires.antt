@@ -11,12 +11,12 @@ use Rattle.uvm_tlm.specs.declared.ends.End.TheVariants as end
 use Rattle.uvm_tlm.specs.declared.faults.WireFault.{WireFault}
 use Rattle.uvm_tlm.specs.declared.faults.WireFault.TheVariants.{TooFew}
 use Rattle.uvm_tlm.specs.Wirings.{WiringValue, new_wiring, with_end, with_connection, end_at, wire_fault}
-use Rattle.uvm_object.specs.Acts.{node_of}
-use Rattle.uvm_object.specs.declared.acts.Who.{Who}
-use Rattle.uvm_object.specs.declared.acts.What.{What}
-use Rattle.uvm_object.specs.declared.acts.What.TheVariants as what
-use Rattle.uvm_object.specs.declared.acts.Act.{Act}
-use Rattle.uvm_object.specs.declared.acts.Act.TheVariants as act
+use Rattle.uvm_acts.specs.Acts.{node_of}
+use Rattle.uvm_acts.specs.declared.acts.Who.{Who}
+use Rattle.uvm_acts.specs.declared.acts.What.{What}
+use Rattle.uvm_acts.specs.declared.acts.What.TheVariants as what
+use Rattle.uvm_acts.specs.declared.acts.Act.{Act}
+use Rattle.uvm_acts.specs.declared.acts.Act.TheVariants as act
 use Rattle.uvm_object.specs.declared.fatals.Fatal.{Fatal}
 use Rattle.uvm_object.specs.declared.fatals.Fatal.TheVariants.{TooFewConnections, TooManyConnections}
 use Rattle.uvm_object.specs.declared.entries.Outcome.{Outcome}

@@ -10,9 +10,9 @@ use Rattle.std.specs.declared.alloc.AllocError.{AllocError}
 use Rattle.uvm_tree.specs.Nodes as declared
 use Rattle.uvm_tree.specs.Nodes.{path_at}
 use Rattle.uvm_object.specs.Objects.{View, Says, same_who}
-use Rattle.uvm_object.specs.declared.acts.Who.{Who}
-use Rattle.uvm_object.specs.declared.acts.Call.{Call}
-use Rattle.uvm_object.specs.declared.acts.Act.{Act}
+use Rattle.uvm_acts.specs.declared.acts.Who.{Who}
+use Rattle.uvm_acts.specs.declared.acts.Call.{Call}
+use Rattle.uvm_acts.specs.declared.acts.Act.{Act}
 use Rattle.uvm_object.specs.declared.entries.Entry.{Entry}
 use Rattle.bench_script.specs.Scripts.{ScriptValue}
 use Rattle.bench_history.specs.History.{nodes_of}

@@ -9,10 +9,10 @@ use Rattle.std.specs.Map.{keys_of}
 use Rattle.std.specs.declared.alloc.AllocError.{AllocError}
 use Rattle.uvm_object.specs.declared.entries.Origin.{Origin}
 use Rattle.uvm_object.specs.Objects.{View, Says, IsHonestNow, exchanged_in, life_of, same_who}
-use Rattle.uvm_object.specs.declared.acts.Who.{Who}
-use Rattle.uvm_object.specs.declared.acts.Who.TheVariants.{Node, Sequence}
-use Rattle.uvm_object.specs.declared.acts.Call.{Call}
-use Rattle.uvm_object.specs.declared.acts.Act.{Act}
+use Rattle.uvm_acts.specs.declared.acts.Who.{Who}
+use Rattle.uvm_acts.specs.declared.acts.Who.TheVariants.{Node, Sequence}
+use Rattle.uvm_acts.specs.declared.acts.Call.{Call}
+use Rattle.uvm_acts.specs.declared.acts.Act.{Act}
 use Rattle.uvm_object.specs.declared.entries.Outcome.{Outcome}
 use Rattle.uvm_object.specs.declared.entries.Outcome.TheVariants.{Refused}
 use Rattle.uvm_object.specs.declared.entries.Entry.{Entry}

@@ -3,8 +3,8 @@ use Rattle.std.specs.Prelude.{◌≡◌, ◌<◌, false, List, All}
 use Rattle.uvm_glob.specs.Orders.{down_cmp}
 use Rattle.uvm_tree.specs.Nodes as declared
 use Rattle.uvm_tree.specs.Cursors.{is_before}
-use Rattle.uvm_object.specs.declared.acts.Who.{Who}
-use Rattle.uvm_object.specs.declared.acts.Who.TheVariants.{Node, Sequence}
+use Rattle.uvm_acts.specs.declared.acts.Who.{Who}
+use Rattle.uvm_acts.specs.declared.acts.Who.TheVariants.{Node, Sequence}
 
 -- one may be given back before another: a sequence before one of a greater number, and before each component; and a component before one that does
 -- not stand before it Down

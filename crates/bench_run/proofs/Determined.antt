@@ -9,9 +9,9 @@ use Rattle.std.specs.List.{IsDistinct, cons_option}
 use Rattle.std.specs.Map.{keys_of}
 use Rattle.rand_core.specs.Stream.{Stream, next_u64}
 use Rattle.uvm_object.specs.declared.entries.Origin.{Origin}
-use Rattle.uvm_object.specs.declared.acts.Who.{Who}
-use Rattle.uvm_object.specs.declared.acts.Call.{Call}
-use Rattle.uvm_object.specs.declared.acts.Act.{Act}
+use Rattle.uvm_acts.specs.declared.acts.Who.{Who}
+use Rattle.uvm_acts.specs.declared.acts.Call.{Call}
+use Rattle.uvm_acts.specs.declared.acts.Act.{Act}
 use Rattle.uvm_object.specs.declared.entries.Grant as entries
 use Rattle.uvm_object.specs.declared.entries.Outcome.TheVariants.{Made, Started}
 use Rattle.uvm_object.specs.declared.entries.Entry.{Entry}

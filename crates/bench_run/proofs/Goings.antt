@@ -12,7 +12,7 @@ use Rattle.bench_core.specs.declared.cores.Health.{Health}
 use Rattle.bench_core.specs.declared.cores.Health.TheVariants.{Good}
 use Rattle.bench_core.specs.Cores.{CoreValue, is_sound, last_text}
 use Rattle.uvm_object.specs.Objects.{Says, View}
-use Rattle.uvm_object.specs.declared.acts.Who.{Who}
+use Rattle.uvm_acts.specs.declared.acts.Who.{Who}
 use Rattle.bench_kernel.specs.Kernels.{KernelValue}
 use Rattle.bench_kernel.specs.Steps.{IsBack, IsSameLog}
 use Rattle.bench_run.specs.declared.endings.Ending.{Ending}

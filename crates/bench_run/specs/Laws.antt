@@ -1,8 +1,8 @@
 -- What holds of all runs over objects that are functions of their calls.
 use Rattle.std.specs.Prelude.{◌≡◌, ◌⊎◌, ◌≤◌, ℕ, Bool, true, List, length, Option, Some, Result, Ok, Err}
 use Rattle.rand_core.specs.Stream.{Stream}
-use Rattle.uvm_object.specs.declared.acts.Act.{Act}
-use Rattle.uvm_object.specs.declared.acts.Call.{Call}
+use Rattle.uvm_acts.specs.declared.acts.Act.{Act}
+use Rattle.uvm_acts.specs.declared.acts.Call.{Call}
 use Rattle.uvm_object.specs.declared.entries.Entry.{Entry}
 use Rattle.uvm_object.specs.Objects.{Says, View}
 use Rattle.bench_script.specs.Scripts.{ScriptValue}

@@ -4,7 +4,7 @@ use Rattle.std.specs.Fn.{FnReturnsAt, Shared}
 use Rattle.std.specs.Map.{keys_of}
 use Rattle.std.specs.declared.alloc.AllocError.{AllocError}
 use denote.Ref.{Bor}
-use Rattle.uvm_object.specs.declared.acts.Who.{Who}
+use Rattle.uvm_acts.specs.declared.acts.Who.{Who}
 use Rattle.uvm_object.specs.declared.fatals.Fatal.TheVariants.{NoObject}
 use Rattle.uvm_object.specs.declared.entries.Outcome.TheVariants.{Refused}
 use Rattle.uvm_object.specs.declared.entries.Entry.{Entry}

@@ -13,7 +13,6 @@ use uvm_factory::{Kind, Override, TypeId};
 use uvm_glob::Name;
 
 /// A script. Contracts see what it says; a type is its place among the types of the script, from 0.
-#[derive(Drop)]
 pub struct Script {
     pub(crate) version: u64,
     pub(crate) test: Option<TypeId>,
@@ -28,6 +27,27 @@ pub struct Script {
     pub(crate) severities: Vec<SeverityChange>,
     pub(crate) probes: Vec<Probe>,
     pub(crate) drains: Vec<Drain>,
+}
+
+// (By hand, so that crates above prove no drop of what it holds.)
+impl Drop for Script {
+    fn drop(self) {
+        let Script {
+            version: _,
+            test: _,
+            time_limit: _,
+            quit_limit: _,
+            runtime: _,
+            types: _,
+            overrides: _,
+            settings: _,
+            verbosities: _,
+            actions: _,
+            severities: _,
+            probes: _,
+            drains: _,
+        } = self;
+    }
 }
 
 impl Model for Script {

@@ -90,8 +90,11 @@ fn begins_with_nothing(world: &World) -> bool
 fn creates_the_test(world: &World) -> bool
     requires { world.now.sound ≡ true }
 {
-    match world.next_act() {
-        Some(Act::Create { type_name, name }) => {
+    let Some(act) = world.next_act() else {
+        return false;
+    };
+    match act.get() {
+        Act::Create { type_name, name } => {
             type_name.as_bytes() == b"t".as_slice() && name.as_bytes() == b"uvm_test_top".as_slice()
         }
         _ => false,

@@ -3,7 +3,7 @@
 ghost use Rattle.std.specs.Prelude.{◌≡◌, IfOk, OnErr, true};
 ghost use Rattle.bench_history.specs.Upshots.{open_upshot, refusal_in, upshot_of};
 ghost use Rattle.bench_world.specs.Worlds.{IsMaking};
-ghost use Rattle.uvm_object.specs.declared.acts.Act.TheVariants.{Create};
+ghost use Rattle.uvm_acts.specs.declared.acts.Act.TheVariants.{Create};
 ghost use Rattle.world_sequences.specs.Sequencings.{IsStart};
 ghost use Rattle.world_services.specs.Creations.{IsUnmade, MayWantMemoryFor};
 

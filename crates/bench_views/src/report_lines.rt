@@ -4,7 +4,7 @@ ghost use Rattle.std.specs.Prelude.{◌≡◌, ◌≢◌, ◌++◌, [], true, So
 ghost use Rattle.uvm_report.specs.Fates.{displayed_as};
 ghost use Rattle.uvm_report.specs.Lines.{report_line};
 ghost use Rattle.uvm_tree.specs.Nodes.{path_at};
-ghost use Rattle.uvm_object.specs.Acts.{node_of};
+ghost use Rattle.uvm_acts.specs.Acts.{node_of};
 ghost use Rattle.uvm_object.specs.Fatals.{fatal_report};
 ghost use Rattle.uvm_sources.specs.Sources.{shown_path, source_text};
 ghost use Rattle.bench_history.specs.History.{nodes_of, now_of};
@@ -34,7 +34,7 @@ pub fn push_report(world: &World, out: &mut Vec<u8>) -> Result<(), AllocError>
     };
     match world.log().last() {
         Some(Entry::Did { who, outcome, act }) => {
-            push_deed(world, severity, who, &outcome.get(), act.act(), out)
+            push_deed(world, severity, who, &outcome.get(), act.act().get(), out)
         }
         Some(Entry::Note { fatal, node }) => push_note(world, severity, fatal, *node, out),
         _ => Ok(()),

@@ -1,8 +1,8 @@
 //! What may come to pass next in a world.
 
 ghost use Rattle.std.specs.Prelude.{◌≡◌, true, None, option_map};
-ghost use Rattle.uvm_object.specs.declared.acts.Call.TheVariants as call;
-ghost use Rattle.uvm_object.specs.declared.acts.Who.TheVariants as who;
+ghost use Rattle.uvm_acts.specs.declared.acts.Call.TheVariants as call;
+ghost use Rattle.uvm_acts.specs.declared.acts.Who.TheVariants as who;
 ghost use Rattle.std.specs.Option.{option_copied};
 ghost use Rattle.bench_history.specs.Arbitration.{next_locked, next_served};
 ghost use Rattle.bench_history.specs.Dues.{due_now};

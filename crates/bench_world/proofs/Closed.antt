@@ -1,5 +1,5 @@
 -- A world whose wiring is closed.
-use Rattle.uvm_object.specs.declared.acts.Who.{Who}
+use Rattle.uvm_acts.specs.declared.acts.Who.{Who}
 use Rattle.std.proofs.Common.{◌≡◌, List, Bool, true, Option, Some, rules, unwrap_or}
 use Rattle.uvm_tree.specs.Sorted.{path_order}
 use Rattle.uvm_object.specs.Logs.{LogValue}

@@ -2,10 +2,10 @@
 use Rattle.std.proofs.Common.{◌≡◌, ℕ, suc, List, [], length, Option, Some, None, IsSome, option_map, ◌⊎◌, inl, inr, refl, ap, sym, ◌∙◌, subst}
 use Rattle.uvm_sequences.specs.Sequences.{Start, numbered}
 use Rattle.uvm_tree.specs.Nodes.{Node, node_at}
-use Rattle.uvm_object.specs.Acts.{node_of}
+use Rattle.uvm_acts.specs.Acts.{node_of}
 use Rattle.uvm_object.specs.Logs.{LogValue}
-use Rattle.uvm_object.specs.declared.acts.Who.{Who}
-use Rattle.uvm_object.specs.declared.acts.Act.{Act}
+use Rattle.uvm_acts.specs.declared.acts.Who.{Who}
+use Rattle.uvm_acts.specs.declared.acts.Act.{Act}
 use Rattle.uvm_object.specs.declared.entries.Entry.{Entry}
 use Rattle.uvm_object.specs.declared.entries.Outcome.{Outcome}
 use Rattle.uvm_object.specs.declared.entries.Outcome.TheVariants.{Made, Started}
@@ -25,8 +25,8 @@ use Rattle.world_services.proofs.Acting.{unrefused}
 use Rattle.world_services.proofs.Settling.{each-numbered}
 use Rattle.world_sequencer_acts.proofs.Finished.{there-begun}
 use Rattle.world_sequences.proofs.Numbered.{numbered-map}
-use Rattle.uvm_object.specs.declared.acts.Who.TheVariants as who
-use Rattle.uvm_object.specs.declared.acts.Act.TheVariants as act
+use Rattle.uvm_acts.specs.declared.acts.Who.TheVariants as who
+use Rattle.uvm_acts.specs.declared.acts.Act.TheVariants as act
 use Rattle.bench_history.specs.declared.needs.Need as needs
 
 -- there is room for it, and what it is

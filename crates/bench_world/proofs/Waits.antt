@@ -4,7 +4,7 @@ use Rattle.uvm_object.specs.Logs.{LogValue}
 use Rattle.bench_script.specs.Scripts.{ScriptValue}
 use Rattle.bench_history.specs.Limits.{log_limit}
 use Rattle.bench_history.specs.History.{ended_of, left_of, rest_of, speaker_of}
-use Rattle.uvm_object.specs.declared.acts.Act.{Act}
+use Rattle.uvm_acts.specs.declared.acts.Act.{Act}
 use Rattle.uvm_object.specs.declared.entries.Entry.{Entry}
 use Rattle.uvm_object.specs.declared.entries.Outcome.{Outcome}
 use Rattle.bench_history.specs.Cases.{Next, Exactly, Need, by_act}
@@ -14,7 +14,7 @@ use Rattle.bench_history.specs.Next.{next_of, need_in}
 use Rattle.bench_history.specs.Laws.{DriversAreThere, IsSettled, PerformersAreThere, ActsAreInPhase}
 use Rattle.bench_history.specs.Dues.{caused_of, heard_of}
 use Rattle.bench_history.specs.Sequences.{finished_of}
-use Rattle.uvm_object.specs.declared.acts.Who.{Who}
+use Rattle.uvm_acts.specs.declared.acts.Who.{Who}
 use Rattle.world_deeds.specs.declared.making.Waiting.{Waiting}
 use Rattle.world_services.specs.declared.services.Services.{Services}
 use Rattle.world_services.specs.Services.{ServicesMatch}

@@ -1,9 +1,9 @@
 -- What contracts see of a world.
 use Rattle.std.specs.Prelude.{◌≡◌, ◌<◌, ℕ, Bool, true, false, List, ◌∷◌, length, Option, Some, None, is_some}
 use Rattle.std.specs.Option.{ForSome}
-use Rattle.uvm_object.specs.declared.acts.Who.{Who}
-use Rattle.uvm_object.specs.declared.acts.Act.{Act}
-use Rattle.uvm_object.specs.declared.acts.Act.TheVariants.{Create, Start}
+use Rattle.uvm_acts.specs.declared.acts.Who.{Who}
+use Rattle.uvm_acts.specs.declared.acts.Act.{Act}
+use Rattle.uvm_acts.specs.declared.acts.Act.TheVariants.{Create, Start}
 use Rattle.uvm_object.specs.declared.entries.Outcome.TheVariants.{Made, Started}
 use Rattle.uvm_object.specs.declared.entries.Entry.{Entry}
 use Rattle.world_services.specs.declared.services.Services.{Services}
@@ -22,7 +22,7 @@ use Rattle.bench_history.specs.Next.{next_of, need_in, IsAct, IsLegal}
 use Rattle.bench_history.specs.Laws.{IsSettled}
 use Rattle.world_services.specs.Services.{ServicesMatch}
 use Rattle.world_deeds.specs.Rooms.{HasRoomToMake}
-use Rattle.uvm_object.specs.declared.acts.Who.TheVariants as who
+use Rattle.uvm_acts.specs.declared.acts.Who.TheVariants as who
 use Rattle.bench_history.specs.declared.needs.Need as needs
 
 -- an act makes an object

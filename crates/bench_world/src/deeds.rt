@@ -9,14 +9,14 @@ ghost use Rattle.bench_history.specs.Next.{next_of};
 use crate::worlds::World;
 use bench_history::laws;
 use std::alloc::AllocError;
-use uvm_object::{Act, Deed};
+use uvm_object::{Deed, LentAct};
 use world_deeds::deeds::{CarriedOut, carry_out, deed_at};
 
 impl World {
     /// The next act of the last answer, if one is left. For a sound world.
-    pub fn next_act(&self) -> Option<&Act>
+    pub fn next_act(&self) -> Option<LentAct<'_>>
         requires { self.now.sound ≡ true }
-        ensures { option_copied result ≡ head_of (left_of self.now.script self.now.history) }
+        ensures { result ≡ head_of (left_of self.now.script self.now.history) }
     {
         match self.next_left() {
             Some(deed) => Some(deed.act()),

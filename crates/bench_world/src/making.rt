@@ -47,7 +47,14 @@ impl World {
         } = waiting;
         let place = self.log.len();
         let services = &mut self.services;
-        let (who, outcome) = make(services, deed.act(), home, name, need.type_name, place);
+        let (who, outcome) = make(
+            services,
+            deed.act().get(),
+            home,
+            name,
+            need.type_name,
+            place,
+        );
         let Ok(()) = enter(&mut self.log, &mut services.answer, outcome, deed) else {
             unreachable!()
         };

@@ -3,7 +3,7 @@ use Rattle.std.proofs.Common.{◌≡◌, ◌∙◌, ℕ, Bool, List, Option, Som
 use Rattle.std.specs.Io.KnownBytes.{Keeps}
 use Rattle.rand_core.specs.Stream.{Stream}
 use Rattle.uvm_object.specs.Objects.{View}
-use Rattle.uvm_object.specs.declared.acts.Call.{Call}
+use Rattle.uvm_acts.specs.declared.acts.Call.{Call}
 use Rattle.script_values.specs.declared.faults.ScriptFault.{ScriptFault}
 use Rattle.bench_script.specs.Scripts.{ScriptValue}
 use Rattle.bench_run.specs.declared.endings.Ending.{Ending}

@@ -1,7 +1,7 @@
 -- What an object does is a function of what it shows and of the call.
 use Rattle.std.proofs.Common.{◌≡◌, List, refl}
 use Rattle.uvm_object.specs.Objects.{View}
-use Rattle.uvm_object.specs.declared.acts.Act.{Act}
+use Rattle.uvm_acts.specs.declared.acts.Act.{Act}
 use Rattle.bus_objects.specs.declared.objects.BusObject.TheVariants.{Idle}
 use Rattle.bus_objects.specs.Laws.{AllowsOne, ObjectsAreFunctions}
 

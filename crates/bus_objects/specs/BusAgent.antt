@@ -5,13 +5,13 @@ use Rattle.uvm_phase.specs.declared.phases.Phase.TheVariants as phase
 use Rattle.uvm_sequencer.specs.declared.modes.Mode.{Mode}
 use Rattle.uvm_sequencer.specs.declared.modes.Mode.TheVariants.{Fifo, Weighted, Random, StrictFifo, StrictRandom}
 use Rattle.uvm_object.specs.Objects.{View}
-use Rattle.uvm_object.specs.declared.acts.What.TheVariants.{Sequencer}
-use Rattle.uvm_object.specs.declared.acts.Call.{Call}
-use Rattle.uvm_object.specs.declared.acts.Call.TheVariants.{Phase, Config}
-use Rattle.uvm_object.specs.declared.acts.Act.{Act}
-use Rattle.uvm_object.specs.declared.acts.Act.TheVariants.{Create, Add, Get}
+use Rattle.uvm_acts.specs.declared.acts.What.TheVariants.{Sequencer}
+use Rattle.uvm_acts.specs.declared.acts.Call.{Call}
+use Rattle.uvm_acts.specs.declared.acts.Call.TheVariants.{Phase, Config}
+use Rattle.uvm_acts.specs.declared.acts.Act.{Act}
+use Rattle.uvm_acts.specs.declared.acts.Act.TheVariants.{Create, Add, Get}
 use Rattle.bus_objects.specs.declared.bus_agent.BusAgent.{BusAgent}
-use Rattle.uvm_object.specs.Answers.{connecting}
+use Rattle.uvm_acts.specs.Answers.{connecting}
 
 -- it shows nothing of itself
 abbrev pub bus_agent_view : BusAgent → View

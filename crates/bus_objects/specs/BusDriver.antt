@@ -1,9 +1,9 @@
 -- What an object of the type `bus_driver` is: a driver that puts an item as soon as it comes. It stays as it is.
 use Rattle.std.specs.Prelude.{◌≡◌, ℕ, List, [], ◌∷◌, Option, Some, None, codes, if◌then◌else◌, bytes_eq}
 use Rattle.uvm_object.specs.Objects.{View}
-use Rattle.uvm_object.specs.declared.acts.Call.{Call}
-use Rattle.uvm_object.specs.declared.acts.Call.TheVariants.{NextItem}
-use Rattle.uvm_object.specs.declared.acts.Act.{Act}
+use Rattle.uvm_acts.specs.declared.acts.Call.{Call}
+use Rattle.uvm_acts.specs.declared.acts.Call.TheVariants.{NextItem}
+use Rattle.uvm_acts.specs.declared.acts.Act.{Act}
 use Rattle.bus_objects.specs.declared.bus_driver.BusDriver.{BusDriver}
 use Rattle.bus_objects.specs.Driver.{driver_acts, put_act}
 

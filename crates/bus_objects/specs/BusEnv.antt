@@ -2,13 +2,13 @@
 use Rattle.std.specs.Prelude.{◌≡◌, ℕ, List, [], ◌∷◌, Option, Some, None, codes, if◌then◌else◌, bytes_eq}
 use Rattle.uvm_phase.specs.declared.phases.Phase.TheVariants as phase
 use Rattle.uvm_object.specs.Objects.{View}
-use Rattle.uvm_object.specs.declared.acts.What.TheVariants.{Fifo}
-use Rattle.uvm_object.specs.declared.acts.Call.{Call}
-use Rattle.uvm_object.specs.declared.acts.Call.TheVariants.{Phase}
-use Rattle.uvm_object.specs.declared.acts.Act.{Act}
-use Rattle.uvm_object.specs.declared.acts.Act.TheVariants.{Create, Add}
+use Rattle.uvm_acts.specs.declared.acts.What.TheVariants.{Fifo}
+use Rattle.uvm_acts.specs.declared.acts.Call.{Call}
+use Rattle.uvm_acts.specs.declared.acts.Call.TheVariants.{Phase}
+use Rattle.uvm_acts.specs.declared.acts.Act.{Act}
+use Rattle.uvm_acts.specs.declared.acts.Act.TheVariants.{Create, Add}
 use Rattle.bus_objects.specs.declared.bus_env.BusEnv.{BusEnv}
-use Rattle.uvm_object.specs.Answers.{connecting}
+use Rattle.uvm_acts.specs.Answers.{connecting}
 
 -- it shows nothing of itself
 abbrev pub bus_env_view : BusEnv → View

@@ -1,8 +1,8 @@
 -- What an object of the type `bus_mem` is: a memory whose reads give the stored word.
 use Rattle.std.specs.Prelude.{ℕ, List, Option, Some, None, codes, if◌then◌else◌, bytes_eq}
 use Rattle.uvm_object.specs.Objects.{View}
-use Rattle.uvm_object.specs.declared.acts.Call.{Call}
-use Rattle.uvm_object.specs.declared.acts.Act.{Act}
+use Rattle.uvm_acts.specs.declared.acts.Call.{Call}
+use Rattle.uvm_acts.specs.declared.acts.Act.{Act}
 use Rattle.bus_objects.specs.declared.bus_mem.BusMem.{BusMem}
 use Rattle.bus_objects.specs.declared.memory.Reading.TheVariants.{Exact}
 use Rattle.bus_objects.specs.Memory.{MemorySays, memory_view, new_memory}

@@ -5,11 +5,11 @@ use Rattle.uvm_report.specs.declared.severities.Severity.TheVariants.{Info}
 use Rattle.uvm_tlm.specs.declared.ends.PortKind.TheVariants.{Analysis}
 use Rattle.uvm_tlm.specs.declared.items.Item.{Item}
 use Rattle.uvm_object.specs.Objects.{View}
-use Rattle.uvm_object.specs.declared.acts.What.TheVariants.{Port, Imp}
-use Rattle.uvm_object.specs.declared.acts.Call.{Call}
-use Rattle.uvm_object.specs.declared.acts.Call.TheVariants.{Phase, Written}
-use Rattle.uvm_object.specs.declared.acts.Act.{Act}
-use Rattle.uvm_object.specs.declared.acts.Act.TheVariants.{Add, Report, Write}
+use Rattle.uvm_acts.specs.declared.acts.What.TheVariants.{Port, Imp}
+use Rattle.uvm_acts.specs.declared.acts.Call.{Call}
+use Rattle.uvm_acts.specs.declared.acts.Call.TheVariants.{Phase, Written}
+use Rattle.uvm_acts.specs.declared.acts.Act.{Act}
+use Rattle.uvm_acts.specs.declared.acts.Act.TheVariants.{Add, Report, Write}
 use Rattle.bus_objects.specs.declared.bus_monitor.BusMonitor.{BusMonitor}
 use Rattle.bus_objects.specs.Items.{transfer_text}
 

@@ -7,11 +7,11 @@ use Rattle.uvm_report.specs.declared.severities.Severity.{Severity}
 use Rattle.uvm_report.specs.declared.severities.Severity.TheVariants.{Error, Info}
 use Rattle.uvm_tlm.specs.declared.items.Item.{Item}
 use Rattle.uvm_object.specs.Objects.{View}
-use Rattle.uvm_object.specs.declared.acts.What.TheVariants.{Imp}
-use Rattle.uvm_object.specs.declared.acts.Call.{Call}
-use Rattle.uvm_object.specs.declared.acts.Call.TheVariants.{Phase, Written}
-use Rattle.uvm_object.specs.declared.acts.Act.{Act}
-use Rattle.uvm_object.specs.declared.acts.Act.TheVariants.{Add, Report}
+use Rattle.uvm_acts.specs.declared.acts.What.TheVariants.{Imp}
+use Rattle.uvm_acts.specs.declared.acts.Call.{Call}
+use Rattle.uvm_acts.specs.declared.acts.Call.TheVariants.{Phase, Written}
+use Rattle.uvm_acts.specs.declared.acts.Act.{Act}
+use Rattle.uvm_acts.specs.declared.acts.Act.TheVariants.{Add, Report}
 use Rattle.bus_objects.specs.declared.bus_scoreboard.Score.{Score}
 use Rattle.bus_objects.specs.declared.bus_scoreboard.BusScoreboard.{BusScoreboard}
 use Rattle.bus_objects.specs.Items.{address_of, data_of, is_write}

@@ -1,12 +1,12 @@
 -- What an object of the type `bus_test` is: it creates the environment, and in run starts a sequence under an objection; it stays as it is.
 use Rattle.std.specs.Prelude.{◌≡◌, ℕ, List, [], ◌∷◌, Option, Some, None, codes, if◌then◌else◌, bytes_eq}
-use Rattle.uvm_object.specs.Answers.{starting}
+use Rattle.uvm_acts.specs.Answers.{starting}
 use Rattle.uvm_phase.specs.declared.phases.Phase.TheVariants.{Build, Run}
 use Rattle.uvm_object.specs.Objects.{View}
-use Rattle.uvm_object.specs.declared.acts.Call.{Call}
-use Rattle.uvm_object.specs.declared.acts.Call.TheVariants.{Phase, Finished}
-use Rattle.uvm_object.specs.declared.acts.Act.{Act}
-use Rattle.uvm_object.specs.declared.acts.Act.TheVariants.{Create, RaiseObjection, DropObjection}
+use Rattle.uvm_acts.specs.declared.acts.Call.{Call}
+use Rattle.uvm_acts.specs.declared.acts.Call.TheVariants.{Phase, Finished}
+use Rattle.uvm_acts.specs.declared.acts.Act.{Act}
+use Rattle.uvm_acts.specs.declared.acts.Act.TheVariants.{Create, RaiseObjection, DropObjection}
 use Rattle.bus_objects.specs.declared.bus_test.BusTest.{BusTest}
 
 -- it shows nothing of itself

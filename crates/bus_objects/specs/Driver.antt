@@ -4,11 +4,11 @@ use Rattle.uvm_phase.specs.declared.phases.Phase.TheVariants.{Build, Run}
 use Rattle.uvm_sequencer.specs.declared.drivers.How.TheVariants.{Next}
 use Rattle.uvm_tlm.specs.declared.ends.PortKind.TheVariants as kind
 use Rattle.uvm_tlm.specs.declared.items.Item.{Item}
-use Rattle.uvm_object.specs.declared.acts.What.TheVariants.{Port}
-use Rattle.uvm_object.specs.declared.acts.Call.{Call}
-use Rattle.uvm_object.specs.declared.acts.Call.TheVariants.{Phase, Stored, Taken}
-use Rattle.uvm_object.specs.declared.acts.Act.{Act}
-use Rattle.uvm_object.specs.declared.acts.Act.TheVariants.{Add, Ask, ItemDone, Put, Take, Write}
+use Rattle.uvm_acts.specs.declared.acts.What.TheVariants.{Port}
+use Rattle.uvm_acts.specs.declared.acts.Call.{Call}
+use Rattle.uvm_acts.specs.declared.acts.Call.TheVariants.{Phase, Stored, Taken}
+use Rattle.uvm_acts.specs.declared.acts.Act.{Act}
+use Rattle.uvm_acts.specs.declared.acts.Act.TheVariants.{Add, Ask, ItemDone, Put, Take, Write}
 
 abbrev pub ports : List Act
 ports =

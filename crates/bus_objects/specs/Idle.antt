@@ -1,8 +1,8 @@
 -- What an object of the type `idle` is: it answers each call with no acts, and stays as it is.
 use Rattle.std.specs.Prelude.{◌≡◌, ℕ, List, [], Option, Some, None, codes, if◌then◌else◌, bytes_eq}
 use Rattle.uvm_object.specs.Objects.{View}
-use Rattle.uvm_object.specs.declared.acts.Call.{Call}
-use Rattle.uvm_object.specs.declared.acts.Act.{Act}
+use Rattle.uvm_acts.specs.declared.acts.Call.{Call}
+use Rattle.uvm_acts.specs.declared.acts.Act.{Act}
 use Rattle.bus_objects.specs.declared.idle.Idle.{Idle}
 
 -- it shows nothing of itself

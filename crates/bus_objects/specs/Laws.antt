@@ -3,8 +3,8 @@ use Rattle.std.specs.Prelude.{◌≡◌, ℤ, ◌&&◌, List, if◌then◌else�
 use Rattle.std.specs.Ordering.{int_eq}
 use Rattle.uvm_tlm.specs.declared.items.Item.{Item}
 use Rattle.uvm_object.specs.Objects.{View}
-use Rattle.uvm_object.specs.declared.acts.Act.{Act}
-use Rattle.uvm_object.specs.declared.acts.Call.{Call}
+use Rattle.uvm_acts.specs.declared.acts.Act.{Act}
+use Rattle.uvm_acts.specs.declared.acts.Call.{Call}
 use Rattle.bus_objects.specs.declared.objects.BusObject.{BusObject}
 use Rattle.bus_objects.specs.declared.memory.Memory.{Memory}
 use Rattle.bus_objects.specs.declared.bus_scoreboard.Score.{Score}

@@ -5,11 +5,11 @@ use Rattle.uvm_phase.specs.declared.phases.Phase.TheVariants.{Build, Run}
 use Rattle.uvm_tlm.specs.declared.ends.PortKind.TheVariants as kind
 use Rattle.uvm_tlm.specs.declared.items.Item.{Item}
 use Rattle.uvm_object.specs.Objects.{View}
-use Rattle.uvm_object.specs.declared.acts.What.TheVariants.{Port}
-use Rattle.uvm_object.specs.declared.acts.Call.{Call}
-use Rattle.uvm_object.specs.declared.acts.Call.TheVariants.{Phase, Config, Wake, Stored, Taken}
-use Rattle.uvm_object.specs.declared.acts.Act.{Act}
-use Rattle.uvm_object.specs.declared.acts.Act.TheVariants.{Add, Get, Put, Take, Wait}
+use Rattle.uvm_acts.specs.declared.acts.What.TheVariants.{Port}
+use Rattle.uvm_acts.specs.declared.acts.Call.{Call}
+use Rattle.uvm_acts.specs.declared.acts.Call.TheVariants.{Phase, Config, Wake, Stored, Taken}
+use Rattle.uvm_acts.specs.declared.acts.Act.{Act}
+use Rattle.uvm_acts.specs.declared.acts.Act.TheVariants.{Add, Get, Put, Take, Wait}
 use Rattle.bus_objects.specs.declared.memory.Memory.{Memory}
 use Rattle.bus_objects.specs.declared.memory.Reading.{Reading}
 use Rattle.bus_objects.specs.declared.memory.Reading.TheVariants.{Exact, Flipped}

@@ -1,10 +1,10 @@
 -- What an object of the type `seq_pair` is: a sequence that starts two, and ends when both have finished.
 use Rattle.std.specs.Prelude.{◌≡◌, ℕ, ◌+◌, ◌==◌, nat_lt, List, [], ◌∷◌, Option, Some, None, codes, if◌then◌else◌, bytes_eq}
 use Rattle.uvm_object.specs.Objects.{View}
-use Rattle.uvm_object.specs.declared.acts.Call.{Call}
-use Rattle.uvm_object.specs.declared.acts.Call.TheVariants.{PreStart, Body, PostStart, Finished}
-use Rattle.uvm_object.specs.declared.acts.Act.{Act}
-use Rattle.uvm_object.specs.declared.acts.Act.TheVariants.{EndStep, Start}
+use Rattle.uvm_acts.specs.declared.acts.Call.{Call}
+use Rattle.uvm_acts.specs.declared.acts.Call.TheVariants.{PreStart, Body, PostStart, Finished}
+use Rattle.uvm_acts.specs.declared.acts.Act.{Act}
+use Rattle.uvm_acts.specs.declared.acts.Act.TheVariants.{EndStep, Start}
 use Rattle.bus_objects.specs.declared.seq_pair.SeqPair.{SeqPair}
 use Rattle.bus_objects.specs.Sequences.{count_of}
 

@@ -2,10 +2,10 @@
 use Rattle.std.specs.Prelude.{◌≡◌, ℕ, List, [], ◌∷◌, Option, Some, None, codes, slice_get, if◌then◌else◌, bytes_eq}
 use Rattle.uvm_tlm.specs.declared.items.Item.{Item}
 use Rattle.uvm_object.specs.Objects.{View}
-use Rattle.uvm_object.specs.declared.acts.Call.{Call}
-use Rattle.uvm_object.specs.declared.acts.Call.TheVariants.{PreStart, Body, PostStart, Grant, ItemDone}
-use Rattle.uvm_object.specs.declared.acts.Act.{Act}
-use Rattle.uvm_object.specs.declared.acts.Act.TheVariants.{EndStep, Request}
+use Rattle.uvm_acts.specs.declared.acts.Call.{Call}
+use Rattle.uvm_acts.specs.declared.acts.Call.TheVariants.{PreStart, Body, PostStart, Grant, ItemDone}
+use Rattle.uvm_acts.specs.declared.acts.Act.{Act}
+use Rattle.uvm_acts.specs.declared.acts.Act.TheVariants.{EndStep, Request}
 use Rattle.bus_objects.specs.declared.seq_smoke.SeqSmoke.{SeqSmoke}
 use Rattle.bus_objects.specs.Items.{read_item, write_item}
 use Rattle.bus_objects.specs.Sequences.{count_of, send_acts, sent_after, while_left}

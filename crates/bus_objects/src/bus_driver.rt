@@ -2,7 +2,7 @@
 
 ghost use Rattle.std.specs.Prelude.{◌≡◌};
 
-use crate::driver::driver_acts;
+use crate::driver::{driver_acts, put_item};
 use std::alloc::{AllocError, Global};
 use uvm_glob::Name;
 use uvm_object::{Acts, Call, UvmObject};
@@ -47,14 +47,12 @@ impl UvmObject for BusDriver {
     }
 
     fn hear(&mut self, alloc: Global, call: &Call) -> Result<Acts, AllocError> {
-        let mut acts = driver_acts(alloc, call)?;
-        if let Call::NextItem {
-            item: Some(item),
-            ..
-        } = call
-        {
-            acts.put("req", *item)?;
+        match call {
+            Call::NextItem {
+                item: Some(item),
+                ..
+            } => put_item(alloc, *item),
+            _ => driver_acts(alloc, call),
         }
-        Ok(acts)
     }
 }

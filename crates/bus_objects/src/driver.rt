@@ -1,12 +1,12 @@
 //! What the drivers of the bus share.
 
-ghost use Rattle.std.specs.Prelude.{◌≡◌, IfOk};
-ghost use Rattle.bus_objects.specs.Driver.{driver_acts};
+ghost use Rattle.std.specs.Prelude.{◌≡◌, ◌∷◌, [], IfOk};
+ghost use Rattle.bus_objects.specs.Driver.{driver_acts, put_act};
 
 use std::alloc::{AllocError, Global};
 use uvm_object::{Acts, Call};
 use uvm_phase::Phase;
-use uvm_tlm::PortKind;
+use uvm_tlm::{Item, PortKind};
 
 // The acts with which each driver answers a call. What it does with an item that comes is its own.
 pub(crate) fn driver_acts(alloc: Global, call: &Call) -> Result<Acts, AllocError>
@@ -29,5 +29,14 @@ pub(crate) fn driver_acts(alloc: Global, call: &Call) -> Result<Acts, AllocError
         }
         _ => (),
     }
+    Ok(acts)
+}
+
+// The answer that puts an item on its way.
+pub(crate) fn put_item(alloc: Global, item: Item) -> Result<Acts, AllocError>
+    ensures { IfOk result (λ acts. acts ≡ put_act item ∷ []) }
+{
+    let mut acts = Acts::new(alloc);
+    acts.put("req", item)?;
     Ok(acts)
 }

@@ -2,7 +2,7 @@
 
 ghost use Rattle.std.specs.Prelude.{◌≡◌};
 
-use crate::driver::driver_acts;
+use crate::driver::{driver_acts, put_item};
 use std::alloc::{AllocError, Global};
 use uvm_glob::Name;
 use uvm_object::{Acts, Call, UvmObject};
@@ -49,18 +49,18 @@ impl UvmObject for SlowDriver {
     }
 
     fn hear(&mut self, alloc: Global, call: &Call) -> Result<Acts, AllocError> {
-        let mut acts = driver_acts(alloc, call)?;
         match call {
             Call::NextItem {
                 item: Some(item),
                 ..
             } => {
+                let mut acts = Acts::new(alloc);
                 acts.wait(3, 1)?;
                 self.item = *item;
+                Ok(acts)
             }
-            Call::Wake { .. } => acts.put("req", self.item)?,
-            _ => (),
+            Call::Wake { .. } => put_item(alloc, self.item),
+            _ => driver_acts(alloc, call),
         }
-        Ok(acts)
     }
 }

@@ -72,7 +72,7 @@ fn push_deed(alloc: Global, deed: &Deed, told: &mut Vec<u8>) -> io::Result<()> {
     push_entry(alloc, deed, &mut line)?;
     told.extend_from_slice(words_of(line.as_slice()))?;
     told.push(b'\n')?;
-    match deed.act() {
+    match deed.act().get() {
         Act::Report { report } => push_report(report, told),
         _ => Ok(()),
     }

@@ -1,8 +1,8 @@
 -- What may be granted while a burst holds a sequencer. A log is read from its newest entry back.
 use Rattle.std.specs.Prelude.{◌≡◌, ℕ, true, List, ◌∷◌, ◌++◌, Option, Contains, codes}
 use Rattle.uvm_sequences.specs.Sequences.{is_under}
-use Rattle.uvm_object.specs.declared.acts.Who.{Who}
-use Rattle.uvm_object.specs.declared.acts.Act.TheVariants.{Start}
+use Rattle.uvm_acts.specs.declared.acts.Who.{Who}
+use Rattle.uvm_acts.specs.declared.acts.Act.TheVariants.{Start}
 use Rattle.uvm_object.specs.declared.entries.Outcome.TheVariants.{Started}
 use Rattle.uvm_object.specs.declared.entries.Grant.{Grant}
 use Rattle.uvm_object.specs.declared.entries.Entry.{Entry}

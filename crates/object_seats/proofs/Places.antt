@@ -16,9 +16,9 @@ use Rattle.std.specs.declared.cmp.Ordering.TheVariants.{Less, Equal, Greater}
 use Rattle.uvm_glob.specs.Orders.{down_cmp}
 use Rattle.slab.specs.Slab.{Slab, get, with_value, Updates}
 use Rattle.slab.proofs.SlabLemmas.{Updates-with_value}
-use Rattle.uvm_object.specs.Acts.{node_of}
-use Rattle.uvm_object.specs.declared.acts.Who.{Who}
-use Rattle.uvm_object.specs.declared.acts.Who.TheVariants.{Node}
+use Rattle.uvm_acts.specs.Acts.{node_of}
+use Rattle.uvm_acts.specs.declared.acts.Who.{Who}
+use Rattle.uvm_acts.specs.declared.acts.Who.TheVariants.{Node}
 use Rattle.object_seats.specs.declared.seats.Seat.{Seat}
 use Rattle.object_seats.specs.Seats.{Taken, held_in}
 use Rattle.object_seats.specs.Places.{AreSeats, IsSeat, Place, SitsAt, place_cmp, seat_at, taken_in}

@@ -11,8 +11,8 @@ use Rattle.std.specs.List.Sorted.{IsPermutation}
 use Rattle.std.specs.Map.{keys_of}
 use Rattle.slab.specs.Slab.{Slab, Updates, get, slab_len, with_value}
 use Rattle.slab.proofs.SlabLemmas.{ContainsKey-within, Updates-with_value}
-use Rattle.uvm_object.specs.declared.acts.Who.{Who}
-use Rattle.uvm_object.specs.declared.acts.Who.TheVariants.{Sequence}
+use Rattle.uvm_acts.specs.declared.acts.Who.{Who}
+use Rattle.uvm_acts.specs.declared.acts.Who.TheVariants.{Sequence}
 use Rattle.object_seats.specs.declared.sequence_seats.SequenceSeat.{SequenceSeat}
 use Rattle.object_seats.specs.SequenceSeats.{AreRisingWithin, IsWithout}
 use Rattle.object_seats.specs.Numbered.{AreNumbered, AreSequenceSeats, IsLeft, IsNumbered, SitsAt, key_of, place_in, place_of, sitter_at, sitter_of, sitters_in}

@@ -2,8 +2,8 @@
 use Rattle.std.specs.Prelude.{◌≡◌, ◌<◌, ◌≤◌, ◌+◌, ℕ, zero, suc, List, [], ◌∷◌, ◌++◌, length, take, drop, slice_set, Option, None, Some, option_map, option_and_then}
 use Rattle.std.specs.List.{filter_map, slice_index_or}
 use Rattle.slab.specs.Slab.{Slab, get, slab_len}
-use Rattle.uvm_object.specs.declared.acts.Who.{Who}
-use Rattle.uvm_object.specs.declared.acts.Who.TheVariants.{Node, Sequence}
+use Rattle.uvm_acts.specs.declared.acts.Who.{Who}
+use Rattle.uvm_acts.specs.declared.acts.Who.TheVariants.{Node, Sequence}
 use Rattle.object_seats.specs.declared.sequence_seats.SequenceSeat.{SequenceSeat}
 
 -- the place of a number, from 1

@@ -1,7 +1,7 @@
 -- What contracts see of the seats of the objects of sequences.
 use Rattle.std.specs.Prelude.{◌≡◌, ◌<◌, ◌≤◌, ℕ, List, [], ◌∷◌, ◌++◌}
-use Rattle.uvm_object.specs.declared.acts.Who.{Who}
-use Rattle.uvm_object.specs.declared.acts.Who.TheVariants.{Node, Sequence}
+use Rattle.uvm_acts.specs.declared.acts.Who.{Who}
+use Rattle.uvm_acts.specs.declared.acts.Who.TheVariants.{Node, Sequence}
 
 -- who is held, each with the object, by rising number; how many were ever seated, and for how many more there is room
 pub record SequenceSeatsValue (O : Type 0) : Type 0 where

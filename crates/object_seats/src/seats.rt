@@ -3,7 +3,7 @@
 ghost use Rattle.std.specs.Prelude.{◌^◌, ◌≡◌, ◌≢◌, ◌<◌, ◌∷◌, [], All, Contains, length, OnOk, IfSome, IfNone};
 ghost use Rattle.std.specs.List.Sorted.{IsPermutation};
 ghost use Rattle.std.specs.Map.{keys_of};
-ghost use Rattle.uvm_object.specs.declared.acts.Who.TheVariants.{Node};
+ghost use Rattle.uvm_acts.specs.declared.acts.Who.TheVariants.{Node};
 ghost use Rattle.object_seats.specs.Asked.{IsAsked};
 ghost use Rattle.object_seats.specs.Seats.{IsTakenOut, held_in, paths_in};
 

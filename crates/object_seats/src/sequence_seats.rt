@@ -4,7 +4,7 @@ ghost use Rattle.std.specs.Prelude.{◌^◌, ◌≡◌, ◌<◌, ◌≤◌, ◌+
 ghost use Rattle.std.specs.List.{slice_index_or};
 ghost use Rattle.std.specs.List.Sorted.{IsPermutation};
 ghost use Rattle.std.specs.Map.{keys_of};
-ghost use Rattle.uvm_object.specs.declared.acts.Who.TheVariants.{Sequence};
+ghost use Rattle.uvm_acts.specs.declared.acts.Who.TheVariants.{Sequence};
 ghost use Rattle.object_seats.specs.Asked.{IsAsked};
 ghost use Rattle.object_seats.specs.SequenceSeats.{AreRisingWithin, IsWithout};
 ghost use Rattle.object_seats.specs.Numbered.{AreNumbered, IsLeft, key_of, place_of};

@@ -5,7 +5,7 @@ use Rattle.std.specs.Io.KnownBytes.{Keeps}
 use Rattle.toml.specs.Data.{Data, Members, get_member}
 use Rattle.rand_core.specs.Stream.{Stream}
 use Rattle.uvm_object.specs.Objects.{View}
-use Rattle.uvm_object.specs.declared.acts.Call.{Call}
+use Rattle.uvm_acts.specs.declared.acts.Call.{Call}
 use Rattle.bench_script.specs.Documents.{tree_of_bytes}
 use Rattle.script_values.specs.declared.faults.ScriptFault.{ScriptFault}
 use Rattle.bench_script.specs.Scripts.{ScriptValue}

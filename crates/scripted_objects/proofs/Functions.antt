@@ -3,7 +3,7 @@ use Rattle.std.proofs.Common.{◌≡◌, ℕ, refl, List, [], map, Option, Some,
 use Rattle.uvm_tlm.specs.declared.items.Item.{Item}
 use Rattle.uvm_lines.specs.Lines.{call_text}
 use Rattle.uvm_object.specs.Objects.{View}
-use Rattle.uvm_object.specs.declared.acts.Act.{Act}
+use Rattle.uvm_acts.specs.declared.acts.Act.{Act}
 use Rattle.answer_lines.specs.Replies.{act_with}
 use Rattle.scripted_objects.specs.Laws.{AnswersAreFunctions}
 use Rattle.answer_lines.specs.Keys.{item_in}

@@ -1,8 +1,8 @@
 -- What the definitions say, in other words.
 use Rattle.std.specs.Prelude.{◌≡◌, List}
 use Rattle.uvm_object.specs.Objects.{View}
-use Rattle.uvm_object.specs.declared.acts.Act.{Act}
-use Rattle.uvm_object.specs.declared.acts.Call.{Call}
+use Rattle.uvm_acts.specs.declared.acts.Act.{Act}
+use Rattle.uvm_acts.specs.declared.acts.Call.{Call}
 use Rattle.scripted_objects.specs.Rules.{RuleValue}
 use Rattle.scripted_objects.specs.Scripted.{ScriptedSays}
 use Rattle.scripted_objects.specs.Answers.{TypeValue}

@@ -4,8 +4,8 @@ use Rattle.std.specs.List.{slice_set}
 use Rattle.uvm_tlm.specs.declared.items.Item.{Item}
 use Rattle.uvm_lines.specs.Lines.{call_text}
 use Rattle.uvm_object.specs.Objects.{View}
-use Rattle.uvm_object.specs.declared.acts.Act.{Act}
-use Rattle.uvm_object.specs.declared.acts.Call.{Call}
+use Rattle.uvm_acts.specs.declared.acts.Act.{Act}
+use Rattle.uvm_acts.specs.declared.acts.Call.{Call}
 use Rattle.answer_lines.specs.Replies.{act_with}
 use Rattle.answer_lines.specs.Keys.{item_in}
 use Rattle.scripted_objects.specs.Rules.{RuleValue, answers_to}

@@ -1,18 +1,18 @@
 -- Who performs acts.
 use Rattle.std.specs.Prelude.{ℕ, Bool, true, false, List, [], ◌∷◌}
-use Rattle.uvm_object.specs.declared.acts.Act.{Act}
-use Rattle.uvm_object.specs.declared.acts.Act.TheVariants.{Ask, ItemDone, Start, Request, Lock, Grab, Unlock, Send, EndStep}
-use Rattle.uvm_object.specs.declared.acts.Deeds.{Deeds}
-use Rattle.uvm_object.specs.declared.acts.Deeds.TheVariants.{None, One, Many}
-use Rattle.uvm_object.specs.declared.acts.Who.{Who}
-use Rattle.uvm_object.specs.declared.acts.Who.TheVariants.{Node, Sequence}
+use Rattle.uvm_acts.specs.declared.acts.Act.{Act}
+use Rattle.uvm_acts.specs.declared.acts.Act.TheVariants.{Ask, ItemDone, Start, Request, Lock, Grab, Unlock, Send, EndStep}
+use Rattle.uvm_acts.specs.declared.deeds.Deeds.{Deeds}
+use Rattle.uvm_acts.specs.declared.deeds.Deeds.TheVariants.{None, One, Many}
+use Rattle.uvm_acts.specs.declared.acts.Who.{Who}
+use Rattle.uvm_acts.specs.declared.acts.Who.TheVariants.{Node, Sequence}
 
 -- the node at which somebody stands: a sequence at its home
 abbrev pub node_of : Who → ℕ
 node_of (Node node) = node
 node_of (Sequence id home) = home
 
--- the acts of an answer, as they are kept
+-- the acts of an answer, as they are held
 abbrev pub acts_of : Deeds → List Act
 acts_of None = []
 acts_of (One deed) = deed ∷ []

@@ -2,8 +2,8 @@
 use Rattle.std.specs.Prelude.{ℕ, List, Option}
 use Rattle.uvm_glob.specs.Paths.{names_of}
 use Rattle.uvm_report.specs.declared.severities.Severity.{Severity}
-use Rattle.uvm_object.specs.declared.acts.Act.{Act}
-use Rattle.uvm_object.specs.declared.acts.Act.TheVariants.{Connect, Report, Start}
+use Rattle.uvm_acts.specs.declared.acts.Act.{Act}
+use Rattle.uvm_acts.specs.declared.acts.Act.TheVariants.{Connect, Report, Start}
 
 -- to connect two ends, by the texts of their paths
 abbrev pub connecting : List ℕ → List ℕ → Act

@@ -1,7 +1,7 @@
 -- How an act is copied.
 use Rattle.std.specs.Prelude.{Bool, true, false}
-use Rattle.uvm_object.specs.declared.acts.Act.{Act}
-use Rattle.uvm_object.specs.declared.acts.Act.TheVariants.{Set, OverrideInst, Connect, Start, Report}
+use Rattle.uvm_acts.specs.declared.acts.Act.{Act}
+use Rattle.uvm_acts.specs.declared.acts.Act.TheVariants.{Set, OverrideInst, Connect, Start, Report}
 
 -- a copy of it takes memory
 abbrev pub holds_memory : Act → Bool

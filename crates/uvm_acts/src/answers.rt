@@ -4,9 +4,10 @@ ghost use Rattle.std.specs.Prelude.{◌≡◌, ◌++◌, ◌∷◌, [], IsTrue, 
 ghost use Rattle.uvm_glob.specs.Names.{is_name};
 ghost use Rattle.uvm_glob.specs.Globs.{is_glob};
 ghost use Rattle.uvm_glob.specs.Paths.{is_path};
-ghost use Rattle.uvm_object.specs.Answers.{connecting, reporting, starting};
+ghost use Rattle.uvm_acts.specs.Answers.{connecting, reporting, starting};
 
-use crate::acts::{Act, Acts, What};
+use crate::acts::{Act, What};
+use crate::deeds::Acts;
 use std::alloc::AllocError;
 use uvm_glob::{Glob, Name, Path};
 use uvm_report::{Report, Severity, Text, verbosity};

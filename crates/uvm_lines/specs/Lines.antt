@@ -19,14 +19,14 @@ use Rattle.uvm_tlm.specs.declared.fifos.MoveKind.{MoveKind}
 use Rattle.uvm_tlm.specs.declared.fifos.MoveKind.TheVariants as move
 use Rattle.uvm_tlm.specs.declared.items.Item.{Item}
 use Rattle.uvm_tree.specs.Nodes.{Node, path_at}
-use Rattle.uvm_object.specs.declared.acts.Who.{Who}
-use Rattle.uvm_object.specs.declared.acts.Who.TheVariants as who
-use Rattle.uvm_object.specs.declared.acts.Call.{Call}
-use Rattle.uvm_object.specs.declared.acts.Call.TheVariants as call
-use Rattle.uvm_object.specs.declared.acts.What.{What}
-use Rattle.uvm_object.specs.declared.acts.What.TheVariants as what
-use Rattle.uvm_object.specs.declared.acts.Act.{Act}
-use Rattle.uvm_object.specs.declared.acts.Act.TheVariants as act
+use Rattle.uvm_acts.specs.declared.acts.Who.{Who}
+use Rattle.uvm_acts.specs.declared.acts.Who.TheVariants as who
+use Rattle.uvm_acts.specs.declared.acts.Call.{Call}
+use Rattle.uvm_acts.specs.declared.acts.Call.TheVariants as call
+use Rattle.uvm_acts.specs.declared.acts.What.{What}
+use Rattle.uvm_acts.specs.declared.acts.What.TheVariants as what
+use Rattle.uvm_acts.specs.declared.acts.Act.{Act}
+use Rattle.uvm_acts.specs.declared.acts.Act.TheVariants as act
 use Rattle.uvm_object.specs.declared.entries.Outcome.{Outcome}
 use Rattle.uvm_object.specs.declared.entries.Outcome.TheVariants as outcome
 use Rattle.uvm_object.specs.declared.entries.Reason.{Reason}

@@ -2,7 +2,7 @@
 
 ghost use Rattle.std.specs.Prelude.{◌≡◌, ◌++◌, ◌∷◌, IfOk, OnOk};
 ghost use Rattle.std.specs.Fmt.{decimal};
-ghost use Rattle.uvm_object.specs.declared.acts.Act.TheVariants as act;
+ghost use Rattle.uvm_acts.specs.declared.acts.Act.TheVariants as act;
 ghost use Rattle.uvm_lines.specs.Lines.{act_text, actions_text, id_text, what_text, which_text};
 
 use crate::item_lines::{kind_text, push_named, push_named_item};

@@ -3,7 +3,7 @@
 ghost use Rattle.std.specs.Prelude.{◌≡◌, ◌++◌, ◌∷◌, [], IfOk, OnOk, OnErr};
 ghost use Rattle.std.specs.Fmt.{decimal, signed_decimal};
 ghost use Rattle.uvm_object.specs.declared.entries.Entry.TheVariants.{Passed};
-ghost use Rattle.uvm_object.specs.declared.acts.Call.TheVariants as call;
+ghost use Rattle.uvm_acts.specs.declared.acts.Call.TheVariants as call;
 ghost use Rattle.uvm_lines.specs.Lines.{entry_line, entry_text, who_text, call_text, value_text, outcome_text, reason_text};
 
 use crate::act_lines::push_act;
@@ -75,12 +75,12 @@ fn push_entry(
             ..
         } => {
             push_doer(b"heard ", who, tree, sequences, line)?;
-            push_call(call.get(), line)?;
+            push_call(&call.get(), line)?;
             push_ticks(b": ", acts.get().len() as u64, line)
         }
         Entry::Did { who, outcome, act } => {
             push_doer(b"did ", who, tree, sequences, line)?;
-            push_act(act.act(), line)?;
+            push_act(act.act().get(), line)?;
             line.extend_from_slice(b": ")?;
             push_outcome(&outcome.get(), line)
         }

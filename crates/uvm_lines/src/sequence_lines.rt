@@ -1,10 +1,10 @@
 //! The lines of sequences, of their acts and of those of their driver.
 
 ghost use Rattle.std.specs.Prelude.{◌≡◌, ◌++◌, ◌∷◌, true, OnOk};
-ghost use Rattle.uvm_object.specs.declared.acts.Act.TheVariants as act;
-ghost use Rattle.uvm_object.specs.declared.acts.Call.TheVariants as call;
+ghost use Rattle.uvm_acts.specs.declared.acts.Act.TheVariants as act;
+ghost use Rattle.uvm_acts.specs.declared.acts.Call.TheVariants as call;
 ghost use Rattle.uvm_object.specs.declared.entries.Entry.TheVariants.{Granted, Locked};
-ghost use Rattle.uvm_object.specs.Acts.{is_sequencing};
+ghost use Rattle.uvm_acts.specs.Acts.{is_sequencing};
 ghost use Rattle.uvm_lines.specs.Lines.{act_text, call_text, drawn_text, entry_text, how_text, mode_text, priority_text, who_text};
 
 use crate::item_lines::{push_item, push_named, push_some_item};

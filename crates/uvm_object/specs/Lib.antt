@@ -1,7 +1,5 @@
-pub mod Acts
-pub mod Answers
-pub mod Copies
 pub mod Fatals
 pub mod Logs
 pub mod Objects
+pub mod Origins
 pub mod Outcomes

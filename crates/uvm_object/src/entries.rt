@@ -4,11 +4,10 @@ ghost use Rattle.std.specs.Prelude.{◌≡◌, IfOk, IsOk, None};
 ghost use Rattle.uvm_object.specs.declared.entries.Outcome.TheVariants.{Done, Made, Started, Value, Stored, Taken, Waits, Finished, Refused};
 ghost use Rattle.uvm_object.specs.declared.entries.Entry.TheVariants.{Heard};
 
-use crate::acts::{Acts, Call, Deed, Who};
 use crate::fatals::Fatal;
 use std::alloc::{AllocError, Global};
 use std::marker::Model;
-use std::rc::Rc;
+use uvm_acts::{Acts, Call, Deed, HeldCall, Who};
 use uvm_glob::Name;
 use uvm_phase::{Cause, Phase};
 use uvm_sequences::SeqId;
@@ -63,74 +62,87 @@ pub struct Origin {
     pub phase: Phase,
 }
 
-// What an entry of a call holds beside who was called.
+// An origin of two words: that of a call which is not the first of its entry stands behind a pointer.
 #[derive(Drop)]
-struct Exchange {
-    call: Call,
-    origin: Option<Origin>,
-    acts: Acts,
-}
-
-/// The call of an entry. Contracts see the call.
-#[derive(Drop)]
-pub struct LoggedCall {
-    exchange: Rc<Exchange>,
-}
-
-impl Model for LoggedCall {
-    ghost use Rattle.uvm_object.specs.declared.acts.Call.{Call};
-
-    ghost Value = { Call };
-
-    ghost view = { λ l. l.exchange.value.call };
-}
-
-impl LoggedCall {
-    /// The call.
-    pub fn get(&self) -> &Call
-        ensures { result.now ≡ self.now }
-    {
-        &self.exchange.call
-    }
+enum CompactOrigin {
+    /// None, of a phase's call.
+    None,
+    /// The first call that an entry made due.
+    First {
+        /// The phase to which it belongs.
+        phase: Phase,
+        /// The place of the entry.
+        place: u64,
+    },
+    /// Any origin.
+    Boxed(Box<Origin>),
 }
 
 /// The origin of the call of an entry: why it was due, and in which phase. Contracts see the origin.
 #[derive(Drop)]
 pub struct LoggedOrigin {
-    exchange: Rc<Exchange>,
+    compact: CompactOrigin,
 }
 
 impl Model for LoggedOrigin {
     ghost use Rattle.std.specs.Prelude.{Option};
     ghost use Rattle.uvm_object.specs.declared.entries.Origin.{Origin};
+    ghost use Rattle.uvm_object.specs.Origins.{held_origin};
 
     ghost Value = { Option Origin };
 
-    ghost view = { λ l. l.exchange.value.origin };
+    ghost view = { λ l. held_origin l.compact };
 }
 
 impl LoggedOrigin {
+    // An origin, to be logged. The error is want of memory.
+    fn new(alloc: Global, origin: Option<Origin>) -> Result<LoggedOrigin, AllocError>
+        ensures { IfOk result (λ logged. logged ≡ origin) }
+    {
+        let compact = match origin {
+            None => CompactOrigin::None,
+            Some(
+                Origin {
+                    cause: Cause { place, number: 0 },
+                    phase,
+                },
+            ) => CompactOrigin::First { phase, place },
+            Some(origin) => CompactOrigin::Boxed(Box::new(alloc, origin)?),
+        };
+        Ok(LoggedOrigin { compact })
+    }
+
     /// The origin, which a phase's call has not.
     pub fn get(&self) -> Option<Origin>
         ensures { result ≡ self.now }
     {
-        self.exchange.origin
+        match &self.compact {
+            CompactOrigin::None => None,
+            CompactOrigin::First { phase, place } => Some(Origin {
+                cause: Cause {
+                    place: *place,
+                    number: 0,
+                },
+                phase: *phase,
+            }),
+            CompactOrigin::Boxed(origin) => Some(**origin),
+        }
     }
 }
 
 /// The acts of the answer of an entry. Contracts see the list of them.
 #[derive(Drop)]
 pub struct LoggedActs {
-    exchange: Rc<Exchange>,
+    acts: Acts,
 }
 
 impl Model for LoggedActs {
     ghost use Rattle.std.specs.Prelude.{List};
-    ghost use Rattle.uvm_object.specs.declared.acts.Act.{Act};
+    ghost use Rattle.uvm_acts.specs.declared.acts.Act.{Act};
 
     ghost Value = { List Act };
 
-    ghost view = { λ l. l.exchange.value.acts };
+    ghost view = { λ l. l.acts };
 }
 
 impl LoggedActs {
@@ -138,7 +150,7 @@ impl LoggedActs {
     pub fn get(&self) -> &Acts
         ensures { result.now ≡ self.now }
     {
-        &self.exchange.acts
+        &self.acts
     }
 }
 
@@ -396,7 +408,7 @@ pub enum Entry {
         /// Who was called.
         who: Who,
         /// The call.
-        call: LoggedCall,
+        call: HeldCall,
         /// Why it was due, and in which phase.
         origin: LoggedOrigin,
         /// The answer.
@@ -451,7 +463,8 @@ pub enum Entry {
 }
 
 impl Entry {
-    /// The entry of a call that was answered. It takes memory for the call and its answer; the error is want of it.
+    /// The entry of a call that was answered. It takes memory for a call with a name or an item, and for an origin that is not the first call of
+    /// its entry; the error is want of it.
     pub fn heard(
         alloc: Global,
         who: Who,
@@ -461,16 +474,11 @@ impl Entry {
     ) -> Result<Entry, AllocError>
         ensures { IfOk result (λ entry. entry ≡ Heard who call origin acts) }
     {
-        let exchange = Rc::new(alloc, Exchange { call, origin, acts })?;
         Ok(Entry::Heard {
             who,
-            call: LoggedCall {
-                exchange: exchange.clone()?,
-            },
-            origin: LoggedOrigin {
-                exchange: exchange.clone()?,
-            },
-            acts: LoggedActs { exchange },
+            call: HeldCall::new(alloc, call)?,
+            origin: LoggedOrigin::new(alloc, origin)?,
+            acts: LoggedActs { acts },
         })
     }
 }

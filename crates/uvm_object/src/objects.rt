@@ -1,12 +1,12 @@
 //! The objects of a testbench.
 
 ghost use Rattle.std.specs.Prelude.{◌≡◌, ℕ, List, IfOk};
-ghost use Rattle.uvm_object.specs.declared.acts.Call.{Call};
-ghost use Rattle.uvm_object.specs.declared.acts.Act.{Act};
+ghost use Rattle.uvm_acts.specs.declared.acts.Call.{Call};
+ghost use Rattle.uvm_acts.specs.declared.acts.Act.{Act};
 ghost use Rattle.uvm_object.specs.Objects.{SameSays};
 
-use crate::acts::{Acts, Call};
 use std::alloc::{AllocError, Global};
+use uvm_acts::{Acts, Call};
 use uvm_glob::Name;
 
 /// An object of a testbench: a component (IEEE 1800.2-2020, Clause 13), or a sequence (Clause 14). It hears a call and answers

@@ -3,8 +3,8 @@ use Rattle.std.specs.Prelude.{ℕ, List, [], ◌∷◌, ◌++◌, codes}
 use Rattle.uvm_glob.specs.Paths.{path_text}
 use Rattle.uvm_sequences.specs.Sequences.{Start, names_of}
 use Rattle.uvm_tree.specs.Nodes.{Node, path_at}
-use Rattle.uvm_object.specs.declared.acts.Who.{Who}
-use Rattle.uvm_object.specs.declared.acts.Who.TheVariants as who
+use Rattle.uvm_acts.specs.declared.acts.Who.{Who}
+use Rattle.uvm_acts.specs.declared.acts.Who.TheVariants as who
 
 -- a path as it is printed: the top's own is `uvm_top`
 abbrev pub shown_path : List (List ℕ) → List ℕ

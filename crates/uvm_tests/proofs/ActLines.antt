@@ -6,9 +6,9 @@ use Rattle.uvm_report.specs.declared.severities.Severity.TheVariants as severity
 use Rattle.uvm_report.specs.declared.settings.Which.TheVariants as which
 use Rattle.uvm_sequencer.specs.declared.modes.Mode.TheVariants as mode
 use Rattle.uvm_tlm.specs.declared.ends.PortKind.TheVariants as kind
-use Rattle.uvm_object.specs.declared.acts.Act.TheVariants as act
-use Rattle.uvm_object.specs.declared.acts.What.TheVariants as what
-use Rattle.uvm_object.specs.declared.acts.Who.TheVariants as who
+use Rattle.uvm_acts.specs.declared.acts.Act.TheVariants as act
+use Rattle.uvm_acts.specs.declared.acts.What.TheVariants as what
+use Rattle.uvm_acts.specs.declared.acts.Who.TheVariants as who
 use Rattle.uvm_object.specs.declared.entries.Entry.TheVariants.{Did}
 use Rattle.uvm_object.specs.declared.entries.Outcome.TheVariants as outcome
 use Rattle.uvm_object.specs.declared.fatals.Fatal.TheVariants.{InvalidType}

@@ -5,9 +5,9 @@ use Rattle.std.specs.Fmt.{digits}
 use Rattle.uvm_phase.specs.declared.phases.Phase.TheVariants as phase
 use Rattle.uvm_tlm.specs.declared.fifos.MoveKind.{MoveKind}
 use Rattle.uvm_tlm.specs.declared.fifos.MoveKind.TheVariants as move
-use Rattle.uvm_object.specs.declared.acts.Who.TheVariants as who
-use Rattle.uvm_object.specs.declared.acts.Act.TheVariants as act
-use Rattle.uvm_object.specs.declared.acts.Call.TheVariants as call
+use Rattle.uvm_acts.specs.declared.acts.Who.TheVariants as who
+use Rattle.uvm_acts.specs.declared.acts.Act.TheVariants as act
+use Rattle.uvm_acts.specs.declared.acts.Call.TheVariants as call
 use Rattle.uvm_object.specs.declared.entries.Entry.TheVariants as entry
 use Rattle.uvm_object.specs.declared.entries.Reason.TheVariants.{NoTest, Exit, Finished}
 use Rattle.uvm_object.specs.declared.fatals.Fatal.TheVariants.{TooManyActs}

@@ -4,7 +4,7 @@ use Rattle.std.specs.Prelude.{codes, pos, negsuc, true, false}
 use Rattle.std.specs.Fmt.{digits}
 use Rattle.uvm_sequencer.specs.declared.drivers.How.TheVariants as how
 use Rattle.uvm_tlm.specs.declared.items.Item.{Item}
-use Rattle.uvm_object.specs.declared.acts.Act.TheVariants as act
+use Rattle.uvm_acts.specs.declared.acts.Act.TheVariants as act
 use Rattle.uvm_object.specs.declared.entries.Outcome.TheVariants as outcome
 use Rattle.uvm_tests.proofs.Shown.{did, done}
 

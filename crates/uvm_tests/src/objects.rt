@@ -5,10 +5,10 @@ mod lines;
 use std::alloc::{AllocError, Global};
 use std::mem::size_of;
 use std::test::Fail;
-use uvm_glob::Name;
+use uvm_glob::{Name, Path};
 use uvm_object::{
-    Act, Acts, Call, Deed, Entry, Fatal, Grant, Log, LogFault, LoggedGrant, LoggedOutcome,
-    LoggedPassage, Origin, Outcome, Passage, Who,
+    Act, Acts, Call, Deed, Entry, Fatal, Grant, HeldCall, LentAct, Log, LogFault, LoggedGrant,
+    LoggedOutcome, LoggedPassage, Origin, Outcome, Passage, Who,
 };
 use uvm_phase::{Cause, Phase};
 use uvm_report::{Report, Severity};
@@ -26,11 +26,15 @@ fn override_type(name: Name, replace: bool) -> Act {
     }
 }
 
-fn is_replaced(act: Option<&Act>) -> Option<bool> {
-    match act {
-        Some(Act::OverrideType { replace, .. }) => Some(*replace),
+fn is_replaced(act: &LentAct<'_>) -> Option<bool> {
+    match act.get() {
+        Act::OverrideType { replace, .. } => Some(*replace),
         _ => None,
     }
+}
+
+fn replaced_at(acts: &Acts, place: usize) -> Option<bool> {
+    is_replaced(&acts.get(place)?)
 }
 
 // Overrides of a type, of which the first replaces and the others are copies of one that does not.
@@ -59,15 +63,15 @@ fn stand_in_order(acts: &mut Acts, name: Name) -> Result<bool, AllocError> {
 }
 
 fn are_told(acts: &Acts) -> bool {
-    is_replaced(acts.get(0)) == Some(true)
-        && is_replaced(acts.get(1)) == Some(false)
+    replaced_at(acts, 0) == Some(true)
+        && replaced_at(acts, 1) == Some(false)
         && acts.get(3).is_none()
 }
 
 fn are_gone_over(acts: &Acts) -> bool {
     let mut seen = [None; 3];
     for (slot, act) in seen.iter_mut().zip(acts) {
-        *slot = is_replaced(Some(act));
+        *slot = is_replaced(&act);
     }
     acts.iter().len() == 3 && seen == [Some(true), Some(false), Some(false)]
 }
@@ -81,7 +85,70 @@ fn an_act_is_shared(rt: HostRuntime) -> Result<(), Fail> {
 
 fn is_shared(deed: &Deed) -> Result<bool, AllocError> {
     let shared = deed.share()?;
-    Ok(is_replaced(Some(deed.act())) == Some(true) && is_replaced(Some(shared.act())) == Some(true))
+    Ok(is_replaced(&deed.act()) == Some(true) && is_replaced(&shared.act()) == Some(true))
+}
+
+// An act through a port of a short name, one of a longer name, and the start of a child.
+#[test]
+fn an_act_is_as_it_was_given(rt: HostRuntime) -> Result<(), Fail> {
+    assert!(rt; is_put(rt.alloc(), Name::new(b"out")?)?);
+    assert!(rt; is_put(rt.alloc(), Name::new(b"a_port_of_a_long_name")?)?);
+    assert!(rt; is_start(rt.alloc(), Name::new(b"seq_pair")?)?);
+    Ok(())
+}
+
+fn is_put(alloc: Global, port: Name) -> Result<bool, AllocError> {
+    let deed = Deed::new(alloc, Act::Put { port, item: ITEM })?;
+    Ok(match deed.act().get() {
+        Act::Put {
+            port: through,
+            item,
+        } => *through == port && *item == ITEM,
+        _ => false,
+    })
+}
+
+fn is_start(alloc: Global, type_name: Name) -> Result<bool, AllocError> {
+    let act = Act::Start {
+        type_name,
+        name: type_name,
+        on: Path::top(alloc),
+        priority: Some(7),
+    };
+    let deed = Deed::new(alloc, act)?;
+    Ok(match deed.act().get() {
+        Act::Start {
+            type_name: started,
+            name,
+            on,
+            priority: Some(7),
+        } => *started == type_name && *name == type_name && on.depth() == 0,
+        _ => false,
+    })
+}
+
+#[test]
+fn a_call_is_as_it_was_given(rt: HostRuntime) -> Result<(), Fail> {
+    let port = Name::new(b"in")?;
+    let item = Some(ITEM);
+    assert!(rt; is_held(rt.alloc(), Call::Wake { tag: 3 })?);
+    assert!(rt; is_held(rt.alloc(), Call::ItemDone { response: item })?);
+    assert!(rt; is_held(rt.alloc(), Call::NextItem { port, item })?);
+    assert!(rt;
+        is_held(
+            rt.alloc(),
+            Call::Config {
+                field: port,
+                value: Some(-1)
+            }
+        )?
+    );
+    Ok(())
+}
+
+fn is_held(alloc: Global, call: Call) -> Result<bool, AllocError> {
+    let held = HeldCall::new(alloc, call)?;
+    Ok(held.get() == call)
 }
 
 fn ended(entry: Option<&Entry>) -> Option<Phase> {
@@ -171,7 +238,7 @@ fn holds(entry: &Entry, call: &Call, origin: Origin, count: usize) -> bool {
             origin: why,
             acts,
             ..
-        } => *asked.get() == *call && why.get() == Some(origin) && acts.get().len() == count,
+        } => asked.get() == *call && why.get() == Some(origin) && acts.get().len() == count,
         _ => false,
     }
 }
@@ -268,5 +335,5 @@ fn somebody_stands_at_a_node(rt: HostRuntime) {
 #[test]
 fn entries_are_small(rt: HostRuntime) {
     let size = size_of::<Entry>();
-    assert!(rt; size <= 56, "{size} bytes");
+    assert!(rt; size <= 88, "{size} bytes");
 }

@@ -17,13 +17,13 @@ use Rattle.bench_history.specs.Objections.{with_new}
 use Rattle.uvm_objection.specs.Nodes.{Node, is_known, drain_of, held_of, due_of, changed_at, new_node, raised, dropped, released, with_drain}
 use Rattle.uvm_objection.specs.Totals.{total, settled, held_after, drains_begun, drains_ended}
 use Rattle.uvm_objection.specs.Laws.{places, AreNodes, PlacesStay, SettledGoByTotals, IsHeldUntilDue}
-use Rattle.uvm_object.specs.declared.acts.Who.{Who}
-use Rattle.uvm_object.specs.declared.acts.Call.{Call}
+use Rattle.uvm_acts.specs.declared.acts.Who.{Who}
+use Rattle.uvm_acts.specs.declared.acts.Call.{Call}
 use Rattle.uvm_object.specs.declared.entries.Entry.{Entry}
 use Rattle.uvm_object.specs.declared.entries.Origin.{Origin}
 use Rattle.bench_history.specs.declared.owners.Owner.{Owner}
 use Rattle.bench_history.specs.declared.owners.Owner.TheVariants.{Object, Drain}
-use Rattle.uvm_object.specs.Acts.{node_of}
+use Rattle.uvm_acts.specs.Acts.{node_of}
 use Rattle.bench_history.specs.Owners.{Event, is_drain_of, who_of}
 use Rattle.bench_history.specs.History.{now_of}
 use Rattle.bench_history.specs.Dues.{event_in, caused_at, drain_from, with_drains, is_of_one, is_open, due_events}

@@ -11,9 +11,9 @@ use Rattle.uvm_phase.specs.declared.agendas.Cause.{Cause}
 use Rattle.uvm_phase.specs.Phases.{same_phase}
 use Rattle.uvm_phase.specs.Dues.{same_cause, in_order}
 use Rattle.uvm_phase.specs.Laws.{OrderKeepsAll, OrderKeepsFilters, OrderLosesFirst}
-use Rattle.uvm_object.specs.declared.acts.Call.{Call}
-use Rattle.uvm_object.specs.declared.acts.Who.{Who}
-use Rattle.uvm_object.specs.declared.acts.Who.TheVariants.{Node, Sequence}
+use Rattle.uvm_acts.specs.declared.acts.Call.{Call}
+use Rattle.uvm_acts.specs.declared.acts.Who.{Who}
+use Rattle.uvm_acts.specs.declared.acts.Who.TheVariants.{Node, Sequence}
 use Rattle.uvm_object.specs.Objects.{same_who}
 use Rattle.bench_history.specs.declared.owners.Owner.{Owner}
 use Rattle.bench_history.specs.declared.owners.Owner.TheVariants.{Object, Drain}

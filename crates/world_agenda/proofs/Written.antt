@@ -9,8 +9,8 @@ use Rattle.uvm_phase.specs.declared.agendas.Cause.{Cause}
 use Rattle.uvm_phase.specs.Phases.{same_phase}
 use Rattle.uvm_phase.specs.Dues.{in_order, same_cause}
 use Rattle.uvm_tlm.specs.declared.items.Item.{Item}
-use Rattle.uvm_object.specs.declared.acts.Call.{Call}
-use Rattle.uvm_object.specs.declared.acts.Who.{Who}
+use Rattle.uvm_acts.specs.declared.acts.Call.{Call}
+use Rattle.uvm_acts.specs.declared.acts.Who.{Who}
 use Rattle.uvm_tree.specs.Nodes.{under_at}
 use Rattle.bench_history.specs.declared.owners.Owner.TheVariants.{Object}
 use Rattle.bench_history.specs.declared.owners.Told.{Told}
@@ -23,8 +23,8 @@ use Rattle.world_agenda.specs.Agendas.{IsAgenda}
 use Rattle.world_agenda.proofs.Drained.{events-told}
 use Rattle.world_agenda.proofs.Told.{fresh}
 use Rattle.uvm_objection.specs.Nodes as objection
-use Rattle.uvm_object.specs.declared.acts.Who.TheVariants as who
-use Rattle.uvm_object.specs.declared.acts.Call.TheVariants as call
+use Rattle.uvm_acts.specs.declared.acts.Who.TheVariants as who
+use Rattle.uvm_acts.specs.declared.acts.Call.TheVariants as call
 use Rattle.uvm_tree.specs.Nodes as tree
 
 -- one more call is due

@@ -5,7 +5,7 @@ use Rattle.uvm_phase.specs.Phases.{is_task}
 use Rattle.uvm_objection.specs.Nodes.{is_known}
 use Rattle.uvm_objection.specs.Totals.{total}
 use Rattle.uvm_objection.specs.Laws.{AreNodes, IsHeldUntilDue}
-use Rattle.uvm_object.specs.declared.acts.Call.{Call}
+use Rattle.uvm_acts.specs.declared.acts.Call.{Call}
 use Rattle.bench_history.specs.declared.owners.Owner.{Owner}
 use Rattle.bench_history.specs.declared.owners.Owner.TheVariants.{Object, Drain}
 use Rattle.bench_history.specs.Owners.{Event}

@@ -1,13 +1,13 @@
 -- Who is told of what is due.
 use Rattle.std.specs.Prelude.{ℕ, suc, Bool, true, is_some, List, [], ◌∷◌, ◌++◌, Option, Some, if◌then◌else◌}
-use Rattle.uvm_object.specs.declared.acts.Who.{Who}
+use Rattle.uvm_acts.specs.declared.acts.Who.{Who}
 use Rattle.bench_history.specs.declared.owners.Owner.TheVariants.{Object}
 use Rattle.bench_history.specs.declared.owners.Told.{Told}
 use Rattle.bench_history.specs.Dues.{event_in}
 use Rattle.bench_history.specs.Owners.{Event}
 use Rattle.uvm_sequences.specs.declared.starts.SeqStep.{SeqStep}
 use Rattle.uvm_sequences.specs.Sequences.{step_at}
-use Rattle.uvm_object.specs.declared.acts.Who.TheVariants as who
+use Rattle.uvm_acts.specs.declared.acts.Who.TheVariants as who
 
 -- calls are due, numbered in their order, but for those of sequences that live no longer
 abbrev pub if_told : Bool → List Event → List Event

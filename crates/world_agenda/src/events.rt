@@ -5,7 +5,7 @@ ghost use Rattle.std.specs.Option.{option_to_list};
 ghost use Rattle.uvm_phase.specs.Dues.{in_order};
 ghost use Rattle.bench_history.specs.Dues.{caused_at, is_of_one, event_in, calls_numbered};
 ghost use Rattle.bench_history.specs.Owners.{Event, is_drain_of};
-ghost use Rattle.uvm_object.specs.declared.acts.Act.TheVariants.{EndStep};
+ghost use Rattle.uvm_acts.specs.declared.acts.Act.TheVariants.{EndStep};
 ghost use Rattle.bench_history.specs.Refusals.{is_open_to};
 ghost use Rattle.uvm_phase.specs.declared.agendas.Due.{Due};
 ghost use Rattle.world_agenda.specs.Tellings.{if_told, living_numbered, is_told};

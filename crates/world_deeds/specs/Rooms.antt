@@ -1,7 +1,7 @@
 -- Room for the entry of an act that needs an object.
 use Rattle.std.specs.Prelude.{◌≡◌, ◌<◌, ℕ, List, Some, IsSome, IsTrue, vec_len, vec_capacity}
 use Rattle.uvm_tree.specs.Nodes.{node_at}
-use Rattle.uvm_object.specs.Acts.{node_of}
+use Rattle.uvm_acts.specs.Acts.{node_of}
 use Rattle.uvm_object.specs.Logs.{LogValue}
 use Rattle.uvm_report.specs.Observed.{has_room}
 use Rattle.uvm_phase.specs.declared.phases.Phase.{Phase}

@@ -2,7 +2,7 @@
 
 ghost use Rattle.std.specs.Prelude.{◌≡◌, ◌<◌, length, OnErr, IfOk, Some, slice_get};
 ghost use Rattle.std.specs.Option.{option_copied};
-ghost use Rattle.uvm_object.specs.declared.acts.Act.{Act};
+ghost use Rattle.uvm_acts.specs.declared.acts.Act.{Act};
 ghost use Rattle.bench_history.specs.Sequences.{leaving_after};
 ghost use Rattle.world_services.specs.Attempts.{CanPerform};
 ghost use Rattle.world_services.specs.Services.{acts_at};
@@ -40,7 +40,8 @@ pub fn carry_out(
     ensures limit { log.new.limit ≡ log.old.limit }
 {
     let performer = services.answer.speaker;
-    match perform(services, alloc, log.len(), deed.act())? {
+    let attempt = perform(services, alloc, log.len(), deed.act().get())?;
+    match attempt {
         Attempt::Became(outcome) => {
             let leaving = leaving_after(alloc, performer, &outcome)?;
             enter(log, &mut services.answer, outcome, deed)?;

@@ -1,8 +1,8 @@
 //! Answers.
 
 ghost use Rattle.std.specs.Prelude.{◌≡◌, List, false, length, Some, None, IfSome};
-ghost use Rattle.uvm_object.specs.declared.acts.Act.{Act};
-ghost use Rattle.uvm_object.specs.declared.acts.Call as calls;
+ghost use Rattle.uvm_acts.specs.declared.acts.Act.{Act};
+ghost use Rattle.uvm_acts.specs.declared.acts.Call as calls;
 ghost use Rattle.uvm_object.specs.declared.entries.Entry.TheVariants.{Heard};
 ghost use Rattle.bench_history.specs.Cases.{Answer};
 ghost use Rattle.bench_history.specs.History.{phase_heard};

@@ -11,9 +11,9 @@ use Rattle.uvm_tlm.specs.declared.items.Item.{Item}
 use Rattle.uvm_tlm.specs.Fifos.{can_take}
 use Rattle.uvm_tlm.specs.Wirings.{IsWiring, WiringValue}
 use Rattle.uvm_object.specs.declared.fatals.Fatal.{Fatal}
-use Rattle.uvm_object.specs.declared.acts.Who.{Who}
-use Rattle.uvm_object.specs.declared.acts.Act.{Act}
-use Rattle.uvm_object.specs.declared.acts.Act.TheVariants.{Put, TryPut, Take, TryTake, Peek}
+use Rattle.uvm_acts.specs.declared.acts.Who.{Who}
+use Rattle.uvm_acts.specs.declared.acts.Act.{Act}
+use Rattle.uvm_acts.specs.declared.acts.Act.TheVariants.{Put, TryPut, Take, TryTake, Peek}
 use Rattle.uvm_object.specs.declared.entries.Outcome.TheVariants.{Done, Stored, Taken}
 use Rattle.uvm_object.specs.declared.entries.Entry.{Entry}
 use Rattle.uvm_object.specs.declared.entries.Entry.TheVariants.{Did}

@@ -14,8 +14,8 @@ use Rattle.uvm_tlm.specs.Ends.{accepts, same_kind}
 use Rattle.uvm_tlm.specs.Fifos.{can_put, has_room}
 use Rattle.uvm_tlm.specs.Laws.{TargetsAcceptTheKind, accepts_at}
 use Rattle.uvm_tlm.specs.Wirings.{IsWiring, WiringValue, end_at, is_target_at, kind_at, reaches, targets_in, targets_of, wire_fault}
-use Rattle.uvm_object.specs.declared.acts.Act.{Act}
-use Rattle.uvm_object.specs.declared.acts.Act.TheVariants.{Write}
+use Rattle.uvm_acts.specs.declared.acts.Act.{Act}
+use Rattle.uvm_acts.specs.declared.acts.Act.TheVariants.{Write}
 use Rattle.uvm_object.specs.declared.entries.Outcome.TheVariants.{Done}
 use Rattle.uvm_object.specs.declared.entries.Passage.{Passage}
 use Rattle.uvm_object.specs.declared.entries.Entry.{Entry}

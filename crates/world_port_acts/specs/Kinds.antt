@@ -1,6 +1,6 @@
 -- Which acts go through ports.
-use Rattle.uvm_object.specs.declared.acts.Act.{Act}
-use Rattle.uvm_object.specs.declared.acts.Act.TheVariants.{Put, TryPut, Take, TryTake, Peek, Write}
+use Rattle.uvm_acts.specs.declared.acts.Act.{Act}
+use Rattle.uvm_acts.specs.declared.acts.Act.TheVariants.{Put, TryPut, Take, TryTake, Peek, Write}
 
 -- an act through a port
 abbrev pub IsPortAct : Act → Type 0

@@ -1,7 +1,7 @@
 //! What goes through ports: puts, takes, peeks and writes (IEEE 1800.2-2020, Clause 12).
 
 ghost use Rattle.std.specs.Prelude.{◌≡◌, ◌++◌, [], ◌∷◌, Some, IfOk};
-ghost use Rattle.uvm_object.specs.declared.acts.Act.TheVariants.{Put, TryPut, Take, TryTake, Peek};
+ghost use Rattle.uvm_acts.specs.declared.acts.Act.TheVariants.{Put, TryPut, Take, TryTake, Peek};
 ghost use Rattle.world_services.specs.OpenPorts.{IsOpenGate};
 ghost use Rattle.world_services.specs.Attempts.{CanPerform, IsAttempt};
 

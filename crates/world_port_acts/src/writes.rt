@@ -1,7 +1,7 @@
 //! Writes to all that an analysis port reaches (IEEE 1800.2-2020, Clause 12).
 
 ghost use Rattle.std.specs.Prelude.{◌≡◌, ◌++◌, [], IfOk};
-ghost use Rattle.uvm_object.specs.declared.acts.Act.TheVariants.{Write};
+ghost use Rattle.uvm_acts.specs.declared.acts.Act.TheVariants.{Write};
 ghost use Rattle.world_services.specs.OpenPorts.{IsOpenOutlet};
 ghost use Rattle.world_services.specs.Attempts.{CanPerform, IsAttempt};
 

@@ -8,8 +8,8 @@ use Rattle.uvm_phase.specs.declared.phases.Phase.{Phase}
 use Rattle.uvm_sequences.specs.declared.starts.SeqStep.TheVariants.{PreStart}
 use Rattle.uvm_sequences.specs.Sequences.{SequencesValue, Start, numbered}
 use Rattle.uvm_tree.specs.Nodes.{Node}
-use Rattle.uvm_object.specs.declared.acts.Act.{Act}
-use Rattle.uvm_object.specs.declared.acts.Who.{Who}
+use Rattle.uvm_acts.specs.declared.acts.Act.{Act}
+use Rattle.uvm_acts.specs.declared.acts.Who.{Who}
 use Rattle.uvm_object.specs.Objects.{same_who}
 use Rattle.uvm_object.specs.declared.entries.Entry.{Entry}
 use Rattle.uvm_object.specs.declared.entries.Outcome.TheVariants.{Started}
@@ -28,8 +28,8 @@ use Rattle.world_services.specs.Attempts.{IsScene}
 use Rattle.world_services.specs.Services.{ServicesMatch}
 use Rattle.world_services.specs.Creations.{starting_in}
 use Rattle.world_sequences.proofs.Sequenced.{sequencing-begun}
-use Rattle.uvm_object.specs.declared.acts.Act.TheVariants as act
-use Rattle.uvm_object.specs.declared.acts.Who.TheVariants as who
+use Rattle.uvm_acts.specs.declared.acts.Act.TheVariants as act
+use Rattle.uvm_acts.specs.declared.acts.Who.TheVariants as who
 use Rattle.world_sequences.specs.declared.beginnings.Beginning as kept
 
 -- a start, as the services know it

@@ -24,9 +24,9 @@ use Rattle.uvm_sequencer.specs.Drivers.{grant_of, hand_of, is_idle, is_try, left
 use Rattle.uvm_sequences.specs.Sequences.{SequencesValue, numbered}
 use Rattle.uvm_sequencer.specs.Sequencers.{after_leave, answer, candidates_at, with_idle}
 use Rattle.uvm_object.specs.Objects.{same_who}
-use Rattle.uvm_object.specs.declared.acts.Who.{Who}
-use Rattle.uvm_object.specs.declared.acts.Act.{Act}
-use Rattle.uvm_object.specs.declared.acts.Act.TheVariants.{Ask, EndStep, ItemDone}
+use Rattle.uvm_acts.specs.declared.acts.Who.{Who}
+use Rattle.uvm_acts.specs.declared.acts.Act.{Act}
+use Rattle.uvm_acts.specs.declared.acts.Act.TheVariants.{Ask, EndStep, ItemDone}
 use Rattle.uvm_object.specs.declared.fatals.Fatal.{Fatal}
 use Rattle.uvm_object.specs.declared.fatals.Fatal.TheVariants.{NoPort, NothingOut, OutsideTask}
 use Rattle.uvm_object.specs.declared.entries.Outcome.{Outcome}
@@ -66,8 +66,8 @@ use Rattle.world_services.proofs.Known.{itself}
 use Rattle.world_agenda.proofs.Written.{IsToldOpen}
 use Rattle.uvm_sequencer.specs.declared.drivers.Asked.TheVariants as asked
 use Rattle.uvm_sequencer.specs.declared.drivers.How.TheVariants as how
-use Rattle.uvm_object.specs.declared.acts.Who.TheVariants as who
-use Rattle.uvm_object.specs.declared.acts.Call.TheVariants as call
+use Rattle.uvm_acts.specs.declared.acts.Who.TheVariants as who
+use Rattle.uvm_acts.specs.declared.acts.Call.TheVariants as call
 use Rattle.world_sequences.specs.declared.beginnings.Beginning as kept
 
 -- which sequencer is reached

@@ -8,9 +8,9 @@ use Rattle.uvm_phase.specs.Phases.{same_phase}
 use Rattle.uvm_phase.specs.Dues.{in_order}
 use Rattle.uvm_sequences.specs.Laws.{StepsChangeAlone}
 use Rattle.uvm_sequences.specs.Sequences.{name_at, numbered}
-use Rattle.uvm_object.specs.declared.acts.Who.{Who}
-use Rattle.uvm_object.specs.declared.acts.Act.{Act}
-use Rattle.uvm_object.specs.declared.acts.Act.TheVariants.{EndStep}
+use Rattle.uvm_acts.specs.declared.acts.Who.{Who}
+use Rattle.uvm_acts.specs.declared.acts.Act.{Act}
+use Rattle.uvm_acts.specs.declared.acts.Act.TheVariants.{EndStep}
 use Rattle.uvm_object.specs.declared.entries.Entry.{Entry}
 use Rattle.uvm_object.specs.declared.entries.Entry.TheVariants.{Did}
 use Rattle.uvm_object.specs.declared.entries.Outcome.TheVariants.{Finished}
@@ -39,8 +39,8 @@ use Rattle.world_sequences.proofs.Starters.{kept-at}
 use Rattle.world_agenda.proofs.Told.{agenda-finished, open-finished}
 use Rattle.world_agenda.proofs.Lists.{filter-twice}
 use Rattle.uvm_sequences.specs.Sequences as service
-use Rattle.uvm_object.specs.declared.acts.Who.TheVariants as who
-use Rattle.uvm_object.specs.declared.acts.Call.TheVariants as call
+use Rattle.uvm_acts.specs.declared.acts.Who.TheVariants as who
+use Rattle.uvm_acts.specs.declared.acts.Call.TheVariants as call
 
 -- a sequence that is there was started, and lives
 pub record IsBegunLiving (history : List Entry) (performer : Who) (id : ℕ) : Type 0 where

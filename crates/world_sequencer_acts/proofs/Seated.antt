@@ -18,10 +18,10 @@ use Rattle.uvm_sequencer.specs.Queues.{item_request, lock_request}
 use Rattle.uvm_sequences.specs.Sequences.{numbered}
 use Rattle.uvm_sequencer.specs.Sequencers.{after_send, unlocked, with_grab, with_item, with_lock}
 use Rattle.uvm_tlm.specs.declared.items.Item.{Item}
-use Rattle.uvm_object.specs.Acts.{node_of}
-use Rattle.uvm_object.specs.declared.acts.Who.{Who}
-use Rattle.uvm_object.specs.declared.acts.Act.{Act}
-use Rattle.uvm_object.specs.declared.acts.Act.TheVariants.{Request, Lock, Grab, Unlock, Send}
+use Rattle.uvm_acts.specs.Acts.{node_of}
+use Rattle.uvm_acts.specs.declared.acts.Who.{Who}
+use Rattle.uvm_acts.specs.declared.acts.Act.{Act}
+use Rattle.uvm_acts.specs.declared.acts.Act.TheVariants.{Request, Lock, Grab, Unlock, Send}
 use Rattle.uvm_object.specs.declared.fatals.Fatal.{Fatal}
 use Rattle.uvm_object.specs.declared.fatals.Fatal.TheVariants.{NotGranted, OutOfRange}
 use Rattle.uvm_object.specs.declared.entries.Outcome.TheVariants.{Done, Refused}
@@ -61,8 +61,8 @@ use Rattle.world_services.proofs.Later.{acted}
 use Rattle.world_sequences.proofs.Numbered.{numbered-holds}
 use Rattle.uvm_sequencer.specs.declared.drivers.How.TheVariants as how
 use Rattle.uvm_sequencer.specs.declared.drivers.Driver.TheVariants as driver
-use Rattle.uvm_object.specs.declared.acts.Who.TheVariants as who
-use Rattle.uvm_object.specs.declared.acts.Call.TheVariants as call
+use Rattle.uvm_acts.specs.declared.acts.Who.TheVariants as who
+use Rattle.uvm_acts.specs.declared.acts.Call.TheVariants as call
 
 -- each node below the top stands in the path order
 pub ordered : (nodes : List Node) (n : ℕ) → AreInPathOrder nodes (path_order nodes) → 0 < n → n < length nodes → Contains (path_order nodes) n

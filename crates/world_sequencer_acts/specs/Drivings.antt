@@ -9,7 +9,7 @@ use Rattle.uvm_sequences.specs.Sequences.{finished, name_at}
 use Rattle.uvm_sequencer.specs.Sequencers.{after_leave}
 use Rattle.uvm_sequencer.specs.declared.drivers.How.{How}
 use Rattle.uvm_sequencer.specs.declared.drivers.How.TheVariants.{Try}
-use Rattle.uvm_object.specs.Acts.{node_of}
+use Rattle.uvm_acts.specs.Acts.{node_of}
 use Rattle.uvm_object.specs.declared.fatals.Fatal.{Fatal}
 use Rattle.uvm_object.specs.declared.entries.Outcome.{Outcome}
 use Rattle.uvm_object.specs.declared.entries.Outcome.TheVariants.{Done, Waits}
@@ -26,7 +26,7 @@ use Rattle.world_agenda.specs.Tellings.{is_told, living_numbered}
 use Rattle.world_sequencers.specs.Arbiters.{ArbiterValue, ChangesAt, Kept, at_sequencer}
 use Rattle.world_sequencers.specs.Contests.{LearnsAt, known_at}
 use Rattle.world_wiring.specs.Ports.{port_in}
-use Rattle.uvm_object.specs.declared.acts.Call.TheVariants as call
+use Rattle.uvm_acts.specs.declared.acts.Call.TheVariants as call
 use Rattle.world_sequences.specs.declared.beginnings.Beginning as kept
 
 -- the sequencer to which a port leads

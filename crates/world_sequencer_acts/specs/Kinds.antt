@@ -1,6 +1,6 @@
 -- Which acts are of drivers and of sequences.
-use Rattle.uvm_object.specs.declared.acts.Act.{Act}
-use Rattle.uvm_object.specs.declared.acts.Act.TheVariants.{Ask, ItemDone, Start, Request, Lock, Grab, Unlock, Send, EndStep}
+use Rattle.uvm_acts.specs.declared.acts.Act.{Act}
+use Rattle.uvm_acts.specs.declared.acts.Act.TheVariants.{Ask, ItemDone, Start, Request, Lock, Grab, Unlock, Send, EndStep}
 
 -- an act of a driver at a sequencer, a start of a sequence, or an act of a sequence
 abbrev pub IsSequencerAct : Act → Type 0

@@ -1,7 +1,7 @@
 //! What drivers ask of their sequencers (IEEE 1800.2-2020, Clause 15).
 
 ghost use Rattle.std.specs.Prelude.{◌≡◌, ◌∷◌, [], IfOk, option_and_then};
-ghost use Rattle.uvm_object.specs.declared.acts.Act.TheVariants.{Ask, ItemDone};
+ghost use Rattle.uvm_acts.specs.declared.acts.Act.TheVariants.{Ask, ItemDone};
 ghost use Rattle.bench_history.specs.Dues.{told_done};
 ghost use Rattle.world_sequencer_acts.specs.Drivings.{IsReached, reached_at, waiting_outcome};
 ghost use Rattle.world_services.specs.Attempts.{CanPerform, IsAttempt, unreported};

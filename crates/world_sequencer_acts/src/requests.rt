@@ -1,7 +1,7 @@
 //! What sequences ask of their sequencers (IEEE 1800.2-2020, Clause 15).
 
 ghost use Rattle.std.specs.Prelude.{◌≡◌, ◌<◌, ◌++◌, ℕ, Some, None, true, false, IfOk, OnOk};
-ghost use Rattle.uvm_object.specs.declared.acts.Act.TheVariants.{Request, Lock, Grab, Unlock, Send};
+ghost use Rattle.uvm_acts.specs.declared.acts.Act.TheVariants.{Request, Lock, Grab, Unlock, Send};
 ghost use Rattle.uvm_object.specs.declared.entries.Outcome.TheVariants.{Done};
 ghost use Rattle.bench_history.specs.Arbitration.{request_priority};
 ghost use Rattle.bench_history.specs.Dues.{told_item, told_sent};

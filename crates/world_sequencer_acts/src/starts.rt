@@ -8,7 +8,7 @@ ghost use Rattle.uvm_factory.specs.declared.types.Kind.TheVariants.{Sequence};
 ghost use Rattle.uvm_factory.specs.Faults.{Types, type_named};
 ghost use Rattle.uvm_factory.specs.Observed.{types_of};
 ghost use Rattle.uvm_tree.specs.Nodes.{path_at};
-ghost use Rattle.uvm_object.specs.declared.acts.Act.TheVariants.{Start};
+ghost use Rattle.uvm_acts.specs.declared.acts.Act.TheVariants.{Start};
 ghost use Rattle.uvm_object.specs.declared.entries.Outcome.TheVariants.{Started};
 ghost use Rattle.bench_history.specs.Refusals.{is_none_at_all, sequence_named, starting_refusal};
 ghost use Rattle.bench_history.specs.Sequences.{home_asked, if_sequencer, parent_names};

@@ -2,7 +2,7 @@
 
 ghost use Rattle.std.specs.Prelude.{◌≡◌, ◌∷◌, ◌++◌, [], true, OnOk, IfOk};
 ghost use Rattle.uvm_sequences.specs.Sequences.{finished, name_at};
-ghost use Rattle.uvm_object.specs.declared.acts.Act.TheVariants.{EndStep};
+ghost use Rattle.uvm_acts.specs.declared.acts.Act.TheVariants.{EndStep};
 ghost use Rattle.bench_history.specs.Dues.{step_call};
 ghost use Rattle.bench_history.specs.Refusals.{is_open_to};
 ghost use Rattle.world_sequencer_acts.specs.Drivings.{IsFinished, finished_calls, lapsed_item};

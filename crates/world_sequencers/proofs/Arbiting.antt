@@ -14,9 +14,9 @@ use Rattle.uvm_sequencer.specs.Choices.{readiness}
 use Rattle.uvm_sequencer.specs.Drivers.{wait_of}
 use Rattle.uvm_sequencer.specs.Laws.{StartsChangeNothing, are_known}
 use Rattle.uvm_sequences.specs.Sequences.{numbered}
-use Rattle.uvm_object.specs.declared.acts.Who.{Who}
-use Rattle.uvm_object.specs.declared.acts.What.{What}
-use Rattle.uvm_object.specs.declared.acts.Act.TheVariants.{Add}
+use Rattle.uvm_acts.specs.declared.acts.Who.{Who}
+use Rattle.uvm_acts.specs.declared.acts.What.{What}
+use Rattle.uvm_acts.specs.declared.acts.Act.TheVariants.{Add}
 use Rattle.uvm_object.specs.declared.entries.Outcome.TheVariants.{Done}
 use Rattle.uvm_object.specs.declared.entries.Entry.{Entry}
 use Rattle.uvm_object.specs.declared.entries.Entry.TheVariants.{Did}
@@ -31,7 +31,7 @@ use Rattle.world_sequencers.specs.Arbitratings.{IsArbitrated, IsArbitrating, Led
 use Rattle.world_sequences.specs.Sequencings.{live_by}
 use Rattle.world_sequencers.proofs.Arbited.{added-is, alike-is, arbitrated-added, arbitrated-begun, arbitrated-grown, known-all}
 use Rattle.world_sequences.proofs.Numbered.{numbered-more}
-use Rattle.uvm_object.specs.declared.acts.What.TheVariants as what
+use Rattle.uvm_acts.specs.declared.acts.What.TheVariants as what
 
 -- which sequences live after a log
 abbrev live_in : List Entry → ℕ → Bool

@@ -12,7 +12,7 @@ use Rattle.uvm_sequencer.specs.declared.modes.Mode.{Mode}
 use Rattle.uvm_sequencer.specs.Passed.{IsPassed}
 use Rattle.uvm_sequences.specs.Sequences.{Start}
 use Rattle.uvm_sequencer.specs.Sequencers.{lock_at, ready_at}
-use Rattle.uvm_object.specs.declared.acts.Who.{Who}
+use Rattle.uvm_acts.specs.declared.acts.Who.{Who}
 use Rattle.uvm_object.specs.declared.entries.Entry.{Entry}
 use Rattle.bench_history.specs.Arbitration.{locking_at, mode_at, next_locked, next_served, sequencer_at, sequencer_with, serving_at}
 use Rattle.bench_history.specs.History.{nodes_of, ended_of}

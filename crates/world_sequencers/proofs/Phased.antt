@@ -21,8 +21,8 @@ use Rattle.uvm_sequencer.specs.Choices.{readiness}
 use Rattle.uvm_sequencer.specs.Drivers.{is_idle, loses_try, wait_of}
 use Rattle.uvm_sequencer.specs.Sequencers.{is_live_at}
 use Rattle.uvm_sequences.specs.Sequences.{numbered}
-use Rattle.uvm_object.specs.declared.acts.Who.{Who}
-use Rattle.uvm_object.specs.declared.acts.Who.TheVariants as who
+use Rattle.uvm_acts.specs.declared.acts.Who.{Who}
+use Rattle.uvm_acts.specs.declared.acts.Who.TheVariants as who
 use Rattle.uvm_object.specs.declared.entries.Entry.{Entry}
 use Rattle.uvm_object.specs.declared.entries.Entry.TheVariants.{End}
 use Rattle.bench_script.specs.Scripts.{ScriptValue}

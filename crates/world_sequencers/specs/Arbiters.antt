@@ -14,7 +14,7 @@ use Rattle.uvm_sequencer.specs.declared.drivers.Asked.{Asked}
 use Rattle.uvm_sequencer.specs.declared.drivers.How.{How}
 use Rattle.uvm_sequences.specs.Sequences.{Start}
 use Rattle.uvm_sequencer.specs.Sequencers.{SequencerValue, after_ask, after_phase, after_send, answer, candidates_at, is_live_at, lock_at, new_sequencer, ready_at, unlocked, with_grab, with_item, with_lock}
-use Rattle.uvm_object.specs.declared.acts.What.{What}
+use Rattle.uvm_acts.specs.declared.acts.What.{What}
 use Rattle.uvm_object.specs.declared.fatals.Fatal.{Fatal}
 use Rattle.bench_history.specs.declared.askers.DriverPort.{DriverPort}
 use Rattle.bench_history.specs.declared.owners.Told.{Told}
@@ -22,7 +22,7 @@ use Rattle.bench_history.specs.Arbitration.{ends_ask}
 use Rattle.bench_history.specs.Dues.{told_item}
 use Rattle.bench_history.specs.Refusals.{ask_refusal}
 use Rattle.uvm_sequencer.specs.declared.drivers.Asked.TheVariants as asked
-use Rattle.uvm_object.specs.declared.acts.What.TheVariants as what
+use Rattle.uvm_acts.specs.declared.acts.What.TheVariants as what
 
 -- a sequencer, as the service has it, and who drives it. Which port drives it is known from the wiring, and not kept here
 pub record ArbiterValue : Type 0 where

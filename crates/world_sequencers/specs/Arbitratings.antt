@@ -9,7 +9,7 @@ use Rattle.uvm_sequencer.specs.declared.drivers.Driver.{Driver}
 use Rattle.uvm_sequencer.specs.declared.drivers.Driver.TheVariants.{Idle}
 use Rattle.uvm_sequencer.specs.declared.requests.Request.{Request}
 use Rattle.uvm_sequences.specs.Sequences.{Start, numbered}
-use Rattle.uvm_object.specs.declared.acts.Who.{Who}
+use Rattle.uvm_acts.specs.declared.acts.Who.{Who}
 use Rattle.uvm_object.specs.declared.entries.Entry.{Entry}
 use Rattle.bench_history.specs.declared.askers.DriverPort.{DriverPort}
 use Rattle.bench_history.specs.Arbitration.{Wanted, all_wanted, driver_asker, driver_state, grants_at, locks_at, locks_held, mode_at, waits_by}

@@ -11,7 +11,7 @@ use Rattle.uvm_phase.specs.Phases.{same_phase}
 use Rattle.uvm_sequences.specs.declared.starts.SeqStep.{SeqStep}
 use Rattle.uvm_sequences.specs.Laws.{StepsChangeAlone}
 use Rattle.uvm_sequences.specs.Sequences.{SequencesValue, numbered, step_at}
-use Rattle.uvm_object.specs.declared.acts.Who.{Who}
+use Rattle.uvm_acts.specs.declared.acts.Who.{Who}
 use Rattle.uvm_object.specs.declared.entries.Entry.{Entry}
 use Rattle.uvm_object.specs.declared.entries.Entry.TheVariants.{End}
 use Rattle.bench_history.specs.History.{ended_of}
@@ -21,7 +21,7 @@ use Rattle.world_sequences.proofs.Numbered.{numbered-more, numbered-none}
 use Rattle.world_sequences.proofs.Sequenced.{length-step, step-changed}
 use Rattle.world_sequences.proofs.Starters.{kept_as}
 use Rattle.world_agenda.proofs.Lists.{one-ended, map-filter}
-use Rattle.uvm_object.specs.declared.acts.Who.TheVariants as who
+use Rattle.uvm_acts.specs.declared.acts.Who.TheVariants as who
 use Rattle.world_sequences.specs.declared.beginnings.Beginning as kept
 
 itself : (n : ℕ) → (n == n) ≡ true

@@ -10,7 +10,7 @@ use Rattle.uvm_sequences.specs.declared.starts.SeqStep.{SeqStep}
 use Rattle.uvm_sequences.specs.declared.starts.SeqStep.TheVariants.{PreStart, Body, PostStart}
 use Rattle.uvm_sequences.specs.Laws.{StepsChangeAlone}
 use Rattle.uvm_sequences.specs.Sequences.{SequencesValue, Start, numbered, step_after, step_at, with_step}
-use Rattle.uvm_object.specs.declared.acts.Who.{Who}
+use Rattle.uvm_acts.specs.declared.acts.Who.{Who}
 use Rattle.bench_history.specs.Sequences.{Beginning, all_steps, is_over_phase, is_sequence, sequence_in}
 use Rattle.bench_history.specs.declared.owners.Owner.TheVariants.{Object}
 use Rattle.bench_history.specs.Dues.{is_of_one}
@@ -21,7 +21,7 @@ use Rattle.world_sequences.specs.Sequencings.{IsSequencing, IsStarter, live_by, 
 use Rattle.world_agenda.specs.Tellings.{is_told}
 use Rattle.world_sequences.proofs.Numbered.{numbered-within}
 use Rattle.uvm_sequences.specs.Sequences as service
-use Rattle.uvm_object.specs.declared.acts.Who.TheVariants as who
+use Rattle.uvm_acts.specs.declared.acts.Who.TheVariants as who
 use Rattle.world_sequences.specs.declared.beginnings.Beginning as kept
 
 -- no sequence was started yet

@@ -8,7 +8,7 @@ use Rattle.bench_history.specs.Sequences.{Beginning}
 use Rattle.bench_history.specs.Laws.{place_of}
 use Rattle.world_sequences.specs.Sequencings.{AreStarters, beginning_at, kept_beginnings, phase_at}
 use Rattle.world_sequences.proofs.Numbered.{numbered-more, numbered-within}
-use Rattle.uvm_object.specs.declared.acts.Who.TheVariants as who
+use Rattle.uvm_acts.specs.declared.acts.Who.TheVariants as who
 use Rattle.world_sequences.specs.declared.beginnings.Beginning as kept
 
 -- the starter of a sequence is a sequence that was started before, in the same phase

@@ -8,9 +8,9 @@ use Rattle.uvm_phase.specs.Phases.{same_phase}
 use Rattle.uvm_sequences.specs.declared.starts.SeqStep.{SeqStep}
 use Rattle.uvm_sequences.specs.Sequences.{SequencesValue, finished, numbered, step_at}
 use Rattle.uvm_tree.specs.Nodes.{Node}
-use Rattle.uvm_object.specs.declared.acts.Who.{Who}
-use Rattle.uvm_object.specs.declared.acts.Act.{Act}
-use Rattle.uvm_object.specs.declared.acts.Act.TheVariants.{Start, EndStep}
+use Rattle.uvm_acts.specs.declared.acts.Who.{Who}
+use Rattle.uvm_acts.specs.declared.acts.Act.{Act}
+use Rattle.uvm_acts.specs.declared.acts.Act.TheVariants.{Start, EndStep}
 use Rattle.uvm_object.specs.declared.entries.Outcome.TheVariants.{Done}
 use Rattle.uvm_object.specs.declared.entries.Entry.{Entry}
 use Rattle.uvm_object.specs.declared.entries.Entry.TheVariants.{Did}
@@ -18,7 +18,7 @@ use Rattle.uvm_object.specs.Objects.{same_who}
 use Rattle.bench_history.specs.Sequences.{Beginning, all_steps, home_asked, is_over_phase, is_sequence, starts_in}
 use Rattle.bench_history.specs.Laws.{number_of, place_of}
 use Rattle.uvm_glob.specs.declared.faults.PathFault.TheVariants as path
-use Rattle.uvm_object.specs.declared.acts.Who.TheVariants as who
+use Rattle.uvm_acts.specs.declared.acts.Who.TheVariants as who
 use Rattle.world_sequences.specs.declared.beginnings.Beginning as kept
 
 -- who has ended a step, the newest first, but for the last of a sequence

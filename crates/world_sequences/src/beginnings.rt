@@ -6,7 +6,7 @@ ghost use Rattle.uvm_glob.specs.Paths.{path_fault};
 ghost use Rattle.uvm_sequences.specs.declared.starts.SeqStep.TheVariants.{PreStart};
 ghost use Rattle.uvm_sequences.specs.Sequences.{numbered};
 ghost use Rattle.uvm_factory.specs.declared.types.Kind.TheVariants.{Sequence};
-ghost use Rattle.uvm_object.specs.declared.acts.Act.TheVariants.{Start};
+ghost use Rattle.uvm_acts.specs.declared.acts.Act.TheVariants.{Start};
 ghost use Rattle.bench_history.specs.Refusals.{is_none_at_all};
 ghost use Rattle.bench_history.specs.Sequences.{parent_names, sequence_in, start_priority};
 ghost use Rattle.world_sequences.specs.Sequencings.{IsStart, MayFail, name_started, priority_given, beginning_at, phase_at};

@@ -6,7 +6,7 @@ use Rattle.uvm_glob.specs.Paths.{path_fault}
 use Rattle.uvm_object.specs.declared.fatals.Fatal.{Fatal}
 use Rattle.uvm_object.specs.declared.fatals.Fatal.TheVariants.{OutsideTask, OutOfRange, InvalidType, NoSequencer, TreeLimit, OverrideLoop}
 use Rattle.bench_history.specs.Refusals.{Starting, is_none_at_all, sequence_made, sequence_named, starting_refusal}
-use Rattle.uvm_object.specs.declared.acts.Act.{Act}
+use Rattle.uvm_acts.specs.declared.acts.Act.{Act}
 use Rattle.uvm_object.specs.declared.entries.Entry.{Entry}
 use Rattle.bench_script.specs.Scripts.{ScriptValue}
 use Rattle.bench_history.specs.History.{left_of, head_of, rest_of, speaker_of, in_task}

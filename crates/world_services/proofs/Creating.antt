@@ -4,7 +4,7 @@ use Rattle.std.specs.Result.{result_err}
 use Rattle.uvm_factory.specs.declared.overrides.Override.{Override}
 use Rattle.uvm_factory.specs.Faults.{Types}
 use Rattle.uvm_factory.specs.Observed.{Kept}
-use Rattle.uvm_object.specs.declared.acts.Act.TheVariants.{Create, Start}
+use Rattle.uvm_acts.specs.declared.acts.Act.TheVariants.{Create, Start}
 use Rattle.uvm_object.specs.declared.entries.Outcome.{Outcome}
 use Rattle.uvm_object.specs.declared.entries.Outcome.TheVariants.{Made, Started}
 use Rattle.uvm_object.specs.declared.fatals.Fatal.{Fatal}

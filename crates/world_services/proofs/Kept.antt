@@ -2,11 +2,11 @@
 use Rattle.std.proofs.Common.{◌≡◌, ℕ, ◌==◌, true, List, [], ◌∷◌, length, Option, None, option_map, option_and_then, ap, sym, ◌∙◌, subst, arith}
 use Rattle.std.proofs.lemmas.Bool.Decides.{nat_tests}
 use Rattle.uvm_tree.specs.Sorted.{path_order}
-use Rattle.uvm_object.specs.declared.acts.Who.{Who}
-use Rattle.uvm_object.specs.declared.acts.What.{What}
+use Rattle.uvm_acts.specs.declared.acts.Who.{Who}
+use Rattle.uvm_acts.specs.declared.acts.What.{What}
 use Rattle.uvm_object.specs.declared.entries.Passage.{Passage}
 use Rattle.std.specs.Option.{option_or}
-use Rattle.uvm_object.specs.declared.acts.Act.TheVariants.{Add, Connect}
+use Rattle.uvm_acts.specs.declared.acts.Act.TheVariants.{Add, Connect}
 use Rattle.uvm_object.specs.declared.entries.Outcome.TheVariants.{Done}
 use Rattle.uvm_object.specs.declared.entries.Entry.{Entry}
 use Rattle.uvm_object.specs.declared.entries.Entry.TheVariants.{Did}

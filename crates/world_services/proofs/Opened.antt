@@ -9,10 +9,10 @@ use Rattle.uvm_phase.specs.Phases.{same_phase}
 use Rattle.uvm_phase.specs.Dues.{in_order, same_cause}
 use Rattle.uvm_phase.specs.Laws.{OrderKeepsAll}
 use Rattle.uvm_sequences.specs.Sequences.{numbered}
-use Rattle.uvm_object.specs.declared.acts.Who.{Who}
-use Rattle.uvm_object.specs.declared.acts.Who.TheVariants.{Node, Sequence}
-use Rattle.uvm_object.specs.declared.acts.Act.{Act}
-use Rattle.uvm_object.specs.declared.acts.Call.{Call}
+use Rattle.uvm_acts.specs.declared.acts.Who.{Who}
+use Rattle.uvm_acts.specs.declared.acts.Who.TheVariants.{Node, Sequence}
+use Rattle.uvm_acts.specs.declared.acts.Act.{Act}
+use Rattle.uvm_acts.specs.declared.acts.Call.{Call}
 use Rattle.uvm_object.specs.declared.entries.Entry.{Entry}
 use Rattle.uvm_object.specs.declared.entries.Origin.{Origin}
 use Rattle.uvm_object.specs.Objects.{same_who}

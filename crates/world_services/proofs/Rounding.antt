@@ -10,9 +10,9 @@ use Rattle.uvm_phase.specs.declared.phases.Phase.TheVariants.{PreReset, Run}
 use Rattle.uvm_phase.specs.Phases.{is_runtime, is_top_down, same_phase}
 use Rattle.uvm_tree.specs.Cursors.{IsLeast, LeastIsLeast, OrdersNodes, is_before, least, node_cmp}
 use Rattle.uvm_tree.specs.Nodes.{Node, top}
-use Rattle.uvm_object.specs.Acts.{node_of}
-use Rattle.uvm_object.specs.declared.acts.Call.{Call}
-use Rattle.uvm_object.specs.declared.acts.Call.TheVariants as calls
+use Rattle.uvm_acts.specs.Acts.{node_of}
+use Rattle.uvm_acts.specs.declared.acts.Call.{Call}
+use Rattle.uvm_acts.specs.declared.acts.Call.TheVariants as calls
 use Rattle.uvm_object.specs.declared.entries.Entry.{Entry}
 use Rattle.uvm_object.specs.declared.entries.Entry.TheVariants.{Begin, Heard}
 use Rattle.bench_history.specs.declared.stages.Stage.{Stage}

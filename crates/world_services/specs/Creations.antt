@@ -2,11 +2,11 @@
 use Rattle.std.specs.Prelude.{◌≡◌, ℕ, List, Option, Some, None}
 use Rattle.uvm_factory.specs.declared.overrides.Override.{Override}
 use Rattle.uvm_factory.specs.Faults.{Types}
-use Rattle.uvm_object.specs.Acts.{node_of}
-use Rattle.uvm_object.specs.declared.acts.Who.{Who}
-use Rattle.uvm_object.specs.declared.acts.Act.{Act}
+use Rattle.uvm_acts.specs.Acts.{node_of}
+use Rattle.uvm_acts.specs.declared.acts.Who.{Who}
+use Rattle.uvm_acts.specs.declared.acts.Act.{Act}
 use Rattle.uvm_object.specs.declared.fatals.Fatal.{Fatal}
-use Rattle.uvm_object.specs.declared.acts.Act.TheVariants.{Start}
+use Rattle.uvm_acts.specs.declared.acts.Act.TheVariants.{Start}
 use Rattle.uvm_object.specs.declared.fatals.Fatal.TheVariants.{NoSequencer, OverrideLoop, TreeLimit}
 use Rattle.world_services.specs.declared.creations.Uncreated.{Uncreated}
 use Rattle.world_services.specs.declared.creations.Uncreated.TheVariants.{Refused, Memory}

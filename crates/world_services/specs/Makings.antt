@@ -2,11 +2,11 @@
 use Rattle.std.specs.Prelude.{◌≡◌, ◌<◌, ℕ, suc, true, false, List, length, Option, Some, None, IsSome, vec_len, vec_capacity}
 use Rattle.std.specs.Option.{ForSome}
 use Rattle.uvm_sequences.specs.Sequences.{numbered}
-use Rattle.uvm_object.specs.declared.acts.Who.{Who}
-use Rattle.uvm_object.specs.declared.acts.Act.{Act}
+use Rattle.uvm_acts.specs.declared.acts.Who.{Who}
+use Rattle.uvm_acts.specs.declared.acts.Act.{Act}
 use Rattle.uvm_object.specs.declared.entries.Outcome.{Outcome}
 use Rattle.uvm_object.specs.declared.entries.Outcome.TheVariants.{Made, Started}
-use Rattle.uvm_object.specs.Acts.{node_of}
+use Rattle.uvm_acts.specs.Acts.{node_of}
 use Rattle.bench_history.specs.Sequences.{sequence_in}
 use Rattle.bench_history.specs.History.{created_name, in_task}
 use Rattle.bench_history.specs.Refusals.{child_refusal, is_none_at_all}
@@ -17,7 +17,7 @@ use Rattle.uvm_phase.specs.declared.phases.Phase.{Phase}
 use Rattle.world_objections.specs.Phased.{nodes_in, spare_in}
 use Rattle.world_agenda.specs.Objectings.{AreNumbered}
 use Rattle.world_sequences.specs.Sequencings.{IsStart, priority_given, home_for}
-use Rattle.uvm_object.specs.declared.acts.Who.TheVariants as who
+use Rattle.uvm_acts.specs.declared.acts.Who.TheVariants as who
 
 -- a sequence is started by an act: on this sequencer, in a phase that takes time, with a priority of at least 1, by a component or a sequence that was
 -- started, and in the room for it

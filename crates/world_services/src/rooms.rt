@@ -2,7 +2,7 @@
 
 ghost use Rattle.std.specs.Prelude.{◌≡◌, ◌<◌, OnOk, IsSome, Some, vec_len, vec_capacity};
 ghost use Rattle.uvm_tree.specs.Nodes.{node_at};
-ghost use Rattle.uvm_object.specs.Acts.{node_of};
+ghost use Rattle.uvm_acts.specs.Acts.{node_of};
 ghost use Rattle.world_objections.specs.Phased.{nodes_in, spare_in};
 ghost use Rattle.world_services.specs.Rounds.{AreSameRounds, HaveRoom};
 

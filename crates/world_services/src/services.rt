@@ -50,7 +50,6 @@ pub struct LastAnswer {
 }
 
 /// All that is kept beside the log.
-#[derive(Drop)]
 pub struct Services {
     pub stage: Stage,
     /// The present time in ticks.
@@ -80,6 +79,34 @@ pub struct Services {
     pub built: bool,
     pub past_connect: bool,
     pub test_refused: bool,
+}
+
+// (By hand, so that crates above prove no drop of what it holds.)
+impl Drop for Services {
+    fn drop(self) {
+        let Services {
+            stage: _,
+            time: _,
+            tree: _,
+            objections: _,
+            wiring: _,
+            stations: _,
+            unsettled: _,
+            arbiters: _,
+            contest: _,
+            sequences: _,
+            beginnings: _,
+            factory: _,
+            settings: _,
+            reporting: _,
+            agenda: _,
+            turns: _,
+            answer: _,
+            built: _,
+            past_connect: _,
+            test_refused: _,
+        } = self;
+    }
 }
 
 impl Services {

@@ -6,7 +6,7 @@ ghost use Rattle.std.specs.Option.{option_to_list};
 ghost use Rattle.uvm_phase.specs.Dues.{in_order};
 ghost use Rattle.bench_history.specs.Dues.{caused_at, drain_from, due_from, told_of};
 ghost use Rattle.bench_history.specs.Owners.{Event, is_drain_of};
-ghost use Rattle.uvm_object.specs.declared.acts.Act.TheVariants.{Put, Take, Peek};
+ghost use Rattle.uvm_acts.specs.declared.acts.Act.TheVariants.{Put, Take, Peek};
 ghost use Rattle.uvm_phase.specs.declared.agendas.Due.{Due};
 ghost use Rattle.world_agenda.specs.Tellings.{living_numbered, is_told};
 

@@ -7,10 +7,10 @@ use Rattle.uvm_phase.specs.Phases.{is_task, same_phase}
 use Rattle.uvm_objection.specs.Nodes.{Node, dropped, raised, with_drain}
 use Rattle.uvm_objection.specs.Laws.{IsHeldUntilDue, NodesGrow, PlacesStay}
 use Rattle.uvm_objection.specs.Totals.{settled, total}
-use Rattle.uvm_object.specs.Acts.{node_of}
-use Rattle.uvm_object.specs.declared.acts.Who.{Who}
-use Rattle.uvm_object.specs.declared.acts.Act.{Act}
-use Rattle.uvm_object.specs.declared.acts.Act.TheVariants.{DropObjection, RaiseObjection}
+use Rattle.uvm_acts.specs.Acts.{node_of}
+use Rattle.uvm_acts.specs.declared.acts.Who.{Who}
+use Rattle.uvm_acts.specs.declared.acts.Act.{Act}
+use Rattle.uvm_acts.specs.declared.acts.Act.TheVariants.{DropObjection, RaiseObjection}
 use Rattle.uvm_object.specs.declared.entries.Entry.{Entry}
 use Rattle.uvm_object.specs.declared.entries.Entry.TheVariants.{Did}
 use Rattle.uvm_object.specs.declared.entries.Outcome.TheVariants.{Done}

@@ -1,6 +1,6 @@
 -- Which acts are on the tree, the factory, fields, reports and objections.
-use Rattle.uvm_object.specs.declared.acts.Act.{Act}
-use Rattle.uvm_object.specs.declared.acts.Act.TheVariants.{Create, Add, Set, Get, OverrideType, OverrideInst, Connect, Report, Verbosity, Actions, Severity, RaiseObjection, DropObjection, SetDrain, Wait}
+use Rattle.uvm_acts.specs.declared.acts.Act.{Act}
+use Rattle.uvm_acts.specs.declared.acts.Act.TheVariants.{Create, Add, Set, Get, OverrideType, OverrideInst, Connect, Report, Verbosity, Actions, Severity, RaiseObjection, DropObjection, SetDrain, Wait}
 
 -- an act on one of these, or a wait
 abbrev pub IsTreeAct : Act → Type 0

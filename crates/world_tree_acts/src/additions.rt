@@ -1,8 +1,8 @@
 //! The act that adds a node to the tree.
 
 ghost use Rattle.std.specs.Prelude.{◌≡◌, ℕ, ◌∷◌, ◌++◌, [], false, None, Some, IfOk, IfNone};
-ghost use Rattle.uvm_object.specs.Acts.{node_of};
-ghost use Rattle.uvm_object.specs.declared.acts.Act.TheVariants.{Add};
+ghost use Rattle.uvm_acts.specs.Acts.{node_of};
+ghost use Rattle.uvm_acts.specs.declared.acts.Act.TheVariants.{Add};
 ghost use Rattle.bench_history.specs.History.{kind_of};
 ghost use Rattle.bench_history.specs.Refusals.{addition_refusal, child_refusal};
 ghost use Rattle.world_services.specs.Attempts.{CanPerform, IsAttempt};

@@ -1,7 +1,7 @@
 //! The act that creates a component.
 
 ghost use Rattle.std.specs.Prelude.{◌≡◌, ℕ, IfOk, ◌<◌};
-ghost use Rattle.uvm_object.specs.declared.acts.Act.TheVariants.{Create};
+ghost use Rattle.uvm_acts.specs.declared.acts.Act.TheVariants.{Create};
 ghost use Rattle.world_reports.specs.Reportings.{CanReport};
 ghost use Rattle.world_services.specs.Attempts.{IsAttempt};
 

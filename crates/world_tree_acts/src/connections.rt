@@ -1,7 +1,7 @@
 //! The act that connects two ends (IEEE 1800.2-2020, Clause 12).
 
 ghost use Rattle.std.specs.Prelude.{◌≡◌, ℕ, [], Some, None, IfOk};
-ghost use Rattle.uvm_object.specs.declared.acts.Act.TheVariants.{Connect};
+ghost use Rattle.uvm_acts.specs.declared.acts.Act.TheVariants.{Connect};
 ghost use Rattle.bench_history.specs.Wires.{node_below};
 ghost use Rattle.world_services.specs.Attempts.{CanPerform, IsAttempt};
 

@@ -3,7 +3,7 @@
 ghost use Rattle.std.specs.Prelude.{◌≡◌, ℕ, ◌∷◌, ◌++◌, ◌≤◌, ◌<◌, IfOk};
 ghost use Rattle.uvm_config.specs.Observed.{value_at};
 ghost use Rattle.uvm_tree.specs.Nodes.{path_at};
-ghost use Rattle.uvm_object.specs.declared.acts.Act.TheVariants.{Set, Get};
+ghost use Rattle.uvm_acts.specs.declared.acts.Act.TheVariants.{Set, Get};
 ghost use Rattle.bench_history.specs.Configuration.{is_building};
 ghost use Rattle.world_reports.specs.Reportings.{CanReport};
 ghost use Rattle.world_services.specs.Attempts.{IsAttempt};

@@ -1,7 +1,7 @@
 //! The acts on objections (IEEE 1800.2-2020, 10.5).
 
 ghost use Rattle.std.specs.Prelude.{◌≡◌, ◌≤◌, ◌^◌, ◌||◌, ℕ, true, not, IsTrue, IfOk, OnOk, Some, if◌then◌else◌};
-ghost use Rattle.uvm_object.specs.declared.acts.Act.TheVariants.{RaiseObjection, DropObjection, SetDrain};
+ghost use Rattle.uvm_acts.specs.declared.acts.Act.TheVariants.{RaiseObjection, DropObjection, SetDrain};
 ghost use Rattle.uvm_phase.specs.Phases.{is_task};
 ghost use Rattle.uvm_objection.specs.Nodes.{is_known, with_drain};
 ghost use Rattle.bench_history.specs.History.{in_task, is_of_phase};

@@ -5,7 +5,7 @@ ghost use Rattle.uvm_factory.specs.declared.overrides.Override.{Override};
 ghost use Rattle.uvm_factory.specs.declared.overrides.Override.TheVariants.{Instance, Whole};
 ghost use Rattle.uvm_factory.specs.Faults.{Types, type_named};
 ghost use Rattle.uvm_factory.specs.Observed.{types_of};
-ghost use Rattle.uvm_object.specs.declared.acts.Act.TheVariants.{OverrideType, OverrideInst};
+ghost use Rattle.uvm_acts.specs.declared.acts.Act.TheVariants.{OverrideType, OverrideInst};
 ghost use Rattle.bench_history.specs.History.{kind_of, with_override};
 ghost use Rattle.bench_history.specs.Refusals.{overriding_refusal};
 ghost use Rattle.world_reports.specs.Reportings.{CanReport};

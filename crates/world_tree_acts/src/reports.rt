@@ -5,7 +5,7 @@ ghost use Rattle.uvm_glob.specs.Paths.{path_text};
 ghost use Rattle.uvm_tree.specs.Nodes.{path_at};
 ghost use Rattle.world_reports.specs.Reportings.{CanReport};
 ghost use Rattle.world_services.specs.Attempts.{IsAttempt};
-ghost use Rattle.uvm_object.specs.declared.acts.Act.TheVariants as act;
+ghost use Rattle.uvm_acts.specs.declared.acts.Act.TheVariants as act;
 
 use std::alloc::{AllocError, Global};
 use uvm_glob::{Glob, Name};

@@ -1,7 +1,7 @@
 //! The act that waits for some ticks.
 
 ghost use Rattle.std.specs.Prelude.{◌≡◌, ◌<◌, ◌≤◌, ◌++◌, IfOk, IfNone, Some};
-ghost use Rattle.uvm_object.specs.declared.acts.Act.TheVariants.{Wait};
+ghost use Rattle.uvm_acts.specs.declared.acts.Act.TheVariants.{Wait};
 ghost use Rattle.bench_history.specs.Limits.{most_ticks};
 ghost use Rattle.bench_history.specs.Refusals.{wait_refusal};
 ghost use Rattle.world_services.specs.Attempts.{CanPerform, IsAttempt};

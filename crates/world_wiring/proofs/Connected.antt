@@ -15,8 +15,8 @@ use Rattle.uvm_tlm.specs.declared.ends.End.{End}
 use Rattle.uvm_glob.specs.Faults.{fault_if}
 use Rattle.uvm_tlm.specs.declared.faults.WireFault.TheVariants.{Late}
 use Rattle.uvm_tlm.specs.Wirings.{WiringValue, connections_among, with_end, end_at, is_closed, is_connected, late_fault, IsPathOrder}
-use Rattle.uvm_object.specs.declared.acts.Who.{Who}
-use Rattle.uvm_object.specs.declared.acts.Act.{Act}
+use Rattle.uvm_acts.specs.declared.acts.Who.{Who}
+use Rattle.uvm_acts.specs.declared.acts.Act.{Act}
 use Rattle.uvm_object.specs.declared.entries.Outcome.{Outcome}
 use Rattle.uvm_object.specs.declared.entries.Entry.{Entry}
 use Rattle.uvm_object.specs.declared.entries.Entry.TheVariants.{Did}

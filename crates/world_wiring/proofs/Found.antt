@@ -2,8 +2,8 @@
 use Rattle.std.proofs.Common.{◌≡◌, ◌++◌, ℕ, Bool, true, false, List, Option, Some, None, OnSome, is_none, refl, ap, ◌∙◌, if◌then◌else◌}
 use Rattle.uvm_glob.specs.Paths.{path_fault}
 use Rattle.uvm_tree.specs.Nodes.{Node, number_at, path_at}
-use Rattle.uvm_object.specs.declared.acts.Who.{Who}
-use Rattle.uvm_object.specs.Acts.{node_of}
+use Rattle.uvm_acts.specs.declared.acts.Who.{Who}
+use Rattle.uvm_acts.specs.Acts.{node_of}
 use Rattle.bench_history.specs.Wires.{node_below, node_found}
 
 -- where nothing is found, a test of the path changes nothing

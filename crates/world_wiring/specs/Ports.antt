@@ -3,7 +3,7 @@ use Rattle.std.specs.Prelude.{ℕ, List, [], ◌∷◌, Option, option_and_then}
 use Rattle.uvm_tree.specs.Nodes.{Node}
 use Rattle.uvm_tlm.specs.declared.ends.PortKind.{PortKind}
 use Rattle.uvm_tlm.specs.Wirings.{WiringValue}
-use Rattle.uvm_object.specs.declared.acts.Who.{Who}
+use Rattle.uvm_acts.specs.declared.acts.Who.{Who}
 use Rattle.bench_history.specs.Wires.{node_below}
 use Rattle.bench_history.specs.Ports.{if_sound}
 

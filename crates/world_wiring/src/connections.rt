@@ -5,7 +5,7 @@ ghost use Rattle.std.specs.Option.{option_copied};
 ghost use Rattle.uvm_glob.specs.Lists.{first_given};
 ghost use Rattle.uvm_tree.specs.Sorted.{path_order};
 ghost use Rattle.uvm_tlm.specs.Wirings.{end_at, late_fault, with_end, IsPathOrder};
-ghost use Rattle.uvm_object.specs.declared.acts.Act.TheVariants.{Connect};
+ghost use Rattle.uvm_acts.specs.declared.acts.Act.TheVariants.{Connect};
 ghost use Rattle.bench_history.specs.Refusals.{connection_refusal};
 ghost use Rattle.bench_history.specs.Wires.{behind, end_of, node_below, port_fatal, port_noted, unsound_port, with_both};
 ghost use Rattle.world_wiring.specs.Connectings.{closed_after, closed_by};

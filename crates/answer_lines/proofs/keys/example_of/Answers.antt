@@ -1,5 +1,5 @@
 use Rattle.std.proofs.Common.{refl, sym}
-use Rattle.uvm_object.specs.declared.acts.Call.TheVariants.{Finished}
+use Rattle.uvm_acts.specs.declared.acts.Call.TheVariants.{Finished}
 use Rattle.answer_lines.proofs.keys.example_of.Goals as goal
 
 -- the call that it is the line of

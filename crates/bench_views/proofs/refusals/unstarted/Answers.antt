@@ -1,6 +1,6 @@
 use Rattle.std.proofs.Common.{length, sym, subst}
 use Rattle.std.specs.Result.{result_err}
-use Rattle.uvm_object.specs.declared.acts.Act.TheVariants.{Start}
+use Rattle.uvm_acts.specs.declared.acts.Act.TheVariants.{Start}
 use Rattle.bench_history.specs.History.{overrides_of}
 use Rattle.bench_history.specs.Refusals.{Starting}
 use Rattle.bench_history.specs.Sequences.{sequences_of}

@@ -8,9 +8,9 @@ use Rattle.world_sequencers.specs.declared.contests.Contest.{Contest}
 use Rattle.world_sequencers.specs.Contests.{known_at}
 use Rattle.world_sequencers.proofs.Arbiting.{arbitrating-grown}
 use Rattle.world_sequencers.proofs.Contested.{none-locked, none-served}
-use Rattle.uvm_object.specs.Acts.{node_of}
-use Rattle.uvm_object.specs.declared.acts.Call.{Call}
-use Rattle.uvm_object.specs.declared.acts.Call.TheVariants as calls
+use Rattle.uvm_acts.specs.Acts.{node_of}
+use Rattle.uvm_acts.specs.declared.acts.Call.{Call}
+use Rattle.uvm_acts.specs.declared.acts.Call.TheVariants as calls
 use Rattle.uvm_phase.specs.declared.phases.Phase.{Phase}
 use Rattle.world_services.specs.Rounds.{AreRounds, IsHeardInRounds}
 

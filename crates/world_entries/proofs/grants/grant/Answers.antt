@@ -1,6 +1,6 @@
 use Rattle.std.proofs.Common.{◌∙◌, length, filter, Some, is_some, refl, rules}
-use Rattle.uvm_object.specs.declared.acts.Who.TheVariants.{Sequence}
-use Rattle.uvm_object.specs.declared.acts.Call.TheVariants as calls
+use Rattle.uvm_acts.specs.declared.acts.Who.TheVariants.{Sequence}
+use Rattle.uvm_acts.specs.declared.acts.Call.TheVariants as calls
 use Rattle.uvm_object.specs.declared.entries.Grant.{Grant}
 use Rattle.uvm_object.specs.declared.entries.Entry.TheVariants.{Granted}
 use Rattle.bench_history.specs.declared.owners.Owner.TheVariants.{Object}

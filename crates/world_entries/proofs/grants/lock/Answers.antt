@@ -1,6 +1,6 @@
 use Rattle.std.proofs.Common.{◌∙◌, length, filter, Some, refl, rules}
-use Rattle.uvm_object.specs.declared.acts.Who.TheVariants.{Sequence}
-use Rattle.uvm_object.specs.declared.acts.Call.TheVariants as calls
+use Rattle.uvm_acts.specs.declared.acts.Who.TheVariants.{Sequence}
+use Rattle.uvm_acts.specs.declared.acts.Call.TheVariants as calls
 use Rattle.uvm_object.specs.declared.entries.Entry.TheVariants.{Locked}
 use Rattle.bench_history.specs.declared.owners.Owner.TheVariants.{Object}
 use Rattle.bench_history.specs.Sequences.{finished_of, phase_begun}

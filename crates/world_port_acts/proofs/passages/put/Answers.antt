@@ -1,6 +1,6 @@
 use Rattle.std.proofs.Common.{◌≡◌, Some, None, is_some, refl, rules}
 use Rattle.uvm_tlm.specs.declared.ends.PortKind.TheVariants as through
-use Rattle.uvm_object.specs.declared.acts.Act.TheVariants.{Put}
+use Rattle.uvm_acts.specs.declared.acts.Act.TheVariants.{Put}
 use Rattle.bench_history.specs.History.{act_phase}
 use Rattle.bench_history.specs.Ports.{gate_below}
 use Rattle.bench_history.specs.Refusals.{passing_refusal}

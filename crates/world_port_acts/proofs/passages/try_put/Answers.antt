@@ -1,7 +1,7 @@
 use Rattle.std.proofs.Common.{◌≡◌, length, filter, Some, None, is_some, ap, sym, ◌∙◌, refl, rules}
 use Rattle.uvm_tlm.specs.declared.ends.PortKind.TheVariants as through
-use Rattle.uvm_object.specs.declared.acts.Act.TheVariants.{TryPut}
-use Rattle.uvm_object.specs.declared.acts.Call.TheVariants as call
+use Rattle.uvm_acts.specs.declared.acts.Act.TheVariants.{TryPut}
+use Rattle.uvm_acts.specs.declared.acts.Call.TheVariants as call
 use Rattle.bench_history.specs.declared.owners.Owner.TheVariants.{Object}
 use Rattle.bench_history.specs.Sequences.{finished_of}
 use Rattle.bench_history.specs.Dues.{caused_at, caused_of, heard_of, is_open}

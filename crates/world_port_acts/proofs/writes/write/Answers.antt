@@ -1,6 +1,6 @@
 use Rattle.std.proofs.Common.{◌≡◌, length, filter, Some, None, is_some, ◌∙◌, refl, rules}
 use Rattle.uvm_tlm.specs.declared.ends.PortKind.TheVariants.{Analysis}
-use Rattle.uvm_object.specs.declared.acts.Act.TheVariants.{Write}
+use Rattle.uvm_acts.specs.declared.acts.Act.TheVariants.{Write}
 use Rattle.uvm_object.specs.declared.entries.Outcome.TheVariants.{Done}
 use Rattle.bench_history.specs.Sequences.{finished_of}
 use Rattle.bench_history.specs.Dues.{caused_of, heard_of, is_open, calls_told}

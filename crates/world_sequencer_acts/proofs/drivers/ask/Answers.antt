@@ -1,6 +1,6 @@
 use Rattle.std.proofs.Common.{length, filter, sym, ap, refl, rules, Some, None}
-use Rattle.uvm_object.specs.declared.acts.Act.TheVariants.{Ask}
-use Rattle.uvm_object.specs.declared.acts.Call.TheVariants as call
+use Rattle.uvm_acts.specs.declared.acts.Act.TheVariants.{Ask}
+use Rattle.uvm_acts.specs.declared.acts.Call.TheVariants as call
 use Rattle.bench_history.specs.declared.owners.Owner.TheVariants.{Object}
 use Rattle.bench_history.specs.Sequences.{finished_of}
 use Rattle.bench_history.specs.Dues.{caused_at, caused_of, heard_of, is_open}

@@ -1,9 +1,9 @@
 use Rattle.std.proofs.Common.{◌≡◌, ◌∷◌, [], length, filter, List, All, Option, subst, ap, sym, ◌∙◌, refl, rules}
 use Rattle.uvm_phase.specs.declared.phases.Phase.{Phase}
-use Rattle.uvm_object.specs.declared.acts.Who.TheVariants.{Sequence}
-use Rattle.uvm_object.specs.declared.acts.Call.TheVariants as call
+use Rattle.uvm_acts.specs.declared.acts.Who.TheVariants.{Sequence}
+use Rattle.uvm_acts.specs.declared.acts.Call.TheVariants as call
 use Rattle.bench_history.specs.declared.owners.Told.{Told}
-use Rattle.uvm_object.specs.declared.acts.Act.TheVariants.{ItemDone}
+use Rattle.uvm_acts.specs.declared.acts.Act.TheVariants.{ItemDone}
 use Rattle.uvm_object.specs.declared.entries.Outcome.TheVariants.{Done}
 use Rattle.bench_history.specs.Sequences.{finished_of}
 use Rattle.bench_history.specs.Dues.{calls_told, caused_of, heard_of, is_open, told_in}

@@ -1,5 +1,5 @@
 use Rattle.std.proofs.Common.{◌≡◌, Some, None, option_and_then, refl, sym, ◌∙◌, rules}
-use Rattle.uvm_object.specs.declared.acts.Act.TheVariants.{Lock}
+use Rattle.uvm_acts.specs.declared.acts.Act.TheVariants.{Lock}
 use Rattle.bench_history.specs.Refusals.{lock_refusal}
 use Rattle.bench_history.specs.Upshots.{home_sequencer, id_in}
 use Rattle.bench_history.specs.Sequences.{sequence_in}

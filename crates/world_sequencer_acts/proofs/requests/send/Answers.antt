@@ -1,5 +1,5 @@
 use Rattle.std.proofs.Common.{◌≡◌, length, filter, Option, Some, None, option_and_then, refl, ap, sym, ◌∙◌, rules}
-use Rattle.uvm_object.specs.declared.acts.Act.TheVariants.{Send}
+use Rattle.uvm_acts.specs.declared.acts.Act.TheVariants.{Send}
 use Rattle.uvm_object.specs.declared.entries.Outcome.TheVariants.{Done}
 use Rattle.uvm_object.specs.declared.fatals.Fatal.TheVariants.{NotGranted}
 use Rattle.uvm_phase.specs.declared.phases.Phase.{Phase}

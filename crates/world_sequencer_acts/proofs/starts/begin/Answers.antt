@@ -1,7 +1,7 @@
 use Rattle.std.proofs.Common.{◌≡◌, ◌∷◌, suc, length, filter, Some, refl, ap, ◌∙◌, add-one, rules}
 use Rattle.uvm_sequences.specs.Sequences.{Start}
-use Rattle.uvm_object.specs.declared.acts.Call.TheVariants.{PreStart}
-use Rattle.uvm_object.specs.declared.acts.Who.TheVariants.{Sequence}
+use Rattle.uvm_acts.specs.declared.acts.Call.TheVariants.{PreStart}
+use Rattle.uvm_acts.specs.declared.acts.Who.TheVariants.{Sequence}
 use Rattle.uvm_object.specs.declared.entries.Entry.TheVariants.{Did}
 use Rattle.uvm_object.specs.declared.entries.Outcome.TheVariants.{Started}
 use Rattle.bench_history.specs.declared.owners.Owner.TheVariants.{Object}

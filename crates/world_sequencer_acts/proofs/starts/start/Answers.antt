@@ -1,5 +1,5 @@
 use Rattle.std.proofs.Common.{◌≡◌, suc, length, Some, ap, refl, sym, ◌∙◌}
-use Rattle.uvm_object.specs.declared.acts.Act.TheVariants.{Start}
+use Rattle.uvm_acts.specs.declared.acts.Act.TheVariants.{Start}
 use Rattle.uvm_object.specs.declared.entries.Outcome.TheVariants.{Started}
 use Rattle.bench_history.specs.History.{overrides_of}
 use Rattle.bench_history.specs.Refusals.{starting_refusal}

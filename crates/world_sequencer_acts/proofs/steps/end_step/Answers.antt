@@ -1,14 +1,14 @@
 use Rattle.std.proofs.Common.{◌≡◌, ◌∷◌, suc, nat_eq, IsSome, ap, length, filter, Some, None, option_and_then, refl, sym, ◌∙◌, rules}
 use Rattle.std.specs.HashMap.{get}
 use Rattle.uvm_sequences.specs.Sequences.{finished, step_after, step_at}
-use Rattle.uvm_object.specs.Acts.{node_of}
-use Rattle.uvm_object.specs.declared.acts.Who.TheVariants as who
+use Rattle.uvm_acts.specs.Acts.{node_of}
+use Rattle.uvm_acts.specs.declared.acts.Who.TheVariants as who
 use Rattle.bench_history.specs.Arbitration.{mode_at}
 use Rattle.world_sequencer_acts.specs.Drivings.{lapsed_calls}
 use Rattle.world_sequencer_acts.proofs.Driven.{finish-kept, lapsed-known, lapsed-told}
 use Rattle.world_sequences.proofs.Numbered.{numbered-holds}
 use Rattle.world_sequencer_acts.proofs.Seated.{placed}
-use Rattle.uvm_object.specs.declared.acts.Act.TheVariants.{EndStep}
+use Rattle.uvm_acts.specs.declared.acts.Act.TheVariants.{EndStep}
 use Rattle.uvm_object.specs.declared.entries.Entry.TheVariants.{Did}
 use Rattle.uvm_object.specs.declared.entries.Outcome.TheVariants.{Done, Finished}
 use Rattle.bench_history.specs.declared.owners.Owner.TheVariants.{Object}

@@ -2,7 +2,7 @@ use Rattle.std.proofs.Common.{◌≡◌, ◌++◌, ◌∷◌, [], ℕ, Option, S
 use Rattle.std.specs.HashMap.{get}
 use Rattle.uvm_phase.specs.Dues.{in_order}
 use Rattle.uvm_sequences.specs.Sequences.{SequencesValue, name_at}
-use Rattle.uvm_object.specs.Acts.{node_of}
+use Rattle.uvm_acts.specs.Acts.{node_of}
 use Rattle.uvm_sequencer.specs.Drivers.{grant_of, is_try}
 use Rattle.bench_history.specs.Dues.{is_of_one}
 use Rattle.world_sequences.specs.Sequencings.{beginning_at}

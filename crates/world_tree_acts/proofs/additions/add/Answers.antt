@@ -1,7 +1,7 @@
 use Rattle.std.proofs.Common.{ℕ, true, ◌≡◌, ◌<◌, [], List, ◌∷◌, ◌++◌, length, arith, Some, None, sym, ◌∙◌, refl, rules}
 use Rattle.uvm_tree.specs.Nodes.{child}
-use Rattle.uvm_object.specs.Acts.{node_of}
-use Rattle.uvm_object.specs.declared.acts.Act.TheVariants.{Add}
+use Rattle.uvm_acts.specs.Acts.{node_of}
+use Rattle.uvm_acts.specs.declared.acts.Act.TheVariants.{Add}
 use Rattle.uvm_phase.specs.declared.phases.Phase.{Phase}
 use Rattle.uvm_phase.specs.Phases.{is_task}
 use Rattle.uvm_objection.specs.Nodes as objection

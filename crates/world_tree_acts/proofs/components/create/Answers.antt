@@ -1,5 +1,5 @@
 use Rattle.std.proofs.Common.{◌≡◌, Some, refl}
-use Rattle.uvm_object.specs.declared.acts.Act.TheVariants.{Create}
+use Rattle.uvm_acts.specs.declared.acts.Act.TheVariants.{Create}
 use Rattle.uvm_object.specs.declared.entries.Outcome.TheVariants.{Made}
 use Rattle.bench_history.specs.History.{overrides_of}
 use Rattle.bench_history.specs.Refusals.{creation_refusal}

@@ -1,6 +1,6 @@
 use Rattle.std.proofs.Common.{◌≡◌, Some, None, false, true, ◌∷◌, refl, sym, ◌∙◌, rules}
 use Rattle.uvm_tlm.specs.Wirings.{is_closed}
-use Rattle.uvm_object.specs.declared.acts.Act.TheVariants.{Connect}
+use Rattle.uvm_acts.specs.declared.acts.Act.TheVariants.{Connect}
 use Rattle.uvm_object.specs.declared.entries.Entry.TheVariants.{Did}
 use Rattle.uvm_object.specs.declared.entries.Outcome.TheVariants.{Done}
 use Rattle.world_wiring.specs.Connectings.{IsClosedPast, IsClosing}

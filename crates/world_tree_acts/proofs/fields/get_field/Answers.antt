@@ -2,12 +2,12 @@ use Rattle.std.proofs.Common.{length, ◌≡◌, Some, refl, ◌∙◌, filter, 
 use Rattle.uvm_glob.specs.Paths.{path_text}
 use Rattle.uvm_config.specs.Answers.{config_answer}
 use Rattle.uvm_tree.specs.Nodes.{path_at}
-use Rattle.uvm_object.specs.Acts.{node_of}
+use Rattle.uvm_acts.specs.Acts.{node_of}
 use Rattle.bench_history.specs.Configuration.{settings_of}
 use Rattle.bench_history.specs.Sequences.{finished_of}
 use Rattle.bench_history.specs.Dues.{caused_at, caused_of, heard_of, is_open}
 use Rattle.bench_history.specs.History.{act_phase, now_of, nodes_of, ended_of}
-use Rattle.uvm_object.specs.declared.acts.Call.TheVariants as call
+use Rattle.uvm_acts.specs.declared.acts.Call.TheVariants as call
 use Rattle.world_services.proofs.Configured.{value-found}
 use Rattle.world_services.proofs.Opened.{scene-open}
 use Rattle.world_services.proofs.Later.{acted}

@@ -2,7 +2,7 @@ use mir.Val.{SFits}
 use Rattle.std.proofs.lemmas.Int.{to_z-of_z}
 use Rattle.std.proofs.Common.{w64, ◌≡◌, ◌∙◌, true, false, nat_le, length, ap, sym, refl, rules}
 use Rattle.uvm_config.specs.Answers.{most_settings}
-use Rattle.uvm_object.specs.declared.acts.Act.TheVariants.{Set}
+use Rattle.uvm_acts.specs.declared.acts.Act.TheVariants.{Set}
 use Rattle.uvm_object.specs.declared.fatals.Fatal.TheVariants.{TooManySettings}
 use Rattle.bench_history.specs.Configuration.{settings_of}
 use Rattle.bench_history.specs.Refusals.{setting_refusal}

@@ -1,11 +1,11 @@
 use Rattle.std.proofs.Common.{◌≡◌, ◌≤◌, nat_lt, true, false, List, Some, None, Err, refl, sym, ap, subst, ◌∙◌, arith, rules, filter}
 use Rattle.std.specs.Result.{OnOk}
 use Rattle.std.proofs.lemmas.Bool.Decides.{nat_tests}
-use Rattle.uvm_object.specs.declared.acts.Act.TheVariants.{DropObjection}
+use Rattle.uvm_acts.specs.declared.acts.Act.TheVariants.{DropObjection}
 use Rattle.uvm_object.specs.declared.entries.Entry.TheVariants.{Did}
 use Rattle.uvm_object.specs.declared.entries.Outcome.TheVariants.{Done}
 use Rattle.uvm_object.specs.declared.fatals.Fatal.TheVariants.{ObjectionBelowZero}
-use Rattle.uvm_object.specs.Acts.{node_of}
+use Rattle.uvm_acts.specs.Acts.{node_of}
 use Rattle.uvm_objection.specs.Nodes.{dropped, source_of}
 use Rattle.uvm_objection.specs.Totals.{total, settled}
 use Rattle.bench_history.specs.Sequences.{finished_of}

@@ -1,5 +1,5 @@
 use Rattle.std.proofs.Common.{◌≡◌, false, refl, sym, ◌∙◌}
-use Rattle.uvm_object.specs.declared.acts.Act.TheVariants.{RaiseObjection}
+use Rattle.uvm_acts.specs.declared.acts.Act.TheVariants.{RaiseObjection}
 use Rattle.uvm_object.specs.declared.fatals.Fatal.TheVariants.{OutsideTask}
 use Rattle.bench_history.specs.History.{act_phase, in_task}
 use Rattle.bench_history.specs.Refusals.{raise_refusal}

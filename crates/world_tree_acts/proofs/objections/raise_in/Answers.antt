@@ -1,8 +1,8 @@
 use Rattle.std.proofs.Common.{◌≡◌, ◌≤◌, true, Some, None, refl, sym, ◌∙◌, arith, rules, filter}
-use Rattle.uvm_object.specs.declared.acts.Act.TheVariants.{RaiseObjection}
+use Rattle.uvm_acts.specs.declared.acts.Act.TheVariants.{RaiseObjection}
 use Rattle.uvm_object.specs.declared.entries.Entry.TheVariants.{Did}
 use Rattle.uvm_object.specs.declared.entries.Outcome.TheVariants.{Done}
-use Rattle.uvm_object.specs.Acts.{node_of}
+use Rattle.uvm_acts.specs.Acts.{node_of}
 use Rattle.uvm_objection.specs.Nodes.{raised}
 use Rattle.uvm_objection.specs.Totals.{total, settled}
 use Rattle.bench_history.specs.Sequences.{finished_of}

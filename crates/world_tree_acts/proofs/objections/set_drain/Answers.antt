@@ -1,9 +1,9 @@
 use Rattle.std.proofs.Common.{◌≡◌, ◌||◌, nat_lt, Bool, true, false, not, List, refl, arith, rules}
 use Rattle.std.proofs.lemmas.Bool.Decides.{nat_tests}
-use Rattle.uvm_object.specs.declared.acts.Act.TheVariants.{SetDrain}
+use Rattle.uvm_acts.specs.declared.acts.Act.TheVariants.{SetDrain}
 use Rattle.uvm_object.specs.declared.fatals.Fatal.TheVariants.{OutOfRange}
 use Rattle.uvm_phase.specs.declared.phases.Phase.{Phase}
-use Rattle.uvm_object.specs.Acts.{node_of}
+use Rattle.uvm_acts.specs.Acts.{node_of}
 use Rattle.uvm_objection.specs.Nodes.{Node}
 use Rattle.bench_history.specs.Dues.{due_events}
 use Rattle.bench_history.specs.History.{act_phase, in_task, is_of_phase}

@@ -1,5 +1,5 @@
 use Rattle.std.proofs.Common.{◌≡◌, Some, None, refl, sym, ◌∙◌, rules}
-use Rattle.uvm_object.specs.declared.acts.Act.TheVariants.{OverrideInst}
+use Rattle.uvm_acts.specs.declared.acts.Act.TheVariants.{OverrideInst}
 use Rattle.bench_history.specs.Refusals.{overriding_refusal}
 use Rattle.world_services.proofs.Later.{acted, refused-attempt}
 use Rattle.world_tree_acts.proofs.overrides.override_inst.Goals as goal

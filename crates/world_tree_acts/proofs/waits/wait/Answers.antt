@@ -1,6 +1,6 @@
 use Rattle.std.proofs.Common.{length, ◌≡◌, ◌+◌, Some, None, refl, sym, ◌∙◌, filter, rules}
-use Rattle.uvm_object.specs.declared.acts.Act.TheVariants.{Wait}
-use Rattle.uvm_object.specs.declared.acts.Call.TheVariants as call
+use Rattle.uvm_acts.specs.declared.acts.Act.TheVariants.{Wait}
+use Rattle.uvm_acts.specs.declared.acts.Call.TheVariants as call
 use Rattle.bench_history.specs.Sequences.{finished_of}
 use Rattle.bench_history.specs.Dues.{caused_of, heard_of, is_open}
 use Rattle.bench_history.specs.History.{act_phase, now_of, ended_of}

@@ -21,7 +21,7 @@ make-who-requires c =
     let w = wanted c.needs_are_wanted.ensures c.self.inside.script before act (rw ready.needed refl) ready.left in
     let same = wanted-need w ready.needed in
     let performs = c.performers_are_there.ensures c.self.inside.script before act c.self.invariant.1.legal.each (subst IsAct (sym w.next) tt) ready.left in
-    rw c.act.ensures (makeable c.in-Some.waiting m ready w.need w.made same performs w.makes).can
+    rw (c.get.ensures, c.act.ensures) (makeable c.in-Some.waiting m ready w.need w.made same performs w.makes).can
 
 pub enter-requires-clause-room : goal.enter-requires-clause-room
 enter-requires-clause-room c =
@@ -56,7 +56,7 @@ invariant_of-self c =
     let k = makeable c.in-Some.waiting m ready w.need w.made same performs w.makes in
     let outcome = outcome_made services c.in-Some.waiting.need.type_name c.in-Some.waiting.home in
     let next : IsNext c.self.inside.script before (Did (speaker_of before) outcome act) = rw (w.next, ← k.made_is) (inl refl) in
-    let kept = rw (c.act.ensures, c.len-place.ensures) at c.make-who.ensures.kept in
+    let kept = rw (c.get.ensures, c.act.ensures, c.len-place.ensures) at c.make-who.ensures.kept in
     let entries = rw c.make-who.ensures.outcome at c.in-Ok.ensures.ok in
     let leaves = c.clear.ensures.items ∙ sym (made-leaves services c.in-Some.waiting.need.type_name c.in-Some.waiting.home services.answer.speaker) in
     rw c.take.ensures.after (acted-on outcome act c.self.invariant sound ready.room w.settled ready.left next is_act c.acts_are_in_phase.ensures c.performers_are_there.ensures c.drivers_are_there.ensures kept entries c.in-Ok.ensures.limit leaves (ap (λ (a : LastAnswer). record c.make-who.new.services { answer = a }) c.in-Ok.ensures.answer))

@@ -3,8 +3,8 @@ use Rattle.std.proofs.lemmas.List.Sorted.{IsPermutation-map, IsPermutation-sym, 
 use Rattle.std.proofs.lemmas.Option.{same_Some}
 use Rattle.std.specs.Map.{lookup}
 use Rattle.slab.specs.Slab.{get}
-use Rattle.uvm_object.specs.Acts.{node_of}
-use Rattle.uvm_object.specs.declared.acts.Who.TheVariants.{Node}
+use Rattle.uvm_acts.specs.Acts.{node_of}
+use Rattle.uvm_acts.specs.declared.acts.Who.TheVariants.{Node}
 use Rattle.object_seats.specs.Seats.{Taken, held_in}
 use Rattle.object_seats.specs.Places.{taken_in}
 use Rattle.object_seats.proofs.Places.{AreSeats-write, place-of, taken_in-write}

@@ -2,7 +2,7 @@ use Rattle.std.proofs.Common.{◌≡◌, ◌∙◌, ◌++◌, None, Some, take, 
 use Rattle.std.proofs.lemmas.List.Sorted.{IsPermutation-middle, IsPermutation-sym}
 use Rattle.std.proofs.lemmas.Option.{same_Some}
 use Rattle.slab.specs.Slab.{get}
-use Rattle.uvm_object.specs.declared.acts.Who.TheVariants.{Sequence}
+use Rattle.uvm_acts.specs.declared.acts.Who.TheVariants.{Sequence}
 use Rattle.object_seats.specs.Numbered.{key_of, sitters_in}
 use Rattle.object_seats.proofs.Sitters.{AreSequenceSeats-write, key-of-seat, keys-write, seat-of, sitters-write}
 use Rattle.object_seats.proofs.sequence_seats.SequenceSeats.hear.Goals as goal

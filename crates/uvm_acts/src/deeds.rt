@@ -1,0 +1,405 @@
+//! The acts of an answer, as an entry holds them.
+
+ghost use Rattle.std.specs.Prelude.{◌≡◌, ◌==◌, ◌++◌, ◌∷◌, [], length, slice_get, OnOk, OnErr, IfOk, option_copied};
+
+use crate::acts::Act;
+use crate::child_starts::ChildStart;
+use crate::port_acts::PortAct;
+use std::alloc::{AllocError, Global};
+use std::iter::FusedIterator;
+use std::marker::Model;
+use std::rc::Rc;
+use std::slice;
+use uvm_tlm::Item;
+
+// An act in two words: acts of numbers alone stand in place, and all others behind a pointer, those that a log has most in little room.
+#[derive(Drop)]
+enum HeldAct {
+    /// `Act::Request`.
+    Request {
+        /// The priority.
+        priority: Option<u16>,
+    },
+    /// `Act::Lock`.
+    Lock,
+    /// `Act::Grab`.
+    Grab,
+    /// `Act::Unlock`.
+    Unlock,
+    /// `Act::EndStep`.
+    EndStep,
+    /// `Act::RaiseObjection`.
+    RaiseObjection {
+        /// By how much.
+        count: u16,
+    },
+    /// `Act::DropObjection`.
+    DropObjection {
+        /// By how much.
+        count: u16,
+    },
+    /// `Act::SetDrain`.
+    SetDrain {
+        /// How many ticks.
+        ticks: u64,
+    },
+    /// `Act::Wait`.
+    Wait {
+        /// What the call is to tell.
+        tag: u32,
+        /// After how many ticks.
+        ticks: u64,
+    },
+    /// `Act::Send`.
+    Send(Rc<Item>),
+    /// An act through a port of a short name.
+    AtPort(Rc<PortAct>),
+    /// The start of a child with short names.
+    StartChild(Rc<ChildStart>),
+    /// Any act.
+    Whole(Rc<Act>),
+}
+
+/// An act of an answer. The entry that says what became of it shares it, so that performing an act copies none that has memory of its own; an act of
+/// numbers alone takes none. Contracts see the act.
+pub struct Deed {
+    held: HeldAct,
+}
+
+impl Drop for Deed {
+    fn drop(self) {
+        let Deed { held: _ } = self;
+    }
+}
+
+impl Model for Deed {
+    ghost use Rattle.uvm_acts.specs.Deeds.{held_act};
+    ghost use Rattle.uvm_acts.specs.declared.acts.Act.{Act};
+
+    ghost Value = { Act };
+
+    ghost view = { λ d. held_act d.held };
+}
+
+impl Deed {
+    /// An act, to be shared. The error is want of memory.
+    pub fn new(alloc: Global, act: Act) -> Result<Deed, AllocError>
+        ensures { IfOk result (λ deed. deed ≡ act) }
+    {
+        let held = match act {
+            Act::Request { priority } => HeldAct::Request { priority },
+            Act::Lock => HeldAct::Lock,
+            Act::Grab => HeldAct::Grab,
+            Act::Unlock => HeldAct::Unlock,
+            Act::EndStep => HeldAct::EndStep,
+            Act::RaiseObjection { count } => HeldAct::RaiseObjection { count },
+            Act::DropObjection { count } => HeldAct::DropObjection { count },
+            Act::SetDrain { ticks } => HeldAct::SetDrain { ticks },
+            Act::Wait { ticks, tag } => HeldAct::Wait { tag, ticks },
+            Act::Send { item } => HeldAct::Send(Rc::new(alloc, item)?),
+            act => return Deed::behind_pointer(alloc, act),
+        };
+        Ok(Deed { held })
+    }
+
+    // An act that takes memory.
+    fn behind_pointer(alloc: Global, act: Act) -> Result<Deed, AllocError>
+        ensures { IfOk result (λ deed. deed ≡ act) }
+    {
+        if let Some(port_act) = PortAct::new(&act) {
+            return Ok(Deed {
+                held: HeldAct::AtPort(Rc::new(alloc, port_act)?),
+            });
+        }
+        if let Some(start) = ChildStart::new(alloc, &act) {
+            return Ok(Deed {
+                held: HeldAct::StartChild(Rc::new(alloc, start)?),
+            });
+        }
+        Ok(Deed {
+            held: HeldAct::Whole(Rc::new(alloc, act)?),
+        })
+    }
+
+    /// The same act. It takes no memory; the error is that as many share it as can be counted.
+    pub fn share(&self) -> Result<Deed, AllocError>
+        ensures { IfOk result (λ deed. deed ≡ self.now) }
+    {
+        let held = match &self.held {
+            HeldAct::Request { priority } => HeldAct::Request {
+                priority: *priority,
+            },
+            HeldAct::Lock => HeldAct::Lock,
+            HeldAct::Grab => HeldAct::Grab,
+            HeldAct::Unlock => HeldAct::Unlock,
+            HeldAct::EndStep => HeldAct::EndStep,
+            HeldAct::RaiseObjection { count } => HeldAct::RaiseObjection { count: *count },
+            HeldAct::DropObjection { count } => HeldAct::DropObjection { count: *count },
+            HeldAct::SetDrain { ticks } => HeldAct::SetDrain { ticks: *ticks },
+            HeldAct::Wait { tag, ticks } => HeldAct::Wait {
+                tag: *tag,
+                ticks: *ticks,
+            },
+            HeldAct::Send(item) => HeldAct::Send(item.clone()?),
+            HeldAct::AtPort(port_act) => HeldAct::AtPort(port_act.clone()?),
+            HeldAct::StartChild(start) => HeldAct::StartChild(start.clone()?),
+            HeldAct::Whole(act) => HeldAct::Whole(act.clone()?),
+        };
+        Ok(Deed { held })
+    }
+
+    /// The act. It takes no memory.
+    pub fn act(&self) -> LentAct<'_>
+        ensures { result ≡ self.now }
+    {
+        let lent = match &self.held {
+            HeldAct::Request { priority } => Lent::Made(Act::Request {
+                priority: *priority,
+            }),
+            HeldAct::Lock => Lent::Made(Act::Lock),
+            HeldAct::Grab => Lent::Made(Act::Grab),
+            HeldAct::Unlock => Lent::Made(Act::Unlock),
+            HeldAct::EndStep => Lent::Made(Act::EndStep),
+            HeldAct::RaiseObjection { count } => Lent::Made(Act::RaiseObjection { count: *count }),
+            HeldAct::DropObjection { count } => Lent::Made(Act::DropObjection { count: *count }),
+            HeldAct::SetDrain { ticks } => Lent::Made(Act::SetDrain { ticks: *ticks }),
+            HeldAct::Wait { tag, ticks } => Lent::Made(Act::Wait {
+                ticks: *ticks,
+                tag: *tag,
+            }),
+            HeldAct::Send(item) => Lent::Made(Act::Send { item: **item }),
+            HeldAct::AtPort(port_act) => Lent::Made(port_act.act()),
+            HeldAct::StartChild(start) => Lent::Made(start.act()),
+            HeldAct::Whole(act) => Lent::Whole(act),
+        };
+        LentAct { lent }
+    }
+}
+
+// An act that is held whole, or one that is made as it is lent.
+#[derive(Drop)]
+enum Lent<'a> {
+    Made(Act),
+    Whole(&'a Act),
+}
+
+/// An act of an answer, lent. Contracts see the act.
+pub struct LentAct<'a> {
+    lent: Lent<'a>,
+}
+
+// (By hand, so that crates above prove no drop of what it holds.)
+impl Drop for LentAct<'_> {
+    fn drop(self) {
+        let LentAct { lent: _ } = self;
+    }
+}
+
+impl<'a> Model for LentAct<'a> {
+    ghost use Rattle.uvm_acts.specs.Deeds.{lent_act};
+    ghost use Rattle.uvm_acts.specs.declared.acts.Act.{Act};
+
+    ghost Value = { Act };
+
+    ghost view = { λ l. lent_act l.lent };
+}
+
+impl LentAct<'_> {
+    /// The act.
+    pub fn get(&self) -> &Act
+        ensures { result.now ≡ self.now }
+    {
+        match &self.lent {
+            Lent::Made(act) => act,
+            Lent::Whole(act) => act,
+        }
+    }
+}
+
+// Most answers have one act, for which no list is made.
+#[derive(Drop)]
+enum Deeds {
+    /// No act.
+    None,
+    /// One act.
+    One(Deed),
+    /// Any number of acts, in order.
+    Many(Box<Vec<Deed>>),
+}
+
+/// The acts of one answer, in order. Contracts see the list of them.
+pub struct Acts {
+    pub(crate) alloc: Global,
+    deeds: Deeds,
+}
+
+impl Drop for Acts {
+    fn drop(self) {
+        let Acts { alloc: _, deeds: _ } = self;
+    }
+}
+
+impl Model for Acts {
+    ghost use Rattle.std.specs.Prelude.{List};
+    ghost use Rattle.uvm_acts.specs.Acts.{acts_of};
+    ghost use Rattle.uvm_acts.specs.declared.acts.Act.{Act};
+
+    ghost Value = { List Act };
+
+    ghost view = { λ a. acts_of a.deeds };
+}
+
+impl Acts {
+    /// No acts.
+    pub fn new(alloc: Global) -> Acts
+        ensures { result ≡ [] }
+    {
+        Acts {
+            alloc,
+            deeds: Deeds::None,
+        }
+    }
+
+    /// Adds an act at the end. The error is want of memory, and leaves the acts as they were.
+    pub fn push(&mut self, act: Act) -> Result<(), AllocError>
+        ensures ok { OnOk result (self.new ≡ self.old ++ act ∷ []) }
+        ensures err { OnErr result (self.new ≡ self.old) }
+    {
+        let deed = Deed::new(self.alloc, act)?;
+        match &mut self.deeds {
+            Deeds::None => self.deeds = Deeds::One(deed),
+            Deeds::One(first) => {
+                let both = two(self.alloc, first.share()?, deed)?;
+                self.deeds = Deeds::Many(both);
+            }
+            Deeds::Many(all) => all.push(deed)?,
+        }
+        Ok(())
+    }
+
+    /// How many acts there are.
+    pub fn len(&self) -> usize
+        ensures { result ≡ length self.now }
+    {
+        match &self.deeds {
+            Deeds::None => 0,
+            Deeds::One(_) => 1,
+            Deeds::Many(all) => all.len(),
+        }
+    }
+
+    /// Whether there is none.
+    pub fn is_empty(&self) -> bool
+        ensures { result ≡ (length self.now == 0) }
+    {
+        self.len() == 0
+    }
+
+    /// The act at a place, from 0, if there are so many. It takes no memory.
+    pub fn get(&self, place: usize) -> Option<LentAct<'_>>
+        ensures { result ≡ slice_get self.now place }
+    {
+        match self.deed(place) {
+            Some(deed) => Some(deed.act()),
+            None => None,
+        }
+    }
+
+    /// The act at a place, from 0, to be shared, if there are so many.
+    pub fn deed(&self, place: usize) -> Option<&Deed>
+        ensures { option_copied result ≡ slice_get self.now place }
+    {
+        match &self.deeds {
+            Deeds::One(deed) if place == 0 => Some(deed),
+            Deeds::Many(all) => all.get(place),
+            _ => None,
+        }
+    }
+
+    /// The acts in order. It takes no memory.
+    pub fn iter(&self) -> ActsIter<'_>
+        ensures { result ≡ self.now }
+    {
+        ActsIter {
+            left: match &self.deeds {
+                Deeds::None => &[],
+                Deeds::One(deed) => slice::from_ref(deed),
+                Deeds::Many(all) => all.as_slice(),
+            },
+        }
+    }
+}
+
+/// An iterator over the acts of an answer, in order. Contracts see the list of those that are left.
+#[derive(Drop)]
+pub struct ActsIter<'a> {
+    left: &'a [Deed],
+}
+
+impl<'a> Model for ActsIter<'a> {
+    ghost use Rattle.std.specs.Prelude.{List};
+    ghost use Rattle.uvm_acts.specs.declared.acts.Act.{Act};
+
+    ghost Value = { List Act };
+
+    ghost view = { λ it. it.left.now };
+}
+
+impl<'a> Iterator for ActsIter<'a> {
+    ghost use Rattle.std.specs.Prelude.{◌≡◌, length, Some, IfSome};
+    ghost use Rattle.std.specs.Iterator.{YieldsFirst, UpTo, at_most, item_count};
+    ghost use Rattle.std.specs.Iterator.SizeHint.{IsWithinCount};
+
+    type Item = LentAct<'a>;
+
+    ghost next_gives = { YieldsFirst (λ it. it) };
+
+    ghost remaining = { item_count (λ it. it) };
+
+    fn next(&mut self) -> Option<LentAct<'a>> {
+        let (first, left) = self.left.split_first()?;
+        self.left = left;
+        Some(first.act())
+    }
+
+    fn size_hint(&self) -> (usize, Option<usize>)
+        ensures lower { IsWithinCount result.0 (at_most (length self.now)) }
+        ensures upper { IfSome result.1 (UpTo (at_most (length self.now))) }
+        ensures exact { (result.0 ≡ length self.now) × (result.1 ≡ Some (length self.now)) }
+    {
+        let len = self.left.len();
+        (len, Some(len))
+    }
+}
+
+impl ExactSizeIterator for ActsIter<'_> {
+    fn len(&self) -> usize {
+        self.left.len()
+    }
+}
+
+impl FusedIterator for ActsIter<'_> {}
+
+/// The acts in order.
+impl<'a> IntoIterator for &'a Acts {
+    ghost use Rattle.std.specs.Prelude.{◌≡◌};
+
+    type Item = LentAct<'a>;
+
+    type IntoIter = ActsIter<'a>;
+
+    ghost into_iter_gives = { λ acts it. it ≡ acts.now };
+
+    fn into_iter(self) -> ActsIter<'a> {
+        self.iter()
+    }
+}
+
+fn two(alloc: Global, first: Deed, second: Deed) -> Result<Box<Vec<Deed>>, AllocError>
+    ensures { IfOk result (λ deeds. deeds.value.items ≡ first ∷ second ∷ []) }
+{
+    let mut deeds = Vec::new(alloc);
+    deeds.push(first)?;
+    deeds.push(second)?;
+    Ok(Box::new(alloc, deeds)?)
+}

@@ -1,0 +1,67 @@
+//! Names of few bytes, held in little room.
+
+ghost use Rattle.std.specs.Prelude.{◌≡◌, ◌≤◌, length, take, IfSome, is_some, nat_le};
+ghost use Rattle.uvm_acts.specs.ShortNames.{most_short_bytes};
+
+use std::marker::Model;
+use uvm_glob::Name;
+
+/// A name of at most `MAX_LEN` bytes, held in as many and one. Contracts see its bytes.
+#[derive(Drop)]
+pub(crate) struct ShortName {
+    len: u8,
+    // The bytes, and others after them.
+    bytes: [u8; ShortName::MAX_LEN],
+}
+
+impl Model for ShortName {
+    ghost use Rattle.std.specs.Prelude.{◌≡◌, ◌≤◌, List, ℕ, length, take, None};
+    ghost use Rattle.uvm_glob.specs.Names.{name_fault};
+    ghost use Rattle.uvm_acts.specs.ShortNames.{most_short_bytes};
+
+    ghost Value = { List ℕ };
+
+    ghost view = { λ n. take n.len n.bytes };
+
+    ghost invariant = { λ n. (n.len ≤ most_short_bytes) × (length n.bytes ≡ most_short_bytes) × (name_fault (take n.len n.bytes) ≡ None) };
+}
+
+impl ShortName {
+    /// The most bytes of a name that is held so.
+    pub(crate) const MAX_LEN: usize = 15;
+
+    /// The name, if it has few enough bytes.
+    pub(crate) fn new(name: &Name) -> Option<ShortName>
+        ensures some { is_some result ≡ nat_le (length name.now) most_short_bytes }
+        ensures name { IfSome result (λ short. short ≡ name.now) }
+    {
+        let bytes = name.as_bytes();
+        if bytes.len() > ShortName::MAX_LEN {
+            return None;
+        }
+        Some(ShortName {
+            len: bytes.len() as u8,
+            bytes: padded(bytes),
+        })
+    }
+
+    /// The name.
+    pub(crate) fn name(&self) -> Name
+        ensures { result ≡ self.now }
+    {
+        let Ok(name) = Name::new(&self.bytes[..usize::from(self.len)]) else {
+            unreachable!()
+        };
+        name
+    }
+}
+
+// The bytes, and zeros after them.
+fn padded(bytes: &[u8]) -> [u8; ShortName::MAX_LEN]
+    requires { length bytes.now ≤ most_short_bytes }
+    ensures { take (length bytes.now) result ≡ bytes.now }
+{
+    let mut held = [0; ShortName::MAX_LEN];
+    held[..bytes.len()].copy_from_slice(bytes);
+    held
+}

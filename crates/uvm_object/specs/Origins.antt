@@ -1,0 +1,10 @@
+-- The origin that an entry holds.
+use Rattle.std.specs.Prelude.{Option, Some, None}
+use Rattle.uvm_object.specs.declared.entries.Origin.{Origin}
+use Rattle.uvm_object.specs.declared.entries.CompactOrigin.{CompactOrigin}
+use Rattle.uvm_object.specs.declared.entries.CompactOrigin.TheVariants as origin
+
+abbrev pub held_origin : CompactOrigin → Option Origin
+held_origin origin.None = None
+held_origin (origin.First phase place) = Some (record { cause = record { place = place; number = 0 }; phase = phase })
+held_origin (origin.Boxed box) = Some box.value

@@ -1,6 +1,6 @@
 -- What contracts see of the machine.
 use Rattle.rand_core.specs.Stream.{Stream, next_u64}
-use Rattle.std.specs.Prelude.{◌≡◌, ◌<◌, ◌≤◌, ℕ, Bool, true, false, List, ◌∷◌, ◌++◌, length, [], Option, Some, None, Result, Ok, Err, IsSome}
+use Rattle.std.specs.Prelude.{◌≡◌, ◌<◌, ◌≤◌, ℕ, Bool, true, false, List, ◌∷◌, ◌++◌, length, [], Option, Some, None, Result, Ok, Err, IsSome, unwrap_or}
 use Rattle.uvm_object.specs.declared.entries.Origin.{Origin}
 use Rattle.uvm_acts.specs.declared.acts.Who.{Who}
 use Rattle.uvm_acts.specs.declared.acts.Call.{Call}
@@ -21,6 +21,8 @@ use Rattle.bench_history.specs.Cases as next
 use Rattle.bench_history.specs.Next.{Allows, IsNext, next_of, need_in}
 use Rattle.bench_world.specs.Worlds.{WorldValue, world_after}
 use Rattle.bench_core.specs.declared.cores.Question.{Question}
+use Rattle.bench_core.specs.declared.cores.Progress.{Progress}
+use Rattle.bench_core.specs.declared.cores.Progress.TheVariants as progress
 use Rattle.bench_core.specs.declared.cores.Turn as turn
 use Rattle.bench_core.specs.declared.faults.CoreFault.{CoreFault}
 use Rattle.bench_core.specs.declared.faults.CoreFault.TheVariants.{Memory, LogFull, Failed, NoTest}
@@ -132,6 +134,12 @@ turn_of Nothing = None
 turn_of (Needed need) = Some turn.TheVariants.Need
 turn_of (Asked hearer call origin) = Some (turn.TheVariants.Ask hearer call)
 
+-- the turn that comes of the next entry: where something is asked for it is what stands
+abbrev pub turn_after : Progress → Standing → turn.Turn
+turn_after progress.Over standing = turn.TheVariants.Over
+turn_after progress.Moved standing = turn.TheVariants.Moved
+turn_after progress.Asked standing = unwrap_or (turn_of standing) turn.TheVariants.Over
+
 -- the word that is drawn by a turn: that of the grant that it enters, where one decides whose it is
 abbrev pub word_in : List Entry → Option ℕ
 word_in (Granted sequencer grant ∷ before) = grant.word
@@ -182,7 +190,7 @@ need_of (Asked hearer call origin) = None
 abbrev pub answer_in : Standing → List Act → Option Entry
 answer_in Nothing acts = None
 answer_in (Needed need) acts = None
-answer_in (Asked hearer call origin) acts = Some (Heard hearer call origin acts)
+answer_in (Asked hearer call origin) acts = Some (Heard hearer origin call acts)
 
 -- the line of the newest entry, where it is asked for
 abbrev pub last_line : Bool → List Entry → List ℕ

@@ -7,35 +7,18 @@ ghost use Rattle.bench_history.specs.Cases.{Exactly, by_call, origin_of, phase_t
 ghost use Rattle.bench_history.specs.Objections.{is_kept};
 ghost use Rattle.bench_history.specs.Laws.{is_at_check};
 ghost use Rattle.bench_history.specs.Next.{first_next, next_of};
-ghost use Rattle.bench_core.specs.Choices.{IsChoice, entry_of};
+ghost use Rattle.world_entries.specs.Marks.{entry_of};
+ghost use Rattle.bench_core.specs.Choices.{IsChoice};
 
+use crate::cores::Question;
 use bench_history::{Owner, Stage};
 use bench_views::{lent, told, upcoming};
 use bench_world::World;
 use std::alloc::AllocError;
-use uvm_object::{Call, Fatal, Origin, Passage, Reason, Who};
+use uvm_object::{Call, Fatal, HeldCall, Origin, Passage, Reason, Who};
 use uvm_phase::{Due, Phase, Schedule};
-use uvm_sequences::SeqId;
 use uvm_tree::NodeId;
-
-/// An entry that the machine makes by itself.
-#[derive(Clone, Copy)]
-pub(crate) enum Mark {
-    /// A phase begins.
-    Begin(Phase),
-    /// A phase ends.
-    End(Phase),
-    /// Time passes.
-    Time(u64),
-    /// The lock of a sequence is granted at a sequencer.
-    Locked(NodeId, SeqId),
-    /// The drain of a node, which began with an origin, ends.
-    Drained(NodeId, Origin),
-    /// The kernel reports at a node.
-    Note(Fatal, NodeId),
-    /// The run is over.
-    Over(Reason),
-}
+use world_entries::marks::Mark;
 
 /// What comes next.
 #[derive(Drop)]
@@ -50,8 +33,8 @@ pub(crate) enum Choice {
     Pass(NodeId, Passage),
     /// An act of the last answer, which has its entry at once or needs an object.
     Act,
-    /// The answer of somebody to a call, which is due with an origin, or is a phase's.
-    Ask(Who, Call, Option<Origin>),
+    /// The answer of somebody to a call.
+    Ask(Question),
 }
 
 // What comes next after the log of a world.
@@ -92,7 +75,11 @@ pub(crate) fn choose(world: &mut World) -> Result<Choice, AllocError>
         return Ok(Choice::Enter(Mark::Begin(phase)));
     }
     if let Some((node, phase)) = upcoming::next_turn(world) {
-        return Ok(Choice::Ask(Who::Node(node), Call::Phase(phase), None));
+        return Ok(Choice::Ask(Question {
+            who: Who::Node(node),
+            call: Call::Phase(phase),
+            origin: None,
+        }));
     }
     Ok(Choice::Enter(match told::phase(world) {
         Some(phase) => done(world, phase)?,
@@ -130,7 +117,7 @@ fn done(world: &mut World, phase: Phase) -> Result<Mark, AllocError>
 }
 
 // The owner of an event hears its call, or its drain ends.
-fn happening(due: &Due<Owner, Option<Call>>) -> Choice
+fn happening(due: &Due<Owner, Option<HeldCall>>) -> Choice
     ensures { IsChoice (by_call due.now.owner due.now.notice (origin_of due.now)) result }
 {
     let who = due.owner.who();
@@ -138,8 +125,12 @@ fn happening(due: &Due<Owner, Option<Call>>) -> Choice
         cause: due.cause,
         phase: due.phase,
     };
-    match due.notice {
-        Some(call) => Choice::Ask(who, call, Some(origin)),
+    match &due.notice {
+        Some(call) => Choice::Ask(Question {
+            who,
+            call: call.get(),
+            origin: Some(origin),
+        }),
         None => Choice::Enter(Mark::Drained(who.node(), origin)),
     }
 }

@@ -19,12 +19,12 @@ ghost use Rattle.uvm_report.specs.Changes.{Gives};
 ghost use Rattle.bench_history.specs.Next.{HasWord, next_of, made_in, declined_in, IsLegal};
 ghost use Rattle.bench_history.specs.Cases as comes;
 ghost use Rattle.bench_history.specs.Laws.{IsSomething};
-ghost use Rattle.bench_core.specs.Cores.{DrawsOne, HasEntered, IsDrawing, IsDrawn, IsNextTurn, IsToldTurn, IsTurn, drawn_by, word_in, IsUnmade, core_after, failed_from, is_sound, turn_of, need_of, answer_in, IsAsk, AsksThere, last_line, last_text};
-ghost use Rattle.bench_world.specs.Worlds.{MayEnter, broken, made_who, world_after};
-ghost use Rattle.bench_core.specs.Choices.{IsChoice, entry_of};
+ghost use Rattle.bench_core.specs.Cores.{DrawsOne, HasEntered, IsDrawing, IsDrawn, IsNextTurn, IsToldTurn, IsTurn, drawn_by, word_in, IsUnmade, core_after, failed_from, is_sound, turn_of, need_of, answer_in, turn_after, IsAsk, AsksSomething, AsksThere, last_line, last_text};
+ghost use Rattle.bench_world.specs.Worlds.{broken, made_who};
+ghost use Rattle.bench_core.specs.Choices.{IsChoice};
 ghost use Rattle.bench_core.specs.Cores.{Nothing, IsRequest};
 
-use crate::choices::{Choice, Mark, choose};
+use crate::choices::{Choice, choose};
 use crate::faults::CoreFault;
 use bench_history::{Need, laws};
 use bench_script::Script;
@@ -66,9 +66,9 @@ pub enum Turn {
 /// A call that somebody was asked to answer, and has not answered yet. It was due with an origin, or is a phase's.
 #[derive(Drop)]
 pub(crate) struct Question {
-    who: Who,
-    call: Call,
-    origin: Option<Origin>,
+    pub(crate) who: Who,
+    pub(crate) call: Call,
+    pub(crate) origin: Option<Origin>,
 }
 
 impl Question {
@@ -80,6 +80,17 @@ impl Question {
             call: self.call,
         }
     }
+}
+
+/// What came of the next entry.
+#[derive(Clone, Copy)]
+pub(crate) enum Progress {
+    /// Nothing comes.
+    Over,
+    /// It was made.
+    Moved,
+    /// Something is asked for first, which stands then.
+    Asked,
 }
 
 /// How a machine is.
@@ -203,11 +214,7 @@ impl Core {
             unreachable!()
         };
         self.health = Health::Broken;
-        let heard = match origin {
-            None => self.world.heard(who, call, acts),
-            Some(origin) => self.world.heard_due(who, call, origin, acts),
-        };
-        match heard {
+        match self.world.heard(who, &call, origin, acts) {
             Ok(()) => {
                 self.told = 0;
                 self.health = Health::Good;
@@ -429,58 +436,62 @@ impl Core {
             return Err(CoreFault::LogFull);
         }
         match self.advance(words) {
-            Ok(turn) => Ok(turn),
+            Ok(Progress::Over) => Ok(Turn::Over),
+            Ok(Progress::Moved) => Ok(Turn::Moved),
+            Ok(Progress::Asked) => match self.turn() {
+                Some(turn) => Ok(turn),
+                None => unreachable!(),
+            },
             Err(_) => Err(CoreFault::Memory),
         }
     }
 
     // Does what comes next.
-    fn advance<R: Rng>(&mut self, words: &mut R) -> Result<Turn, AllocError>
+    fn advance<R: Rng>(&mut self, words: &mut R) -> Result<Progress, AllocError>
         requires standing { self.old.standing ≡ Nothing }
         requires health { self.old.health ≡ Health.Good }
         requires told { self.old.leaving ≡ [] }
         requires room { length self.old.history < log_limit self.old.script }
-        ensures ok { IfOk result (λ turn. IsTurn (next_of self.old.script self.old.history) turn self.old self.new) }
+        ensures ok { IfOk result (λ progress. IsTurn (next_of self.old.script self.old.history) (turn_after progress self.new.standing) self.old self.new) }
+        ensures asked { IfOk result (λ progress. progress ≡ Progress.Asked → AsksSomething self.new.standing) }
         ensures err { OnErr result (self.new ≡ failed_from Health.Broken self.old) }
-        ensures words { IfOk result (λ turn. IsDrawn R.stream (drawn_by self.new.history turn) words.old words.new) }
+        ensures words { IfOk result (λ progress. IsDrawn R.stream (drawn_by self.new.history (turn_after progress self.new.standing)) words.old words.new) }
         ensures lost { OnErr result (DrawsOne R.stream words.old words.new) }
     {
         self.health = Health::Broken;
-        let turn = match choose(&mut self.world)? {
-            Choice::Nothing => Turn::Over,
+        let progress = match choose(&mut self.world)? {
+            Choice::Nothing => Progress::Over,
             Choice::Enter(mark) => {
-                enter(&mut self.world, mark)?;
+                self.world.enter(mark)?;
                 self.told = 0;
-                Turn::Moved
+                Progress::Moved
             }
             Choice::Grant(sequencer, drawn) => {
                 grant(&mut self.world, sequencer, drawn, words)?;
                 self.told = 0;
-                Turn::Moved
+                Progress::Moved
             }
             Choice::Pass(fifo, passage) => {
                 self.world.passed(fifo, passage)?;
                 self.told = 0;
-                Turn::Moved
+                Progress::Moved
             }
             Choice::Act => {
                 self.world.did()?;
                 if self.world.need().is_some() {
-                    Turn::Need
+                    Progress::Asked
                 } else {
                     self.told = 0;
-                    Turn::Moved
+                    Progress::Moved
                 }
             }
-            Choice::Ask(who, call, origin) => {
-                let question = Question { who, call, origin };
-                let turn = question.turn();
+            Choice::Ask(question) => {
                 self.question = Some(question);
-                turn
+                Progress::Asked
             }
         };
         self.health = Health::Good;
-        Ok(turn)
+        Ok(progress)
     }
 }
 
@@ -524,21 +535,4 @@ fn is_over(world: &World) -> bool
     laws::nothing_after_over();
     laws::something_before_over();
     matches!(world.log().last(), Some(Entry::Over(_)))
-}
-
-// Makes an entry of the machine's own.
-fn enter(world: &mut World, mark: Mark) -> Result<(), AllocError>
-    requires { MayEnter world.old (comes.Exactly (entry_of mark)) }
-    ensures ok { OnOk result (world.new ≡ world_after (entry_of mark) world.old) }
-    ensures err { OnErr result (world.new ≡ broken world.old) }
-{
-    match mark {
-        Mark::Begin(phase) => world.begin(phase),
-        Mark::End(phase) => world.end(phase),
-        Mark::Time(time) => world.time(time),
-        Mark::Locked(sequencer, id) => world.locked(sequencer, id),
-        Mark::Drained(node, origin) => world.drained(node, origin),
-        Mark::Note(fatal, node) => world.note(fatal, node),
-        Mark::Over(reason) => world.over(reason),
-    }
 }

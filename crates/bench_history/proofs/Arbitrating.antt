@@ -52,7 +52,7 @@ served-case script history node grant next allows (ByNeed act need made left ups
 served-case script history node grant next allows (ByDeed act outcome left plain comes e) = let same : Granted node grant ≡ Did (speaker_of history) outcome act = subst (λ (n : Next). Allows n (Granted node grant)) e allows in cc
 served-case script history node grant next allows (ByDue event call now is e) =
     let answer = subst (λ (n : Next). Allows n (Granted node grant)) e allows in
-    let same : Granted node grant ≡ Heard (who_of event.owner) call (Some (origin_of event)) answer.0 = answer.1 in cc
+    let same : Granted node grant ≡ Heard (who_of event.owner) (Some (origin_of event)) call answer.0 = answer.1 in cc
 served-case script history node grant next allows (ByTurn phase other during turn e) = let answer = subst (λ (n : Next). Allows n (Granted node grant)) e allows in let same = answer.1 in cc
 served-case script history node grant next allows (ByEnd phase runs e) = let same : Granted node grant ≡ End phase = subst (λ (n : Next). Allows n (Granted node grant)) e allows in cc
 served-case script history node grant next allows (ByBegin phase may e) = let same : Granted node grant ≡ Begin phase = subst (λ (n : Next). Allows n (Granted node grant)) e allows in cc

@@ -151,7 +151,7 @@ pub record IsAdded (nodes : List Node) (performer : Who) (outcome : Outcome) (ac
   pub below : node < length (nodes_after nodes performer outcome act)
   pub under : IfSome (under_at (nodes_after nodes performer outcome act) node) (λ under. under.0 ≡ node_of performer)
   pub other : (script : ScriptValue) → act ≡ opening script → ⊥
-  pub closed : (id home : ℕ) → is_open_to act (who.Sequence id home) ≡ false
+  pub closed : (id home : ℕ) → is_open_to act (who.Sequence home id) ≡ false
   pub done : outcome ≡ Done
 
 pub get-before : (xs ys : List Node) (k : ℕ) → k < length xs → slice_get (xs ++ ys) k ≡ slice_get xs k

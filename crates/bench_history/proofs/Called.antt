@@ -68,7 +68,7 @@ lapsed-owners script before phase next on known = each-flat (IsTold (End phase �
 
 module _ (keeps : OrderKeepsAll Owner (Option Call)) (excludes : LockExcludes) where
   speaking-more : (script : ScriptValue) (before : List Entry) (entry : Entry) → Known script before → IsNext script before entry → GoesOn (entry ∷ before) → Speaking script (entry ∷ before)
-  speaking-more script before (Heard performer call origin acts) known next on = Speaks (speaker-stays script before (Heard performer call origin acts) (phase_heard call origin) performer next on refl refl (heard-one keeps script before performer call origin acts known next).0)
+  speaking-more script before (Heard performer origin call acts) known next on = Speaks (speaker-stays script before (Heard performer origin call acts) (phase_heard call origin) performer next on refl refl (heard-one keeps script before performer call origin acts known next).0)
   speaking-more script before (Did performer outcome act) known next on = speaking-did script before performer outcome act next on known.speaker
   speaking-more script before (Begin phase) known next on = NoneLeft (begin-left script before phase next)
   speaking-more script before (End phase) known next on = NoneLeft (end-left script before phase next)
@@ -170,8 +170,8 @@ module _ (keeps : OrderKeepsAll Owner (Option Call)) (excludes : LockExcludes) w
       let entry = Locked node id in
       let s : IsRequester before node id = subst (λ (led : Option (ℕ × ℕ)). IfSome led (λ led. IsRequester before led.0 led.1)) (lock-next script before node id next) (locking-holds (IsRequester before) before (λ at. queue-served script before at known)) in
       record {
-        owners = All-append (IsCallTo (entry ∷ before)) (due_from (Some call.Held) (Sequence id node) (phase_begun before id) (now_of before) (caused_at (length before))) (caused_of script before)
-            (due-owner (entry ∷ before) (Some call.Held) (Sequence id node) (phase_begun before id) (now_of before) (caused_at (length before)) (inr (λ p runs. sequence-more script before entry p id node next on (requester-expected before node id p runs s))))
+        owners = All-append (IsCallTo (entry ∷ before)) (due_from (Some call.Held) (Sequence node id) (phase_begun before id) (now_of before) (caused_at (length before))) (caused_of script before)
+            (due-owner (entry ∷ before) (Some call.Held) (Sequence node id) (phase_begun before id) (now_of before) (caused_at (length before)) (inr (λ p runs. sequence-more script before entry p id node next on (requester-expected before node id p runs s))))
             (owners-more script before entry next on known);
         acting = acting-more script before entry (act_phase before) next on known.acting;
         going = known.going;
@@ -191,8 +191,8 @@ module _ (keeps : OrderKeepsAll Owner (Option Call)) (excludes : LockExcludes) w
       let id = grant.id in
       let s = chosen-holds (IsRequester before node) before node id grant.word (queue-served script before node known) (grant-next script before node grant next) in
       record {
-        owners = All-append (IsCallTo (entry ∷ before)) (due_from (Some call.Grant) (Sequence id node) (phase_begun before id) (now_of before) (caused_at (length before))) (caused_of script before)
-            (due-owner (entry ∷ before) (Some call.Grant) (Sequence id node) (phase_begun before id) (now_of before) (caused_at (length before)) (inr (λ p runs. sequence-more script before entry p id node next on (requester-expected before node id p runs s))))
+        owners = All-append (IsCallTo (entry ∷ before)) (due_from (Some call.Grant) (Sequence node id) (phase_begun before id) (now_of before) (caused_at (length before))) (caused_of script before)
+            (due-owner (entry ∷ before) (Some call.Grant) (Sequence node id) (phase_begun before id) (now_of before) (caused_at (length before)) (inr (λ p runs. sequence-more script before entry p id node next on (requester-expected before node id p runs s))))
             (owners-more script before entry next on known);
         acting = acting-more script before entry (act_phase before) next on known.acting;
         going = known.going;
@@ -253,8 +253,8 @@ module _ (keeps : OrderKeepsAll Owner (Option Call)) (excludes : LockExcludes) w
     served = λ node id e. requester-more script before (End phase) node id next on (known.served node id (end-kept (ends_ask phase (driver_asker before node)) (is_live (End phase ∷ before)) (driver_state before node) id e));
     askers = λ node. asker-more script before (End phase) (driver_asker before node) next on (known.askers node);
   }
-  known-more script before (Heard performer call origin acts) known next on =
-      let entry = Heard performer call origin acts in
+  known-more script before (Heard performer origin call acts) known next on =
+      let entry = Heard performer origin call acts in
       record {
         acting = acting-more script before entry (phase_heard call origin) next on (λ p is. Runs ((heard-one keeps script before performer call origin acts known next).1 p is));
         going = inr (heard-one keeps script before performer call origin acts known next).1;
@@ -341,7 +341,7 @@ module _ (keeps : OrderKeepsAll Owner (Option Call)) (excludes : LockExcludes) w
 
       in-phase : (who : Who) → IsSpeaker history (act_phase history) who → IsInPhase history who
       in-phase (Node node) has = tt
-      in-phase (Sequence id home) s = ap (option_and_then (λ (beginning : Beginning). beginning.phase)) s.sequence.begun ∙ s.sequence.phase_is ∙ sym s.own
+      in-phase (Sequence home id) s = ap (option_and_then (λ (beginning : Beginning). beginning.phase)) s.sequence.begun ∙ s.sequence.phase_is ∙ sym s.own
 
       owned : Speaking script history → (act ≡ opening script) ⊎ IsInPhase history (speaker_of history)
       owned (NoneLeft none) = some none
@@ -402,25 +402,25 @@ module _ (keeps : OrderKeepsAll Owner (Option Call)) (excludes : LockExcludes) w
   performers_are_there script history act each is left = performer-there script history act left (known-of script history each (acts-before-end script history is)).speaker
 
   -- an answer of another is not the node's
-  apart : (performer : Who) (node : ℕ) (call : Call) (origin : Option Origin) (acts : List Act) → node_of performer < node → exchanged_in (Node node) (Heard performer call origin acts) ≡ []
+  apart : (performer : Who) (node : ℕ) (call : Call) (origin : Option Origin) (acts : List Act) → node_of performer < node → exchanged_in (Node node) (Heard performer origin call acts) ≡ []
   apart (Node other) node call origin acts lt =
       let differs : (other == node) ≡ false = grind (arith, nat_tests) in
       rw differs refl
-  apart (Sequence id home) node call origin acts lt = refl
+  apart (Sequence home id) node call origin acts lt = refl
 
   -- who has an answer had spoken
-  answered : (script : ScriptValue) (before : List Entry) (performer : Who) (call : Call) (origin : Option Origin) (acts : List Act) → EachIsNext script before → IsNext script before (Heard performer call origin acts) → IsSpeaker before (phase_heard call origin) performer
-  answered script before performer call origin acts each next = (heard-one keeps script before performer call origin acts (known-of script before each (went-on script before (Heard performer call origin acts) next)) next).0
+  answered : (script : ScriptValue) (before : List Entry) (performer : Who) (call : Call) (origin : Option Origin) (acts : List Act) → EachIsNext script before → IsNext script before (Heard performer origin call acts) → IsSpeaker before (phase_heard call origin) performer
+  answered script before performer call origin acts each next = (heard-one keeps script before performer call origin acts (known-of script before each (went-on script before (Heard performer origin call acts) next)) next).0
 
-  unasked-node : (script : ScriptValue) (before : List Entry) (node : ℕ) (performer : Who) (call : Call) (origin : Option Origin) (acts : List Act) → EachIsNext script before → IsSpeaker before (phase_heard call origin) performer → length (nodes_of before) ≤ node → exchanged_in (Node node) (Heard performer call origin acts) ≡ []
+  unasked-node : (script : ScriptValue) (before : List Entry) (node : ℕ) (performer : Who) (call : Call) (origin : Option Origin) (acts : List Act) → EachIsNext script before → IsSpeaker before (phase_heard call origin) performer → length (nodes_of before) ≤ node → exchanged_in (Node node) (Heard performer origin call acts) ≡ []
   unasked-node script before node (Node other) call origin acts each has le =
       let lt : other < length (nodes_of before) = All-contains (λ other. other < length (nodes_of before)) (components_of before) other (components_are_nodes script before each) has in
       apart (Node other) node call origin acts (omega (arith, lt, le))
-  unasked-node script before node (Sequence id home) call origin acts each speaks le = refl
+  unasked-node script before node (Sequence home id) call origin acts each speaks le = refl
 
   -- an entry that is next asks no node behind those of the tree
   unasked-in : (script : ScriptValue) (before : List Entry) (node : ℕ) (entry : Entry) → EachIsNext script before → IsNext script before entry → length (nodes_of before) ≤ node → exchanged_in (Node node) entry ≡ []
-  unasked-in script before node (Heard performer call origin acts) each next le = unasked-node script before node performer call origin acts each (answered script before performer call origin acts each next) le
+  unasked-in script before node (Heard performer origin call acts) each next le = unasked-node script before node performer call origin acts each (answered script before performer call origin acts each next) le
   unasked-in script before node entry each next le = refl
 
   -- behind the nodes of the tree nobody was asked
@@ -432,15 +432,15 @@ module _ (keeps : OrderKeepsAll Owner (Option Call)) (excludes : LockExcludes) w
       rw (unasked-in script before node entry each.1 each.0 fewer) (new_nodes_are_unasked script before node each.1 fewer)
 
   -- nor behind the sequences that were started
-  unasked-sequence : (before : List Entry) (id home : ℕ) (performer : Who) (call : Call) (origin : Option Origin) (acts : List Act) → IsSpeaker before (phase_heard call origin) performer → length (begun_of before) < id → exchanged_in (Sequence id home) (Heard performer call origin acts) ≡ []
+  unasked-sequence : (before : List Entry) (id home : ℕ) (performer : Who) (call : Call) (origin : Option Origin) (acts : List Act) → IsSpeaker before (phase_heard call origin) performer → length (begun_of before) < id → exchanged_in (Sequence home id) (Heard performer origin call acts) ≡ []
   unasked-sequence before id home (Node node) call origin acts has lt = refl
-  unasked-sequence before id home (Sequence other at) call origin acts speaks lt =
+  unasked-sequence before id home (Sequence at other) call origin acts speaks lt =
       let low = numbered-within (begun_of before) other speaks.sequence.beginning speaks.sequence.begun in
       let differs : (other == id) ≡ false = grind (arith, nat_tests, low, lt) in
       rw differs refl
 
-  unstarted-in : (script : ScriptValue) (before : List Entry) (id home : ℕ) (entry : Entry) → EachIsNext script before → IsNext script before entry → length (begun_of before) < id → exchanged_in (Sequence id home) entry ≡ []
-  unstarted-in script before id home (Heard performer call origin acts) each next lt = unasked-sequence before id home performer call origin acts (answered script before performer call origin acts each next) lt
+  unstarted-in : (script : ScriptValue) (before : List Entry) (id home : ℕ) (entry : Entry) → EachIsNext script before → IsNext script before entry → length (begun_of before) < id → exchanged_in (Sequence home id) entry ≡ []
+  unstarted-in script before id home (Heard performer origin call acts) each next lt = unasked-sequence before id home performer call origin acts (answered script before performer call origin acts each next) lt
   unstarted-in script before id home entry each next lt = refl
 
   pub new_sequences_are_unasked : NewSequencesAreUnasked
@@ -458,7 +458,7 @@ module _ (keeps : OrderKeepsAll Owner (Option Call)) (excludes : LockExcludes) w
   finisher-there script before (Node node) act next deed (inr speaks) =
       let ends = finished-next script before (Node node) act next in
       let e : Finished ≡ Refused NotOpen = closed-refused script before (Node node) Finished act deed next (rw ends refl) in cc
-  finisher-there script before (Sequence id home) act next deed (inr speaks) = speaker-there before (act_phase before) (Sequence id home) speaks
+  finisher-there script before (Sequence home id) act next deed (inr speaks) = speaker-there before (act_phase before) (Sequence home id) speaks
 
   pub finisher_lives : (script : ScriptValue) (before : List Entry) (performer : Who) (act : Act) → EachIsNext script before → IsNext script before (Did performer Finished act) → IsLivingSequence before performer
   finisher_lives script before performer act each next =

@@ -63,10 +63,10 @@ module _ (P : Event → Type 0) where
       let told = due_from (Some (told_of passage.kind passage)) passage.who (Some passage.phase) (now_of before) (caused_at (length before)) in
       All-append P told caused (all-left told [] new) old
   both-all script (Locked node id) before caused new old =
-      let told = due_from (Some call.Held) (who.Sequence id node) (phase_begun before id) (now_of before) (caused_at (length before)) in
+      let told = due_from (Some call.Held) (who.Sequence node id) (phase_begun before id) (now_of before) (caused_at (length before)) in
       All-append P told caused (all-left told [] new) old
   both-all script (Granted node grant) before caused new old =
-      let told = due_from (Some call.Grant) (who.Sequence grant.id node) (phase_begun before grant.id) (now_of before) (caused_at (length before)) in
+      let told = due_from (Some call.Grant) (who.Sequence node grant.id) (phase_begun before grant.id) (now_of before) (caused_at (length before)) in
       All-append P told caused (all-left told [] new) old
   both-all script (End phase) before caused new old =
       let told = calls_numbered (now_of before) (length before) 0 (lapsed_with phase before) in
@@ -111,8 +111,8 @@ placed-all script (Did performer outcome act) before =
     (All-append P (calls_from outcome act performer (act_phase before) (now_of before) (length before)) _ (due-placed (told_by outcome act) performer (act_phase before) (due_after (now_of before) act) (length before))
     (moved-placed script (moves_drains outcome act) (act_phase before) (Did performer outcome act) before))
 placed-all script (Passed fifo passage) before = All-append (IsPlaced (length before)) (due_from (Some (told_of passage.kind passage)) passage.who (Some passage.phase) (now_of before) (caused_at (length before))) [] (due-placed (Some (told_of passage.kind passage)) passage.who (Some passage.phase) (now_of before) (length before)) (All-nil (IsPlaced (length before)))
-placed-all script (Locked node id) before = All-append (IsPlaced (length before)) _ [] (due-placed (Some call.Held) (who.Sequence id node) (phase_begun before id) (now_of before) (length before)) (All-nil (IsPlaced (length before)))
-placed-all script (Granted node grant) before = All-append (IsPlaced (length before)) _ [] (due-placed (Some call.Grant) (who.Sequence grant.id node) (phase_begun before grant.id) (now_of before) (length before)) (All-nil (IsPlaced (length before)))
+placed-all script (Locked node id) before = All-append (IsPlaced (length before)) _ [] (due-placed (Some call.Held) (who.Sequence node id) (phase_begun before id) (now_of before) (length before)) (All-nil (IsPlaced (length before)))
+placed-all script (Granted node grant) before = All-append (IsPlaced (length before)) _ [] (due-placed (Some call.Grant) (who.Sequence node grant.id) (phase_begun before grant.id) (now_of before) (length before)) (All-nil (IsPlaced (length before)))
 placed-all script (End phase) before = All-append (IsPlaced (length before)) (calls_numbered (now_of before) (length before) 0 (lapsed_with phase before)) [] (numbered-placed (now_of before) (length before) 0 (lapsed_with phase before)) (All-nil (IsPlaced (length before)))
 placed-all script (Drained node origin) before = drains-placed script (Some origin.phase) (Drained node origin) before
 placed-all script entry before = All-nil (IsPlaced (length before))
@@ -163,10 +163,10 @@ at-same history cause time entry before at timed =
 
 -- each call with a cause is heard at its time, as that entry causes it
 pub calls_on_time :
-    SettledGoByTotals → BegunDrainsAreHeld → PlacesStay → NodesGrow → (script : ScriptValue) (later before : List Entry) (hearer : Who) (call : Call) (origin : Origin) (acts : List Act) → IsLegal script (later ++ Heard hearer call (Some origin) acts ∷ before)
+    SettledGoByTotals → BegunDrainsAreHeld → PlacesStay → NodesGrow → (script : ScriptValue) (later before : List Entry) (hearer : Who) (call : Call) (origin : Origin) (acts : List Act) → IsLegal script (later ++ Heard hearer (Some origin) call acts ∷ before)
     → IsCaused script before hearer call origin (now_of before)
 calls_on_time goes held_are stay grow script later before hearer call origin acts legal =
-    let each = older-each script later (Heard hearer call (Some origin) acts ∷ before) legal.each in
+    let each = older-each script later (Heard hearer (Some origin) call acts ∷ before) legal.each in
     let due = due_calls_go_in_order script before hearer call origin (heard-alone hearer call (Some origin) acts (next_of script before) (plain-next script before) each.0) in
     let has = first-caused (HasCause script before) script before due.event (causes-of script before) due.first in
     let cause_is : due.event.cause ≡ origin.cause = ap (λ (one : Origin). one.cause) due.origin_is in

@@ -68,7 +68,7 @@ pub deed-next : (script : ScriptValue) (history : List Entry) (performer : Who) 
 deed-next script history performer outcome act (Exactly expected) is allows =
     let here : DeedIn script history (Exactly expected) = subst (DeedIn script history) is (deed-case script history _ (case-of script history)) in
     subst (λ (entry : Entry). DeedIn script history (Exactly entry)) (sym allows) here
-deed-next script history performer outcome act (Answer other call cause) is allows = let same : Did performer outcome act ≡ Heard other call cause allows.0 = allows.1 in cc
+deed-next script history performer outcome act (Answer other call cause) is allows = let same : Did performer outcome act ≡ Heard other cause call allows.0 = allows.1 in cc
 deed-next script history performer outcome act (Need need made other deed) is (inl e) = deed-needed script history need made performer other outcome made act deed is e
 deed-next script history performer outcome act (Need need made other deed) is (inr declined) = deed-needed script history need made performer other outcome _ act deed is declined
 deed-next script history performer outcome act (Grant sequencer drawn chosen) is allows = let e : Did performer outcome act ≡ Granted sequencer allows.0 = allows.3 in cc
@@ -80,7 +80,7 @@ refused-next performer other outcome act deed upshot is allows = let e : Did per
 
 pub is-act : (performer : Who) (outcome : Outcome) (act : Act) (next : Next) → Allows next (Did performer outcome act) → IsAct next
 is-act performer outcome act (Exactly entry) allows = subst (λ (e : Entry). IsAct (Exactly e)) allows tt
-is-act performer outcome act (Answer hearer call cause) allows = let e : Did performer outcome act ≡ Heard hearer call cause allows.0 = allows.1 in cc
+is-act performer outcome act (Answer hearer call cause) allows = let e : Did performer outcome act ≡ Heard hearer cause call allows.0 = allows.1 in cc
 is-act performer outcome act (Need need made other deed) allows = tt
 is-act performer outcome act (Grant sequencer drawn chosen) allows = let e : Did performer outcome act ≡ Granted sequencer allows.0 = allows.3 in cc
 is-act performer outcome act Nothing allows = absurd allows
@@ -102,7 +102,7 @@ pub started-next : (script : ScriptValue) (before : List Entry) (performer : Who
 started-next script before performer id act (Exactly entry) is allows =
     let plain : IsPlain entry = exact-plain script before entry is in
     absurd (subst IsPlain (sym allows) plain)
-started-next script before performer id act (Answer hearer call cause) is allows = let e : Did performer (Started id) act ≡ Heard hearer call cause allows.0 = allows.1 in cc
+started-next script before performer id act (Answer hearer call cause) is allows = let e : Did performer (Started id) act ≡ Heard hearer cause call allows.0 = allows.1 in cc
 started-next script before performer id act (Need need made other deed) is (inl e) =
     let made_is : made ≡ Started id = cc in
     let has : HasMade before need (Started id) other deed = subst (λ (m : Outcome). HasMade before need m other deed) made_is (made_objects_are_new script before need made other deed is) in
@@ -116,7 +116,7 @@ pub starts-act : (script : ScriptValue) (before : List Entry) (performer : Who) 
 starts-act script before performer id act (Exactly entry) is allows opens =
     let plain : IsPlain entry = exact-plain script before entry is in
     absurd (subst IsPlain (sym allows) plain)
-starts-act script before performer id act (Answer hearer call cause) is allows opens = let e : Did performer (Started id) act ≡ Heard hearer call cause allows.0 = allows.1 in cc
+starts-act script before performer id act (Answer hearer call cause) is allows opens = let e : Did performer (Started id) act ≡ Heard hearer cause call allows.0 = allows.1 in cc
 starts-act script before performer id act (Need need made other deed) is (inl e) opens =
     let made_is : made ≡ Started id = cc in
     let same : deed ≡ act = cc in
@@ -191,7 +191,7 @@ finish-case script history next is (ByGrant sequencer drawn served e) = subst Fi
 
 finished-act : (script : ScriptValue) (before : List Entry) (performer : Who) (act : Act) (next : Next) → FinishesIn next → Allows next (Did performer Finished act) → act ≡ EndStep
 finished-act script before performer act (Exactly entry) finishes allows = subst (λ (e : Entry). FinishesIn (Exactly e)) (sym allows) finishes
-finished-act script before performer act (Answer hearer call cause) finishes allows = let e : Did performer Finished act ≡ Heard hearer call cause allows.0 = allows.1 in cc
+finished-act script before performer act (Answer hearer call cause) finishes allows = let e : Did performer Finished act ≡ Heard hearer cause call allows.0 = allows.1 in cc
 finished-act script before performer act (Need need made other deed) finishes (inl e) = let made_is : made ≡ Finished = cc in absurd (subst (λ (m : Outcome). FinishesIn (Need need m other deed)) made_is finishes)
 finished-act script before performer act (Need need made other deed) finishes (inr e) = cc
 finished-act script before performer act (Grant sequencer drawn chosen) finishes allows = let e : Did performer Finished act ≡ Granted sequencer allows.0 = allows.3 in cc

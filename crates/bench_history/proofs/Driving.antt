@@ -134,10 +134,10 @@ begun-mode history home (Some beginning) id is all e =
 
 asked-mode : (history : List Entry) (performer : Who) (on : List (List ℕ)) (home : ℕ) → All (HasHome history) (begun_of history) → IsThere history performer → home_asked (nodes_of history) performer on ≡ Some home → IsSome (mode_at history home)
 asked-mode history (who.Node node) on home homes there e = found-mode history (node_below (nodes_of history) (who.Node node) on) home e
-asked-mode history (who.Sequence id at) [] home homes there e =
+asked-mode history (who.Sequence at id) [] home homes there e =
     let same : at ≡ home = cc in
     subst (λ (h : ℕ). IsSome (mode_at history h)) same (begun-mode history at (numbered (begun_of history) id) id refl homes there.home_is)
-asked-mode history (who.Sequence id at) (name ∷ on) home homes there e = cc
+asked-mode history (who.Sequence at id) (name ∷ on) home homes there e = cc
 
 started-mode :
     (script : ScriptValue) (before : List Entry) (performer : Who) (id : ℕ) (act : Act) → IsStarting script before performer id act → All (HasHome before) (begun_of before)

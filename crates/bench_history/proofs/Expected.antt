@@ -108,29 +108,29 @@ contains-more entry before node has =
 
 pub component-more : (entry : Entry) (before : List Entry) (performer : Who) → IsComponent (components_of before) performer → IsComponent (components_of (entry ∷ before)) performer
 component-more entry before (Node node) has = contains-more entry before node has
-component-more entry before (Sequence id home) has = absurd has
+component-more entry before (Sequence home id) has = absurd has
 
 -- it stands at its own node
 component-node : (components : List ℕ) (performer : Who) → IsComponent components performer → Contains components (node_of performer)
 component-node components (Node node) has = has
-component-node components (Sequence id home) has = absurd has
+component-node components (Sequence home id) has = absurd has
 
 -- who is to hear something in a phase, which is in progress or has ended: a component, or a sequence that was started in that phase
 abbrev pub IsExpected : List Entry → Phase → Who → Type 0
 IsExpected history phase (Node node) = Contains (components_of history) node × Stands history phase
-IsExpected history phase (Sequence id home) = IsSequence history phase id home
+IsExpected history phase (Sequence home id) = IsSequence history phase id home
 
 -- who has spoken and may act in a phase: a component, or a sequence of that phase, which has not ended, that has not finished
 pub record IsSpeaking (history : List Entry) (acting : Option Phase) (id home : ℕ) : Type 0 where
   pub phase : Phase
   pub sequence : IsSequence history phase id home
   pub own : acting ≡ Some phase
-  pub unfinished : list_any (same_who (Sequence id home)) (finished_of history) ≡ false
+  pub unfinished : list_any (same_who (Sequence home id)) (finished_of history) ≡ false
   pub unended : list_any (same_phase phase) (ended_of history) ≡ false
 
 abbrev pub IsSpeaker : List Entry → Option Phase → Who → Type 0
 IsSpeaker history acting (Node node) = Contains (components_of history) node
-IsSpeaker history acting (Sequence id home) = IsSpeaking history acting id home
+IsSpeaker history acting (Sequence home id) = IsSpeaking history acting id home
 
 -- the phase of the acts is in progress or has ended
 abbrev pub IsActing : List Entry → Option Phase → Type 0
@@ -141,23 +141,23 @@ GoesOn history = stage_of history ≡ Ended → ⊥
 
 expected-more : (script : ScriptValue) (before : List Entry) (entry : Entry) (phase : Phase) (who : Who) → IsNext script before entry → GoesOn (entry ∷ before) → IsExpected before phase who → IsExpected (entry ∷ before) phase who
 expected-more script before entry phase (Node node) next on has = (contains-more entry before node has.0, stands-more script before entry phase next on has.1)
-expected-more script before entry phase (Sequence id home) next on has = sequence-more script before entry phase id home next on has
+expected-more script before entry phase (Sequence home id) next on has = sequence-more script before entry phase id home next on has
 
 pub component-expected : (history : List Entry) (phase : Phase) (who : Who) → IsComponent (components_of history) who → Stands history phase → IsExpected history phase who
 component-expected history phase (Node node) has stands = (has, stands)
-component-expected history phase (Sequence id home) has stands = absurd has
+component-expected history phase (Sequence home id) has stands = absurd has
 
 -- who speaks is to hear what is caused now
 speaker-expected : (history : List Entry) (phase : Phase) (who : Who) → act_phase history ≡ Some phase → IsActing history (act_phase history) → IsSpeaker history (act_phase history) who → IsExpected history phase who
 speaker-expected history phase (Node node) acts stands has = (has, stands phase acts)
-speaker-expected history phase (Sequence id home) acts stands s =
+speaker-expected history phase (Sequence home id) acts stands s =
     let same : Some s.phase ≡ Some phase = sym s.own ∙ acts in
     let is : s.phase ≡ phase = cc in
     subst (λ (p : Phase). IsSequence history p id home) is s.sequence
 
 pub speaker-there : (history : List Entry) (acting : Option Phase) (who : Who) → IsSpeaker history acting who → IsThere history who
 speaker-there history acting (Node node) has = has
-speaker-there history acting (Sequence id home) s = living-of history s.phase id home s.sequence s.unfinished s.unended
+speaker-there history acting (Sequence home id) s = living-of history s.phase id home s.sequence s.unfinished s.unended
 
 -- whoever is to hear the call of an event is expected in its phase
 abbrev pub IsCallTo : List Entry → Event → Type 0
@@ -282,7 +282,7 @@ grant-case script history node grant next (ByGrant sequencer drawn served e) = s
 
 grant-by : (history : List Entry) (node : ℕ) (grant : entries.Grant) (next : Next) → GrantsIn history node grant next → Allows next (Granted node grant) → chosen_at history node grant.word ≡ Some grant.id
 grant-by history node grant (Exactly entry) in_it allows = absurd (in_it allows)
-grant-by history node grant (Answer performer call origin) in_it allows = let e : Granted node grant ≡ Heard performer call origin allows.0 = allows.1 in cc
+grant-by history node grant (Answer performer call origin) in_it allows = let e : Granted node grant ≡ Heard performer origin call allows.0 = allows.1 in cc
 grant-by history node grant (Need need made performer act) in_it (inl e) = cc
 grant-by history node grant (Need need made performer act) in_it (inr e) = cc
 grant-by history node grant (Grant sequencer drawn chosen) in_it allows =
@@ -373,10 +373,10 @@ open-speaker history time cause phase (Object (Node node)) notice has is =
 open-speaker history time cause phase (Drain node of) notice has is =
     let parts = and-parts _ (not (list_any (same_phase phase) (ended_of history))) true is in
     (has.0, going-on history phase has.1 (not-true (list_any (same_phase phase) (ended_of history)) parts.0))
-open-speaker history time cause phase (Object (Sequence id home)) notice s is =
-    let parts = and-parts _ (not (list_any (same_phase phase) (ended_of history))) (not (list_any (same_who (Sequence id home)) (finished_of history))) is in
+open-speaker history time cause phase (Object (Sequence home id)) notice s is =
+    let parts = and-parts _ (not (list_any (same_phase phase) (ended_of history))) (not (list_any (same_who (Sequence home id)) (finished_of history))) is in
     let unended = not-true (list_any (same_phase phase) (ended_of history)) parts.0 in
-    (record { phase = phase; sequence = s; own = refl; unfinished = not-true (list_any (same_who (Sequence id home)) (finished_of history)) parts.1; unended = unended }, going-on history phase s.stands unended)
+    (record { phase = phase; sequence = s; own = refl; unfinished = not-true (list_any (same_who (Sequence home id)) (finished_of history)) parts.1; unended = unended }, going-on history phase s.stands unended)
 
 module _ (keeps : OrderKeepsAll Owner (Option Call)) where
   -- of the event that is due now
@@ -410,16 +410,16 @@ module _ (keeps : OrderKeepsAll Owner (Option Call)) where
   asks-one script history performer call origin known e = subst (AsksOne history) e (asks-case script history _ known (case-of script history))
 
   -- an answer was asked for
-  heard-asked : (performer : Who) (call : Call) (origin : Option Origin) (acts : List Act) (next : Next) → IsPlainNext next → Allows next (Heard performer call origin acts) → next ≡ Answer performer call origin
+  heard-asked : (performer : Who) (call : Call) (origin : Option Origin) (acts : List Act) (next : Next) → IsPlainNext next → Allows next (Heard performer origin call acts) → next ≡ Answer performer call origin
   heard-asked performer call origin acts (Exactly entry) plain allows = absurd (subst IsPlain (sym allows) plain)
-  heard-asked performer call origin acts (Answer other asked why) plain allows = let same : Heard performer call origin acts ≡ Heard other asked why allows.0 = allows.1 in cc
+  heard-asked performer call origin acts (Answer other asked why) plain allows = let same : Heard performer origin call acts ≡ Heard other why asked allows.0 = allows.1 in cc
   heard-asked performer call origin acts (Need need made other act) plain (inl is) = cc
   heard-asked performer call origin acts (Need need made other act) plain (inr declined) = cc
-  heard-asked performer call origin acts (Grant sequencer drawn chosen) plain allows = let e : Heard performer call origin acts ≡ Granted sequencer allows.0 = allows.3 in cc
+  heard-asked performer call origin acts (Grant sequencer drawn chosen) plain allows = let e : Heard performer origin call acts ≡ Granted sequencer allows.0 = allows.3 in cc
   heard-asked performer call origin acts Nothing plain allows = absurd allows
 
   -- and who was heard may act
-  pub heard-one : (script : ScriptValue) (before : List Entry) (performer : Who) (call : Call) (origin : Option Origin) (acts : List Act) → Known script before → IsNext script before (Heard performer call origin acts) → IsSpeaker before (phase_heard call origin) performer × IsGoing before (phase_heard call origin)
+  pub heard-one : (script : ScriptValue) (before : List Entry) (performer : Who) (call : Call) (origin : Option Origin) (acts : List Act) → Known script before → IsNext script before (Heard performer origin call acts) → IsSpeaker before (phase_heard call origin) performer × IsGoing before (phase_heard call origin)
   heard-one script before performer call origin acts known next =
       asks-one script before performer call origin known (heard-asked performer call origin acts (next_of script before) (plain-next script before) next)
 
@@ -502,16 +502,16 @@ unless-opening Idle script act here (inl same) = inl (subst Idle (sym same) here
 unless-opening Idle script act here (inr one) = inr one
 
 -- so who asks at a FIFO is a component, and who adds an imp
-pub closed-puts : (outcome : Outcome) (act : Act) (id home : ℕ) → (is_open_to act (Sequence id home) ≡ false → outcome ≡ Refused NotOpen) → put_in outcome act ≡ None
+pub closed-puts : (outcome : Outcome) (act : Act) (id home : ℕ) → (is_open_to act (Sequence home id) ≡ false → outcome ≡ Refused NotOpen) → put_in outcome act ≡ None
 closed-puts Done (Put name item) id home refused = let e : Done ≡ Refused NotOpen = refused refl in cc
 closed-puts outcome act id home refused = refl
 
-pub closed-takes : (outcome : Outcome) (act : Act) (id home : ℕ) → (is_open_to act (Sequence id home) ≡ false → outcome ≡ Refused NotOpen) → take_in outcome act ≡ None
+pub closed-takes : (outcome : Outcome) (act : Act) (id home : ℕ) → (is_open_to act (Sequence home id) ≡ false → outcome ≡ Refused NotOpen) → take_in outcome act ≡ None
 closed-takes Done (Take name) id home refused = let e : Done ≡ Refused NotOpen = refused refl in cc
 closed-takes Done (Peek name) id home refused = let e : Done ≡ Refused NotOpen = refused refl in cc
 closed-takes outcome act id home refused = refl
 
-pub closed-asks : (outcome : Outcome) (act : Act) (id home : ℕ) → (is_open_to act (Sequence id home) ≡ false → outcome ≡ Refused NotOpen) → awaits (driver_move outcome act) ≡ false
+pub closed-asks : (outcome : Outcome) (act : Act) (id home : ℕ) → (is_open_to act (Sequence home id) ≡ false → outcome ≡ Refused NotOpen) → awaits (driver_move outcome act) ≡ false
 closed-asks Done (Ask port way) id home refused = let e : Done ≡ Refused NotOpen = refused refl in cc
 closed-asks (Waits true) (Ask port way) id home refused = let e : Waits true ≡ Refused NotOpen = refused refl in cc
 closed-asks (Waits true) act id home refused = refl
@@ -524,10 +524,10 @@ opening-asks script (Waits true) = refl
 opening-asks script (Waits false) = refl
 opening-asks script outcome = refl
 
-pub component-or : (Idle : Type 0) (before : List Entry) (performer : Who) → ((id home : ℕ) → performer ≡ Sequence id home → Idle) → Idle ⊎ IsSpeaker before (act_phase before) performer → Idle ⊎ IsComponent (components_of before) performer
+pub component-or : (Idle : Type 0) (before : List Entry) (performer : Who) → ((id home : ℕ) → performer ≡ Sequence home id → Idle) → Idle ⊎ IsSpeaker before (act_phase before) performer → Idle ⊎ IsComponent (components_of before) performer
 component-or Idle before performer closed (inl idle) = inl idle
 component-or Idle before (Node node) closed (inr has) = inr has
-component-or Idle before (Sequence id home) closed (inr has) = inl (closed id home refl)
+component-or Idle before (Sequence home id) closed (inr has) = inl (closed id home refl)
 
 -- nor does the opening wish for anything, and what a sequence wishes is asked of its own sequencer
 pub opening-wishes : (script : ScriptValue) (outcome : Outcome) → wish_in outcome (opening script) ≡ None
@@ -536,7 +536,7 @@ opening-wishes script outcome = refl
 
 wisher : (script : ScriptValue) (before : List Entry) (entry : Entry) (performer : Who) (node : ℕ) → IsNext script before entry → GoesOn (entry ∷ before) → IsSpeaker before (act_phase before) performer → HoldsOf (IsRequester (entry ∷ before) node) (sequence_on node performer)
 wisher script before entry (Node other) node next on speaks = tt
-wisher script before entry (Sequence id home) node next on speaks = tested (home == node) refl
+wisher script before entry (Sequence home id) node next on speaks = tested (home == node) refl
   where
     tested : (b : Bool) → (home == node) ≡ b → HoldsOf (IsRequester (entry ∷ before) node) (if b then Some id else None)
     tested true e =
@@ -593,7 +593,7 @@ finished-owners :
     (script : ScriptValue) (before : List Entry) (entry : Entry) (performer : Who) → IsNext script before entry → GoesOn (entry ∷ before) → All (IsStartedBy before) (begun_of before) → IsSpeaker before (act_phase before) performer
     → All (IsTold (entry ∷ before)) (finished_by before (sequence_in performer))
 finished-owners script before entry (Node node) next on starters speaks = All-nil _
-finished-owners script before entry (Sequence id home) next on starters speaks =
+finished-owners script before entry (Sequence home id) next on starters speaks =
     rw speaks.sequence.begun
     (All-cons (IsTold (entry ∷ before)) (told_in speaks.sequence.beginning.phase speaks.sequence.beginning.starter (call.Finished speaks.sequence.beginning.start.name id)) [] told (All-nil _))
   where
@@ -660,7 +660,7 @@ told-owners script before performer outcome act known next on who = All-nil (IsT
 -- an imp of one more entry's wiring is a component's
 pub imps-more :
     (script : ScriptValue) (before : List Entry) (performer : Who) (outcome : Outcome) (act : Act) → ((node : ℕ) → is_imp_at (wiring_of before) node ≡ true → IsOwned (nodes_of before) (components_of before) node)
-    → (act ≡ opening script) ⊎ IsSpeaker before (act_phase before) performer → ((id home : ℕ) → performer ≡ Sequence id home → is_open_to act performer ≡ false → outcome ≡ Refused NotOpen)
+    → (act ≡ opening script) ⊎ IsSpeaker before (act_phase before) performer → ((id home : ℕ) → performer ≡ Sequence home id → is_open_to act performer ≡ false → outcome ≡ Refused NotOpen)
     → (node : ℕ) → is_imp_at (wiring_of (Did performer outcome act ∷ before)) node ≡ true → IsOwned (nodes_of (Did performer outcome act ∷ before)) (components_of (Did performer outcome act ∷ before)) node
 imps-more script before performer outcome act owned who closed node is = by (imp-after (nodes_of before) (wiring_of before) performer outcome act node is)
   where
@@ -675,7 +675,7 @@ imps-more script before performer outcome act owned who closed node is = by (imp
 
     there : (who : Who) → performer ≡ who → IsAdded (nodes_of before) performer outcome act node → IsSpeaker before (act_phase before) who → Contains (components_of before) (node_of who)
     there (Node other) same a has = has
-    there (Sequence id home) same a has =
+    there (Sequence home id) same a has =
         let refused : outcome ≡ Refused NotOpen = closed id home same (rw same (a.closed id home)) in
         let e : Done ≡ Refused NotOpen = sym a.done ∙ refused in cc
 
@@ -722,11 +722,11 @@ pub speaker-stays :
     (script : ScriptValue) (before : List Entry) (entry : Entry) (acting : Option Phase) (who : Who) → IsNext script before entry → GoesOn (entry ∷ before) → ended_of (entry ∷ before) ≡ ended_of before → finished_of (entry ∷ before) ≡ finished_of before
     → IsSpeaker before acting who → IsSpeaker (entry ∷ before) acting who
 speaker-stays script before entry acting (Node node) next on ended finished has = contains-more entry before node has
-speaker-stays script before entry acting (Sequence id home) next on ended finished s = record {
+speaker-stays script before entry acting (Sequence home id) next on ended finished s = record {
   phase = s.phase;
   sequence = sequence-more script before entry s.phase id home next on s.sequence;
   own = s.own;
-  unfinished = ap (list_any (same_who (Sequence id home))) finished ∙ s.unfinished;
+  unfinished = ap (list_any (same_who (Sequence home id))) finished ∙ s.unfinished;
   unended = ap (list_any (same_phase s.phase)) ended ∙ s.unended;
 }
 
@@ -784,7 +784,7 @@ more-driver script before entry performer next on stands (inr has) = inr (compon
 -- the phase in which somebody is expected is in progress, or has ended
 pub expected-stands : (history : List Entry) (phase : Phase) (who : Who) → IsExpected history phase who → Stands history phase
 expected-stands history phase (Node node) has = has.1
-expected-stands history phase (Sequence id home) s = s.stands
+expected-stands history phase (Sequence home id) s = s.stands
 
 -- what goes on goes on still, unless a phase begins or ends
 pub going-did : (script : ScriptValue) (before : List Entry) (performer : Who) (outcome : Outcome) (act : Act) → (left_of script before ≡ []) ⊎ IsGoing before (act_phase before) → (left_of script (Did performer outcome act ∷ before) ≡ []) ⊎ IsGoing (Did performer outcome act ∷ before) (act_phase before)

@@ -54,7 +54,7 @@ none-more p xs ys e = by (list_any p xs) (list_any p ys) (ap not (sym (list_any-
     by false b e = e
 
 none-of : (more finished : List Who) (owner : Owner) → not (is_of_one (more ++ finished) owner) ≡ true → not (is_of_one finished owner) ≡ true
-none-of more finished (Object (who.Sequence id home)) e = none-more (same_who (who.Sequence id home)) more finished e
+none-of more finished (Object (who.Sequence home id)) e = none-more (same_who (who.Sequence home id)) more finished e
 none-of more finished (Object (who.Node node)) e = refl
 none-of more finished (Drain node phase) e = refl
 
@@ -161,8 +161,8 @@ module _ (goes : SettledGoByTotals) (held_are : BegunDrainsAreHeld) where
       (new-ahead (entry ∷ before) _ (due-ahead (now_of before) (told_by outcome act) performer (act_phase before) (due_after (now_of before) act) (caused_at (length before)) (later-than (now_of before) act)))
       (moved-ahead script before performer outcome act are all))
   ahead-more script before (Passed fifo passage) next are all = one-ahead script (Passed fifo passage) before (Some passage.phase) (told_of passage.kind passage) passage.who refl all
-  ahead-more script before (Locked node id) next are all = one-ahead script (Locked node id) before (phase_begun before id) call.Held (who.Sequence id node) refl all
-  ahead-more script before (Granted node grant) next are all = one-ahead script (Granted node grant) before (phase_begun before grant.id) call.Grant (who.Sequence grant.id node) refl all
+  ahead-more script before (Locked node id) next are all = one-ahead script (Locked node id) before (phase_begun before id) call.Held (who.Sequence node id) refl all
+  ahead-more script before (Granted node grant) next are all = one-ahead script (Granted node grant) before (phase_begun before grant.id) call.Grant (who.Sequence node grant.id) refl all
   ahead-more script before (End phase) next are all =
       All-append (IsOpenAhead (End phase ∷ before)) (calls_numbered (now_of before) (length before) 0 (lapsed_with phase before)) (caused_of script before)
       (new-ahead (End phase ∷ before) _ (numbered-ahead (now_of before) (length before) 0 (lapsed_with phase before))) (old-ahead (End phase) before (caused_of script before) refl all)

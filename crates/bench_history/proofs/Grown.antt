@@ -26,7 +26,7 @@ use Rattle.bench_history.proofs.Needed.{needed}
 
 -- nobody answered, and no object was made
 abbrev pub IsPlain : Entry → Type 0
-IsPlain (Heard performer call cause acts) = ⊥
+IsPlain (Heard performer cause call acts) = ⊥
 IsPlain (Did performer outcome act) = NotMade outcome
 IsPlain entry = Unit {0}
 
@@ -37,7 +37,7 @@ IsPlainNext next = Unit {0}
 
 -- what the machine writes by itself is plain
 plain-own : (script : ScriptValue) (history : List Entry) (entry : Entry) → IsOwn script history entry → IsPlain entry
-plain-own script history (Heard performer call cause acts) own = own
+plain-own script history (Heard performer cause call acts) own = own
 plain-own script history (Did performer outcome act) own = absurd own
 plain-own script history entry own = tt
 
@@ -63,7 +63,7 @@ exact-plain script history entry e = subst IsPlainNext e (plain-next script hist
 
 -- a plain entry is no exchange of any node
 silent : (hearer : Who) (entry : Entry) → IsPlain entry → exchanged_in hearer entry ≡ []
-silent hearer (Heard performer call cause acts) plain = absurd plain
+silent hearer (Heard performer cause call acts) plain = absurd plain
 silent hearer entry plain = refl
 
 -- an entry that alone is next is nobody's answer

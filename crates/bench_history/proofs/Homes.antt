@@ -49,7 +49,7 @@ pub starting-next : (script : ScriptValue) (history : List Entry) (performer : W
 starting-next script history performer id act (Exactly entry) is allows =
     let plain : IsPlain entry = exact-plain script history entry is in
     absurd (subst IsPlain (sym allows) plain)
-starting-next script history performer id act (Answer hearer call cause) is allows = let e : Did performer (Started id) act ≡ Heard hearer call cause allows.0 = allows.1 in cc
+starting-next script history performer id act (Answer hearer call cause) is allows = let e : Did performer (Started id) act ≡ Heard hearer cause call allows.0 = allows.1 in cc
 starting-next script history performer id act (Need need made other deed) is (inl e) =
     let n = needed script history need made other deed is in
     let made_is : made ≡ Started id = cc in
@@ -118,10 +118,10 @@ asked-within :
     (history : List Entry) (performer : Who) (on : List (List ℕ)) (home : ℕ) → All (λ beginning. beginning.start.home < length (nodes_of history)) (begun_of history) → IsThere history performer
     → home_asked (nodes_of history) performer on ≡ Some home → home < length (nodes_of history)
 asked-within history (who.Node node) on home homes there e = found-within (nodes_of history) (node_below (nodes_of history) (who.Node node) on) home e
-asked-within history (who.Sequence id at) [] home homes there e =
+asked-within history (who.Sequence at id) [] home homes there e =
     let same : at ≡ home = cc in
     subst (λ (h : ℕ). h < length (nodes_of history)) same (begun-within (length (nodes_of history)) (begun_of history) at (numbered (begun_of history) id) id refl homes there.home_is)
-asked-within history (who.Sequence id at) (name ∷ on) home homes there e = cc
+asked-within history (who.Sequence at id) (name ∷ on) home homes there e = cc
 
 homes-weaker : (entry : Entry) (before : List Entry) → All (λ beginning. beginning.start.home < length (nodes_of before)) (begun_of before) → All (λ beginning. beginning.start.home < length (nodes_of (entry ∷ before))) (begun_of before)
 homes-weaker entry before homes =

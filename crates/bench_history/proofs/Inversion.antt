@@ -57,7 +57,7 @@ pub record IsEnding (script : ScriptValue) (history : List Entry) (phase : Phase
 abbrev pub IsOwn : ScriptValue → List Entry → Entry → Type 0
 IsOwn script history (Begin phase) = ⊥
 IsOwn script history (End phase) = ⊥
-IsOwn script history (Heard performer call cause acts) = ⊥
+IsOwn script history (Heard performer cause call acts) = ⊥
 IsOwn script history (Did performer outcome act) = ⊥
 IsOwn script history (Time time) = IsPassing script history time
 IsOwn script history (Granted sequencer grant) = ⊥

@@ -72,8 +72,8 @@ over-fewer entry before (Some phase) e = not-fewer (list_any (same_phase phase) 
 lives-fewer : (entry : Entry) (before : List Entry) (id : ℕ) (beginning : Beginning) → lives (entry ∷ before) id beginning ≡ true → lives before id beginning ≡ true
 lives-fewer entry before id beginning e =
     and-both _ (not (is_over_phase (ended_of (entry ∷ before)) beginning.phase)) _ (not (is_over_phase (ended_of before) beginning.phase))
-    (not-fewer (list_any (same_who (who.Sequence id beginning.start.home)) (finished_of (entry ∷ before))) (list_any (same_who (who.Sequence id beginning.start.home)) (finished_of before))
-    (none-fewer (same_who (who.Sequence id beginning.start.home)) (finished_in entry) (finished_of before)))
+    (not-fewer (list_any (same_who (who.Sequence beginning.start.home id)) (finished_of (entry ∷ before))) (list_any (same_who (who.Sequence beginning.start.home id)) (finished_of before))
+    (none-fewer (same_who (who.Sequence beginning.start.home id)) (finished_in entry) (finished_of before)))
     (over-fewer entry before beginning.phase) e
 
 live-fewer : (entry : Entry) (before : List Entry) (id : ℕ) (found : Option Beginning) → option_map_or (lives (entry ∷ before) id) found false ≡ true → option_map_or (lives before id) found false ≡ true
@@ -118,13 +118,13 @@ begun-rising (beginning ∷ older) =
 -- each was started on its sequencer
 abbrev HasHome : List Beginning → Who → Type 0
 HasHome begun (who.Node node) = ⊥
-HasHome begun (who.Sequence id home) = option_map (λ beginning. beginning.start.home) (numbered begun id) ≡ Some home
+HasHome begun (who.Sequence home id) = option_map (λ beginning. beginning.start.home) (numbered begun id) ≡ Some home
 
 home-more : (beginning : Beginning) (older : List Beginning) (who : Who) → HasHome older who → HasHome (beginning ∷ older) who
 home-more beginning older (who.Node node) has = absurd has
-home-more beginning older (who.Sequence id home) has = by (numbered older id) refl has
+home-more beginning older (who.Sequence home id) has = by (numbered older id) refl has
   where
-    by : (found : Option Beginning) → numbered older id ≡ found → option_map (λ beginning. beginning.start.home) found ≡ Some home → HasHome (beginning ∷ older) (who.Sequence id home)
+    by : (found : Option Beginning) → numbered older id ≡ found → option_map (λ beginning. beginning.start.home) found ≡ Some home → HasHome (beginning ∷ older) (who.Sequence home id)
     by None is has = cc
     by (Some first) is has = ap (option_map (λ (beginning : Beginning). beginning.start.home)) (numbered-more beginning older id first is) ∙ has
 
@@ -140,7 +140,7 @@ ends_then before phase who = is_living before who && not (is_living (End phase �
 
 ends-living : (before : List Entry) (phase : Phase) (who : Who) → HasHome (begun_of before) who → ends_then before phase who ≡ true → IsLivingSequence before who
 ends-living before phase (who.Node node) has is = absurd has
-ends-living before phase (who.Sequence id home) has is = record { lives = and-first (is_live before id) _ is; home_is = has }
+ends-living before phase (who.Sequence home id) has is = record { lives = and-first (is_live before id) _ is; home_is = has }
 
 ended-lived : (before : List Entry) (phase : Phase) → All (IsLivingSequence before) (leaving_of (End phase ∷ before))
 ended-lived before phase =
@@ -154,7 +154,7 @@ both-not false b e d = cc
 
 ends-gone : (before : List Entry) (phase : Phase) (who : Who) → ends_then before phase who ≡ true → IsLivingSequence (End phase ∷ before) who → ⊥
 ends-gone before phase (who.Node node) is living = living
-ends-gone before phase (who.Sequence id home) is living = both-not (is_live before id) (is_live (End phase ∷ before) id) is living.lives
+ends-gone before phase (who.Sequence home id) is living = both-not (is_live before id) (is_live (End phase ∷ before) id) is living.lives
 
 ended-gone : (before : List Entry) (phase : Phase) → All (λ who. IsLivingSequence (End phase ∷ before) who → ⊥) (leaving_of (End phase ∷ before))
 ended-gone before phase =
@@ -167,12 +167,12 @@ finished-live before performer act id = refl
 
 finished-gone : (before : List Entry) (performer : Who) (act : Act) → IsLivingSequence (Did performer Finished act ∷ before) performer → ⊥
 finished-gone before (who.Node node) act living = living
-finished-gone before (who.Sequence id home) act living = by (numbered (begun_of before) id) (sym (finished-live before (who.Sequence id home) act id) ∙ living.lives) living.home_is
+finished-gone before (who.Sequence home id) act living = by (numbered (begun_of before) id) (sym (finished-live before (who.Sequence home id) act id) ∙ living.lives) living.home_is
   where
     itself : (n : ℕ) → (n == n) ≡ true
     itself n = grind (arith, nat_tests)
 
-    by : (found : Option Beginning) → option_map_or (lives (Did (who.Sequence id home) Finished act ∷ before) id) found false ≡ true → option_map (λ beginning. beginning.start.home) found ≡ Some home → ⊥
+    by : (found : Option Beginning) → option_map_or (lives (Did (who.Sequence home id) Finished act ∷ before) id) found false ≡ true → option_map (λ beginning. beginning.start.home) found ≡ Some home → ⊥
     by None alive at = cc
     by (Some beginning) alive at =
         let same : beginning.start.home ≡ home = cc in
@@ -209,16 +209,16 @@ unfolding is_live
 stays-living entry before id home on living = found-stays entry before id home (numbered (begun_of before) id) on refl living.lives living.home_is
 
 -- so one that an entry ends is among those that finish with it
-plain-all : (entry : Entry) (before : List Entry) (id home : ℕ) → finished_in entry ≡ [] → ended_in entry ≡ [] → IsLiving before id home → (IsLiving (entry ∷ before) id home → ⊥) → Contains [] (who.Sequence id home)
+plain-all : (entry : Entry) (before : List Entry) (id home : ℕ) → finished_in entry ≡ [] → ended_in entry ≡ [] → IsLiving before id home → (IsLiving (entry ∷ before) id home → ⊥) → Contains [] (who.Sequence home id)
 plain-all entry before id home finished ended living gone = absurd (gone (stays-living entry before id home (λ beginning alive at. rw (finished, ended) alive) living))
 
 and-second : (a b : Bool) → a && b ≡ true → b ≡ true
 and-second true b e = e
 and-second false b e = cc
 
-same-is : (performer : Who) (id home : ℕ) → same_who (who.Sequence id home) performer ≡ true → performer ≡ who.Sequence id home
+same-is : (performer : Who) (id home : ℕ) → same_who (who.Sequence home id) performer ≡ true → performer ≡ who.Sequence home id
 same-is (who.Node node) id home same = cc
-same-is (who.Sequence other there) id home same =
+same-is (who.Sequence there other) id home same =
     let first = and-first (id == other) (home == there) same in
     let second = and-second (id == other) (home == there) same in
     let number : other ≡ id = grind (arith, nat_tests, first) in
@@ -226,34 +226,34 @@ same-is (who.Sequence other there) id home same =
     rw (number, place) refl
 
 other-stays :
-    (before : List Entry) (performer : Who) (act : Act) (id home : ℕ) → same_who (who.Sequence id home) performer ≡ false → (beginning : Beginning) → lives before id beginning ≡ true → beginning.start.home ≡ home
+    (before : List Entry) (performer : Who) (act : Act) (id home : ℕ) → same_who (who.Sequence home id) performer ≡ false → (beginning : Beginning) → lives before id beginning ≡ true → beginning.start.home ≡ home
     → lives (Did performer Finished act ∷ before) id beginning ≡ true
 other-stays before performer act id home other beginning alive at =
-    let differs : same_who (who.Sequence id beginning.start.home) performer ≡ false = rw at other in
+    let differs : same_who (who.Sequence beginning.start.home id) performer ≡ false = rw at other in
     rw differs alive
 
 left-all :
     (before : List Entry) (performer : Who) (outcome : Outcome) (act : Act) (id home : ℕ) → IsLiving before id home → (IsLiving (Did performer outcome act ∷ before) id home → ⊥)
-    → Contains (leaving_after performer outcome) (who.Sequence id home)
-left-all before performer Finished act id home living gone = by (same_who (who.Sequence id home) performer) refl
+    → Contains (leaving_after performer outcome) (who.Sequence home id)
+left-all before performer Finished act id home living gone = by (same_who (who.Sequence home id) performer) refl
   where
-    by : (same : Bool) → same_who (who.Sequence id home) performer ≡ same → Contains (performer ∷ []) (who.Sequence id home)
+    by : (same : Bool) → same_who (who.Sequence home id) performer ≡ same → Contains (performer ∷ []) (who.Sequence home id)
     by true same = (0, omega arith, same-is performer id home same)
     by false other = absurd (gone (stays-living (Did performer Finished act) before id home (other-stays before performer act id home other) living))
 left-all before performer outcome act id home living gone = plain-all (Did performer outcome act) before id home refl refl living gone
 
 -- or with its phase: who was started is among all that were
-started-there : (begun : List Beginning) (id home : ℕ) → option_map (λ beginning. beginning.start.home) (numbered begun id) ≡ Some home → Contains (all_begun begun) (who.Sequence id home)
+started-there : (begun : List Beginning) (id home : ℕ) → option_map (λ beginning. beginning.start.home) (numbered begun id) ≡ Some home → Contains (all_begun begun) (who.Sequence home id)
 started-there [] id home e = cc
 started-there (beginning ∷ older) id home e = tested (id == length (beginning ∷ older)) refl e (started-there older id home)
   where
     tested : (newest : Bool) → (id == length (beginning ∷ older)) ≡ newest → option_map (λ beginning. beginning.start.home) (if newest then Some beginning else numbered older id) ≡ Some home
-        → (option_map (λ beginning. beginning.start.home) (numbered older id) ≡ Some home → Contains (all_begun older) (who.Sequence id home)) → Contains (all_begun (beginning ∷ older)) (who.Sequence id home)
+        → (option_map (λ beginning. beginning.start.home) (numbered older id) ≡ Some home → Contains (all_begun older) (who.Sequence home id)) → Contains (all_begun (beginning ∷ older)) (who.Sequence home id)
     tested true is at earlier =
         let number : id ≡ length (beginning ∷ older) = grind (arith, nat_tests, is) in
         let place : beginning.start.home ≡ home = cc in
-        rw (number, ← place) (Contains-push (all_begun older) (who.Sequence (length (beginning ∷ older)) beginning.start.home))
-    tested false is at earlier = Contains-append_left (all_begun older) _ (who.Sequence id home) (earlier at)
+        rw (number, ← place) (Contains-push (all_begun older) (who.Sequence beginning.start.home (length (beginning ∷ older))))
+    tested false is at earlier = Contains-append_left (all_begun older) _ (who.Sequence home id) (earlier at)
 
 pub filter-has : {X : Type 0} (p : X → Bool) (xs : List X) (x : X) → p x ≡ true → Contains xs x → Contains (filter p xs) x
 filter-has p [] x passes has = absurd (omega (arith, has.1))
@@ -264,14 +264,14 @@ filter-has p (y ∷ ys) x passes (suc k, low, at) = behind (p y) (filter-has p y
     behind true has = let within = has.1 in (suc has.0, omega (arith, within), has.2)
     behind false has = has
 
-ended-all : (before : List Entry) (phase : Phase) (id home : ℕ) → IsLiving before id home → (IsLiving (End phase ∷ before) id home → ⊥) → Contains (leaving_of (End phase ∷ before)) (who.Sequence id home)
+ended-all : (before : List Entry) (phase : Phase) (id home : ℕ) → IsLiving before id home → (IsLiving (End phase ∷ before) id home → ⊥) → Contains (leaving_of (End phase ∷ before)) (who.Sequence home id)
 ended-all before phase id home living gone = by (is_live (End phase ∷ before) id) refl
   where
-    by : (lives_on : Bool) → is_live (End phase ∷ before) id ≡ lives_on → Contains (leaving_of (End phase ∷ before)) (who.Sequence id home)
+    by : (lives_on : Bool) → is_live (End phase ∷ before) id ≡ lives_on → Contains (leaving_of (End phase ∷ before)) (who.Sequence home id)
     by true on = absurd (gone (record { lives = on; home_is = living.home_is }))
     by false dead =
-        let ends : ends_then before phase (who.Sequence id home) ≡ true = rw (living.lives, dead) refl in
-        filter-has (ends_then before phase) (all_begun (begun_of before)) (who.Sequence id home) ends (started-there (begun_of before) id home living.home_is)
+        let ends : ends_then before phase (who.Sequence home id) ≡ true = rw (living.lives, dead) refl in
+        filter-has (ends_then before phase) (all_begun (begun_of before)) (who.Sequence home id) ends (started-there (begun_of before) id home living.home_is)
 
 module _ (keeps : OrderKeepsAll Owner (Option Call)) (excludes : LockExcludes) where
   pub leavers_lived : LeaversLived

@@ -303,7 +303,7 @@ sequence-more script before entry phase id home next on s = record {
 }
 
 -- it lives as long as it has not finished and its phase has not ended
-pub living-of : (history : List Entry) (phase : Phase) (id home : ℕ) → IsSequence history phase id home → list_any (same_who (who.Sequence id home)) (finished_of history) ≡ false → list_any (same_phase phase) (ended_of history) ≡ false → IsLiving history id home
+pub living-of : (history : List Entry) (phase : Phase) (id home : ℕ) → IsSequence history phase id home → list_any (same_who (who.Sequence home id)) (finished_of history) ≡ false → list_any (same_phase phase) (ended_of history) ≡ false → IsLiving history id home
 unfolding is_live
 living-of history phase id home s unfinished unended = record {
   lives = rw (s.begun, s.home_is, s.phase_is, unfinished, unended) refl;

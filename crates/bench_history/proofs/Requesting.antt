@@ -169,13 +169,13 @@ free-at before node id (Some mode) some e = by (list_any (is_item_of id) (reques
     by false b e = refl
 
 module _ (keeps : OrderKeepsAll Owner (Option Call)) (excludes : LockExcludes) where
-  asks-none : (script : ScriptValue) (before : List Entry) (node id : ℕ) (given : Option ℕ) → EachIsNext script before → IsNext script before (Did (who.Sequence id node) Done (Requests given)) → length (filter (is_open_for (grants_at before node) id) (all_wanted before node)) ≡ 0
+  asks-none : (script : ScriptValue) (before : List Entry) (node id : ℕ) (given : Option ℕ) → EachIsNext script before → IsNext script before (Did (who.Sequence node id) Done (Requests given)) → length (filter (is_open_for (grants_at before node) id) (all_wanted before node)) ≡ 0
   asks-none script before node id given each next =
       let there = performer-living keeps excludes script before node id Done (Requests given) each next (λ opens. cc) in
       let mode = home-mode keeps excludes script before node id Done (Requests given) each next (λ opens. cc) in
       let none =
-      not-refused (who.Sequence id node) Done (Requests given) (fault_if (not (is_open_to (Requests given) (who.Sequence id node))) NotOpen) (request_refusal given (option_and_then (item_refusal id) (sequencer_at before node))) Does refl
-      (upshot-next script before (who.Sequence id node) Done (Requests given) next) in
+      not-refused (who.Sequence node id) Done (Requests given) (fault_if (not (is_open_to (Requests given) (who.Sequence node id))) NotOpen) (request_refusal given (option_and_then (item_refusal id) (sequencer_at before node))) Does refl
+      (upshot-next script before (who.Sequence node id) Done (Requests given) next) in
       let free = free-at before node id (mode_at before node) mode (request-none given (option_and_then (item_refusal id) (sequencer_at before node)) none) in
       none-open (is_live before) (grants_at before node) (locks_at before node) id (all_wanted before node) there.lives free
 

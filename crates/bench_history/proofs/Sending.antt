@@ -121,11 +121,11 @@ done-hand script before node performer port response next leads =
     hand-at before node (mode_at before node) (reached-mode before performer port node reached) here
 
 -- a sequence that sends was granted
-pub on-home : (node : ℕ) (performer : Who) (id : ℕ) → sequence_on node performer ≡ Some id → performer ≡ who.Sequence id node
+pub on-home : (node : ℕ) (performer : Who) (id : ℕ) → sequence_on node performer ≡ Some id → performer ≡ who.Sequence node id
 on-home node (who.Node other) id e = cc
-on-home node (who.Sequence other home) id e = tested (home == node) refl e
+on-home node (who.Sequence home other) id e = tested (home == node) refl e
   where
-    tested : (b : Bool) → (home == node) ≡ b → (if b then Some other else None) ≡ Some id → who.Sequence other home ≡ who.Sequence id node
+    tested : (b : Bool) → (home == node) ≡ b → (if b then Some other else None) ≡ Some id → who.Sequence home other ≡ who.Sequence node id
     tested true is e = let at : home ≡ node = grind (arith, nat_tests, is) in let same : other ≡ id = cc in rw (at, same) refl
     tested false is e = cc
 
@@ -140,28 +140,28 @@ grant-at before node id (Some mode) some e = by (grant_of id (driver_state befor
 module _ (keeps : OrderKeepsAll Owner (Option Call)) (excludes : LockExcludes) where
   -- who performs an act, but the first of all, lives, and his sequencer is there
   pub performer-living :
-      (script : ScriptValue) (before : List Entry) (node id : ℕ) (outcome : Outcome) (act : Act) → EachIsNext script before → IsNext script before (Did (who.Sequence id node) outcome act) → (act ≡ opening script → ⊥) → IsLiving before id node
+      (script : ScriptValue) (before : List Entry) (node id : ℕ) (outcome : Outcome) (act : Act) → EachIsNext script before → IsNext script before (Did (who.Sequence node id) outcome act) → (act ≡ opening script → ⊥) → IsLiving before id node
   performer-living script before node id outcome act each next other =
-      let performer = who.Sequence id node in
+      let performer = who.Sequence node id in
       let deed = deed-next script before performer outcome act (next_of script before) refl next in
       by deed.performer_is (performers_are_there keeps excludes script before act each (is-act performer outcome act (next_of script before) next) deed.left)
     where
-      by : who.Sequence id node ≡ speaker_of before → (act ≡ opening script) ⊎ IsThere before (speaker_of before) → IsLiving before id node
+      by : who.Sequence node id ≡ speaker_of before → (act ≡ opening script) ⊎ IsThere before (speaker_of before) → IsLiving before id node
       by speaks (inl opens) = absurd (other opens)
       by speaks (inr there) = subst (IsThere before) (sym speaks) there
 
   pub home-mode :
-      (script : ScriptValue) (before : List Entry) (node id : ℕ) (outcome : Outcome) (act : Act) → EachIsNext script before → IsNext script before (Did (who.Sequence id node) outcome act) → (act ≡ opening script → ⊥) → IsSome (mode_at before node)
+      (script : ScriptValue) (before : List Entry) (node id : ℕ) (outcome : Outcome) (act : Act) → EachIsNext script before → IsNext script before (Did (who.Sequence node id) outcome act) → (act ≡ opening script → ⊥) → IsSome (mode_at before node)
   home-mode script before node id outcome act each next other =
       let living = performer-living script before node id outcome act each next other in
-      let homes = (drivers_are_there keeps excludes script before each (is-act (who.Sequence id node) outcome act (next_of script before) next)).homes in
+      let homes = (drivers_are_there keeps excludes script before each (is-act (who.Sequence node id) outcome act (next_of script before) next)).homes in
       begun-mode before node (numbered (begun_of before) id) id refl homes living.home_is
 
-  sends-granted : (script : ScriptValue) (before : List Entry) (node id : ℕ) (item : Item) → EachIsNext script before → IsNext script before (Did (who.Sequence id node) Done (Send item)) → IsSome (grant_of id (driver_state before node))
+  sends-granted : (script : ScriptValue) (before : List Entry) (node id : ℕ) (item : Item) → EachIsNext script before → IsNext script before (Did (who.Sequence node id) Done (Send item)) → IsSome (grant_of id (driver_state before node))
   sends-granted script before node id item each next =
       let none =
-      not-refused (who.Sequence id node) Done (Send item) (fault_if (not (is_open_to (Send item) (who.Sequence id node))) NotOpen) (option_and_then (send_refusal id) (sequencer_at before node)) Does refl
-      (upshot-next script before (who.Sequence id node) Done (Send item) next) in
+      not-refused (who.Sequence node id) Done (Send item) (fault_if (not (is_open_to (Send item) (who.Sequence node id))) NotOpen) (option_and_then (send_refusal id) (sequencer_at before node)) Does refl
+      (upshot-next script before (who.Sequence node id) Done (Send item) next) in
       grant-at before node id (mode_at before node) (home-mode script before node id Done (Send item) each next (λ opens. cc)) none
 
   sending : (script : ScriptValue) (before : List Entry) (node id : ℕ) (performer : Who) (item : Item) → EachIsNext script before → IsNext script before (Did performer Done (Send item)) → sequence_on node performer ≡ Some id → IsSome (grant_of id (driver_state before node))

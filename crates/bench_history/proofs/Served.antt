@@ -160,9 +160,9 @@ module _ (T : Told → Type 0) (E : Option Phase → Who → Type 0) (told : (ph
   lapse-told true asker has = item-told asker None has
   lapse-told false asker has = All-nil T
 
-  pub done-told : (phase : ℕ → Option Phase) (response : Option Item) (node : ℕ) (hand : Option ℕ) → ((id : ℕ) → hand ≡ Some id → E (phase id) (who.Sequence id node)) → All T (told_done phase response node hand)
+  pub done-told : (phase : ℕ → Option Phase) (response : Option Item) (node : ℕ) (hand : Option ℕ) → ((id : ℕ) → hand ≡ Some id → E (phase id) (who.Sequence node id)) → All T (told_done phase response node hand)
   done-told phase response node None has = All-nil T
-  done-told phase response node (Some id) has = All-cons T (told_in (phase id) (who.Sequence id node) (call.ItemDone response)) [] (told (phase id) (who.Sequence id node) (call.ItemDone response) (has id refl)) (All-nil T)
+  done-told phase response node (Some id) has = All-cons T (told_in (phase id) (who.Sequence node id) (call.ItemDone response)) [] (told (phase id) (who.Sequence node id) (call.ItemDone response) (has id refl)) (All-nil T)
 
 -- what holds of all that waits holds of the queue
 pub queue-all : (history : List Entry) (node : ℕ) (P : ℕ → Type 0) (asked : List Wanted) → All (λ w. still_waits history node w ≡ true → P w.request.seq) asked → All (λ request. P request.seq) (map (λ w. w.request) (filter (still_waits history node) asked))

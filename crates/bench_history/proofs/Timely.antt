@@ -268,11 +268,11 @@ module _ (goes : SettledGoByTotals) (held_are : BegunDrainsAreHeld) where
       All-append (IsTimed script (Passed fifo passage ∷ before)) (due_from (Some (told_of passage.kind passage)) passage.who (Some passage.phase) (now_of before) (caused_at (length before))) (caused_of script before)
       (due-timed script (Passed fifo passage ∷ before) (Some (told_of passage.kind passage)) passage.who (Some passage.phase) (now_of before) (caused_at (length before)) (λ call e. call-newest (Passed fifo passage) before 0 (now_of before) refl)) (all-later script (Passed fifo passage) before (caused_of script before) all)
   timed-more script (Locked node id) before are all =
-      All-append (IsTimed script (Locked node id ∷ before)) (due_from (Some call.Held) (who.Sequence id node) (phase_begun before id) (now_of before) (caused_at (length before))) (caused_of script before)
-      (due-timed script (Locked node id ∷ before) (Some call.Held) (who.Sequence id node) (phase_begun before id) (now_of before) (caused_at (length before)) (λ call e. call-newest (Locked node id) before 0 (now_of before) refl)) (all-later script (Locked node id) before (caused_of script before) all)
+      All-append (IsTimed script (Locked node id ∷ before)) (due_from (Some call.Held) (who.Sequence node id) (phase_begun before id) (now_of before) (caused_at (length before))) (caused_of script before)
+      (due-timed script (Locked node id ∷ before) (Some call.Held) (who.Sequence node id) (phase_begun before id) (now_of before) (caused_at (length before)) (λ call e. call-newest (Locked node id) before 0 (now_of before) refl)) (all-later script (Locked node id) before (caused_of script before) all)
   timed-more script (Granted node grant) before are all =
-      All-append (IsTimed script (Granted node grant ∷ before)) (due_from (Some call.Grant) (who.Sequence grant.id node) (phase_begun before grant.id) (now_of before) (caused_at (length before))) (caused_of script before)
-      (due-timed script (Granted node grant ∷ before) (Some call.Grant) (who.Sequence grant.id node) (phase_begun before grant.id) (now_of before) (caused_at (length before)) (λ call e. call-newest (Granted node grant) before 0 (now_of before) refl)) (all-later script (Granted node grant) before (caused_of script before) all)
+      All-append (IsTimed script (Granted node grant ∷ before)) (due_from (Some call.Grant) (who.Sequence node grant.id) (phase_begun before grant.id) (now_of before) (caused_at (length before))) (caused_of script before)
+      (due-timed script (Granted node grant ∷ before) (Some call.Grant) (who.Sequence node grant.id) (phase_begun before grant.id) (now_of before) (caused_at (length before)) (λ call e. call-newest (Granted node grant) before 0 (now_of before) refl)) (all-later script (Granted node grant) before (caused_of script before) all)
   timed-more script (End phase) before are all =
       All-append (IsTimed script (End phase ∷ before)) (calls_numbered (now_of before) (length before) 0 (lapsed_with phase before)) (caused_of script before)
       (numbered-timed script (End phase) before 0 (lapsed_with phase before) refl) (all-later script (End phase) before (caused_of script before) all)
@@ -350,17 +350,17 @@ module _ (P : Event → Type 0) where
   pub first-caused : (script : ScriptValue) (history : List Entry) (first : Event) → All P (caused_of script history) → first_due script history ≡ Some first → P first
   first-caused script history first all is = first-of-all (in_order (due_events script history)) first (order-all (due_events script history) (All-filter (is_open (heard_of history) (ended_of history) (finished_of history)) P (caused_of script history) all)) is
 
-pub heard-alone : (hearer : Who) (call : Call) (origin : Option Origin) (acts : List Act) (next : Next) → IsPlainNext next → Allows next (Heard hearer call origin acts) → next ≡ Answer hearer call origin
+pub heard-alone : (hearer : Who) (call : Call) (origin : Option Origin) (acts : List Act) (next : Next) → IsPlainNext next → Allows next (Heard hearer origin call acts) → next ≡ Answer hearer call origin
 heard-alone hearer call origin acts (Exactly entry) plain allows = absurd (subst IsPlain (sym allows) plain)
-heard-alone hearer call origin acts (Answer other asked why) plain allows = let same : Heard hearer call origin acts ≡ Heard other asked why allows.0 = allows.1 in cc
+heard-alone hearer call origin acts (Answer other asked why) plain allows = let same : Heard hearer origin call acts ≡ Heard other why asked allows.0 = allows.1 in cc
 heard-alone hearer call origin acts (Need need made other act) plain (inl is) = cc
 heard-alone hearer call origin acts (Need need made other act) plain (inr declined) = cc
-heard-alone hearer call origin acts (Grant sequencer drawn chosen) plain allows = let e : Heard hearer call origin acts ≡ Granted sequencer allows.0 = allows.3 in cc
+heard-alone hearer call origin acts (Grant sequencer drawn chosen) plain allows = let e : Heard hearer origin call acts ≡ Granted sequencer allows.0 = allows.3 in cc
 heard-alone hearer call origin acts Nothing plain allows = absurd allows
 
 drained-alone : (node : ℕ) (origin : Origin) (next : Next) → Allows next (Drained node origin) → next ≡ Exactly (Drained node origin)
 drained-alone node origin (Exactly entry) allows = rw allows refl
-drained-alone node origin (Answer hearer call why) allows = let e : Drained node origin ≡ Heard hearer call why allows.0 = allows.1 in cc
+drained-alone node origin (Answer hearer call why) allows = let e : Drained node origin ≡ Heard hearer why call allows.0 = allows.1 in cc
 drained-alone node origin (Need need made performer act) (inl e) = cc
 drained-alone node origin (Need need made performer act) (inr declined) = cc
 drained-alone node origin (Grant sequencer drawn chosen) allows = let e : Drained node origin ≡ Granted sequencer allows.0 = allows.3 in cc
@@ -378,16 +378,16 @@ drain-timed script history node cause time event owner t owner_is notice at now 
 
 -- each call with a cause is heard at its time
 pub call-times :
-    SettledGoByTotals → BegunDrainsAreHeld → PlacesStay → NodesGrow → (script : ScriptValue) (later before : List Entry) (hearer : Who) (call : Call) (origin : Origin) (acts : List Act) → IsLegal script (later ++ Heard hearer call (Some origin) acts ∷ before)
+    SettledGoByTotals → BegunDrainsAreHeld → PlacesStay → NodesGrow → (script : ScriptValue) (later before : List Entry) (hearer : Who) (call : Call) (origin : Origin) (acts : List Act) → IsLegal script (later ++ Heard hearer (Some origin) call acts ∷ before)
     → IsCallTime before origin.cause (now_of before)
 call-times goes held_are stay grow script later before hearer call origin acts legal =
-    let each = older-each script later (Heard hearer call (Some origin) acts ∷ before) legal.each in
+    let each = older-each script later (Heard hearer (Some origin) call acts ∷ before) legal.each in
     let due = due_calls_go_in_order script before hearer call origin (heard-alone hearer call (Some origin) acts (next_of script before) (plain-next script before) each.0) in
     call-timed script before origin.cause call (now_of before) due.event (first-caused (IsTimed script before) script before due.event (timed-of goes held_are stay grow script before each.1) due.first) due.notice_is (ap (λ (one : Origin). one.cause) due.origin_is) due.time
 
-pub wakes_on_time : (script : ScriptValue) (later before : List Entry) (hearer : Who) (tag : ℕ) (origin : Origin) (acts : List Act) → IsLegal script (later ++ Heard hearer (call.Wake tag) (Some origin) acts ∷ before) → IsWakeTime before hearer tag origin.cause (now_of before)
+pub wakes_on_time : (script : ScriptValue) (later before : List Entry) (hearer : Who) (tag : ℕ) (origin : Origin) (acts : List Act) → IsLegal script (later ++ Heard hearer (Some origin) (call.Wake tag) acts ∷ before) → IsWakeTime before hearer tag origin.cause (now_of before)
 wakes_on_time script later before hearer tag origin acts legal =
-    let each = older-each script later (Heard hearer (call.Wake tag) (Some origin) acts ∷ before) legal.each in
+    let each = older-each script later (Heard hearer (Some origin) (call.Wake tag) acts ∷ before) legal.each in
     let due = due_calls_go_in_order script before hearer (call.Wake tag) origin (heard-alone hearer (call.Wake tag) (Some origin) acts (next_of script before) (plain-next script before) each.0) in
     let cause_is : due.event.cause ≡ origin.cause = ap (λ (one : Origin). one.cause) due.origin_is in
     rw (← cause_is, ← due.time) (first-caused (IsWoken before) script before due.event (woken-of script before) due.first hearer tag due.hearer_is due.notice_is)

@@ -42,7 +42,7 @@ pub made-free :
 made-free script history performer type_name act (Exactly entry) is allows =
     let plain : IsPlain entry = exact-plain script history entry is in
     absurd (subst IsPlain (sym allows) plain)
-made-free script history performer type_name act (Answer hearer call cause) is allows = let e : Did performer (Made type_name) act ≡ Heard hearer call cause allows.0 = allows.1 in cc
+made-free script history performer type_name act (Answer hearer call cause) is allows = let e : Did performer (Made type_name) act ≡ Heard hearer cause call allows.0 = allows.1 in cc
 made-free script history performer type_name act (Need need made other deed) is (inl e) =
     let n = needed script history need made other deed is in
     let made_is : made ≡ Made type_name = cc in
@@ -121,7 +121,7 @@ added-free :
     (history : List Entry) (performer : Who) (name : List ℕ) (what : What) (next : Next) → AddsIn history next → Allows next (Did performer Done (Add name what))
     → child_refusal (nodes_of history) (node_of performer) name ≡ None
 added-free history performer name what (Exactly entry) adds allows = subst (λ (e : Entry). AddsIn history (Exactly e)) (sym allows) adds
-added-free history performer name what (Answer hearer call cause) adds allows = let e : Did performer Done (Add name what) ≡ Heard hearer call cause allows.0 = allows.1 in cc
+added-free history performer name what (Answer hearer call cause) adds allows = let e : Did performer Done (Add name what) ≡ Heard hearer cause call allows.0 = allows.1 in cc
 added-free history performer name what (Need need made other deed) adds (inl e) = let made_is : made ≡ Done = cc in absurd (subst (λ (m : Outcome). AddsIn history (Need need m other deed)) made_is adds)
 added-free history performer name what (Need need made other deed) adds (inr e) = cc
 added-free history performer name what (Grant sequencer drawn chosen) adds allows = let e : Did performer Done (Add name what) ≡ Granted sequencer allows.0 = allows.3 in cc

@@ -125,7 +125,7 @@ done-plain before (Some node) response = by (hand_of (driver_state before node))
   where
     by : (hand : Option ℕ) → All IsPlainCall (told_done (phase_begun before) response node hand)
     by None = All-nil IsPlainCall
-    by (Some id) = one-call (phase_begun before id) (who.Sequence id node) _ refl
+    by (Some id) = one-call (phase_begun before id) (who.Sequence node id) _ refl
 
 finished-plain : (before : List Entry) (id : Option ℕ) → All IsPlainCall (finished_by before id)
 finished-plain before None = All-nil IsPlainCall
@@ -210,8 +210,8 @@ woken-more script (Did performer outcome act) before all =
     (all-plain (entry ∷ before) _ (numbered-plain (now_of before) (length before) 0 (calls_told before performer outcome act) (told-plain before performer outcome act)))
     (All-append (IsWoken (entry ∷ before)) (calls_from outcome act performer (act_phase before) (now_of before) (length before)) _ (from-woken before performer outcome act) (moved-woken script (act_phase before) entry before (moves_drains outcome act) all))
 woken-more script (Passed fifo passage) before all = one-woken script (Passed fifo passage) before (Some passage.phase) (told_of passage.kind passage) passage.who (passed-plain passage.kind passage) all
-woken-more script (Locked node id) before all = one-woken script (Locked node id) before (phase_begun before id) call.Held (who.Sequence id node) refl all
-woken-more script (Granted node grant) before all = one-woken script (Granted node grant) before (phase_begun before grant.id) call.Grant (who.Sequence grant.id node) refl all
+woken-more script (Locked node id) before all = one-woken script (Locked node id) before (phase_begun before id) call.Held (who.Sequence node id) refl all
+woken-more script (Granted node grant) before all = one-woken script (Granted node grant) before (phase_begun before grant.id) call.Grant (who.Sequence node grant.id) refl all
 woken-more script (End phase) before all =
     All-append (IsWoken (End phase ∷ before)) (calls_numbered (now_of before) (length before) 0 (lapsed_with phase before)) (caused_of script before)
     (all-plain (End phase ∷ before) _ (numbered-plain (now_of before) (length before) 0 (lapsed_with phase before) (each-lapsed phase before (path_order (nodes_of before))))) (all-later (End phase) before (caused_of script before) all)

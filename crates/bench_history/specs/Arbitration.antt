@@ -63,7 +63,7 @@ wish_in outcome act = None
 -- the sequence that somebody is, where it runs on a sequencer
 abbrev pub sequence_on : ℕ → Who → Option ℕ
 sequence_on node (who.Node other) = None
-sequence_on node (who.Sequence id home) = if home == node then Some id else None
+sequence_on node (who.Sequence home id) = if home == node then Some id else None
 
 -- what was asked of a sequencer, and at which place
 pub record Wanted : Type 0 where

@@ -119,7 +119,7 @@ sent_by before performer node id item = told_sent (act_phase before) performer (
 
 -- whose item it was is told that the driver is done, in the phase of the sequence
 abbrev pub told_done : (ℕ → Option Phase) → Option Item → ℕ → Option ℕ → List Told
-told_done phase response node id = option_to_list (option_map (λ id. told_in (phase id) (who.Sequence id node) (call.ItemDone response)) id)
+told_done phase response node id = option_to_list (option_map (λ id. told_in (phase id) (who.Sequence node id) (call.ItemDone response)) id)
 
 abbrev pub done_by : List Entry → Option ℕ → Option Item → List Told
 done_by before None response = []
@@ -137,7 +137,7 @@ calls_told before performer Done (Write port item) = filter_map (written_to (act
 calls_told before performer Done EndStep = told_step (act_phase before) performer (next_step before performer)
 calls_told before performer Done (Send item) = sent_by before performer (node_of performer) (sequence_in performer) item
 calls_told before performer Done (ItemDone port response) = done_by before (sequencer_below before performer port) response
-calls_told before performer (Started id) act = told_in (act_phase before) (who.Sequence id (start_by (nodes_of before) (sequences_of before) performer act).home) call.PreStart ∷ []
+calls_told before performer (Started id) act = told_in (act_phase before) (who.Sequence (start_by (nodes_of before) (sequences_of before) performer act).home id) call.PreStart ∷ []
 calls_told before performer Finished act = finished_by before (sequence_in performer) ++ lapsed_by before (node_of performer) (sequence_in performer)
 calls_told before performer outcome act = []
 
@@ -188,8 +188,8 @@ with_events_from script (Did performer outcome act) before caused =
     ++ (calls_from outcome act performer (act_phase before) (now_of before) (length before)
     ++ (if moves_drains outcome act then with_drains_of script (act_phase before) (Did performer outcome act) before caused else caused))
 with_events_from script (Passed fifo passage) before caused = due_from (Some (told_of passage.kind passage)) passage.who (Some passage.phase) (now_of before) (caused_at (length before)) ++ caused
-with_events_from script (Locked node id) before caused = due_from (Some call.Held) (who.Sequence id node) (phase_begun before id) (now_of before) (caused_at (length before)) ++ caused
-with_events_from script (Granted node grant) before caused = due_from (Some call.Grant) (who.Sequence grant.id node) (phase_begun before grant.id) (now_of before) (caused_at (length before)) ++ caused
+with_events_from script (Locked node id) before caused = due_from (Some call.Held) (who.Sequence node id) (phase_begun before id) (now_of before) (caused_at (length before)) ++ caused
+with_events_from script (Granted node grant) before caused = due_from (Some call.Grant) (who.Sequence node grant.id) (phase_begun before grant.id) (now_of before) (caused_at (length before)) ++ caused
 with_events_from script (End phase) before caused = calls_numbered (now_of before) (length before) 0 (lapsed_with phase before) ++ caused
 with_events_from script (Drained node origin) before caused = with_drains_of script (Some origin.phase) (Drained node origin) before caused
 with_events_from script entry before caused = caused
@@ -204,7 +204,7 @@ caused_of script [] = []
 caused_of script (entry ∷ before) = with_events_from script entry before (caused_of script before)
 
 abbrev pub heard_in : Entry → List Cause
-heard_in (Heard hearer call (Some origin) acts) = origin.cause ∷ []
+heard_in (Heard hearer (Some origin) call acts) = origin.cause ∷ []
 heard_in entry = []
 
 -- the causes of the calls that somebody has heard
@@ -213,7 +213,7 @@ heard_of history = flat_map heard_in history
 
 -- an event is that of a sequence among some
 abbrev pub is_of_one : List Who → Owner → Bool
-is_of_one whos (Object (who.Sequence id home)) = list_any (same_who (who.Sequence id home)) whos
+is_of_one whos (Object (who.Sequence home id)) = list_any (same_who (who.Sequence home id)) whos
 is_of_one whos owner = false
 
 -- the call was not heard, the event's phase has not ended, and the sequence that is to hear it has not finished

@@ -80,7 +80,7 @@ phase_heard call None = None
 -- script's act belongs to none
 abbrev pub act_phase : List Entry → Option Phase
 act_phase [] = None
-act_phase (Heard hearer call origin acts ∷ before) = phase_heard call origin
+act_phase (Heard hearer origin call acts ∷ before) = phase_heard call origin
 act_phase (entry ∷ before) = act_phase before
 
 -- the name of the object that an act creates; no other act creates one
@@ -130,7 +130,7 @@ calls_sort phase call = false
 abbrev pub called_of : Phase → List Entry → List ℕ
 called_of phase [] = []
 called_of phase (Begin other ∷ before) = if same_sort other phase then [] else called_of phase before
-called_of phase (Heard hearer call None acts ∷ before) = if calls_sort phase call then node_of hearer ∷ called_of phase before else called_of phase before
+called_of phase (Heard hearer None call acts ∷ before) = if calls_sort phase call then node_of hearer ∷ called_of phase before else called_of phase before
 called_of phase (entry ∷ before) = called_of phase before
 
 abbrev pub had_call : List ℕ → ℕ → Bool
@@ -167,7 +167,7 @@ left_after outcome left = rest_of left
 -- the acts of the last answer that are left; a note leaves none. Before any answer the script's is left
 abbrev pub left_of : ScriptValue → List Entry → List Act
 left_of script [] = opening script ∷ []
-left_of script (Heard hearer call cause acts ∷ before) = acts
+left_of script (Heard hearer cause call acts ∷ before) = acts
 left_of script (Did performer outcome act ∷ before) = left_after outcome (left_of script before)
 left_of script (Note fatal node ∷ before) = []
 left_of script (entry ∷ before) = left_of script before
@@ -179,7 +179,7 @@ head_of (act ∷ acts) = Some act
 -- who gave the last answer, and so performs its acts; the top before any
 abbrev pub speaker_of : List Entry → Who
 speaker_of [] = who.Node 0
-speaker_of (Heard hearer call cause acts ∷ before) = hearer
+speaker_of (Heard hearer cause call acts ∷ before) = hearer
 speaker_of (entry ∷ before) = speaker_of before
 
 abbrev pub with_override : Option ℕ → Option ℕ → (ℕ → ℕ → Override) → List Override → List Override

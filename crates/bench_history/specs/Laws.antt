@@ -110,7 +110,7 @@ is_going phase going = list_any (λ one. is_of_phase one phase) going
 -- where an act is next, its phase is in progress, and so has not ended, and that of a sequence is the phase in which it was started
 abbrev pub IsInPhase : List Entry → Who → Type 0
 IsInPhase history (who.Node node) = Unit {0}
-IsInPhase history (who.Sequence id home) = phase_begun history id ≡ act_phase history
+IsInPhase history (who.Sequence home id) = phase_begun history id ≡ act_phase history
 
 pub record AreActsInPhase (script : ScriptValue) (history : List Entry) (act : Act) : Type 0 where
   pub going : (phase : Phase) → act_phase history ≡ Some phase → list_any (same_phase phase) (in_progress (stage_of history)) ≡ true
@@ -131,7 +131,7 @@ RunningPhasesEnd = (script : ScriptValue) (history : List Entry) (phase : Phase)
 -- somebody is one of the components, and no sequence
 abbrev pub IsComponent : List ℕ → Who → Type 0
 IsComponent components (who.Node node) = Contains components node
-IsComponent components (who.Sequence id home) = ⊥
+IsComponent components (who.Sequence home id) = ⊥
 
 -- a sequence lives, and was started on this sequencer
 pub record IsLiving (history : List Entry) (id home : ℕ) : Type 0 where
@@ -141,7 +141,7 @@ pub record IsLiving (history : List Entry) (id home : ℕ) : Type 0 where
 -- somebody is one of the components, or a sequence that lives
 abbrev pub IsThere : List Entry → Who → Type 0
 IsThere history (who.Node node) = Contains (components_of history) node
-IsThere history (who.Sequence id home) = IsLiving history id home
+IsThere history (who.Sequence home id) = IsLiving history id home
 
 -- whoever is asked is there
 abbrev pub AskedAreThere : Type 0
@@ -404,7 +404,7 @@ pub record HasGrown (history : List Entry) (path : List (List ℕ)) (entry : Ent
 -- and one that is started a sequence more, with the number behind those that were there
 pub record HasBegun (history : List Entry) (id : ℕ) (performer : Who) (act : Act) (entry : Entry) : Type 0 where
   pub components : components_of (entry ∷ history) ≡ components_of history
-  pub all : all_begun (begun_of (entry ∷ history)) ≡ all_begun (begun_of history) ++ who.Sequence id (start_by (nodes_of history) (sequences_of history) performer act).home ∷ []
+  pub all : all_begun (begun_of (entry ∷ history)) ≡ all_begun (begun_of history) ++ who.Sequence (start_by (nodes_of history) (sequences_of history) performer act).home id ∷ []
   pub number : id ≡ suc (length (begun_of history))
 
 abbrev pub HasMade : List Entry → declared.Need → Outcome → Who → Act → Type 0
@@ -420,7 +420,7 @@ abbrev pub NewNodesAreUnasked : Type 0
 NewNodesAreUnasked = (script : ScriptValue) (history : List Entry) (node : ℕ) → EachIsNext script history → length (nodes_of history) ≤ node → life_of (who.Node node) history ≡ []
 
 abbrev pub NewSequencesAreUnasked : Type 0
-NewSequencesAreUnasked = (script : ScriptValue) (history : List Entry) (id home : ℕ) → EachIsNext script history → length (begun_of history) < id → life_of (who.Sequence id home) history ≡ []
+NewSequencesAreUnasked = (script : ScriptValue) (history : List Entry) (id home : ℕ) → EachIsNext script history → length (begun_of history) < id → life_of (who.Sequence home id) history ≡ []
 
 -- a sequence that was started before an entry, and lives after it, lived
 abbrev pub LivingLived : Type 0
@@ -433,11 +433,11 @@ LivingRun = (script : ScriptValue) (history : List Entry) (id home : ℕ) → Ea
 -- somebody is a sequence that lives, and no component
 abbrev pub IsLivingSequence : List Entry → Who → Type 0
 IsLivingSequence history (who.Node node) = ⊥
-IsLivingSequence history (who.Sequence id home) = IsLiving history id home
+IsLivingSequence history (who.Sequence home id) = IsLiving history id home
 
 abbrev pub number_of : Who → ℕ
 number_of (who.Node node) = 0
-number_of (who.Sequence id home) = id
+number_of (who.Sequence home id) = id
 
 -- each has a greater number than those before
 abbrev pub AreRising : List Who → Type 0
@@ -448,7 +448,7 @@ AreRising (first ∷ others) = All (λ other. number_of first < number_of other)
 pub record AreLeaving (before : List Entry) (entry : Entry) : Type 0 where
   pub lived : All (IsLivingSequence before) (leaving_of (entry ∷ before))
   pub gone : All (λ who. IsLivingSequence (entry ∷ before) who → ⊥) (leaving_of (entry ∷ before))
-  pub all : (id home : ℕ) → IsLiving before id home → (IsLiving (entry ∷ before) id home → ⊥) → Contains (leaving_of (entry ∷ before)) (who.Sequence id home)
+  pub all : (id home : ℕ) → IsLiving before id home → (IsLiving (entry ∷ before) id home → ⊥) → Contains (leaving_of (entry ∷ before)) (who.Sequence home id)
   pub rising : AreRising (leaving_of (entry ∷ before))
 
 abbrev pub LeaversLived : Type 0

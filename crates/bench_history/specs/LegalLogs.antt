@@ -182,8 +182,8 @@ pub record IsDrainTime (script : ScriptValue) (history : List Entry) (phase : Ph
 -- a call with a cause that is heard, and a drain that ends, does so at exactly the time that its cause gave it; and time passes over nothing that is due, and never
 -- goes back. (What is due when its phase or its sequence ends is never heard, and no longer due.)
 pub record OnTime : Type 0 where
-  pub calls : (script : ScriptValue) (later before : List Entry) (hearer : Who) (call : Call) (origin : Origin) (acts : List Act) → IsLegal script (later ++ Heard hearer call (Some origin) acts ∷ before) → IsCaused script before hearer call origin (now_of before)
-  pub wakes : (script : ScriptValue) (later before : List Entry) (hearer : Who) (tag : ℕ) (origin : Origin) (acts : List Act) → IsLegal script (later ++ Heard hearer (call.Wake tag) (Some origin) acts ∷ before) → IsWakeTime before hearer tag origin.cause (now_of before)
+  pub calls : (script : ScriptValue) (later before : List Entry) (hearer : Who) (call : Call) (origin : Origin) (acts : List Act) → IsLegal script (later ++ Heard hearer (Some origin) call acts ∷ before) → IsCaused script before hearer call origin (now_of before)
+  pub wakes : (script : ScriptValue) (later before : List Entry) (hearer : Who) (tag : ℕ) (origin : Origin) (acts : List Act) → IsLegal script (later ++ Heard hearer (Some origin) (call.Wake tag) acts ∷ before) → IsWakeTime before hearer tag origin.cause (now_of before)
   pub drains : (script : ScriptValue) (later before : List Entry) (node : ℕ) (origin : Origin) → IsLegal script (later ++ Drained node origin ∷ before) → IsDrainTime script before origin.phase node origin.cause (now_of before)
   pub passes : (script : ScriptValue) (later before : List Entry) (time : ℕ) → IsLegal script (later ++ Time time ∷ before) → All (λ event. time ≤ event.time) (due_events script before)
   pub forward : (script : ScriptValue) (later before : List Entry) (time : ℕ) → IsLegal script (later ++ Time time ∷ before) → now_of before ≤ time

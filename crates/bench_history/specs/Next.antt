@@ -47,7 +47,7 @@ HasWord drawn word = is_some word ≡ drawn
 -- for which one is drawn
 abbrev pub Allows : Next → Entry → Type 0
 Allows (Exactly expected) entry = entry ≡ expected
-Allows (Answer hearer call cause) entry = (acts : List Act) × (entry ≡ Heard hearer call cause acts)
+Allows (Answer hearer call cause) entry = (acts : List Act) × (entry ≡ Heard hearer cause call acts)
 Allows (Need need made performer act) entry = (entry ≡ Did performer made act) ⊎ (entry ≡ Did performer (Refused NoObject) act)
 Allows (Grant sequencer drawn chosen) entry = (grant : entries.Grant) × HasWord drawn grant.word × (chosen grant.word ≡ Some grant.id) × (entry ≡ Granted sequencer grant)
 Allows Nothing entry = ⊥

@@ -199,7 +199,7 @@ wait_refusal phase ticks = first_given (fault_if (nat_lt 0 ticks && not (in_task
 -- an act is open to a component, to a sequence, or to both
 abbrev pub is_component : Who → Bool
 is_component (who.Node node) = true
-is_component (who.Sequence id home) = false
+is_component (who.Sequence home id) = false
 
 abbrev pub is_open_to : Act → Who → Bool
 is_open_to (Create type_name name) performer = is_component performer

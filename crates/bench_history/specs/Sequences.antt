@@ -27,12 +27,12 @@ use Rattle.bench_history.specs.Wires.{node_below}
 -- the sequence that somebody is, which starts its children
 abbrev pub sequence_in : Who → Option ℕ
 sequence_in (who.Node node) = None
-sequence_in (who.Sequence id home) = Some id
+sequence_in (who.Sequence home id) = Some id
 
 -- somebody is this sequence
 abbrev pub is_sequence : ℕ → Who → Bool
 is_sequence id (who.Node node) = false
-is_sequence id (who.Sequence other home) = other == id
+is_sequence id (who.Sequence home other) = other == id
 
 -- a sequencer stands at a node
 abbrev pub is_sequencer : NodeKind → Bool
@@ -45,13 +45,13 @@ if_sequencer nodes node = if option_map_or (λ n. is_sequencer n.kind) (node_at 
 -- the sequencer on which somebody starts a sequence: a component at a path below itself, a sequence where it runs itself, by the empty path
 abbrev pub home_asked : List Node → Who → List (List ℕ) → Option ℕ
 home_asked nodes (who.Node node) on = option_and_then (if_sequencer nodes) (node_below nodes (who.Node node) on)
-home_asked nodes (who.Sequence id home) [] = Some home
-home_asked nodes (who.Sequence id home) (name ∷ on) = None
+home_asked nodes (who.Sequence home id) [] = Some home
+home_asked nodes (who.Sequence home id) (name ∷ on) = None
 
 -- the path by which the factory knows a sequence: that of its home, and the names from its root sequence down
 abbrev pub parent_names : List Start → Who → List (List ℕ)
 parent_names started (who.Node node) = []
-parent_names started (who.Sequence id home) = names_of started id
+parent_names started (who.Sequence home id) = names_of started id
 
 abbrev pub sequence_path : List Node → List Start → Who → List (List ℕ) → List ℕ → List (List ℕ)
 sequence_path nodes started performer on name = path_at nodes (unwrap_or (home_asked nodes performer on) 0) ++ parent_names started performer ++ name ∷ []
@@ -116,7 +116,7 @@ is_over_phase ended (Some phase) = list_any (same_phase phase) ended
 
 -- a sequence that was started in a phase lives until it finishes, or the phase ends
 abbrev pub lives : List Entry → ℕ → Beginning → Bool
-lives history id beginning = not (list_any (same_who (who.Sequence id beginning.start.home)) (finished_of history)) && not (is_over_phase (ended_of history) beginning.phase)
+lives history id beginning = not (list_any (same_who (who.Sequence beginning.start.home id)) (finished_of history)) && not (is_over_phase (ended_of history) beginning.phase)
 
 unfoldable pub is_live : List Entry → ℕ → Bool
 is_live history id = option_map_or (lives history id) (numbered (begun_of history) id) false
@@ -138,12 +138,12 @@ next_step history performer = option_and_then step_after (option_and_then (step_
 -- all that were started, the oldest first
 abbrev pub all_begun : List Beginning → List Who
 all_begun [] = []
-all_begun (beginning ∷ older) = all_begun older ++ who.Sequence (length (beginning ∷ older)) beginning.start.home ∷ []
+all_begun (beginning ∷ older) = all_begun older ++ who.Sequence beginning.start.home (length (beginning ∷ older)) ∷ []
 
 -- somebody is a sequence that lives
 abbrev pub is_living : List Entry → Who → Bool
 is_living history (who.Node node) = false
-is_living history (who.Sequence id home) = is_live history id
+is_living history (who.Sequence home id) = is_live history id
 
 -- the sequences that the newest entry has ended: one finishes alone, and at the end of a phase those end that lived and live no longer, in the order of
 -- their starts

@@ -52,7 +52,7 @@ living-stays lived entry history same id home living =
 
 -- where one is, it is that one that lives besides
 pub living-more : LivingLived → (history : List Entry) (performer : Who) (act : Act) (new id home : ℕ) → new ≡ suc (length (begun_of history)) → IsLiving (Did performer (Started new) act ∷ history) id home
-    → IsLiving history id home ⊎ (Sequence id home ≡ Sequence new (start_by (nodes_of history) (sequences_of history) performer act).home)
+    → IsLiving history id home ⊎ (Sequence home id ≡ Sequence (start_by (nodes_of history) (sequences_of history) performer act).home new)
 living-more lived history performer act new id home number living = go (id == suc (length (begun_of history))) refl
   where
     entry : Entry
@@ -61,12 +61,12 @@ living-more lived history performer act new id home number living = go (id == su
     place : ℕ
     place = (start_by (nodes_of history) (sequences_of history) performer act).home
 
-    go : (same : Bool) → (id == suc (length (begun_of history))) ≡ same → IsLiving history id home ⊎ (Sequence id home ≡ Sequence new (start_by (nodes_of history) (sequences_of history) performer act).home)
+    go : (same : Bool) → (id == suc (length (begun_of history))) ≡ same → IsLiving history id home ⊎ (Sequence home id ≡ Sequence (start_by (nodes_of history) (sequences_of history) performer act).home new)
     go true is =
         let id_is : id ≡ new = grind (arith, nat_tests, is, number) in
         let at : Some (start_by (nodes_of history) (sequences_of history) performer act).home ≡ Some home = rw is at living.home_is in
         let home_is : home ≡ (start_by (nodes_of history) (sequences_of history) performer act).home = sym (same_Some (start_by (nodes_of history) (sequences_of history) performer act).home home at) in
-        inr (ap (λ n. Sequence n home) id_is ∙ ap (Sequence new) home_is)
+        inr (ap (Sequence home) id_is ∙ ap (λ h. Sequence h new) home_is)
     go false is =
         let within : id ≤ suc (length (begun_of history)) = living-number (Did performer (Started new) act ∷ history) id home living in
         let low : id ≤ length (begun_of history) = grind (arith, nat_tests, is, within) in
@@ -76,14 +76,14 @@ living-more lived history performer act new id home number living = go (id == su
 pub all-numbered : (begun : List Beginning) → All (λ who. number_of who ≤ length begun) (all_begun begun)
 all-numbered [] = All-nil (λ who. number_of who ≤ 0)
 all-numbered (beginning ∷ older) =
-    All-push (λ who. number_of who ≤ length (beginning ∷ older)) (all_begun older) (Sequence (length (beginning ∷ older)) beginning.start.home)
+    All-push (λ who. number_of who ≤ length (beginning ∷ older)) (all_begun older) (Sequence beginning.start.home (length (beginning ∷ older)))
     (All-weaker (λ who. number_of who ≤ length older) (λ who. number_of who ≤ length (beginning ∷ older)) (λ who low. omega (arith, low)) (all_begun older) (all-numbered older))
     (omega arith)
 
 -- where no component was made and no sequence started, who was made is who had been
 pub WasMade-same : (history later : List Entry) → components_of later ≡ components_of history → begun_of later ≡ begun_of history → (who : Who) → WasMade history who → WasMade later who
 WasMade-same history later components begun (Node node) made = subst (λ nodes. Contains nodes node) (sym components) made
-WasMade-same history later components begun (Sequence id home) made = subst (λ (begun : List Beginning). Contains (all_begun begun) (Sequence id home)) (sym begun) made
+WasMade-same history later components begun (Sequence home id) made = subst (λ (begun : List Beginning). Contains (all_begun begun) (Sequence home id)) (sym begun) made
 
 -- and the types are those that were made
 pub types-same : (script : ScriptValue) (entry : Entry) (history : List Entry) → components_of (entry ∷ history) ≡ components_of history → begun_of (entry ∷ history) ≡ begun_of history
@@ -112,7 +112,7 @@ told-next history entry leave = record {
   where
     ended : (who : Who) → IsLivingSequence history who → (IsLivingSequence (entry ∷ history) who → ⊥) → HasEnded (entry ∷ history) who
     ended (Node node) lived gone = lived
-    ended (Sequence id home) lived gone = gone
+    ended (Sequence home id) lived gone = gone
 
 -- and after one was told
 pub told-less : (history : List Entry) (who : Who) (others leaving : List Who) → leaving ≡ who ∷ others → AreToldNext history leaving → AreToldNext history others
@@ -128,7 +128,7 @@ told-less history who others leaving is told =
 pub AreAllHeld-more : (history : List Entry) (leaving held more : List Who) → ((who : Who) → Contains held who → Contains more who) → AreAllHeld history leaving held → AreAllHeld history leaving more
 AreAllHeld-more history leaving held more keeps were = record {
   components = All-weaker (λ node. Contains held (Node node)) (λ node. Contains more (Node node)) (λ node there. keeps (Node node) there) (components_of history) were.components;
-  living = λ id home living. keeps (Sequence id home) (were.living id home living);
+  living = λ id home living. keeps (Sequence home id) (were.living id home living);
   ended = All-weaker (Contains held) (Contains more) keeps leaving were.ended;
 }
 
@@ -138,7 +138,7 @@ leavers-held history leaving left held lived were = All-weaker (IsLivingSequence
   where
     go : (who : Who) → IsLivingSequence history who → Contains held who
     go (Node node) living = absurd living
-    go (Sequence id home) living = were.living id home living
+    go (Sequence home id) living = were.living id home living
 
 -- an entry that makes nobody
 pub AreAllHeld-later : LivingLived → (entry : Entry) (history : List Entry) (leaving held : List Who) → components_of (entry ∷ history) ≡ components_of history → begun_of (entry ∷ history) ≡ begun_of history → AreLeaving history entry
@@ -157,7 +157,7 @@ pub record HasCome (script : ScriptValue) (history : List Entry) (entry : Entry)
   pub unasked : life_of who history ≡ []
   pub types : types_made script (entry ∷ history) ≡ (who, type_name) ∷ types_made script history
   pub components : All (λ node. Contains (components_of history) node ⊎ (Node node ≡ who)) (components_of (entry ∷ history))
-  pub living : (id home : ℕ) → IsLiving (entry ∷ history) id home → IsLiving history id home ⊎ (Sequence id home ≡ who)
+  pub living : (id home : ℕ) → IsLiving (entry ∷ history) id home → IsLiving history id home ⊎ (Sequence home id ≡ who)
 
 -- an entry that makes somebody, who is held from then on
 pub AreAllHeld-come : (script : ScriptValue) (entry : Entry) (history : List Entry) (leaving held more : List Who) (type_name : List ℕ) (who : Who) → ((other : Who) → Contains held other → Contains more other) → Contains more who → AreLeaving history entry
@@ -172,8 +172,8 @@ AreAllHeld-come script entry history leaving held more type_name who keeps there
     component node (inl was) = keeps (Node node) (All-contains (λ node. Contains held (Node node)) (components_of history) node were.components was)
     component node (inr new) = subst (Contains more) (sym new) there
 
-    sequence : (id home : ℕ) → IsLiving history id home ⊎ (Sequence id home ≡ who) → Contains more (Sequence id home)
-    sequence id home (inl lived) = keeps (Sequence id home) (were.living id home lived)
+    sequence : (id home : ℕ) → IsLiving history id home ⊎ (Sequence home id ≡ who) → Contains more (Sequence home id)
+    sequence id home (inl lived) = keeps (Sequence home id) (were.living id home lived)
     sequence id home (inr new) = subst (Contains more) (sym new) there
 
 -- who else was there still is when one was taken out
@@ -189,16 +189,16 @@ pub AreAllHeld-told : (history : List Entry) (who : Who) (others held rest leavi
     → AreAllHeld history others rest
 AreAllHeld-told history (Node node) others held rest leaving is same told were =
     absurd (All-head (HasEnded history) (Node node) others (subst (All (HasEnded history)) is told.have_ended))
-AreAllHeld-told history (Sequence id home) others held rest leaving is same told were =
-    let all : AreAllHeld history (Sequence id home ∷ others) held = subst (λ l. AreAllHeld history l held) is were in
-    let tells : AreToldNext history (Sequence id home ∷ others) = subst (AreToldNext history) is told in
-    let ended : IsLiving history id home → ⊥ = All-head (HasEnded history) (Sequence id home) others tells.have_ended in
-    let still : (other : Who) → other ≢ Sequence id home → Contains held other → Contains rest other =
-    λ other apart there. other-there (Sequence id home) other rest apart (Contains-permutation held (Sequence id home ∷ rest) other same there) in
-    let held_still = All-tail (Contains held) (Sequence id home) others all.ended in
+AreAllHeld-told history (Sequence home id) others held rest leaving is same told were =
+    let all : AreAllHeld history (Sequence home id ∷ others) held = subst (λ l. AreAllHeld history l held) is were in
+    let tells : AreToldNext history (Sequence home id ∷ others) = subst (AreToldNext history) is told in
+    let ended : IsLiving history id home → ⊥ = All-head (HasEnded history) (Sequence home id) others tells.have_ended in
+    let still : (other : Who) → other ≢ Sequence home id → Contains held other → Contains rest other =
+    λ other apart there. other-there (Sequence home id) other rest apart (Contains-permutation held (Sequence home id ∷ rest) other same there) in
+    let held_still = All-tail (Contains held) (Sequence home id) others all.ended in
     record {
       components = All-weaker (λ node. Contains held (Node node)) (λ node. Contains rest (Node node)) (λ node there. still (Node node) (λ e. cc) there) (components_of history) all.components;
-      living = λ other there living. still (Sequence other there) (λ e. ended (subst (IsLivingSequence history) e living)) (all.living other there living);
+      living = λ other there living. still (Sequence there other) (λ e. ended (subst (IsLivingSequence history) e living)) (all.living other there living);
       ended = λ k d h. still (get_or others k d) (λ e. let more = tells.rising.0 k d h in let same_number = ap number_of e in omega (arith, more, same_number)) (held_still k d h);
     }
 
@@ -209,7 +209,7 @@ module _ (laws : LogLaws) (script : ScriptValue) (history : List Entry) (each : 
   component-apart node (Node other) new made =
       let below = All-contains (λ n. n < length (nodes_of history)) (components_of history) other (laws.components script history each) made in
       eq-apart node other (λ e. omega (arith, e, below, new))
-  component-apart node (Sequence id home) new made = refl
+  component-apart node (Sequence home id) new made = refl
 
   component-come : (need : declared.Need) (type_name : List ℕ) (performer : Who) (act : Act) → type_name ≡ need.type_name → HasGrown history need.path (Did performer (Made type_name) act)
       → HasCome script history (Did performer (Made type_name) act) need.type_name (Node (length (nodes_of history)))
@@ -228,21 +228,21 @@ module _ (laws : LogLaws) (script : ScriptValue) (history : List Entry) (each : 
     where
       others : (other : Who) → WasMade history other → WasMade (Did performer (Made type_name) act ∷ history) other
       others (Node other) made = Contains-append_left (components_of history) (length (nodes_of history) ∷ []) other made
-      others (Sequence id home) made = made
+      others (Sequence home id) made = made
 
   -- nor is a sequence that was started the new one
-  sequence-apart : (id home : ℕ) (other : Who) → id ≡ suc (length (begun_of history)) → WasMade history other → same_who (Sequence id home) other ≡ false
+  sequence-apart : (id home : ℕ) (other : Who) → id ≡ suc (length (begun_of history)) → WasMade history other → same_who (Sequence home id) other ≡ false
   sequence-apart id home (Node other) new made = refl
-  sequence-apart id home (Sequence other there) new made =
-      let below : other ≤ length (begun_of history) = All-contains (λ who. number_of who ≤ length (begun_of history)) (all_begun (begun_of history)) (Sequence other there) (all-numbered (begun_of history)) made in
+  sequence-apart id home (Sequence there other) new made =
+      let below : other ≤ length (begun_of history) = All-contains (λ who. number_of who ≤ length (begun_of history)) (all_begun (begun_of history)) (Sequence there other) (all-numbered (begun_of history)) made in
       rw (eq-apart id other (λ e. omega (arith, e, below, new))) refl
 
   sequence-come : (need : declared.Need) (id : ℕ) (performer : Who) (act : Act) → next_of script history ≡ Need need (Started id) performer act → HasBegun history id performer act (Did performer (Started id) act)
-      → HasCome script history (Did performer (Started id) act) need.type_name (Sequence id (start_by (nodes_of history) (sequences_of history) performer act).home)
+      → HasCome script history (Did performer (Started id) act) need.type_name (Sequence (start_by (nodes_of history) (sequences_of history) performer act).home id)
   sequence-come need id performer act needs begun =
       let home : ℕ = (start_by (nodes_of history) (sequences_of history) performer act).home in
       record {
-        made = subst (λ all. Contains all (Sequence id home)) (sym begun.all) (Contains-push (all_begun (begun_of history)) (Sequence id home));
+        made = subst (λ all. Contains all (Sequence home id)) (sym begun.all) (Contains-push (all_begun (begun_of history)) (Sequence home id));
         others = others;
         apart = λ other made. sequence-apart id home other begun.number made;
         unasked = laws.unasked_sequences script history id home each (let number = begun.number in omega (arith, number));
@@ -253,9 +253,9 @@ module _ (laws : LogLaws) (script : ScriptValue) (history : List Entry) (each : 
     where
       others : (other : Who) → WasMade history other → WasMade (Did performer (Started id) act ∷ history) other
       others (Node other) made = made
-      others (Sequence other there) made =
-          subst (λ all. Contains all (Sequence other there)) (sym begun.all)
-          (Contains-append_left (all_begun (begun_of history)) (Sequence id (start_by (nodes_of history) (sequences_of history) performer act).home ∷ []) (Sequence other there) made)
+      others (Sequence there other) made =
+          subst (λ all. Contains all (Sequence there other)) (sym begun.all)
+          (Contains-append_left (all_begun (begun_of history)) (Sequence (start_by (nodes_of history) (sequences_of history) performer act).home id ∷ []) (Sequence there other) made)
 
   -- the type that is made is that of the need
   type-wanted : (need : declared.Need) (type_name : List ℕ) (performer : Who) (act : Act) → next_of script history ≡ Need need (Made type_name) performer act → type_name ≡ need.type_name
@@ -273,6 +273,6 @@ module _ (laws : LogLaws) (script : ScriptValue) (history : List Entry) (each : 
       subst (HasCome script history (Did performer (Made type_name) act) need.type_name) (same_Some (Node (length (nodes_of history))) who is)
       (component-come need type_name performer act (type-wanted need type_name performer act needs) (laws.made script history need (Made type_name) performer act needs))
   has-come need (Started id) performer act who needs is =
-      subst (HasCome script history (Did performer (Started id) act) need.type_name) (same_Some (Sequence id (start_by (nodes_of history) (sequences_of history) performer act).home) who is)
+      subst (HasCome script history (Did performer (Started id) act) need.type_name) (same_Some (Sequence (start_by (nodes_of history) (sequences_of history) performer act).home id) who is)
       (sequence-come need id performer act needs (laws.made script history need (Started id) performer act needs))
   has-come need made performer act who needs is = cc

@@ -199,33 +199,33 @@ module _ (laws : LogLaws) {O : Type 0} (view : O → View) (name : O → List �
   asked-held kernel (Node node) call origin answers going there kept =
       let on : is_over kernel.core.history ≡ false = on-where-some laws.over kernel.core.script kernel.core.history (Answer (Node node) call origin) answers tt in
       All-contains (λ node. Contains (who_held kernel) (Node node)) (components_of kernel.core.history) node (kept.custody.whole (rw (going, on) refl)).components there
-  asked-held kernel (Sequence id home) call origin answers going there kept =
-      let on : is_over kernel.core.history ≡ false = on-where-some laws.over kernel.core.script kernel.core.history (Answer (Sequence id home) call origin) answers tt in
+  asked-held kernel (Sequence home id) call origin answers going there kept =
+      let on : is_over kernel.core.history ≡ false = on-where-some laws.over kernel.core.script kernel.core.history (Answer (Sequence home id) call origin) answers tt in
       (kept.custody.whole (rw (going, on) refl)).living id home there
 
   -- an object answered
   pub kept-heard : (kernel : KernelValue O) (core : CoreValue) (held : List (Who × O)) (performer : Who) (call : Call) (origin : Option Origin) (acts : List Act)
-      → next_of kernel.core.script kernel.core.history ≡ next.Answer performer call origin → kernel.failed ≡ false → core ≡ core_after (Heard performer call origin acts) kernel.core
+      → next_of kernel.core.script kernel.core.history ≡ next.Answer performer call origin → kernel.failed ≡ false → core ≡ core_after (Heard performer origin call acts) kernel.core
       → IsAsked view name says performer call (Ok acts) kernel.held held → IsKernel view name says kernel
       → IsKernel view name says (record { core = core; held = held; failed = false; unknown = None })
   kept-heard kernel core held performer call origin acts answers going is asked kept =
       let script = kernel.core.script in
       let history = kernel.core.history in
-      let entry : Entry = Heard performer call origin acts in
+      let entry : Entry = Heard performer origin call acts in
       let on : is_over history ≡ false = on-where-some laws.over script history (Answer performer call origin) answers tt in
-      let comes : IsNext script history (Heard performer call origin acts) = rw answers (acts, refl) in
-      let leave = laws.leavers script history (Heard performer call origin acts) kept.each comes in
+      let comes : IsNext script history (Heard performer origin call acts) = rw answers (acts, refl) in
+      let leave = laws.leavers script history (Heard performer origin call acts) kept.each comes in
       let were = AreHeld-asked name view says performer call (Ok acts) kernel.held held (is_done kernel) script history kernel.core.leaving asked kept.custody in
       rw is (record {
         each = (comes, kept.each);
         honest = LiveHonestly-heard view name says performer call origin acts kernel.held held history asked kept.custody.distinct (rw (kept.known going) at (kept.honest));
         custody =
-            AreHeld-later name (is_done kernel) false script history (Heard performer call origin acts ∷ history) kernel.core.leaving (leaving_of (Heard performer call origin acts ∷ history)) held
-            (WasMade-same history (Heard performer call origin acts ∷ history) refl refl) refl
-            (λ more. AreAllHeld-later laws.lived (Heard performer call origin acts) history kernel.core.leaving (keys_of held) refl refl leave (were.whole (rw (going, on) refl))) were;
+            AreHeld-later name (is_done kernel) false script history (Heard performer origin call acts ∷ history) kernel.core.leaving (leaving_of (Heard performer origin call acts ∷ history)) held
+            (WasMade-same history (Heard performer origin call acts ∷ history) refl refl) refl
+            (λ more. AreAllHeld-later laws.lived (Heard performer origin call acts) history kernel.core.leaving (keys_of held) refl refl leave (were.whole (rw (going, on) refl))) were;
         good = λ h. kept.good going;
         comes = λ h. tt;
-        told = λ h. told-next history (Heard performer call origin acts) leave;
+        told = λ h. told-next history (Heard performer origin call acts) leave;
         known = λ h. refl;
       })
 

@@ -26,14 +26,14 @@ use Rattle.bench_kernel.proofs.Numbers.{eq-flips, eq-self}
 -- one and another are no two the other way round
 pub same_who-flips : (who other : Who) → same_who who other ≡ same_who other who
 same_who-flips (Node node) (Node other) = grind (arith, nat_tests)
-same_who-flips (Sequence id home) (Sequence other there) = rw (eq-flips id other, eq-flips home there) refl
-same_who-flips (Node node) (Sequence other there) = refl
-same_who-flips (Sequence id home) (Node other) = refl
+same_who-flips (Sequence home id) (Sequence there other) = rw (eq-flips id other, eq-flips home there) refl
+same_who-flips (Node node) (Sequence there other) = refl
+same_who-flips (Sequence home id) (Node other) = refl
 
 -- each is one with itself
 pub same_who-self : (who : Who) → same_who who who ≡ true
 same_who-self (Node node) = grind (arith, nat_tests)
-same_who-self (Sequence id home) = rw (eq-self id, eq-self home) refl
+same_who-self (Sequence home id) = rw (eq-self id, eq-self home) refl
 
 -- views that are honest by a relation are so by the same one
 IsHonest-same : (says others : Says) (views : List View) (life : List Exchange) → SameSays says others → IsHonest others views life → IsHonest says views life
@@ -52,11 +52,11 @@ IsHonestNow-more says others before after call acts life same said honest =
 
 -- who was heard has one exchange more, and every other as many as before
 heard-same : (performer : Who) (call : Call) (origin : Option Origin) (acts : List Act) (history : List Entry)
-    → life_of performer (Heard performer call origin acts ∷ history) ≡ (call, acts) ∷ life_of performer history
+    → life_of performer (Heard performer origin call acts ∷ history) ≡ (call, acts) ∷ life_of performer history
 heard-same performer call origin acts history = rw (same_who-self performer) refl
 
 heard-other : (performer other : Who) (call : Call) (origin : Option Origin) (acts : List Act) (history : List Entry) → same_who performer other ≡ false
-    → life_of other (Heard performer call origin acts ∷ history) ≡ life_of other history
+    → life_of other (Heard performer origin call acts ∷ history) ≡ life_of other history
 heard-other performer other call origin acts history apart = rw apart refl
 
 module _ {O : Type 0} (view : O → View) (name : O → List ℕ) (says : O → Says) where
@@ -77,20 +77,20 @@ module _ {O : Type 0} (view : O → View) (name : O → List ℕ) (says : O → 
   -- an answer in the log is a step of the life of the object that gave it
   pub LiveHonestly-heard : (performer : Who) (call : Call) (origin : Option Origin) (acts : List Act) (old new : List (Who × O)) (history : List Entry)
       → IsAsked view name says performer call (Ok acts) old new → IsDistinct same_who (keys_of old) → LiveHonestly view says old None history
-      → LiveHonestly view says new None (Heard performer call origin acts ∷ history)
+      → LiveHonestly view says new None (Heard performer origin call acts ∷ history)
   LiveHonestly-heard performer call origin acts old new history asked distinct honest =
       let were : All (Lives None history) ((performer, asked.before) ∷ asked.others) = All-permutation (Lives None history) old ((performer, asked.before) ∷ asked.others) (IsPermutation-sym ((performer, asked.before) ∷ asked.others) old asked.was) honest in
       let was = All-head (Lives None history) (performer, asked.before) asked.others were (λ n. none-some performer n) in
       let rest = All-tail (Lives None history) (performer, asked.before) asked.others were in
       let apart = others-differ performer call (Ok acts) old new asked distinct in
-      All-permutation (Lives None (Heard performer call origin acts ∷ history)) ((performer, asked.after) ∷ asked.others) new asked.is
-      (All-cons (Lives None (Heard performer call origin acts ∷ history)) (performer, asked.after) asked.others
+      All-permutation (Lives None (Heard performer origin call acts ∷ history)) ((performer, asked.after) ∷ asked.others) new asked.is
+      (All-cons (Lives None (Heard performer origin call acts ∷ history)) (performer, asked.after) asked.others
       (λ known.
       subst (λ l. IsHonestNow (says asked.after) (view asked.after) l) (sym (heard-same performer call origin acts history))
       (IsHonestNow-more (says asked.after) (says asked.before) (view asked.before) (view asked.after) call acts (life_of performer history) asked.same_says asked.said was))
       (λ k d h. other (get_or asked.others k d) (apart k d h) (rest k d h)))
     where
-      other : (seat : Who × O) → same_who performer seat.0 ≡ false → Lives None history seat → Lives None (Heard performer call origin acts ∷ history) seat
+      other : (seat : Who × O) → same_who performer seat.0 ≡ false → Lives None history seat → Lives None (Heard performer origin call acts ∷ history) seat
       other seat apart lives known =
           subst (λ l. IsHonestNow (says seat.1) (view seat.1) l) (sym (heard-other performer seat.0 call origin acts history apart)) (lives known)
 

@@ -96,7 +96,7 @@ module _ (laws : LogLaws) (script : ScriptValue) where
       go (Exactly expected) exact is =
           let machines : IsMachines history expected = laws.silent script history expected exact in
           subst (λ (e : Entry). AreOnce script (e ∷ history)) (sym is) (once-same script expected history machines.keeps machines.starts_none once)
-      go (Answer hearer call origin) exact is = subst (λ (e : Entry). AreOnce script (e ∷ history)) (sym is.1) (once-same script (Heard hearer call origin is.0) history refl refl once)
+      go (Answer hearer call origin) exact is = subst (λ (e : Entry). AreOnce script (e ∷ history)) (sym is.1) (once-same script (Heard hearer origin call is.0) history refl refl once)
       go (Need need made performer act) needs (inl is) = subst (λ (e : Entry). AreOnce script (e ∷ history)) (sym is) (by-made need made performer act (made_who history (Need need made performer act)) refl needs)
       go (Need need made performer act) needs (inr is) =
           subst (λ (e : Entry). AreOnce script (e ∷ history)) (sym is) (once-same script (Did performer (Refused NoObject) act) history refl refl once)
@@ -108,31 +108,31 @@ module _ (laws : LogLaws) (script : ScriptValue) where
   once-all (entry ∷ history) each = once-later entry history each.1 each.0 (once-all history each.1)
 
 -- each number of a sequence has one sequencer
-one-home : (begun : List Beginning) (id home other : ℕ) → Contains (all_begun begun) (Sequence id home) → Contains (all_begun begun) (Sequence id other) → home ≡ other
+one-home : (begun : List Beginning) (id home other : ℕ) → Contains (all_begun begun) (Sequence home id) → Contains (all_begun begun) (Sequence other id) → home ≡ other
 one-home [] id home other first second = absurd (omega (arith, first.1))
 one-home (beginning ∷ older) id home other first second =
-    go (one-home older id home other) (Contains-push_cases (all_begun older) newest (Sequence id home) first) (Contains-push_cases (all_begun older) newest (Sequence id other) second)
+    go (one-home older id home other) (Contains-push_cases (all_begun older) newest (Sequence home id) first) (Contains-push_cases (all_begun older) newest (Sequence other id) second)
   where
     newest : Who
-    newest = Sequence (length (beginning ∷ older)) beginning.start.home
+    newest = Sequence beginning.start.home (length (beginning ∷ older))
 
-    higher : {A : Type 0} (at : ℕ) → Contains (all_begun older) (Sequence id at) → length (beginning ∷ older) ≡ id → A
+    higher : {A : Type 0} (at : ℕ) → Contains (all_begun older) (Sequence at id) → length (beginning ∷ older) ≡ id → A
     higher at there is =
-        let low : id ≤ length older = All-contains (λ who. number_of who ≤ length older) (all_begun older) (Sequence id at) (all-numbered older) there in
+        let low : id ≤ length older = All-contains (λ who. number_of who ≤ length older) (all_begun older) (Sequence at id) (all-numbered older) there in
         absurd (omega (arith, low, is))
 
-    go : (Contains (all_begun older) (Sequence id home) → Contains (all_begun older) (Sequence id other) → home ≡ other) → Contains (all_begun older) (Sequence id home) ⊎ (newest ≡ Sequence id home)
-        → Contains (all_begun older) (Sequence id other) ⊎ (newest ≡ Sequence id other) → home ≡ other
+    go : (Contains (all_begun older) (Sequence home id) → Contains (all_begun older) (Sequence other id) → home ≡ other) → Contains (all_begun older) (Sequence home id) ⊎ (newest ≡ Sequence home id)
+        → Contains (all_begun older) (Sequence other id) ⊎ (newest ≡ Sequence other id) → home ≡ other
     go earlier (inl there) (inl here) = earlier there here
     go earlier (inl there) (inr is) = let number : length (beginning ∷ older) ≡ id = cc in higher home there number
     go earlier (inr is) (inl there) = let number : length (beginning ∷ older) ≡ id = cc in higher other there number
-    go earlier (inr is) (inr also) = let both : Sequence id home ≡ Sequence id other = sym is ∙ also in cc
+    go earlier (inr is) (inr also) = let both : Sequence home id ≡ Sequence other id = sym is ∙ also in cc
 
-once-numbers : (script : ScriptValue) (history : List Entry) → AreOnce script history → (id home other : ℕ) → Contains (keys_of (types_made script history)) (Sequence id home)
-    → Contains (keys_of (types_made script history)) (Sequence id other) → home ≡ other
+once-numbers : (script : ScriptValue) (history : List Entry) → AreOnce script history → (id home other : ℕ) → Contains (keys_of (types_made script history)) (Sequence home id)
+    → Contains (keys_of (types_made script history)) (Sequence other id) → home ≡ other
 once-numbers script history once id home other first second =
-    one-home (begun_of history) id home other (All-contains (WasMade history) (keys_of (types_made script history)) (Sequence id home) once.were first)
-    (All-contains (WasMade history) (keys_of (types_made script history)) (Sequence id other) once.were second)
+    one-home (begun_of history) id home other (All-contains (WasMade history) (keys_of (types_made script history)) (Sequence home id) once.were first)
+    (All-contains (WasMade history) (keys_of (types_made script history)) (Sequence other id) once.were second)
 
 pub nobody-is-made-twice : LogLaws → NobodyIsMadeTwice
 nobody-is-made-twice laws script history each =

@@ -12,22 +12,22 @@ use Rattle.object_seats.specs.SequenceSeats.{AreRisingWithin, IsWithout}
 pub record IsBetween (low high : ℕ) (who : Who) : Type 0 where
   pub id : ℕ
   pub home : ℕ
-  pub is : who ≡ Sequence id home
+  pub is : who ≡ Sequence home id
   pub over : low < id
   pub within : id ≤ high
 
 pub all-between : (low high : ℕ) (sitters : List Who) → AreRisingWithin low high sitters → All (IsBetween low high) sitters
 all-between low high [] rising = All-nil (IsBetween low high)
 all-between low high (Node node ∷ rest) rising = absurd rising
-all-between low high (Sequence id home ∷ rest) rising =
-    All-cons (IsBetween low high) (Sequence id home) rest (record { id = id; home = home; is = refl; over = rising.0; within = rising.1 })
+all-between low high (Sequence home id ∷ rest) rising =
+    All-cons (IsBetween low high) (Sequence home id) rest (record { id = id; home = home; is = refl; over = rising.0; within = rising.1 })
     (All-weaker (IsBetween id high) (IsBetween low high) (λ who b. record { id = b.id; home = b.home; is = b.is; over = omega (arith, b.over, rising.0); within = b.within }) rest (all-between id high rest rising.2))
 
 -- one more sits, of the next number
-pub rising-push : (low high home : ℕ) (sitters : List Who) → low ≤ high → AreRisingWithin low high sitters → AreRisingWithin low (high + 1) (sitters ++ Sequence (high + 1) home ∷ [])
+pub rising-push : (low high home : ℕ) (sitters : List Who) → low ≤ high → AreRisingWithin low high sitters → AreRisingWithin low (high + 1) (sitters ++ Sequence home (high + 1) ∷ [])
 rising-push low high home [] within rising = (omega (arith, within), omega arith, tt)
 rising-push low high home (Node node ∷ rest) within rising = absurd rising
-rising-push low high home (Sequence id there ∷ rest) within rising =
+rising-push low high home (Sequence there id ∷ rest) within rising =
     let low_enough = rising.1 in
     (rising.0, omega (arith, low_enough), rising-push id high home rest rising.1 rising.2)
 
@@ -35,19 +35,19 @@ rising-push low high home (Sequence id there ∷ rest) within rising =
 rising-lower : (less low high : ℕ) (sitters : List Who) → less ≤ low → AreRisingWithin low high sitters → AreRisingWithin less high sitters
 rising-lower less low high [] below rising = tt
 rising-lower less low high (Node node ∷ rest) below rising = absurd rising
-rising-lower less low high (Sequence id home ∷ rest) below rising =
+rising-lower less low high (Sequence home id ∷ rest) below rising =
     let over = rising.0 in
     (omega (arith, below, over), rising.1, rising.2)
 
 pub rising-rest : (low high : ℕ) (who : Who) (rest : List Who) → AreRisingWithin low high (who ∷ rest) → AreRisingWithin low high rest
 rising-rest low high (Node node) rest rising = absurd rising
-rising-rest low high (Sequence id home) rest rising = let over = rising.0 in rising-lower low id high rest (omega (arith, over)) rising.2
+rising-rest low high (Sequence home id) rest rising = let over = rising.0 in rising-lower low id high rest (omega (arith, over)) rising.2
 
 -- one has left
 rising-left : (low high : ℕ) (who : Who) (front behind : List Who) → AreRisingWithin low high (front ++ who ∷ behind) → AreRisingWithin low high (front ++ behind)
 rising-left low high who [] behind rising = rising-rest low high who behind rising
 rising-left low high who (Node node ∷ front) behind rising = absurd rising
-rising-left low high who (Sequence id home ∷ front) behind rising = (rising.0, rising.1, rising-left id high who front behind rising.2)
+rising-left low high who (Sequence home id ∷ front) behind rising = (rising.0, rising.1, rising-left id high who front behind rising.2)
 
 module _ {O : Type 0} where
   pub rising-without : (low high : ℕ) (back : Who × O) (old new : List (Who × O)) → IsWithout back old new → AreRisingWithin low high (keys_of old) → AreRisingWithin low high (keys_of new)

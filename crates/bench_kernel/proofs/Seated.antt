@@ -103,12 +103,12 @@ module _ (laws : LogLaws) {O : Type 0} where
       })
 
   sequence-seated : (history : List Entry) (performer : Who) (act : Act) (id home : ℕ) (path : List (List ℕ)) (object : O) (old new : List (Taken O)) (were are : SequenceSeatsValue O) → id ≡ suc (length (begun_of history))
-      → IsSeated (Sequence id home) path object old new were are → All (λ (place : List (List ℕ) × ℕ). place.1 < length (nodes_of history)) (paths_in old)
+      → IsSeated (Sequence home id) path object old new were are → All (λ (place : List (List ℕ) × ℕ). place.1 < length (nodes_of history)) (paths_in old)
       → AreSeated history (paths_in old) were.count were.held → AreSeated (Did performer (Started id) act ∷ history) (paths_in new) are.count are.held
   sequence-seated history performer act id home path object old new were are number seats under seated =
       let started = seated.started in
       let next : id ≡ were.count + 1 = omega (arith, number, started) in
-      let keys : keys_of (were.held ++ (Sequence id home, object) ∷ []) ≡ keys_of were.held ++ Sequence id home ∷ [] = map-append (λ (held : Who × O). held.0) were.held ((Sequence id home, object) ∷ []) in
+      let keys : keys_of (were.held ++ (Sequence home id, object) ∷ []) ≡ keys_of were.held ++ Sequence home id ∷ [] = map-append (λ (held : Who × O). held.0) were.held ((Sequence home id, object) ∷ []) in
       rw (seats.0, seats.1.held, seats.1.count) (record {
         placed = placed-later laws.nodes (Did performer (Started id) act) history (paths_in old) under seated.placed;
         rising = rw (keys, next) (rising-push 0 were.count home (keys_of were.held) (omega arith) seated.rising);
@@ -126,7 +126,7 @@ module _ (laws : LogLaws) {O : Type 0} where
       let begun = laws.made script history need (Started id) performer act needs in
       let home : ℕ = (start_by (nodes_of history) (sequences_of history) performer act).home in
       sequence-seated history performer act id home path object old new were are begun.number
-      (subst (λ w. IsSeated w path object old new were are) (sym (same_Some (Sequence id home) who is)) seats) under seated
+      (subst (λ w. IsSeated w path object old new were are) (sym (same_Some (Sequence home id) who is)) seats) under seated
   seated-come history need made performer act who path object old new were are script needs is path_is seats under seated = cc
 
   -- there is a seat for who was made
@@ -145,5 +145,5 @@ module _ (laws : LogLaws) {O : Type 0} where
   free-for history need (Started id) performer act who taken sequences script needs is started under =
       let begun = laws.made script history need (Started id) performer act needs in
       let number = begun.number in
-      subst (λ w. IsFree w taken sequences) (same_Some (Sequence id (start_by (nodes_of history) (sequences_of history) performer act).home) who is) (omega (arith, number, started))
+      subst (λ w. IsFree w taken sequences) (same_Some (Sequence (start_by (nodes_of history) (sequences_of history) performer act).home id) who is) (omega (arith, number, started))
   free-for history need made performer act who taken sequences script needs is started under = cc

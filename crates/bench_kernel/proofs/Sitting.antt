@@ -52,21 +52,21 @@ module _ {O : Type 0} where
           let bad = between.is in cc
 
   -- and a sequence among the sequences
-  pub sequence-sits : (taken : List (Taken O)) (sequences : List (Who × O)) (id home : ℕ) → Contains (keys_of (all_held taken sequences)) (Sequence id home) → Contains (keys_of sequences) (Sequence id home)
+  pub sequence-sits : (taken : List (Taken O)) (sequences : List (Who × O)) (id home : ℕ) → Contains (keys_of (all_held taken sequences)) (Sequence home id) → Contains (keys_of sequences) (Sequence home id)
   sequence-sits taken sequences id home there =
-      go (Contains-append_cases (keys_of (held_in taken)) (keys_of sequences) (Sequence id home) (subst (λ keys. Contains keys (Sequence id home)) (keys-all taken sequences) there))
+      go (Contains-append_cases (keys_of (held_in taken)) (keys_of sequences) (Sequence home id) (subst (λ keys. Contains keys (Sequence home id)) (keys-all taken sequences) there))
     where
-      go : Contains (keys_of (held_in taken)) (Sequence id home) ⊎ Contains (keys_of sequences) (Sequence id home) → Contains (keys_of sequences) (Sequence id home)
+      go : Contains (keys_of (held_in taken)) (Sequence home id) ⊎ Contains (keys_of sequences) (Sequence home id) → Contains (keys_of sequences) (Sequence home id)
       go (inl here) =
-          let held = Contains-map (λ (held : Who × O). held.0) (held_in taken) (Sequence id home) here in
+          let held = Contains-map (λ (held : Who × O). held.0) (held_in taken) (Sequence home id) here in
           let seat = Contains-map (λ (seat : Taken O). (Node seat.node, seat.object)) taken held.0 held.1 in
-          let bad : Node seat.0.node ≡ Sequence id home = ap (λ (held : Who × O). held.0) seat.2 ∙ held.2 in cc
+          let bad : Node seat.0.node ≡ Sequence home id = ap (λ (held : Who × O). held.0) seat.2 ∙ held.2 in cc
       go (inr here) = here
 
   -- so one that has ended does
   pub ended-sits : (history : List Entry) (who : Who) (taken : List (Taken O)) (sequences : List (Who × O)) → HasEnded history who → Contains (keys_of (all_held taken sequences)) who → Contains (keys_of sequences) who
   ended-sits history (Node node) taken sequences ended there = absurd ended
-  ended-sits history (Sequence id home) taken sequences ended there = sequence-sits taken sequences id home there
+  ended-sits history (Sequence home id) taken sequences ended there = sequence-sits taken sequences id home there
 
   -- what holds of all that are held holds of each component that sits
   pub components-hold : (P : Who → Type 0) (taken : List (Taken O)) (sequences : List (Who × O)) → All P (keys_of (all_held taken sequences)) → All (λ (place : List (List ℕ) × ℕ). P (Node place.1)) (paths_in taken)
@@ -108,9 +108,9 @@ module _ {O : Type 0} where
       rw seated.1.held
       (IsPermutation-append_left were.held ((Node node, object) ∷ held_in old) (held_in new)
       (IsPermutation-map (λ (seat : Taken O). (Node seat.node, seat.object)) (record { path = path; node = node; object = object } ∷ old) new seated.0))
-  seated-held (Sequence id home) path object old new were are seated =
+  seated-held (Sequence home id) path object old new were are seated =
       rw (seated.0, seated.1.held)
-      (permuted-behind (held_in old) (were.held ++ (Sequence id home, object) ∷ []) were.held (Sequence id home, object) (IsPermutation-append_comm ((Sequence id home, object) ∷ []) were.held))
+      (permuted-behind (held_in old) (were.held ++ (Sequence home id, object) ∷ []) were.held (Sequence home id, object) (IsPermutation-append_comm ((Sequence home id, object) ∷ []) were.held))
 
   -- one was taken out of its seat
   pub out-held : (back : Who × O) (old new : List (Taken O)) (sequences : List (Who × O)) → IsTakenOut back old new → IsPermutation (back ∷ all_held new sequences) (all_held old sequences)
@@ -125,12 +125,12 @@ module _ {O : Type 0} where
     where
       go : (who : Who) → AreRisingWithin 0 count (who ∷ keys_of new) → IsFirstBack nodes who (keys_of (all_held taken new))
       go (Node node) rising = absurd rising
-      go (Sequence id home) rising =
-          subst (All (GoesBefore nodes (Sequence id home))) (sym (keys-all taken new))
-          (All-append (GoesBefore nodes (Sequence id home)) (keys_of (held_in taken)) (keys_of new)
-          (All-map (GoesBefore nodes (Sequence id home)) (λ (held : Who × O). held.0) (held_in taken)
-          (All-map (λ (held : Who × O). GoesBefore nodes (Sequence id home) held.0) (λ (seat : Taken O). (Node seat.node, seat.object)) taken (λ k d h. tt)))
-          (All-weaker (IsBetween id count) (GoesBefore nodes (Sequence id home)) (λ other between. subst (GoesBefore nodes (Sequence id home)) (sym between.is) between.over) (keys_of new)
+      go (Sequence home id) rising =
+          subst (All (GoesBefore nodes (Sequence home id))) (sym (keys-all taken new))
+          (All-append (GoesBefore nodes (Sequence home id)) (keys_of (held_in taken)) (keys_of new)
+          (All-map (GoesBefore nodes (Sequence home id)) (λ (held : Who × O). held.0) (held_in taken)
+          (All-map (λ (held : Who × O). GoesBefore nodes (Sequence home id) held.0) (λ (seat : Taken O). (Node seat.node, seat.object)) taken (λ k d h. tt)))
+          (All-weaker (IsBetween id count) (GoesBefore nodes (Sequence home id)) (λ other between. subst (GoesBefore nodes (Sequence home id)) (sym between.is) between.over) (keys_of new)
           (all-between id count (keys_of new) rising.2)))
 
   -- and where there are none the first Down of the components does

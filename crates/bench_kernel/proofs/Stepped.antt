@@ -197,7 +197,7 @@ asked-room performer call old asking asks room = rw asks.is at room
 
 -- its answer goes into the log, or the log stays
 pub heard-is : (performer : Who) (call : Call) (acts : List Act) (old asking new : CoreValue) (asks : HasAsked performer call old asking)
-    → IfSome (answer_in asking.standing acts) (λ entry. new ≡ core_after entry asking) → new ≡ core_after (Heard performer call asks.origin acts) old
+    → IfSome (answer_in asking.standing acts) (λ entry. new ≡ core_after entry asking) → new ≡ core_after (Heard performer asks.origin call acts) old
 heard-is performer call acts old asking new asks heard =
     subst (λ (p : CoreValue). IfSome (answer_in p.standing acts) (λ entry. new ≡ core_after entry p)) asks.is heard
 
@@ -211,7 +211,7 @@ unheard-log performer call old asking new health asks failed =
 module _ {O : Type 0} (view : O → View) (name : O → List ℕ) (says : O → Says) where
   -- an entry of the machine is nobody's answer
   given-machines : (history : List Entry) (entry : Entry) (held : List (Who × O)) → IsMachines history entry → WasGiven view name says entry held held
-  given-machines history (Heard performer call origin acts) held machines =
+  given-machines history (Heard performer origin call acts) held machines =
       absurd (let nothing = machines.silent performer in
       let bad : (call, acts) ∷ [] ≡ [] = rw (same_who-self performer) at nothing in cc)
   given-machines history entry held machines = refl
@@ -241,12 +241,12 @@ module _ {O : Type 0} (view : O → View) (name : O → List ℕ) (says : O → 
 
   -- an object was asked, and its answer went into the log
   pub answered-step : (kernel : KernelValue O) (core : CoreValue) (held : List (Who × O)) (performer : Who) (call : Call) (origin : Option Origin) (acts : List Act)
-      → next_of kernel.core.script kernel.core.history ≡ next.Answer performer call origin → kernel.failed ≡ false → kernel.unknown ≡ None → core ≡ core_after (Heard performer call origin acts) kernel.core
+      → next_of kernel.core.script kernel.core.history ≡ next.Answer performer call origin → kernel.failed ≡ false → kernel.unknown ≡ None → core ≡ core_after (Heard performer origin call acts) kernel.core
       → IsAsked view name says performer call (Ok acts) kernel.held held
       → IsMoved view name says kernel (record { core = core; held = held; failed = false; unknown = None })
   answered-step kernel core held performer call origin acts answers going known is asked = record {
     unneeded = rw answers refl;
-    entry = Heard performer call origin acts;
+    entry = Heard performer origin call acts;
     next = rw answers (acts, refl);
     given = asked;
     is = rw (is, going, known) refl;

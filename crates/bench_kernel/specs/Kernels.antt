@@ -57,7 +57,7 @@ needed_type script history = option_map_or (λ need. need.type_name) (need_in (n
 -- needed then
 abbrev pub types_after : List ℕ → List Entry → List (Who × List ℕ) → Who → Outcome → Act → List (Who × List ℕ)
 types_after needed before types performer (Made type_name) act = (Node (length (nodes_of before)), type_name) ∷ types
-types_after needed before types performer (Started id) act = (Sequence id (start_by (nodes_of before) (sequences_of before) performer act).home, needed) ∷ types
+types_after needed before types performer (Started id) act = (Sequence (start_by (nodes_of before) (sequences_of before) performer act).home id, needed) ∷ types
 types_after needed before types performer outcome act = types
 
 abbrev pub types_made : ScriptValue → List Entry → List (Who × List ℕ)
@@ -76,12 +76,12 @@ module _ {O : Type 0} (view : O → View) (says : O → Says) where
 -- somebody was made: a component, or a sequence that was started
 abbrev pub WasMade : List Entry → Who → Type 0
 WasMade history (Node node) = Contains (components_of history) node
-WasMade history (Sequence id home) = Contains (all_begun (begun_of history)) (Sequence id home)
+WasMade history (Sequence home id) = Contains (all_begun (begun_of history)) (Sequence home id)
 
 -- all that are to be held are: each component, each sequence that lives, and each that has ended and was not told yet
 pub record AreAllHeld (history : List Entry) (leaving held : List Who) : Type 0 where
   pub components : All (λ node. Contains held (Node node)) (components_of history)
-  pub living : (id home : ℕ) → IsLiving history id home → Contains held (Sequence id home)
+  pub living : (id home : ℕ) → IsLiving history id home → Contains held (Sequence home id)
   pub ended : All (Contains held) leaving
 
 -- what stays true of who is held: nobody twice, each was made, with an object of the type that was made; and while the run goes on all that are to
@@ -95,7 +95,7 @@ pub record AreHeld {O : Type 0} (name : O → List ℕ) (done : Bool) (script : 
 -- somebody is a sequence that lives no longer
 abbrev pub HasEnded : List Entry → Who → Type 0
 HasEnded history (Node node) = ⊥
-HasEnded history (Sequence id home) = IsLiving history id home → ⊥
+HasEnded history (Sequence home id) = IsLiving history id home → ⊥
 
 -- those that are still to be told have ended, and go in rising number; once the run is over there are none
 pub record AreToldNext (history : List Entry) (leaving : List Who) : Type 0 where

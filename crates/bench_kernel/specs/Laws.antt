@@ -43,7 +43,7 @@ OthersMakeNobody =
 -- each that was made was made once, and of two sequences none has the number of the other, on whichever sequencers they were started
 pub record AreMadeOnce (made : List Who) : Type 0 where
   pub distinct : IsDistinct same_who made
-  pub numbers : (id home other : ℕ) → Contains made (Sequence id home) → Contains made (Sequence id other) → home ≡ other
+  pub numbers : (id home other : ℕ) → Contains made (Sequence home id) → Contains made (Sequence other id) → home ≡ other
 
 -- nobody is made twice: no number of a node or of a sequence is used again
 abbrev pub NobodyIsMadeTwice : Type 0

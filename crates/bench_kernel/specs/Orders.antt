@@ -9,10 +9,10 @@ use Rattle.uvm_acts.specs.declared.acts.Who.TheVariants.{Node, Sequence}
 -- one may be given back before another: a sequence before one of a greater number, and before each component; and a component before one that does
 -- not stand before it Down
 abbrev pub GoesBefore : List declared.Node → Who → Who → Type 0
-GoesBefore nodes (Sequence id home) (Sequence other there) = id < other
-GoesBefore nodes (Sequence id home) (Node other) = Unit {0}
+GoesBefore nodes (Sequence home id) (Sequence there other) = id < other
+GoesBefore nodes (Sequence home id) (Node other) = Unit {0}
 GoesBefore nodes (Node node) (Node other) = is_before down_cmp nodes other node ≡ false
-GoesBefore nodes (Node node) (Sequence id home) = ⊥
+GoesBefore nodes (Node node) (Sequence home id) = ⊥
 
 -- and before each of the others
 abbrev pub IsFirstBack : List declared.Node → Who → List Who → Type 0

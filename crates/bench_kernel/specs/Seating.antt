@@ -15,7 +15,7 @@ module _ {O : Type 0} where
   -- a seat is free for somebody: for a component that does not sit, and for the sequence of the next number
   abbrev pub IsFree : Who → List (Taken O) → SequenceSeatsValue O → Type 0
   IsFree (Node node) taken sequences = All (λ other. other ≢ Node node) (keys_of (held_in taken))
-  IsFree (Sequence id home) taken sequences = id ≡ sequences.count + 1
+  IsFree (Sequence home id) taken sequences = id ≡ sequences.count + 1
 
   -- the sequences sit as before
   pub record SitAsBefore (old new : SequenceSeatsValue O) : Type 0 where
@@ -30,4 +30,4 @@ module _ {O : Type 0} where
   -- somebody was seated, a component at its path, and the others sit as before
   abbrev pub IsSeated : Who → List (List ℕ) → O → List (Taken O) → List (Taken O) → SequenceSeatsValue O → SequenceSeatsValue O → Type 0
   IsSeated (Node node) path object old new were are = IsPermutation (record { path = path; node = node; object = object } ∷ old) new × SitAsBefore were are
-  IsSeated (Sequence id home) path object old new were are = (new ≡ old) × SitWithOneMore (Sequence id home) object were are
+  IsSeated (Sequence home id) path object old new were are = (new ≡ old) × SitWithOneMore (Sequence home id) object were are

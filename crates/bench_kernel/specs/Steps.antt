@@ -47,7 +47,7 @@ pub record IsSameLog (old new : CoreValue) : Type 0 where
 module _ {O : Type 0} (view : O → View) (name : O → List ℕ) (says : O → Says) where
   -- an answer in the log was given by the object that it names; no other entry changes an object
   abbrev pub WasGiven : Entry → List (Who × O) → List (Who × O) → Type 0
-  WasGiven (Heard performer call origin acts) old new = IsAsked view name says performer call (Ok acts) old new
+  WasGiven (Heard performer origin call acts) old new = IsAsked view name says performer call (Ok acts) old new
   WasGiven entry old new = new ≡ old
 
   -- an object is needed next, for whose entry there is room, and the machine waits for it

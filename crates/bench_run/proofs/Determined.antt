@@ -143,7 +143,7 @@ same-word words drawn older (Some x) (Some y) is are from also = ap Some (word-n
 -- ---- logs
 
 asked-older : (script : ScriptValue) (entry : Entry) (history : List Entry) → AreMade script (entry ∷ history) → AreMade script history
-asked-older script (Heard performer call origin acts) history made = made.1
+asked-older script (Heard performer origin call acts) history made = made.1
 asked-older script entry history made = made
 
 module _ {O : Type 0} (view : O → View) (name : O → List ℕ) (says : O → Says) (over : NothingAfterOver) (twice : NobodyIsMadeTwice)
@@ -189,11 +189,11 @@ module _ {O : Type 0} (view : O → View) (name : O → List ℕ) (says : O → 
   }
 
   -- whoever is asked gives one answer
-  same-answer : (history : List Entry) (hearer : Who) (call : Call) (origin : Option Origin) (acts others : List Act) → Log (Heard hearer call origin acts ∷ history) → Log (Heard hearer call origin others ∷ history) → others ≡ acts
-  same-answer history hearer call origin acts others log other = answers (All-contains (Lived (Heard hearer call origin acts ∷ history)) (keys_of (types_made script history)) hearer log.objects.lived log.objects.asked.0)
-      (All-contains (Lived (Heard hearer call origin others ∷ history)) (keys_of (types_made script history)) hearer other.objects.lived other.objects.asked.0)
+  same-answer : (history : List Entry) (hearer : Who) (call : Call) (origin : Option Origin) (acts others : List Act) → Log (Heard hearer origin call acts ∷ history) → Log (Heard hearer origin call others ∷ history) → others ≡ acts
+  same-answer history hearer call origin acts others log other = answers (All-contains (Lived (Heard hearer origin call acts ∷ history)) (keys_of (types_made script history)) hearer log.objects.lived log.objects.asked.0)
+      (All-contains (Lived (Heard hearer origin call others ∷ history)) (keys_of (types_made script history)) hearer other.objects.lived other.objects.asked.0)
     where
-      answers : Lived (Heard hearer call origin acts ∷ history) hearer → Lived (Heard hearer call origin others ∷ history) hearer → others ≡ acts
+      answers : Lived (Heard hearer origin call acts ∷ history) hearer → Lived (Heard hearer origin call others ∷ history) hearer → others ≡ acts
       answers lives also =
           let type_is : also.type_name ≡ lives.type_name = one-type (types_made script history) hearer lives.type_name also.type_name (twice script history log.legal.each.1).distinct lives.made also.made in
           let object_is : also.object ≡ lives.object = same_Some also.object lives.object (also.given.gives ∙ ap given type_is ∙ sym lives.given.gives) in
@@ -223,7 +223,7 @@ module _ {O : Type 0} (view : O → View) (name : O → List ℕ) (says : O → 
       go : (comes : Next) → Allows comes entry → Allows comes other → IsFilled view name says Gives comes entry → IsFilled view name says Gives comes other → other ≡ entry
       go (Exactly expected) is are filled fills = are ∙ sym is
       go (Answer hearer call origin) is are filled fills =
-          are.1 ∙ ap (Heard hearer call origin) (same-answer history hearer call origin is.0 are.0 (subst (λ (e : Entry). Log (e ∷ history)) is.1 log) (subst (λ (e : Entry). Log (e ∷ history)) are.1 also)) ∙ sym is.1
+          are.1 ∙ ap (Heard hearer origin call) (same-answer history hearer call origin is.0 are.0 (subst (λ (e : Entry). Log (e ∷ history)) is.1 log) (subst (λ (e : Entry). Log (e ∷ history)) are.1 also)) ∙ sym is.1
       go (Need need made performer act) is are (inl filled) (inl fills) = fills.0 ∙ sym filled.0
       go (Need need made performer act) is are (inr filled) (inr fills) = fills.0 ∙ sym filled.0
       go (Need need made performer act) is are (inl filled) (inr fills) = absurd (clash need.type_name filled.1 filled.2 fills.1)

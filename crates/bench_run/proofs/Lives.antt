@@ -41,32 +41,32 @@ may-give closure make shown result type_name given met shows is = record { shown
 -- two that are one
 same_who-true : (who other : Who) → same_who who other ≡ true → who ≡ other
 same_who-true (Node node) (Node other) same = ap Node (grind (arith, nat_tests, same))
-same_who-true (Sequence id home) (Sequence other there) same = both (id == other) refl same
+same_who-true (Sequence home id) (Sequence there other) same = both (id == other) refl same
   where
-    both : (is : Bool) → (id == other) ≡ is → (is && (home == there)) ≡ true → Sequence id home ≡ Sequence other there
+    both : (is : Bool) → (id == other) ≡ is → (is && (home == there)) ≡ true → Sequence home id ≡ Sequence there other
     both true is same =
         let one : id ≡ other = grind (arith, nat_tests, is) in
         let two : home ≡ there = grind (arith, nat_tests, same) in
         cc
     both false is same = cc
-same_who-true (Node node) (Sequence other there) same = cc
-same_who-true (Sequence id home) (Node other) same = cc
+same_who-true (Node node) (Sequence there other) same = cc
+same_who-true (Sequence home id) (Node other) same = cc
 
 pub same_who-self : (who : Who) → same_who who who ≡ true
 same_who-self (Node node) = grind (arith, nat_tests)
-same_who-self (Sequence id home) =
+same_who-self (Sequence home id) =
     let one : (id == id) ≡ true = grind (arith, nat_tests) in
     let two : (home == home) ≡ true = grind (arith, nat_tests) in
     rw (one, two) refl
 
 same_who-flips : (who other : Who) → same_who who other ≡ same_who other who
 same_who-flips (Node node) (Node other) = grind (arith, nat_tests)
-same_who-flips (Sequence id home) (Sequence other there) =
+same_who-flips (Sequence home id) (Sequence there other) =
     let one : (id == other) ≡ (other == id) = grind (arith, nat_tests) in
     let two : (home == there) ≡ (there == home) = grind (arith, nat_tests) in
     rw (one, two) refl
-same_who-flips (Node node) (Sequence other there) = refl
-same_who-flips (Sequence id home) (Node other) = refl
+same_who-flips (Node node) (Sequence there other) = refl
+same_who-flips (Sequence home id) (Node other) = refl
 
 -- what holds of each key holds of the key of each
 All-keys : {O : Type 0} (P : Who → Type 0) (held : List (Who × O)) → AllByRecursion P (keys_of held) → All (λ (seat : Who × O). P seat.0) held
@@ -75,11 +75,11 @@ All-keys P (seat ∷ held) all = All-cons (λ seat. P seat.0) seat held all.0 (A
 
 -- who was heard has one exchange more, and every other as many as before
 pub heard-same : (performer : Who) (call : Call) (origin : Option Origin) (acts : List Act) (history : List Entry)
-    → life_of performer (Heard performer call origin acts ∷ history) ≡ (call, acts) ∷ life_of performer history
+    → life_of performer (Heard performer origin call acts ∷ history) ≡ (call, acts) ∷ life_of performer history
 heard-same performer call origin acts history = rw (same_who-self performer) refl
 
 heard-other : (performer other : Who) (call : Call) (origin : Option Origin) (acts : List Act) (history : List Entry) → same_who performer other ≡ false
-    → life_of other (Heard performer call origin acts ∷ history) ≡ life_of other history
+    → life_of other (Heard performer origin call acts ∷ history) ≡ life_of other history
 heard-other performer other call origin acts history apart = rw apart refl
 
 silent-same : (who : Who) (entry : Entry) (history : List Entry) → exchanged_in who entry ≡ [] → life_of who (entry ∷ history) ≡ life_of who history
@@ -101,7 +101,7 @@ contains-key (first ∷ types) made there = go (contains-key types made) there.0
 
 -- an entry that is nobody's answer asks nobody
 silent-made : (script : ScriptValue) (entry : Entry) (history : List Entry) → ((who : Who) → exchanged_in who entry ≡ []) → AreMade script history → AreMade script (entry ∷ history)
-silent-made script (Heard performer call origin acts) history silent made = absurd (let bad = rw (same_who-self performer) at (silent performer) in cc)
+silent-made script (Heard performer origin call acts) history silent made = absurd (let bad = rw (same_who-self performer) at (silent performer) in cc)
 silent-made script entry history silent made = made
 
 -- one more exchange
@@ -158,7 +158,7 @@ nobody-held (seat ∷ held) made = absurd (nobody seat.0 (All-head (WasMade []) 
   where
     nobody : (who : Who) → WasMade [] who → ⊥
     nobody (Node node) there = let low = there.1 in absurd (omega (arith, low))
-    nobody (Sequence id home) there = let low = there.1 in absurd (omega (arith, low))
+    nobody (Sequence home id) there = let low = there.1 in absurd (omega (arith, low))
 
 module _ {O : Type 0} (view : O → View) (name : O → List ℕ) (says : O → Says) (Gives : List ℕ → Option O → Type 0) where
   abbrev Lived : ScriptValue → List Entry → Who → Type 0
@@ -246,9 +246,9 @@ module _ {O : Type 0} (view : O → View) (name : O → List ℕ) (says : O → 
 
   -- somebody's answer
   heard-kept : (script : ScriptValue) (performer : Who) (call : Call) (origin : Option Origin) (acts : List Act) (history : List Entry) (old new : List (Who × O)) → IsAsked view name says performer call (Ok acts) old new
-      → IsDistinct same_who (keys_of old) → Allows (next_of script history) (Heard performer call origin acts) → IsFilled view name says Gives (next_of script history) (Heard performer call origin acts) → EachIsNext script history
+      → IsDistinct same_who (keys_of old) → Allows (next_of script history) (Heard performer origin call acts) → IsFilled view name says Gives (next_of script history) (Heard performer origin call acts) → EachIsNext script history
       → HaveLived view name says Gives script history → All (Kept script history) old
-      → EachIsNext script (Heard performer call origin acts ∷ history) × HaveLived view name says Gives script (Heard performer call origin acts ∷ history) × All (Kept script (Heard performer call origin acts ∷ history)) new
+      → EachIsNext script (Heard performer origin call acts ∷ history) × HaveLived view name says Gives script (Heard performer origin call acts ∷ history) × All (Kept script (Heard performer origin call acts ∷ history)) new
   heard-kept script performer call origin acts history old new asked distinct allowed filled each lived kept = (
     (allowed, each),
     record {
@@ -262,7 +262,7 @@ module _ {O : Type 0} (view : O → View) (name : O → List ℕ) (says : O → 
   )
     where
       after : List Entry
-      after = Heard performer call origin acts ∷ history
+      after = Heard performer origin call acts ∷ history
 
       stays : (made : Who × List ℕ) → Contains (types_made script history) made → Contains (types_made script after) made
       stays made there = there
@@ -277,7 +277,7 @@ module _ {O : Type 0} (view : O → View) (name : O → List ℕ) (says : O → 
       apart = others-differ performer call acts old new asked distinct
 
       other : (seat : Who × O) → same_who performer seat.0 ≡ false → Kept script history seat → Kept script after seat
-      other seat differs was = kept-later script (Heard performer call origin acts) history seat stays (heard-other performer seat.0 call origin acts history differs) was
+      other seat differs was = kept-later script (Heard performer origin call acts) history seat stays (heard-other performer seat.0 call origin acts history differs) was
 
       was : Kept script history (performer, asked.before)
       was = All-head (Kept script history) (performer, asked.before) asked.others were
@@ -295,7 +295,7 @@ module _ {O : Type 0} (view : O → View) (name : O → List ℕ) (says : O → 
 
       by-who : (who : Who) (same : Bool) → same_who performer who ≡ same → Lived script history who → Lived script after who
       by-who who true is lived = subst (Lived script after) (same_who-true performer who is) (kept-lived script after (performer, asked.after) performed)
-      by-who who false is lived = lived-later script (Heard performer call origin acts) history who stays (heard-other performer who call origin acts history is) lived
+      by-who who false is lived = lived-later script (Heard performer origin call acts) history who stays (heard-other performer who call origin acts history is) lived
 
   unneeded-filled : (comes : Next) (entry : Entry) → need_in comes ≡ None → IsFilled view name says Gives comes entry
   unneeded-filled (Need need made performer act) entry none = cc
@@ -313,7 +313,7 @@ module _ {O : Type 0} (view : O → View) (name : O → List ℕ) (says : O → 
       go : (entry : Entry) (held : List (Who × O)) → WasGiven view name says entry old.held held → Allows (next_of old.core.script old.core.history) entry → IsFilled view name says Gives (next_of old.core.script old.core.history) entry
           → types_made old.core.script (entry ∷ old.core.history) ≡ types_made old.core.script old.core.history
           → EachIsNext old.core.script (entry ∷ old.core.history) × HaveLived view name says Gives old.core.script (entry ∷ old.core.history) × All (Kept old.core.script (entry ∷ old.core.history)) held
-      go (Heard performer call origin acts) held given allowed filled types =
+      go (Heard performer origin call acts) held given allowed filled types =
           heard-kept old.core.script performer call origin acts old.core.history old.held held given distinct allowed filled kept.each kept.lived kept.kept
       go entry held given allowed filled types =
           silent-kept old.core.script entry old.core.history held (λ who. refl) types allowed filled kept.each kept.lived (subst (All (Kept old.core.script old.core.history)) (sym given) kept.kept)

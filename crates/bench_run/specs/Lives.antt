@@ -33,7 +33,7 @@ MayGive closure make type_name given = FnReturnsAt closure make type_name (Ok gi
 -- each of whom an answer is in the log had been made
 abbrev pub AreMade : ScriptValue → List Entry → Type 0
 AreMade script [] = Unit {0}
-AreMade script (Heard performer call origin acts ∷ before) = Contains (keys_of (types_made script before)) performer × AreMade script before
+AreMade script (Heard performer origin call acts ∷ before) = Contains (keys_of (types_made script before)) performer × AreMade script before
 AreMade script (entry ∷ before) = AreMade script before
 
 module _ {O : Type 0} (view : O → View) (name : O → List ℕ) (says : O → Says) (Gives : List ℕ → Option O → Type 0) where

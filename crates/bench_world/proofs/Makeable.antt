@@ -84,7 +84,7 @@ module _ {script : ScriptValue} {log : LogValue} {services : Services} (waiting 
           agenda_spare = ready.has_room.agenda_spare;
         };
         made_is = ap (λ (n : ℕ). Started n) number;
-        who_is = ap (λ (h : ℕ). Some (who.Sequence id h)) (started-at (nodes_of history) (sequences_of history) (speaker_of history) waiting.deed b.asked b.name b.on b.priority u.home b.starts u.home_is) ∙ ap (λ (n : ℕ). Some (who.Sequence n u.home)) number;
+        who_is = ap (λ (h : ℕ). Some (who.Sequence h id)) (started-at (nodes_of history) (sequences_of history) (speaker_of history) waiting.deed b.asked b.name b.on b.priority u.home b.starts u.home_is) ∙ ap (λ (n : ℕ). Some (who.Sequence u.home n)) number;
       })
     where
       parent : (waiting.deed ≡ opening script) ⊎ IsThere log.entries (speaker_of log.entries) → (above : ℕ) → sequence_in (speaker_of log.entries) ≡ Some above → IsSome (numbered services.sequences.started above)

@@ -102,5 +102,5 @@ IsActed next old new = ⊥
 -- who an object is, once it is made: the node behind those that are there, or the sequence that is started
 abbrev pub made_who : List Entry → Next → Option Who
 made_who history (Need need (Made type_name) performer act) = Some (who.Node (length (nodes_of history)))
-made_who history (Need need (Started id) performer act) = Some (who.Sequence id (start_by (nodes_of history) (sequences_of history) performer act).home)
+made_who history (Need need (Started id) performer act) = Some (who.Sequence (start_by (nodes_of history) (sequences_of history) performer act).home id)
 made_who history next = None

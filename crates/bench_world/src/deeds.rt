@@ -28,6 +28,7 @@ impl World {
     /// and the services are as before, `need` tells the object, and `made` or `declined`, for which there is room, enters the
     /// act. The world is sound, its log is not full, and an act is next. The error is want of memory: the log stays as it was,
     /// and the world is not sound any more.
+    #[inline(never)]
     pub fn did(&mut self) -> Result<(), AllocError>
         requires { MayAct self.old }
         ensures ok { OnOk result (IsActed (next_of self.old.script self.old.history) self.old self.new) }

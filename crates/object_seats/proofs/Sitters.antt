@@ -283,7 +283,7 @@ module _ {O : Type 0} where
     pub at : slice_index_or keys place None ≡ Some key
     pub there : get slab key ≡ Some seat
     pub id : seat.id ≡ suc place
-    pub sits : Sequence seat.id seat.home ≡ who
+    pub sits : Sequence seat.home seat.id ≡ who
     pub found : place_of who ≡ Some place
 
   seat-by : (slab : Slab (SequenceSeat O)) (keys : List (Option ℕ)) (who : Who) (held : Who × O) (entry : Option ℕ) → AreNumbered slab 1 keys → held.0 ≡ who → Contains keys entry → sitter_at slab entry ≡ Some held → HasSeat slab keys who
@@ -292,7 +292,7 @@ module _ {O : Type 0} where
       let at : slice_index_or keys contained.0 None ≡ Some key = other-default keys contained.0 None (Some key) contained.1 ∙ contained.2 in
       let sits = number-at slab 1 keys contained.0 key numbered at in
       let same : sitter_of sits.seat ≡ held = same_Some (sitter_of sits.seat) held (rw sits.there at found) in
-      let who_is : Sequence sits.seat.id sits.seat.home ≡ who = ap (λ (h : Who × O). h.0) same ∙ is in
+      let who_is : Sequence sits.seat.home sits.seat.id ≡ who = ap (λ (h : Who × O). h.0) same ∙ is in
       let id : sits.seat.id ≡ suc contained.0 = omega (arith, sits.is) in
       record { place = contained.0; key = key; seat = sits.seat; at = at; there = sits.there; id = id; sits = who_is; found = ap place_of (sym who_is) ∙ ap place_in id }
 

@@ -14,7 +14,7 @@ place_in (suc place) = Some place
 -- the place of a sequence
 abbrev pub place_of : Who → Option ℕ
 place_of (Node node) = None
-place_of (Sequence id home) = place_in id
+place_of (Sequence home id) = place_in id
 
 -- the key of the seat of a sequence
 abbrev pub key_of : List (Option ℕ) → Who → Option ℕ
@@ -23,7 +23,7 @@ key_of keys who = option_and_then (λ place. slice_index_or keys place None) (pl
 module _ {O : Type 0} where
   -- who sits in a seat, with the object
   abbrev pub sitter_of : SequenceSeat O → Who × O
-  sitter_of seat = (Sequence seat.id seat.home, seat.object)
+  sitter_of seat = (Sequence seat.home seat.id, seat.object)
 
   -- who sits at a place that has a key, if somebody does
   abbrev pub sitter_at : Slab (SequenceSeat O) → Option ℕ → Option (Who × O)

@@ -13,7 +13,7 @@ pub record SequenceSeatsValue (O : Type 0) : Type 0 where
 abbrev pub AreRisingWithin : ℕ → ℕ → List Who → Type 0
 AreRisingWithin low high [] = Unit {0}
 AreRisingWithin low high (Node node ∷ rest) = ⊥
-AreRisingWithin low high (Sequence id home ∷ rest) = (low < id) × (id ≤ high) × AreRisingWithin id high rest
+AreRisingWithin low high (Sequence home id ∷ rest) = (low < id) × (id ≤ high) × AreRisingWithin id high rest
 
 -- one was taken out, and the others stand in their order
 pub record IsWithout {X : Type 0} (back : X) (old new : List X) : Type 0 where

@@ -76,7 +76,7 @@ impl<O> SequenceSeats<O> {
     pub fn insert(&mut self, id: SeqId, home: NodeId, object: O)
         requires room { 0 < self.old.spare }
         requires next { id ≡ self.old.count + 1 }
-        ensures held { self.new.held ≡ self.old.held ++ (Sequence id home, object) ∷ [] }
+        ensures held { self.new.held ≡ self.old.held ++ (Sequence home id, object) ∷ [] }
         ensures count { self.new.count ≡ self.old.count + 1 }
     {
         let key = self

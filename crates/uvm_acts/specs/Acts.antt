@@ -10,7 +10,7 @@ use Rattle.uvm_acts.specs.declared.acts.Who.TheVariants.{Node, Sequence}
 -- the node at which somebody stands: a sequence at its home
 abbrev pub node_of : Who → ℕ
 node_of (Node node) = node
-node_of (Sequence id home) = home
+node_of (Sequence home id) = home
 
 -- the acts of an answer, as they are held
 abbrev pub acts_of : Deeds → List Act

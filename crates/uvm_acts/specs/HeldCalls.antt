@@ -1,18 +1,35 @@
--- Calls through ports.
-use Rattle.std.specs.Prelude.{ℕ, List, Some, None}
+-- The call that is held.
+use Rattle.std.specs.Prelude.{Bool, true, false, Some, None}
 use Rattle.uvm_acts.specs.declared.acts.Call.{Call}
 use Rattle.uvm_acts.specs.declared.acts.Call.TheVariants as call
-use Rattle.uvm_acts.specs.declared.held_calls.PortNews.{PortNews}
-use Rattle.uvm_acts.specs.declared.held_calls.PortNews.TheVariants.{Stored, TryStored, Taken, TryTaken, NoneTaken, Peeked, Written, NextItem, NoItem}
+use Rattle.uvm_acts.specs.declared.held_calls.CompactCall.{CompactCall}
+use Rattle.uvm_acts.specs.declared.held_calls.CompactCall.TheVariants.{Phase, Wake, PreStart, Body, PostStart, Grant, Done, Responded, Held, Stored, TryStored, NoneTaken, NoItem, AtPort, Whole}
 
--- what is told through a port, as a call
-abbrev pub call_at : List ℕ → PortNews → Call
-call_at port Stored = call.Stored port
-call_at port (TryStored stored) = call.TryStored port stored
-call_at port (Taken item) = call.Taken port item
-call_at port (TryTaken item) = call.TryTaken port (Some item)
-call_at port NoneTaken = call.TryTaken port None
-call_at port (Peeked item) = call.Peeked port item
-call_at port (Written item) = call.Written port item
-call_at port (NextItem item) = call.NextItem port (Some item)
-call_at port NoItem = call.NextItem port None
+abbrev pub held_call : CompactCall → Call
+held_call (Phase phase) = call.Phase phase
+held_call (Wake tag) = call.Wake tag
+held_call PreStart = call.PreStart
+held_call Body = call.Body
+held_call PostStart = call.PostStart
+held_call Grant = call.Grant
+held_call Done = call.ItemDone None
+held_call (Responded item) = call.ItemDone (Some item.value)
+held_call Held = call.Held
+held_call (Stored port) = call.Stored port
+held_call (TryStored stored port) = call.TryStored port stored
+held_call (NoneTaken port) = call.TryTaken port None
+held_call (NoItem port) = call.NextItem port None
+held_call (AtPort box) = box.value
+held_call (Whole box) = box.value
+
+-- it has neither a name nor an item, and stands in place
+abbrev pub is_of_numbers : Call → Bool
+is_of_numbers (call.Phase phase) = true
+is_of_numbers (call.Wake tag) = true
+is_of_numbers call.PreStart = true
+is_of_numbers call.Body = true
+is_of_numbers call.PostStart = true
+is_of_numbers call.Grant = true
+is_of_numbers (call.ItemDone None) = true
+is_of_numbers call.Held = true
+is_of_numbers other = false

@@ -20,10 +20,10 @@ pub enum Who {
     Node(NodeId),
     /// A sequence (IEEE 1800.2-2020, Clause 14).
     Sequence {
-        /// Its number.
-        id: SeqId,
         /// The sequencer that it was started on, its home.
         home: NodeId,
+        /// Its number.
+        id: SeqId,
     },
 }
 

@@ -3,10 +3,9 @@
 ghost use Rattle.std.specs.Prelude.{◌≡◌, IfSome};
 
 use crate::acts::Act;
-use crate::short_names::ShortName;
 use std::alloc::Global;
 use std::marker::Model;
-use uvm_glob::Path;
+use uvm_glob::{Path, ShortName};
 
 /// The start of a sequence at the empty path, that is of a child, where the names are short. Contracts see the act.
 #[derive(Drop)]

@@ -1,6 +1,7 @@
 //! The acts of an answer, as an entry holds them.
 
-ghost use Rattle.std.specs.Prelude.{◌≡◌, ◌==◌, ◌++◌, ◌∷◌, [], length, slice_get, OnOk, OnErr, IfOk, option_copied};
+ghost use Rattle.std.specs.Prelude.{◌≡◌, ◌==◌, ◌++◌, ◌∷◌, [], true, length, slice_get, OnOk, OnErr, IfOk, IfSome, IsOk, option_copied};
+ghost use Rattle.uvm_acts.specs.Deeds.{held_act, is_of_numbers};
 
 use crate::acts::Act;
 use crate::child_starts::ChildStart;
@@ -10,11 +11,13 @@ use std::iter::FusedIterator;
 use std::marker::Model;
 use std::rc::Rc;
 use std::slice;
+use uvm_glob::ShortName;
+use uvm_sequencer::How;
 use uvm_tlm::Item;
 
 // An act in two words: acts of numbers alone stand in place, and all others behind a pointer, those that a log has most in little room.
 #[derive(Drop)]
-enum HeldAct {
+enum CompactAct {
     /// `Act::Request`.
     Request {
         /// The priority.
@@ -52,7 +55,29 @@ enum HeldAct {
     },
     /// `Act::Send`.
     Send(Rc<Item>),
-    /// An act through a port of a short name.
+    /// `Act::Take` through a port of a short name.
+    Take {
+        port: ShortName,
+    },
+    /// `Act::TryTake` through a port of a short name.
+    TryTake {
+        port: ShortName,
+    },
+    /// `Act::Peek` through a port of a short name.
+    Peek {
+        port: ShortName,
+    },
+    /// `Act::Ask` through a port of a short name.
+    Ask {
+        /// How it asks.
+        how: How,
+        port: ShortName,
+    },
+    /// `Act::ItemDone` without a response, through a port of a short name.
+    Done {
+        port: ShortName,
+    },
+    /// An act with an item through a port of a short name.
     AtPort(Rc<PortAct>),
     /// The start of a child with short names.
     StartChild(Rc<ChildStart>),
@@ -63,12 +88,12 @@ enum HeldAct {
 /// An act of an answer. The entry that says what became of it shares it, so that performing an act copies none that has memory of its own; an act of
 /// numbers alone takes none. Contracts see the act.
 pub struct Deed {
-    held: HeldAct,
+    compact: CompactAct,
 }
 
 impl Drop for Deed {
     fn drop(self) {
-        let Deed { held: _ } = self;
+        let Deed { compact: _ } = self;
     }
 }
 
@@ -78,46 +103,50 @@ impl Model for Deed {
 
     ghost Value = { Act };
 
-    ghost view = { λ d. held_act d.held };
+    ghost view = { λ d. held_act d.compact };
 }
 
 impl Deed {
-    /// An act, to be shared. The error is want of memory.
+    /// An act, to be shared. The error is want of memory, which does not come at an act of numbers alone.
     pub fn new(alloc: Global, act: Act) -> Result<Deed, AllocError>
-        ensures { IfOk result (λ deed. deed ≡ act) }
+        ensures ok { IfOk result (λ deed. deed ≡ act) }
+        ensures numbers { is_of_numbers act ≡ true → IsOk result }
     {
-        let held = match act {
-            Act::Request { priority } => HeldAct::Request { priority },
-            Act::Lock => HeldAct::Lock,
-            Act::Grab => HeldAct::Grab,
-            Act::Unlock => HeldAct::Unlock,
-            Act::EndStep => HeldAct::EndStep,
-            Act::RaiseObjection { count } => HeldAct::RaiseObjection { count },
-            Act::DropObjection { count } => HeldAct::DropObjection { count },
-            Act::SetDrain { ticks } => HeldAct::SetDrain { ticks },
-            Act::Wait { ticks, tag } => HeldAct::Wait { tag, ticks },
-            Act::Send { item } => HeldAct::Send(Rc::new(alloc, item)?),
+        let compact = match act {
+            Act::Request { priority } => CompactAct::Request { priority },
+            Act::Lock => CompactAct::Lock,
+            Act::Grab => CompactAct::Grab,
+            Act::Unlock => CompactAct::Unlock,
+            Act::EndStep => CompactAct::EndStep,
+            Act::RaiseObjection { count } => CompactAct::RaiseObjection { count },
+            Act::DropObjection { count } => CompactAct::DropObjection { count },
+            Act::SetDrain { ticks } => CompactAct::SetDrain { ticks },
+            Act::Wait { ticks, tag } => CompactAct::Wait { tag, ticks },
+            Act::Send { item } => CompactAct::Send(Rc::new(alloc, item)?),
             act => return Deed::behind_pointer(alloc, act),
         };
-        Ok(Deed { held })
+        Ok(Deed { compact })
     }
 
-    // An act that takes memory.
+    // An act that is held by its name, or takes memory.
     fn behind_pointer(alloc: Global, act: Act) -> Result<Deed, AllocError>
         ensures { IfOk result (λ deed. deed ≡ act) }
     {
+        if let Some(compact) = at_port(&act) {
+            return Ok(Deed { compact });
+        }
         if let Some(port_act) = PortAct::new(&act) {
             return Ok(Deed {
-                held: HeldAct::AtPort(Rc::new(alloc, port_act)?),
+                compact: CompactAct::AtPort(Rc::new(alloc, port_act)?),
             });
         }
         if let Some(start) = ChildStart::new(alloc, &act) {
             return Ok(Deed {
-                held: HeldAct::StartChild(Rc::new(alloc, start)?),
+                compact: CompactAct::StartChild(Rc::new(alloc, start)?),
             });
         }
         Ok(Deed {
-            held: HeldAct::Whole(Rc::new(alloc, act)?),
+            compact: CompactAct::Whole(Rc::new(alloc, act)?),
         })
     }
 
@@ -125,55 +154,104 @@ impl Deed {
     pub fn share(&self) -> Result<Deed, AllocError>
         ensures { IfOk result (λ deed. deed ≡ self.now) }
     {
-        let held = match &self.held {
-            HeldAct::Request { priority } => HeldAct::Request {
+        let compact = match &self.compact {
+            CompactAct::Request { priority } => CompactAct::Request {
                 priority: *priority,
             },
-            HeldAct::Lock => HeldAct::Lock,
-            HeldAct::Grab => HeldAct::Grab,
-            HeldAct::Unlock => HeldAct::Unlock,
-            HeldAct::EndStep => HeldAct::EndStep,
-            HeldAct::RaiseObjection { count } => HeldAct::RaiseObjection { count: *count },
-            HeldAct::DropObjection { count } => HeldAct::DropObjection { count: *count },
-            HeldAct::SetDrain { ticks } => HeldAct::SetDrain { ticks: *ticks },
-            HeldAct::Wait { tag, ticks } => HeldAct::Wait {
+            CompactAct::Lock => CompactAct::Lock,
+            CompactAct::Grab => CompactAct::Grab,
+            CompactAct::Unlock => CompactAct::Unlock,
+            CompactAct::EndStep => CompactAct::EndStep,
+            CompactAct::RaiseObjection { count } => CompactAct::RaiseObjection { count: *count },
+            CompactAct::DropObjection { count } => CompactAct::DropObjection { count: *count },
+            CompactAct::SetDrain { ticks } => CompactAct::SetDrain { ticks: *ticks },
+            CompactAct::Wait { tag, ticks } => CompactAct::Wait {
                 tag: *tag,
                 ticks: *ticks,
             },
-            HeldAct::Send(item) => HeldAct::Send(item.clone()?),
-            HeldAct::AtPort(port_act) => HeldAct::AtPort(port_act.clone()?),
-            HeldAct::StartChild(start) => HeldAct::StartChild(start.clone()?),
-            HeldAct::Whole(act) => HeldAct::Whole(act.clone()?),
+            CompactAct::Send(item) => CompactAct::Send(item.clone()?),
+            CompactAct::Take { port } => CompactAct::Take { port: port.copy() },
+            CompactAct::TryTake { port } => CompactAct::TryTake { port: port.copy() },
+            CompactAct::Peek { port } => CompactAct::Peek { port: port.copy() },
+            CompactAct::Ask { how, port } => CompactAct::Ask {
+                how: *how,
+                port: port.copy(),
+            },
+            CompactAct::Done { port } => CompactAct::Done { port: port.copy() },
+            CompactAct::AtPort(port_act) => CompactAct::AtPort(port_act.clone()?),
+            CompactAct::StartChild(start) => CompactAct::StartChild(start.clone()?),
+            CompactAct::Whole(act) => CompactAct::Whole(act.clone()?),
         };
-        Ok(Deed { held })
+        Ok(Deed { compact })
     }
 
     /// The act. It takes no memory.
     pub fn act(&self) -> LentAct<'_>
         ensures { result ≡ self.now }
     {
-        let lent = match &self.held {
-            HeldAct::Request { priority } => Lent::Made(Act::Request {
+        let lent = match &self.compact {
+            CompactAct::Request { priority } => Lent::Made(Act::Request {
                 priority: *priority,
             }),
-            HeldAct::Lock => Lent::Made(Act::Lock),
-            HeldAct::Grab => Lent::Made(Act::Grab),
-            HeldAct::Unlock => Lent::Made(Act::Unlock),
-            HeldAct::EndStep => Lent::Made(Act::EndStep),
-            HeldAct::RaiseObjection { count } => Lent::Made(Act::RaiseObjection { count: *count }),
-            HeldAct::DropObjection { count } => Lent::Made(Act::DropObjection { count: *count }),
-            HeldAct::SetDrain { ticks } => Lent::Made(Act::SetDrain { ticks: *ticks }),
-            HeldAct::Wait { tag, ticks } => Lent::Made(Act::Wait {
+            CompactAct::Lock => Lent::Made(Act::Lock),
+            CompactAct::Grab => Lent::Made(Act::Grab),
+            CompactAct::Unlock => Lent::Made(Act::Unlock),
+            CompactAct::EndStep => Lent::Made(Act::EndStep),
+            CompactAct::RaiseObjection { count } => Lent::Made(Act::RaiseObjection {
+                count: *count,
+            }),
+            CompactAct::DropObjection { count } => Lent::Made(Act::DropObjection { count: *count }),
+            CompactAct::SetDrain { ticks } => Lent::Made(Act::SetDrain { ticks: *ticks }),
+            CompactAct::Wait { tag, ticks } => Lent::Made(Act::Wait {
                 ticks: *ticks,
                 tag: *tag,
             }),
-            HeldAct::Send(item) => Lent::Made(Act::Send { item: **item }),
-            HeldAct::AtPort(port_act) => Lent::Made(port_act.act()),
-            HeldAct::StartChild(start) => Lent::Made(start.act()),
-            HeldAct::Whole(act) => Lent::Whole(act),
+            CompactAct::Send(item) => Lent::Made(Act::Send { item: **item }),
+            CompactAct::Take { port } => Lent::Made(Act::Take { port: port.name() }),
+            CompactAct::TryTake { port } => Lent::Made(Act::TryTake { port: port.name() }),
+            CompactAct::Peek { port } => Lent::Made(Act::Peek { port: port.name() }),
+            CompactAct::Ask { how, port } => Lent::Made(Act::Ask {
+                port: port.name(),
+                how: *how,
+            }),
+            CompactAct::Done { port } => Lent::Made(Act::ItemDone {
+                port: port.name(),
+                response: None,
+            }),
+            CompactAct::AtPort(port_act) => Lent::Made(port_act.act()),
+            CompactAct::StartChild(start) => Lent::Made(start.act()),
+            CompactAct::Whole(act) => Lent::Whole(act),
         };
         LentAct { lent }
     }
+}
+
+// An act without an item through a port of a short name.
+fn at_port(act: &Act) -> Option<CompactAct>
+    ensures { IfSome result (λ compact. held_act compact ≡ act.now) }
+{
+    Some(match act {
+        Act::Take { port } => CompactAct::Take {
+            port: ShortName::new(port)?,
+        },
+        Act::TryTake { port } => CompactAct::TryTake {
+            port: ShortName::new(port)?,
+        },
+        Act::Peek { port } => CompactAct::Peek {
+            port: ShortName::new(port)?,
+        },
+        Act::Ask { port, how } => CompactAct::Ask {
+            how: *how,
+            port: ShortName::new(port)?,
+        },
+        Act::ItemDone {
+            port,
+            response: None,
+        } => CompactAct::Done {
+            port: ShortName::new(port)?,
+        },
+        _ => return None,
+    })
 }
 
 // An act that is held whole, or one that is made as it is lent.
@@ -275,6 +353,15 @@ impl Acts {
             Deeds::Many(all) => all.push(deed)?,
         }
         Ok(())
+    }
+
+    /// Gives up the room of the list that no act takes.
+    pub fn shrink_to_fit(&mut self)
+        ensures { self.new ≡ self.old }
+    {
+        if let Deeds::Many(all) = &mut self.deeds {
+            all.shrink_to_fit();
+        }
     }
 
     /// How many acts there are.
@@ -398,7 +485,7 @@ impl<'a> IntoIterator for &'a Acts {
 fn two(alloc: Global, first: Deed, second: Deed) -> Result<Box<Vec<Deed>>, AllocError>
     ensures { IfOk result (λ deeds. deeds.value.items ≡ first ∷ second ∷ []) }
 {
-    let mut deeds = Vec::new(alloc);
+    let mut deeds = Vec::with_capacity(alloc, 2)?;
     deeds.push(first)?;
     deeds.push(second)?;
     Ok(Box::new(alloc, deeds)?)

@@ -1,64 +1,58 @@
 //! Calls, held in little room.
 
-ghost use Rattle.std.specs.Prelude.{◌≡◌, IfOk, IfSome};
-ghost use Rattle.uvm_acts.specs.HeldCalls.{call_at};
+ghost use Rattle.std.specs.Prelude.{◌≡◌, true, IfOk, IfSome, IsOk};
+ghost use Rattle.uvm_acts.specs.HeldCalls.{held_call, is_of_numbers};
+ghost use Rattle.uvm_acts.specs.PortCalls.{call_at};
 
 use crate::acts::Call;
-use crate::short_names::ShortName;
 use std::alloc::{AllocError, Global};
 use std::marker::Model;
-use uvm_glob::Name;
+use uvm_glob::{Name, ShortName};
 use uvm_phase::Phase;
 use uvm_tlm::Item;
 
-// What is told through a port.
+// What is told of an item through a port.
 #[derive(Clone, Copy)]
 enum PortNews {
-    /// `Call::Stored`.
-    Stored,
-    /// `Call::TryStored`.
-    TryStored(bool),
     /// `Call::Taken`.
-    Taken(Item),
-    /// `Call::TryTaken` with an item.
-    TryTaken(Item),
-    /// `Call::TryTaken` without one.
-    NoneTaken,
+    Taken,
+    /// `Call::TryTaken`.
+    TryTaken,
     /// `Call::Peeked`.
-    Peeked(Item),
+    Peeked,
     /// `Call::Written`.
-    Written(Item),
-    /// `Call::NextItem` with an item.
-    NextItem(Item),
-    /// `Call::NextItem` without one.
-    NoItem,
+    Written,
+    /// `Call::NextItem`.
+    NextItem,
 }
 
-// A call through a port of a short name.
+// A call with an item through a port of a short name.
 #[derive(Drop)]
 struct PortCall {
     port: ShortName,
     news: PortNews,
+    item: Item,
 }
 
 impl Model for PortCall {
     ghost use Rattle.uvm_acts.specs.declared.acts.Call.{Call};
-    ghost use Rattle.uvm_acts.specs.HeldCalls.{call_at};
+    ghost use Rattle.uvm_acts.specs.PortCalls.{call_at};
 
     ghost Value = { Call };
 
-    ghost view = { λ p. call_at p.port p.news };
+    ghost view = { λ p. call_at p.port p.news p.item };
 }
 
 impl PortCall {
-    // The call, if it is one through a port of a short name.
+    // The call, if it is one with an item through a port of a short name.
     fn new(call: &Call) -> Option<PortCall>
         ensures { IfSome result (λ held. held ≡ call.now) }
     {
-        let (port, news) = parts(call)?;
+        let (port, news, item) = parts(call)?;
         Some(PortCall {
             port: ShortName::new(port)?,
             news,
+            item,
         })
     }
 
@@ -66,54 +60,68 @@ impl PortCall {
     fn call(&self) -> Call
         ensures { result ≡ self.now }
     {
-        let port = self.port.name();
+        let (port, item) = (self.port.name(), self.item);
         match self.news {
-            PortNews::Stored => Call::Stored { port },
-            PortNews::TryStored(stored) => Call::TryStored { port, stored },
-            PortNews::Taken(item) => Call::Taken { port, item },
-            PortNews::TryTaken(item) => Call::TryTaken {
+            PortNews::Taken => Call::Taken { port, item },
+            PortNews::TryTaken => Call::TryTaken {
                 port,
                 item: Some(item),
             },
-            PortNews::NoneTaken => Call::TryTaken { port, item: None },
-            PortNews::Peeked(item) => Call::Peeked { port, item },
-            PortNews::Written(item) => Call::Written { imp: port, item },
-            PortNews::NextItem(item) => Call::NextItem {
+            PortNews::Peeked => Call::Peeked { port, item },
+            PortNews::Written => Call::Written { imp: port, item },
+            PortNews::NextItem => Call::NextItem {
                 port,
                 item: Some(item),
             },
-            PortNews::NoItem => Call::NextItem { port, item: None },
         }
     }
 }
 
-// The port of a call through one, and what is told through it.
-fn parts(call: &Call) -> Option<(&Name, PortNews)>
-    ensures { IfSome result (λ parts. call_at parts.0.now parts.1 ≡ call.now) }
+// The port of a call with an item through one, what is told of the item, and the item.
+fn parts(call: &Call) -> Option<(&Name, PortNews, Item)>
+    ensures { IfSome result (λ parts. call_at parts.0.now parts.1 parts.2 ≡ call.now) }
 {
     match call {
-        Call::Stored { port } => Some((port, PortNews::Stored)),
-        Call::TryStored { port, stored } => Some((port, PortNews::TryStored(*stored))),
-        Call::Taken { port, item } => Some((port, PortNews::Taken(*item))),
+        Call::Taken { port, item } => Some((port, PortNews::Taken, *item)),
         Call::TryTaken {
             port,
             item: Some(item),
-        } => Some((port, PortNews::TryTaken(*item))),
-        Call::TryTaken { port, item: None } => Some((port, PortNews::NoneTaken)),
-        Call::Peeked { port, item } => Some((port, PortNews::Peeked(*item))),
-        Call::Written { imp, item } => Some((imp, PortNews::Written(*item))),
+        } => Some((port, PortNews::TryTaken, *item)),
+        Call::Peeked { port, item } => Some((port, PortNews::Peeked, *item)),
+        Call::Written { imp, item } => Some((imp, PortNews::Written, *item)),
         Call::NextItem {
             port,
             item: Some(item),
-        } => Some((port, PortNews::NextItem(*item))),
-        Call::NextItem { port, item: None } => Some((port, PortNews::NoItem)),
+        } => Some((port, PortNews::NextItem, *item)),
         _ => None,
     }
 }
 
-// A call in two words: one with a name or an item stands behind a pointer.
+// A call without an item through a port of a short name.
+fn at_port(call: &Call) -> Option<CompactCall>
+    ensures { IfSome result (λ compact. held_call compact ≡ call.now) }
+{
+    Some(match call {
+        Call::Stored { port } => CompactCall::Stored {
+            port: ShortName::new(port)?,
+        },
+        Call::TryStored { port, stored } => CompactCall::TryStored {
+            stored: *stored,
+            port: ShortName::new(port)?,
+        },
+        Call::TryTaken { port, item: None } => CompactCall::NoneTaken {
+            port: ShortName::new(port)?,
+        },
+        Call::NextItem { port, item: None } => CompactCall::NoItem {
+            port: ShortName::new(port)?,
+        },
+        _ => return None,
+    })
+}
+
+// A call in two words: one with an item or with a long name stands behind a pointer.
 #[derive(Drop)]
-enum Kept {
+enum CompactCall {
     /// `Call::Phase`.
     Phase(Phase),
     /// `Call::Wake`.
@@ -135,78 +143,113 @@ enum Kept {
     Responded(Box<Item>),
     /// `Call::Held`.
     Held,
-    /// A call through a port of a short name.
+    /// `Call::Stored` through a port of a short name.
+    Stored {
+        port: ShortName,
+    },
+    /// `Call::TryStored` through a port of a short name.
+    TryStored {
+        /// Whether it was stored.
+        stored: bool,
+        port: ShortName,
+    },
+    /// `Call::TryTaken` without an item, through a port of a short name.
+    NoneTaken {
+        port: ShortName,
+    },
+    /// `Call::NextItem` without an item, through a port of a short name.
+    NoItem {
+        port: ShortName,
+    },
+    /// A call with an item through a port of a short name.
     AtPort(Box<PortCall>),
     /// Any call.
     Whole(Box<Call>),
 }
 
-/// A call, held in two words, and where it has a name or an item in one allocation more. Contracts see the call.
+/// A call, held in two words, and where it has an item or a name of more than `ShortName::MAX_LEN` bytes in one allocation more. Contracts see the call.
 #[derive(Drop)]
 pub struct HeldCall {
-    kept: Kept,
+    compact: CompactCall,
 }
 
 impl Model for HeldCall {
     ghost use Rattle.uvm_acts.specs.declared.acts.Call.{Call};
-    ghost use Rattle.uvm_acts.specs.KeptCalls.{held_call};
+    ghost use Rattle.uvm_acts.specs.HeldCalls.{held_call};
 
     ghost Value = { Call };
 
-    ghost view = { λ h. held_call h.kept };
+    ghost view = { λ h. held_call h.compact };
 }
 
 impl HeldCall {
-    /// A call, to be held. The error is want of memory.
-    pub fn new(alloc: Global, call: Call) -> Result<HeldCall, AllocError>
-        ensures { IfOk result (λ held. held ≡ call) }
+    /// A call, to be held. The error is want of memory, which does not come at a call without a name or an item.
+    pub fn new(alloc: Global, call: &Call) -> Result<HeldCall, AllocError>
+        ensures ok { IfOk result (λ held. held ≡ call.now) }
+        ensures numbers { is_of_numbers call.now ≡ true → IsOk result }
     {
-        let kept = match call {
-            Call::Phase(phase) => Kept::Phase(phase),
-            Call::Wake { tag } => Kept::Wake { tag },
-            Call::PreStart => Kept::PreStart,
-            Call::Body => Kept::Body,
-            Call::PostStart => Kept::PostStart,
-            Call::Grant => Kept::Grant,
-            Call::ItemDone { response: None } => Kept::Done,
+        let compact = match call {
+            Call::Phase(phase) => CompactCall::Phase(*phase),
+            Call::Wake { tag } => CompactCall::Wake { tag: *tag },
+            Call::PreStart => CompactCall::PreStart,
+            Call::Body => CompactCall::Body,
+            Call::PostStart => CompactCall::PostStart,
+            Call::Grant => CompactCall::Grant,
+            Call::ItemDone { response: None } => CompactCall::Done,
             Call::ItemDone {
                 response: Some(item),
-            } => Kept::Responded(Box::new(alloc, item)?),
-            Call::Held => Kept::Held,
+            } => CompactCall::Responded(Box::new(alloc, *item)?),
+            Call::Held => CompactCall::Held,
             _ => return HeldCall::behind_pointer(alloc, call),
         };
-        Ok(HeldCall { kept })
+        Ok(HeldCall { compact })
     }
 
-    // A call that takes memory.
-    fn behind_pointer(alloc: Global, call: Call) -> Result<HeldCall, AllocError>
-        ensures { IfOk result (λ held. held ≡ call) }
+    // A call that is held by its name, or takes memory.
+    fn behind_pointer(alloc: Global, call: &Call) -> Result<HeldCall, AllocError>
+        ensures { IfOk result (λ held. held ≡ call.now) }
     {
-        let kept = match PortCall::new(&call) {
-            Some(port_call) => Kept::AtPort(Box::new(alloc, port_call)?),
-            None => Kept::Whole(Box::new(alloc, call)?),
+        if let Some(compact) = at_port(call) {
+            return Ok(HeldCall { compact });
+        }
+        let compact = match PortCall::new(call) {
+            Some(port_call) => CompactCall::AtPort(Box::new(alloc, port_call)?),
+            None => CompactCall::Whole(Box::new(alloc, *call)?),
         };
-        Ok(HeldCall { kept })
+        Ok(HeldCall { compact })
     }
 
     /// The call.
     pub fn get(&self) -> Call
         ensures { result ≡ self.now }
     {
-        match &self.kept {
-            Kept::Phase(phase) => Call::Phase(*phase),
-            Kept::Wake { tag } => Call::Wake { tag: *tag },
-            Kept::PreStart => Call::PreStart,
-            Kept::Body => Call::Body,
-            Kept::PostStart => Call::PostStart,
-            Kept::Grant => Call::Grant,
-            Kept::Done => Call::ItemDone { response: None },
-            Kept::Responded(item) => Call::ItemDone {
+        match &self.compact {
+            CompactCall::Phase(phase) => Call::Phase(*phase),
+            CompactCall::Wake { tag } => Call::Wake { tag: *tag },
+            CompactCall::PreStart => Call::PreStart,
+            CompactCall::Body => Call::Body,
+            CompactCall::PostStart => Call::PostStart,
+            CompactCall::Grant => Call::Grant,
+            CompactCall::Done => Call::ItemDone { response: None },
+            CompactCall::Responded(item) => Call::ItemDone {
                 response: Some(**item),
             },
-            Kept::Held => Call::Held,
-            Kept::AtPort(port_call) => port_call.call(),
-            Kept::Whole(call) => **call,
+            CompactCall::Held => Call::Held,
+            CompactCall::Stored { port } => Call::Stored { port: port.name() },
+            CompactCall::TryStored { stored, port } => Call::TryStored {
+                port: port.name(),
+                stored: *stored,
+            },
+            CompactCall::NoneTaken { port } => Call::TryTaken {
+                port: port.name(),
+                item: None,
+            },
+            CompactCall::NoItem { port } => Call::NextItem {
+                port: port.name(),
+                item: None,
+            },
+            CompactCall::AtPort(port_call) => port_call.call(),
+            CompactCall::Whole(call) => **call,
         }
     }
 }

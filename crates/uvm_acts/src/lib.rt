@@ -7,7 +7,6 @@ mod child_starts;
 mod deeds;
 mod held_calls;
 mod port_acts;
-mod short_names;
 
 pub use acts::{Act, Call, What, Who};
 pub use deeds::{Acts, ActsIter, Deed, LentAct};

@@ -1,43 +1,32 @@
-//! Acts through ports, held in little room.
+//! Acts with an item through ports, held in little room.
 
 ghost use Rattle.std.specs.Prelude.{◌≡◌, IfSome};
 ghost use Rattle.uvm_acts.specs.PortActs.{act_at};
 
 use crate::acts::Act;
-use crate::short_names::ShortName;
 use std::marker::Model;
-use uvm_glob::Name;
-use uvm_sequencer::How;
+use uvm_glob::{Name, ShortName};
 use uvm_tlm::Item;
 
-/// What is asked through a port.
+/// What is done with an item through a port.
 #[derive(Clone, Copy)]
 pub(crate) enum PortDeed {
     /// `Act::Put`.
-    Put(Item),
+    Put,
     /// `Act::TryPut`.
-    TryPut(Item),
-    /// `Act::Take`.
-    Take,
-    /// `Act::TryTake`.
-    TryTake,
-    /// `Act::Peek`.
-    Peek,
+    TryPut,
     /// `Act::Write`.
-    Write(Item),
-    /// `Act::Ask`.
-    Ask(How),
-    /// `Act::ItemDone` without a response.
-    Done,
+    Write,
     /// `Act::ItemDone` with a response.
-    Respond(Item),
+    Respond,
 }
 
-/// An act through a port of a short name. Contracts see the act.
+/// An act with an item through a port of a short name. Contracts see the act.
 #[derive(Drop)]
 pub(crate) struct PortAct {
     port: ShortName,
     deed: PortDeed,
+    item: Item,
 }
 
 impl Model for PortAct {
@@ -46,18 +35,19 @@ impl Model for PortAct {
 
     ghost Value = { Act };
 
-    ghost view = { λ p. act_at p.port p.deed };
+    ghost view = { λ p. act_at p.port p.deed p.item };
 }
 
 impl PortAct {
-    /// The act, if it is one through a port of a short name.
+    /// The act, if it is one with an item through a port of a short name.
     pub(crate) fn new(act: &Act) -> Option<PortAct>
         ensures { IfSome result (λ held. held ≡ act.now) }
     {
-        let (port, deed) = parts(act)?;
+        let (port, deed, item) = parts(act)?;
         Some(PortAct {
             port: ShortName::new(port)?,
             deed,
+            item,
         })
     }
 
@@ -65,20 +55,12 @@ impl PortAct {
     pub(crate) fn act(&self) -> Act
         ensures { result ≡ self.now }
     {
-        let port = self.port.name();
+        let (port, item) = (self.port.name(), self.item);
         match self.deed {
-            PortDeed::Put(item) => Act::Put { port, item },
-            PortDeed::TryPut(item) => Act::TryPut { port, item },
-            PortDeed::Take => Act::Take { port },
-            PortDeed::TryTake => Act::TryTake { port },
-            PortDeed::Peek => Act::Peek { port },
-            PortDeed::Write(item) => Act::Write { port, item },
-            PortDeed::Ask(how) => Act::Ask { port, how },
-            PortDeed::Done => Act::ItemDone {
-                port,
-                response: None,
-            },
-            PortDeed::Respond(item) => Act::ItemDone {
+            PortDeed::Put => Act::Put { port, item },
+            PortDeed::TryPut => Act::TryPut { port, item },
+            PortDeed::Write => Act::Write { port, item },
+            PortDeed::Respond => Act::ItemDone {
                 port,
                 response: Some(item),
             },
@@ -86,26 +68,18 @@ impl PortAct {
     }
 }
 
-// The port of an act through one, and what is asked through it.
-fn parts(act: &Act) -> Option<(&Name, PortDeed)>
-    ensures { IfSome result (λ parts. act_at parts.0.now parts.1 ≡ act.now) }
+// The port of an act with an item through one, what is done with the item, and the item.
+fn parts(act: &Act) -> Option<(&Name, PortDeed, Item)>
+    ensures { IfSome result (λ parts. act_at parts.0.now parts.1 parts.2 ≡ act.now) }
 {
     match act {
-        Act::Put { port, item } => Some((port, PortDeed::Put(*item))),
-        Act::TryPut { port, item } => Some((port, PortDeed::TryPut(*item))),
-        Act::Take { port } => Some((port, PortDeed::Take)),
-        Act::TryTake { port } => Some((port, PortDeed::TryTake)),
-        Act::Peek { port } => Some((port, PortDeed::Peek)),
-        Act::Write { port, item } => Some((port, PortDeed::Write(*item))),
-        Act::Ask { port, how } => Some((port, PortDeed::Ask(*how))),
-        Act::ItemDone {
-            port,
-            response: None,
-        } => Some((port, PortDeed::Done)),
+        Act::Put { port, item } => Some((port, PortDeed::Put, *item)),
+        Act::TryPut { port, item } => Some((port, PortDeed::TryPut, *item)),
+        Act::Write { port, item } => Some((port, PortDeed::Write, *item)),
         Act::ItemDone {
             port,
             response: Some(item),
-        } => Some((port, PortDeed::Respond(*item))),
+        } => Some((port, PortDeed::Respond, *item)),
         _ => None,
     }
 }

@@ -5,6 +5,10 @@ use Rattle.std.specs.Prelude.{ℕ}
 abbrev pub most_name_bytes : ℕ
 most_name_bytes = 64
 
+-- the most bytes of a name that is held in little room
+abbrev pub most_short_bytes : ℕ
+most_short_bytes = 13
+
 -- the most names of a path
 abbrev pub most_names : ℕ
 most_names = 32

@@ -9,6 +9,7 @@ mod names;
 mod orders;
 mod paths;
 mod rooms;
+mod short_names;
 mod texts;
 
 pub use faults::PathFault;
@@ -17,3 +18,4 @@ pub use names::Name;
 pub use orders::Direction;
 pub use paths::Path;
 pub use rooms::ChildRoom;
+pub use short_names::ShortName;

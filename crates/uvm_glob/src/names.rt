@@ -59,10 +59,19 @@ impl Name {
     {
         match name_fault(bytes) {
             Some(fault) => Err(fault),
-            None => Ok(Name {
-                len: bytes.len() as u8,
-                bytes: padded(bytes),
-            }),
+            None => Ok(Name::of_sound(bytes)),
+        }
+    }
+
+    // The name of bytes that have no fault. It looks at none of them.
+    pub(crate) fn of_sound(bytes: &[u8]) -> Name
+        requires sound { name_fault bytes.now ≡ None }
+        requires short { length bytes.now ≤ most_name_bytes }
+        ensures { result ≡ bytes.now }
+    {
+        Name {
+            len: bytes.len() as u8,
+            bytes: padded(bytes),
         }
     }
 
@@ -148,11 +157,11 @@ impl fmt::Display for Name {
 }
 
 // The bytes, and zeros after them.
-fn padded(bytes: &[u8]) -> [u8; Name::MAX_LEN]
-    requires { length bytes.now ≤ most_name_bytes }
-    ensures { result ≡ bytes.now ++ replicate (most_name_bytes - length bytes.now) 0 }
+pub(crate) fn padded<const N: usize>(bytes: &[u8]) -> [u8; N]
+    requires { length bytes.now ≤ N }
+    ensures { result ≡ bytes.now ++ replicate (N - length bytes.now) 0 }
 {
-    let mut held = [0; Name::MAX_LEN];
+    let mut held = [0; N];
     held[..bytes.len()].copy_from_slice(bytes);
     held
 }

@@ -98,6 +98,16 @@ impl Path {
         self.extended(name.as_bytes())
     }
 
+    /// Goes on with a name (`TooLong`, `TooDeep`, `Memory`). Where there is a fault the path stays as it was.
+    pub fn push(&mut self, name: &Name) -> Result<(), PathFault>
+        ensures ok { OnOk result (self.new ≡ self.old ++ name.now ∷ []) }
+        ensures fits { OnOk result (path_fault (self.old ++ name.now ∷ []) ≡ None) }
+        ensures fault { IfErr result (λ fault. path_fault (self.old ++ name.now ∷ []) ≡ refusal fault) }
+        ensures err { OnErr result (self.new ≡ self.old) }
+    {
+        self.extend(name.as_bytes())
+    }
+
     /// Why there is no path of a child, if there is none (`TooLong`, `TooDeep`). Takes no memory.
     pub fn child_fault(&self, name: &Name) -> Option<PathFault>
         ensures { result ≡ path_fault (self.now ++ name.now ∷ []) }
@@ -170,6 +180,21 @@ impl Path {
         ensures bytes { list_all is_glob_byte result.now ≡ true }
     {
         self.text.as_slice()
+    }
+
+    // Goes on with the names of a text. Where there is a fault the path stays as it was.
+    fn extend(&mut self, back: &[u8]) -> Result<(), PathFault>
+        requires { path_fault (names_of back.now) ≡ None }
+        ensures ok { OnOk result (self.new ≡ self.old ++ names_of back.now) }
+        ensures fits { OnOk result (path_fault (self.old ++ names_of back.now) ≡ None) }
+        ensures fault { IfErr result (λ fault. path_fault (self.old ++ names_of back.now) ≡ refusal fault) }
+        ensures err { OnErr result (self.new ≡ self.old) }
+    {
+        if let Some(fault) = size_fault(self.text.as_slice(), back) {
+            return Err(fault);
+        }
+        go_on(&mut self.text, back)?;
+        Ok(())
     }
 
     // The path that goes on with the names of a text.
@@ -250,6 +275,22 @@ pub(crate) fn dotted(alloc: Global, front: &[u8], back: &[u8]) -> Result<Vec<u8>
     Ok(text)
 }
 
+// Goes on with a text behind a dot, which an empty one does without. Where memory is refused the text stays as it was.
+fn go_on(text: &mut Vec<u8>, back: &[u8]) -> Result<(), AllocError>
+    ensures ok { OnOk result (text.new.items ≡ dotted text.old.items back.now) }
+    ensures err { OnErr result (text.new.items ≡ text.old.items) }
+{
+    let before = text.len();
+    if !text.is_empty() && !back.is_empty() {
+        text.push(b'.')?;
+    }
+    let extended = text.extend_from_slice(back);
+    if extended.is_err() {
+        text.truncate(before);
+    }
+    extended
+}
+
 // What keeps the two texts, of a path each, from being a path together.
 pub(crate) fn size_fault(front: &[u8], back: &[u8]) -> Option<PathFault>
     requires front_short { length front.now ≤ most_text_bytes }
@@ -319,5 +360,11 @@ fn count_dots(text: &[u8]) -> usize
     ensures count { result ≡ count_by (λ b. b == 46) text.now }
     ensures limit { result ≤ length text.now }
 {
-    text.iter().filter(|b| **b == b'.').count()
+    let mut count = 0;
+    for b in text {
+        if *b == b'.' {
+            count += 1;
+        }
+    }
+    count
 }

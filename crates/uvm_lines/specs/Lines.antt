@@ -39,7 +39,7 @@ use Rattle.uvm_sources.specs.Sources.{sequence_text, shown_path}
 -- somebody in the lines of entries, where a sequence has its number behind it
 abbrev pub who_text : List Node → List Start → Who → List ℕ
 who_text nodes started (who.Node node) = shown_path (path_at nodes node)
-who_text nodes started (who.Sequence id home) = sequence_text nodes started id home ++ 35 ∷ decimal id
+who_text nodes started (who.Sequence home id) = sequence_text nodes started id home ++ 35 ∷ decimal id
 
 -- a value that may be absent
 abbrev pub value_text : Option ℤ → List ℕ
@@ -205,10 +205,10 @@ abbrev pub entry_text : List Node → List Start → Entry → List ℕ
 entry_text nodes started (Begin phase) = codes "begin " ++ phase_name phase
 entry_text nodes started (End phase) = codes "end " ++ phase_name phase
 entry_text nodes started (Time time) = codes "time " ++ decimal time
-entry_text nodes started (Heard who call origin acts) = codes "heard " ++ who_text nodes started who ++ 32 ∷ call_text call ++ codes ": " ++ decimal (length acts)
+entry_text nodes started (Heard who origin call acts) = codes "heard " ++ who_text nodes started who ++ 32 ∷ call_text call ++ codes ": " ++ decimal (length acts)
 entry_text nodes started (Did who outcome act) = codes "did " ++ who_text nodes started who ++ 32 ∷ act_text act ++ codes ": " ++ outcome_text outcome
-entry_text nodes started (Locked sequencer id) = codes "locked " ++ shown_path (path_at nodes sequencer) ++ 32 ∷ who_text nodes started (who.Sequence id sequencer)
-entry_text nodes started (Granted sequencer grant) = codes "granted " ++ shown_path (path_at nodes sequencer) ++ 32 ∷ who_text nodes started (who.Sequence grant.id sequencer) ++ drawn_text grant.word
+entry_text nodes started (Locked sequencer id) = codes "locked " ++ shown_path (path_at nodes sequencer) ++ 32 ∷ who_text nodes started (who.Sequence sequencer id)
+entry_text nodes started (Granted sequencer grant) = codes "granted " ++ shown_path (path_at nodes sequencer) ++ 32 ∷ who_text nodes started (who.Sequence sequencer grant.id) ++ drawn_text grant.word
 entry_text nodes started (Passed fifo passage) = codes "passed " ++ shown_path (path_at nodes fifo) ++ 32 ∷ move_text passage.kind ++ 32 ∷ who_text nodes started passage.who
 entry_text nodes started (Drained node origin) = codes "drained " ++ shown_path (path_at nodes node)
 entry_text nodes started (Note fatal node) = codes "note " ++ id_of fatal ++ 32 ∷ shown_path (path_at nodes node)

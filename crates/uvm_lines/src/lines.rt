@@ -76,7 +76,7 @@ fn push_entry(
         } => {
             push_doer(b"heard ", who, tree, sequences, line)?;
             push_call(&call.get(), line)?;
-            push_ticks(b": ", acts.get().len() as u64, line)
+            push_ticks(b": ", acts.len() as u64, line)
         }
         Entry::Did { who, outcome, act } => {
             push_doer(b"did ", who, tree, sequences, line)?;
@@ -89,7 +89,7 @@ fn push_entry(
             push_granted(*sequencer, grant.get(), tree, sequences, line)
         }
         Entry::Passed { fifo, passage } => {
-            push_passage(*fifo, passage.get(), tree, sequences, line)
+            push_passage(*fifo, &passage.get(), tree, sequences, line)
         }
         Entry::Drained { node, .. } => push_node(b"drained ", *node, tree, line),
         Entry::Note { fatal, node } => {

@@ -3,3 +3,4 @@ pub mod Logs
 pub mod Objects
 pub mod Origins
 pub mod Outcomes
+pub mod Passages

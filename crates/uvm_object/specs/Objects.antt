@@ -27,12 +27,12 @@ SameSays says others = (before : View) (call : Call) (acts : List Act) (after : 
 -- whether two are one: a component is known by its node, a sequence by its number and its home
 abbrev pub same_who : Who → Who → Bool
 same_who (Node node) (Node other) = node == other
-same_who (Sequence id home) (Sequence other there) = (id == other) && (home == there)
+same_who (Sequence home id) (Sequence there other) = (id == other) && (home == there)
 same_who who other = false
 
 -- what the object of somebody was asked and answered, the newest first
 abbrev pub exchanged_in : Who → Entry → List Exchange
-exchanged_in who (Heard performer call origin acts) = if same_who performer who then (call, acts) ∷ [] else []
+exchanged_in who (Heard performer origin call acts) = if same_who performer who then (call, acts) ∷ [] else []
 exchanged_in who entry = []
 
 abbrev pub life_of : Who → List Entry → List Exchange

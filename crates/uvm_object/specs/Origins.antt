@@ -6,5 +6,4 @@ use Rattle.uvm_object.specs.declared.entries.CompactOrigin.TheVariants as origin
 
 abbrev pub held_origin : CompactOrigin → Option Origin
 held_origin origin.None = None
-held_origin (origin.First phase place) = Some (record { cause = record { place = place; number = 0 }; phase = phase })
-held_origin (origin.Boxed box) = Some box.value
+held_origin (origin.Caused phase place number) = Some (record { cause = record { place = place; number = number }; phase = phase })

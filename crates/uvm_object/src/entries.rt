@@ -8,7 +8,7 @@ use crate::fatals::Fatal;
 use std::alloc::{AllocError, Global};
 use std::marker::Model;
 use uvm_acts::{Acts, Call, Deed, HeldCall, Who};
-use uvm_glob::Name;
+use uvm_glob::{Name, ShortName};
 use uvm_phase::{Cause, Phase};
 use uvm_sequences::SeqId;
 use uvm_tlm::{Item, MoveKind};
@@ -62,20 +62,20 @@ pub struct Origin {
     pub phase: Phase,
 }
 
-// An origin of two words: that of a call which is not the first of its entry stands behind a pointer.
+// An origin in three numbers of 32 bits and less.
 #[derive(Drop)]
 enum CompactOrigin {
     /// None, of a phase's call.
     None,
-    /// The first call that an entry made due.
-    First {
+    /// An origin.
+    Caused {
         /// The phase to which it belongs.
         phase: Phase,
-        /// The place of the entry.
-        place: u64,
+        /// The place of the entry that caused it.
+        place: u32,
+        /// The number of the call among those of that entry.
+        number: u32,
     },
-    /// Any origin.
-    Boxed(Box<Origin>),
 }
 
 /// The origin of the call of an entry: why it was due, and in which phase. Contracts see the origin.
@@ -95,21 +95,27 @@ impl Model for LoggedOrigin {
 }
 
 impl LoggedOrigin {
-    // An origin, to be logged. The error is want of memory.
-    fn new(alloc: Global, origin: Option<Origin>) -> Result<LoggedOrigin, AllocError>
+    // An origin, to be logged. The error is that its place or its number has more than 32 bits: so many entries, or calls of one entry, are more than
+    // memory holds.
+    fn new(origin: Option<Origin>) -> Result<LoggedOrigin, AllocError>
         ensures { IfOk result (λ logged. logged ≡ origin) }
     {
-        let compact = match origin {
-            None => CompactOrigin::None,
-            Some(
-                Origin {
-                    cause: Cause { place, number: 0 },
-                    phase,
-                },
-            ) => CompactOrigin::First { phase, place },
-            Some(origin) => CompactOrigin::Boxed(Box::new(alloc, origin)?),
+        let Some(Origin { cause, phase }) = origin else {
+            return Ok(LoggedOrigin {
+                compact: CompactOrigin::None,
+            });
         };
-        Ok(LoggedOrigin { compact })
+        let (Ok(place), Ok(number)) = (u32::try_from(cause.place), u32::try_from(cause.number))
+        else {
+            return Err(AllocError);
+        };
+        Ok(LoggedOrigin {
+            compact: CompactOrigin::Caused {
+                phase,
+                place,
+                number,
+            },
+        })
     }
 
     /// The origin, which a phase's call has not.
@@ -118,39 +124,18 @@ impl LoggedOrigin {
     {
         match &self.compact {
             CompactOrigin::None => None,
-            CompactOrigin::First { phase, place } => Some(Origin {
+            CompactOrigin::Caused {
+                phase,
+                place,
+                number,
+            } => Some(Origin {
                 cause: Cause {
-                    place: *place,
-                    number: 0,
+                    place: u64::from(*place),
+                    number: u64::from(*number),
                 },
                 phase: *phase,
             }),
-            CompactOrigin::Boxed(origin) => Some(**origin),
         }
-    }
-}
-
-/// The acts of the answer of an entry. Contracts see the list of them.
-#[derive(Drop)]
-pub struct LoggedActs {
-    acts: Acts,
-}
-
-impl Model for LoggedActs {
-    ghost use Rattle.std.specs.Prelude.{List};
-    ghost use Rattle.uvm_acts.specs.declared.acts.Act.{Act};
-
-    ghost Value = { List Act };
-
-    ghost view = { λ l. l.acts };
-}
-
-impl LoggedActs {
-    /// The acts.
-    pub fn get(&self) -> &Acts
-        ensures { result.now ≡ self.now }
-    {
-        &self.acts
     }
 }
 
@@ -321,18 +306,39 @@ pub struct Passage {
     pub phase: Phase,
 }
 
+// A passage through a port of a short name.
+#[derive(Drop)]
+struct ShortPassage {
+    kind: MoveKind,
+    phase: Phase,
+    port: ShortName,
+    who: Who,
+    request: u64,
+    item: Item,
+}
+
+// A passage behind a pointer.
+#[derive(Drop)]
+enum CompactPassage {
+    /// One through a port of a short name.
+    Short(Box<ShortPassage>),
+    /// Any passage.
+    Whole(Box<Passage>),
+}
+
 /// The passage of an entry. Contracts see the passage.
 #[derive(Drop)]
 pub struct LoggedPassage {
-    passage: Box<Passage>,
+    compact: CompactPassage,
 }
 
 impl Model for LoggedPassage {
     ghost use Rattle.uvm_object.specs.declared.entries.Passage.{Passage};
+    ghost use Rattle.uvm_object.specs.Passages.{passage_of};
 
     ghost Value = { Passage };
 
-    ghost view = { λ l. l.passage.value };
+    ghost view = { λ l. passage_of l.compact };
 }
 
 impl LoggedPassage {
@@ -340,16 +346,38 @@ impl LoggedPassage {
     pub fn new(alloc: Global, passage: Passage) -> Result<LoggedPassage, AllocError>
         ensures { IfOk result (λ logged. logged ≡ passage) }
     {
-        Ok(LoggedPassage {
-            passage: Box::new(alloc, passage)?,
-        })
+        let compact = match ShortName::new(&passage.port) {
+            Some(port) => CompactPassage::Short(Box::new(
+                alloc,
+                ShortPassage {
+                    kind: passage.kind,
+                    phase: passage.phase,
+                    port,
+                    who: passage.who,
+                    request: passage.request,
+                    item: passage.item,
+                },
+            )?),
+            None => CompactPassage::Whole(Box::new(alloc, passage)?),
+        };
+        Ok(LoggedPassage { compact })
     }
 
     /// The passage.
-    pub fn get(&self) -> &Passage
-        ensures { result.now ≡ self.now }
+    pub fn get(&self) -> Passage
+        ensures { result ≡ self.now }
     {
-        &self.passage
+        match &self.compact {
+            CompactPassage::Short(short) => Passage {
+                kind: short.kind,
+                who: short.who,
+                port: short.port.name(),
+                item: short.item,
+                request: short.request,
+                phase: short.phase,
+            },
+            CompactPassage::Whole(passage) => **passage,
+        }
     }
 }
 
@@ -407,12 +435,12 @@ pub enum Entry {
     Heard {
         /// Who was called.
         who: Who,
-        /// The call.
-        call: HeldCall,
         /// Why it was due, and in which phase.
         origin: LoggedOrigin,
+        /// The call.
+        call: HeldCall,
         /// The answer.
-        acts: LoggedActs,
+        acts: Acts,
     },
     /// An act of the last answer was performed or refused.
     Did {
@@ -463,22 +491,23 @@ pub enum Entry {
 }
 
 impl Entry {
-    /// The entry of a call that was answered. It takes memory for a call with a name or an item, and for an origin that is not the first call of
-    /// its entry; the error is want of it.
+    /// The entry of a call that was answered. It takes memory for a call with an item or a long name; the error is want of it, or of room for an origin
+    /// whose place or number has more than 32 bits.
     pub fn heard(
         alloc: Global,
         who: Who,
-        call: Call,
+        call: &Call,
         origin: Option<Origin>,
-        acts: Acts,
+        mut acts: Acts,
     ) -> Result<Entry, AllocError>
-        ensures { IfOk result (λ entry. entry ≡ Heard who call origin acts) }
+        ensures { IfOk result (λ entry. entry ≡ Heard who origin call.now acts) }
     {
+        acts.shrink_to_fit();
         Ok(Entry::Heard {
             who,
+            origin: LoggedOrigin::new(origin)?,
             call: HeldCall::new(alloc, call)?,
-            origin: LoggedOrigin::new(alloc, origin)?,
-            acts: LoggedActs { acts },
+            acts,
         })
     }
 }

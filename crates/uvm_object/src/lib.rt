@@ -7,8 +7,8 @@ mod logs;
 mod objects;
 
 pub use entries::{
-    Entry, Grant, LoggedActs, LoggedGrant, LoggedOrigin, LoggedOutcome, LoggedPassage, Origin,
-    Outcome, Passage, Reason,
+    Entry, Grant, LoggedGrant, LoggedOrigin, LoggedOutcome, LoggedPassage, Origin, Outcome,
+    Passage, Reason,
 };
 pub use fatals::Fatal;
 pub use logs::{Log, LogFault};

@@ -140,6 +140,11 @@ impl<O: Copy + Eq + Hash + Drop, N: Drop> Agenda<O, N> {
         Ok(())
     }
 
+    /// The allocator of what is kept.
+    pub fn alloc(&self) -> Global {
+        *self.dues.allocator()
+    }
+
     /// The call that comes due first, if one is due; the others follow in order. Takes no memory.
     pub fn first(&self) -> Option<&Due<O, N>>
         ensures value { option_copied result ≡ slice_get self.now.dues 0 }

@@ -1,9 +1,9 @@
 //! The sequences that were started.
 
-ghost use Rattle.std.specs.Prelude.{◌≡◌, ◌+◌, ◌<◌, ◌≤◌, ◌∷◌, ◌++◌, [], length, None, Some, OnOk, OnErr, IfOk, IfSome, IsOk, IsSome, is_some, option_map, vec_len, vec_capacity};
+ghost use Rattle.std.specs.Prelude.{◌≡◌, ◌+◌, ◌<◌, ◌≤◌, ◌∷◌, ◌++◌, [], length, None, Some, OnOk, OnErr, IfOk, IfSome, IsOk, IsSome, is_some, option_map, nat_le, vec_len, vec_capacity};
 ghost use Rattle.std.specs.Option.{option_copied, option_and_then, option_to_list, ForSome};
 ghost use Rattle.uvm_sequences.specs.Sequences.{capacity_of, name_at, names_of, numbered, parent_of, step_at, step_after, with_step, stepped, finished, is_under, IsSequences};
-ghost use Rattle.uvm_sequences.specs.Kept.{place_in, start_of, starts_of, steps_of};
+ghost use Rattle.uvm_sequences.specs.Kept.{most_sequences, place_in, start_of, starts_of, steps_of};
 
 use std::alloc::{AllocError, Global};
 use std::marker::Model;
@@ -14,7 +14,7 @@ use uvm_tree::NodeId;
 /// of another list of sequences stands for the sequence of that number.
 #[derive(Clone, Copy, PartialEq, Eq, Hash)]
 pub struct SeqId {
-    number: u64,
+    number: u32,
 }
 
 impl Model for SeqId {
@@ -32,7 +32,7 @@ impl SeqId {
     pub fn number(self) -> u64
         ensures { result ≡ self }
     {
-        self.number
+        u64::from(self.number)
     }
 }
 
@@ -84,13 +84,13 @@ pub struct Sequences {
 }
 
 impl Model for Sequences {
-    ghost use Rattle.std.specs.Prelude.{◌-◌, vec_len, vec_capacity};
+    ghost use Rattle.std.specs.Prelude.{vec_len, vec_capacity};
     ghost use Rattle.uvm_sequences.specs.Sequences.{SequencesValue, AreStarted};
-    ghost use Rattle.uvm_sequences.specs.Kept.{starts_of, steps_of};
+    ghost use Rattle.uvm_sequences.specs.Kept.{spare_in, starts_of, steps_of};
 
     ghost Value = { SequencesValue };
 
-    ghost view = { λ s. record { started = starts_of s.sequences.items; steps = steps_of s.sequences.items; spare = vec_capacity s.sequences - vec_len s.sequences } };
+    ghost view = { λ s. record { started = starts_of s.sequences.items; steps = steps_of s.sequences.items; spare = spare_in (vec_capacity s.sequences) (vec_len s.sequences) } };
 
     ghost invariant = { λ s. AreStarted (starts_of s.sequences.items) };
 }
@@ -106,8 +106,8 @@ impl Sequences {
         }
     }
 
-    /// Makes room for a sequence: the next `start` then takes no memory. Its error is want of memory, which changes no sequence,
-    /// and does not come where there is room. No room is given up.
+    /// Makes room for a sequence: the next `start` then takes no memory. Its error is want of memory, or of a number, which has 32
+    /// bits; it changes no sequence, and does not come where there is room. No room is given up.
     pub fn reserve(&mut self) -> Result<(), AllocError>
         ensures started { self.new.started ≡ self.old.started }
         ensures steps { self.new.steps ≡ self.old.steps }
@@ -115,12 +115,15 @@ impl Sequences {
         ensures room { 0 < self.old.spare → IsOk result }
         ensures kept { self.old.spare ≤ self.new.spare }
     {
+        if self.is_full() {
+            return Err(AllocError);
+        }
         self.sequences.reserve(1)
     }
 
     /// Starts a sequence on a sequencer, its home, with a priority of at least 1 (the standard's `start`): it stands before its
-    /// body. The parent, if one is given, was started here, and may have ended. Its error is want of memory, which starts
-    /// nothing, and does not come where there is room. No room is given up, also where it fails.
+    /// body. The parent, if one is given, was started here, and may have ended. Its error is want of memory, or of a number, which
+    /// has 32 bits; it starts nothing, and does not come where there is room. No room is given up, also where it fails.
     pub fn start(
         &mut self,
         home: NodeId,
@@ -137,6 +140,9 @@ impl Sequences {
         ensures room { 0 < self.old.spare → IsOk result }
         ensures capacity { capacity_of self.old ≤ capacity_of self.new }
     {
+        if self.is_full() {
+            return Err(AllocError);
+        }
         self.sequences.push(Sequence {
             home,
             parent,
@@ -145,7 +151,7 @@ impl Sequences {
             step: Some(SeqStep::PreStart),
         })?;
         Ok(SeqId {
-            number: self.sequences.len() as u64,
+            number: self.sequences.len() as u32,
         })
     }
 
@@ -245,6 +251,13 @@ impl Sequences {
             }
         }
         at == above
+    }
+
+    // Whether there are as many sequences as numbers.
+    fn is_full(&self) -> bool
+        ensures { result ≡ nat_le most_sequences (length self.now.started) }
+    {
+        self.sequences.len() >= u32::MAX as usize
     }
 
     // The sequence of a number.

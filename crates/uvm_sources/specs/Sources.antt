@@ -18,4 +18,4 @@ sequence_text nodes started id home = shown_path (path_at nodes home) ++ codes "
 -- somebody as the source of reports
 abbrev pub source_text : List Node → List Start → Who → List ℕ
 source_text nodes started (who.Node node) = shown_path (path_at nodes node)
-source_text nodes started (who.Sequence id home) = sequence_text nodes started id home
+source_text nodes started (who.Sequence home id) = sequence_text nodes started id home

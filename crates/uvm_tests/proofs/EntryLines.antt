@@ -41,11 +41,11 @@ over-when-finished : shown (entry.Over Finished) ≡ codes "over finished\n"
 unfolding digits
 over-when-finished = refl
 
-an-answer-counts-its-acts : shown (entry.Heard (who.Node 1) (call.Phase phase.Build) None (act.Lock ∷ act.Lock ∷ act.Lock ∷ [])) ≡ codes "heard uvm_test_top build: 3\n"
+an-answer-counts-its-acts : shown (entry.Heard (who.Node 1) None (call.Phase phase.Build) (act.Lock ∷ act.Lock ∷ act.Lock ∷ [])) ≡ codes "heard uvm_test_top build: 3\n"
 unfolding digits
 an-answer-counts-its-acts = refl
 
-a-root-sequence-has-its-home-its-name-and-its-number : heard_by (who.Sequence 1 2) call.Body ≡ codes "heard uvm_test_top.a@@a#1 body: 0\n"
+a-root-sequence-has-its-home-its-name-and-its-number : heard_by (who.Sequence 2 1) call.Body ≡ codes "heard uvm_test_top.a@@a#1 body: 0\n"
 unfolding digits
 a-root-sequence-has-its-home-its-name-and-its-number = refl
 

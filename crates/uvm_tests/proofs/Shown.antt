@@ -39,7 +39,7 @@ done act = did Done act
 
 -- the line of an answer without acts, by somebody and by `uvm_test_top`
 abbrev pub heard_by : Who → Call → List ℕ
-heard_by who call = shown (Heard who call None [])
+heard_by who call = shown (Heard who None call [])
 
 abbrev pub heard : Call → List ℕ
 heard call = heard_by (AtNode 1) call

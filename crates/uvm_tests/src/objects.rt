@@ -147,7 +147,7 @@ fn a_call_is_as_it_was_given(rt: HostRuntime) -> Result<(), Fail> {
 }
 
 fn is_held(alloc: Global, call: Call) -> Result<bool, AllocError> {
-    let held = HeldCall::new(alloc, call)?;
+    let held = HeldCall::new(alloc, &call)?;
     Ok(held.get() == call)
 }
 
@@ -219,7 +219,13 @@ const ORIGIN: Origin = Origin {
 fn an_entry_tells_what_it_holds(rt: HostRuntime) -> Result<(), Fail> {
     let call = Call::Phase(Phase::Run);
     let acts = three_acts(rt.alloc())?;
-    let heard = Entry::heard(rt.alloc(), Who::Node(NodeId::TOP), call, Some(ORIGIN), acts)?;
+    let heard = Entry::heard(
+        rt.alloc(),
+        Who::Node(NodeId::TOP),
+        &call,
+        Some(ORIGIN),
+        acts,
+    )?;
     assert!(rt; holds(&heard, &call, ORIGIN, 3));
     Ok(())
 }
@@ -238,7 +244,7 @@ fn holds(entry: &Entry, call: &Call, origin: Origin, count: usize) -> bool {
             origin: why,
             acts,
             ..
-        } => asked.get() == *call && why.get() == Some(origin) && acts.get().len() == count,
+        } => asked.get() == *call && why.get() == Some(origin) && acts.len() == count,
         _ => false,
     }
 }
@@ -312,7 +318,7 @@ fn is_passage_kept(alloc: Global, port: Name) -> Result<bool, AllocError> {
         request: 7,
         phase: Phase::Run,
     };
-    Ok(*LoggedPassage::new(alloc, passage)?.get() == passage)
+    Ok(LoggedPassage::new(alloc, passage)?.get() == passage)
 }
 
 fn is_grant_kept(alloc: Global, id: SeqId) -> Result<bool, AllocError> {
@@ -335,5 +341,5 @@ fn somebody_stands_at_a_node(rt: HostRuntime) {
 #[test]
 fn entries_are_small(rt: HostRuntime) {
     let size = size_of::<Entry>();
-    assert!(rt; size <= 88, "{size} bytes");
+    assert!(rt; size <= 64, "{size} bytes");
 }

@@ -25,7 +25,7 @@ use Rattle.world_agenda.proofs.Lists.{filter-twice, one-ended, one-heard-of, one
 
 of-either : (who : Who) (finished : List Who) (owner : Owner) → is_of_one (who ∷ finished) owner ≡ (is_of_one (who ∷ []) owner || is_of_one finished owner)
 of-either who finished (Object (Node node)) = refl
-of-either who finished (Object (Sequence id home)) = more (same_who (Sequence id home) who) _
+of-either who finished (Object (Sequence home id)) = more (same_who (Sequence home id) who) _
   where
     more : (a b : Bool) → (a || b) ≡ ((a || false) || b)
     more true b = refl

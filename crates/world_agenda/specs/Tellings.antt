@@ -21,4 +21,4 @@ living_numbered told time place number (call ∷ calls) =
 -- somebody is told: a component, or a sequence that lives
 abbrev pub is_told : List (Option SeqStep) → Who → Bool
 is_told steps (who.Node node) = true
-is_told steps (who.Sequence id home) = is_some (step_at steps id)
+is_told steps (who.Sequence home id) = is_some (step_at steps id)

@@ -7,36 +7,37 @@ ghost use Rattle.bench_history.specs.Dues.{caused_at, is_of_one, event_in, calls
 ghost use Rattle.bench_history.specs.Owners.{Event, is_drain_of};
 ghost use Rattle.uvm_acts.specs.declared.acts.Act.TheVariants.{EndStep};
 ghost use Rattle.bench_history.specs.Refusals.{is_open_to};
+ghost use Rattle.uvm_acts.specs.HeldCalls.{is_of_numbers};
 ghost use Rattle.uvm_phase.specs.declared.agendas.Due.{Due};
 ghost use Rattle.world_agenda.specs.Tellings.{if_told, living_numbered, is_told};
 
 use bench_history::{Owner, Told};
 use std::alloc::AllocError;
 use std::hash::Hash;
-use uvm_object::{Call, Who};
+use uvm_object::{Call, HeldCall, Who};
 use uvm_phase::{Agenda, Cause, Phase, laws as agendas};
 use uvm_sequences::Sequences;
 use uvm_tree::NodeId;
 
 /// Takes the end of a drain out of what is due, where a drain has ended: the node is the one that held something back, and the phase that
 /// of the objection.
-pub fn end_drain(agenda: &mut Agenda<Owner, Option<Call>>, phase: Phase, ended: Option<NodeId>)
+pub fn end_drain(agenda: &mut Agenda<Owner, Option<HeldCall>>, phase: Phase, ended: Option<NodeId>)
     ensures { (caused : List Event) → agenda.old.dues ≡ in_order caused →
         agenda.new.dues ≡ in_order (filter (λ event. not (is_drain_of phase (option_to_list ended) event.owner)) caused) }
 {
-    agendas::order_keeps_filters::<Owner, Option<Call>>();
+    agendas::order_keeps_filters::<Owner, Option<HeldCall>>();
     if let Some(node) = ended {
         agenda.cancel(&Owner::Drain(node, phase));
     }
 }
 
 /// Takes out of what is due all calls to a sequence, which has finished.
-pub fn cancel(agenda: &mut Agenda<Owner, Option<Call>>, performer: Who)
+pub fn cancel(agenda: &mut Agenda<Owner, Option<HeldCall>>, performer: Who)
     requires { is_open_to EndStep performer ≡ true }
     ensures { (caused : List Event) → agenda.old.dues ≡ in_order caused →
         agenda.new.dues ≡ in_order (filter (λ event. not (is_of_one (performer ∷ []) event.owner)) caused) }
 {
-    agendas::order_keeps_filters::<Owner, Option<Call>>();
+    agendas::order_keeps_filters::<Owner, Option<HeldCall>>();
     agenda.cancel(&Owner::Object(performer));
 }
 
@@ -73,10 +74,28 @@ pub fn add_event<O: Copy + Eq + Hash + Drop, N: Drop>(
     }
 }
 
+/// Adds a call of somebody, in a phase, that is due at a time, in ticks; in none it adds nothing. Its error is want of memory. It does not
+/// come where the agenda has room and the call has neither a name nor an item.
+pub fn add_call(
+    agenda: &mut Agenda<Owner, Option<HeldCall>>,
+    phase: Option<Phase>,
+    time: u64,
+    cause: Cause,
+    who: Who,
+    call: Call,
+) -> Result<(), AllocError>
+    ensures dues { OnOk result ((caused : List Event) → agenda.old.dues ≡ in_order caused →
+        agenda.new.dues ≡ in_order (event_in phase time cause (Owner.Object who) (Some call) ++ caused)) }
+    ensures memory { 0 < agenda.old.spare → is_of_numbers call ≡ true → IsOk result }
+{
+    let held = HeldCall::new(agenda.alloc(), &call)?;
+    add_event(agenda, phase, time, cause, Owner::Object(who), Some(held))
+}
+
 /// Makes calls due at a time, in ticks, each in its phase, but for those to sequences that live no longer. The place of the entry is
 /// their cause, and they are numbered in their order. Its error is want of memory.
 pub fn tell_each(
-    agenda: &mut Agenda<Owner, Option<Call>>,
+    agenda: &mut Agenda<Owner, Option<HeldCall>>,
     sequences: &Sequences,
     time: u64,
     place: usize,
@@ -97,7 +116,7 @@ pub fn tell_each(
 
 // A call is due, if who is called is told.
 fn tell_if(
-    agenda: &mut Agenda<Owner, Option<Call>>,
+    agenda: &mut Agenda<Owner, Option<HeldCall>>,
     tells: bool,
     time: u64,
     cause: Cause,
@@ -109,8 +128,7 @@ fn tell_if(
     if !tells {
         return Ok(());
     }
-    let owner = Owner::Object(told.who);
-    add_event(agenda, told.phase, time, cause, owner, Some(told.call))
+    add_call(agenda, told.phase, time, cause, told.who, told.call)
 }
 
 /// Answers whether somebody is told what is due: a component, or a sequence that lives.
@@ -126,7 +144,7 @@ pub fn is_told(sequences: &Sequences, who: &Who) -> bool
 /// Makes calls due at a time, in ticks, each in its phase. The place of the entry is their cause, and they are numbered in their
 /// order. Its error is want of memory.
 pub fn tell_all(
-    agenda: &mut Agenda<Owner, Option<Call>>,
+    agenda: &mut Agenda<Owner, Option<HeldCall>>,
     time: u64,
     place: usize,
     calls: &[Told],
@@ -139,8 +157,7 @@ pub fn tell_all(
             place: place as u64,
             number: number as u64,
         };
-        let owner = Owner::Object(told.who);
-        add_event(agenda, told.phase, time, cause, owner, Some(told.call))?;
+        add_call(agenda, told.phase, time, cause, told.who, told.call)?;
     }
     Ok(())
 }

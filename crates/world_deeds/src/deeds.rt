@@ -75,7 +75,7 @@ pub fn deed_at(log: &Log, place: usize, act: usize) -> Option<&Deed>
     ensures { (opening : Act) → option_copied result ≡ slice_get (acts_at opening log.now.entries (Some place)) act }
 {
     match log.get(place) {
-        Some(Entry::Heard { acts, .. }) => acts.get().deed(act),
+        Some(Entry::Heard { acts, .. }) => acts.deed(act),
         _ => None,
     }
 }

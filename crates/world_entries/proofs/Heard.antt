@@ -32,7 +32,7 @@ pub there-within :
     (history : List Entry) (performer : Who) {stage : Stage} {called : Phase → List ℕ} {kept : Rounds} → IsThere history performer → All (λ beginning. beginning.start.home < length (nodes_of history)) (begun_of history)
     → AreRounds stage (nodes_of history) (components_of history) called kept → node_of performer < length (nodes_of history)
 there-within history (Node node) there homes turns = All-contains (λ other. other < length (nodes_of history)) (components_of history) node turns.common.within there
-there-within history (Sequence id home) there homes turns = found (numbered (begun_of history) id) refl there.home_is
+there-within history (Sequence home id) there homes turns = found (numbered (begun_of history) id) refl there.home_is
   where
     found : (beginning : Option Beginning) → numbered (begun_of history) id ≡ beginning → option_map (λ beginning. beginning.start.home) beginning ≡ Some home → home < length (nodes_of history)
     found None is e = cc
@@ -57,14 +57,14 @@ heard-turns history performer phase going turn orders leasts rounds heard =
 -- the answer is the last one, and all of it is left
 pub heard-answer :
     (opening : Act) (before : List Entry) (performer : Who) (call : Call) (origin : Option Origin) (acts : List Act) (phase : Option Phase) → phase ≡ phase_heard call origin
-    → IsLastAnswer opening (Heard performer call origin acts ∷ before) acts performer (phase_heard call origin) (record { speaker = performer; phase = phase; place = Some (length before); count = length acts; done = 0; noted = false })
+    → IsLastAnswer opening (Heard performer origin call acts ∷ before) acts performer (phase_heard call origin) (record { speaker = performer; phase = phase; place = Some (length before); count = length acts; done = 0; noted = false })
 heard-answer opening before performer call origin acts phase is =
-    let last = ap acts_in (get-last (Heard performer call origin acts) before) in
+    let last = ap acts_in (get-last (Heard performer origin call acts) before) in
     record {
       speaker = refl;
       phase = is;
       rest = last;
-      within = answered-last (Heard performer call origin acts) before;
+      within = answered-last (Heard performer origin call acts) before;
       count = ap length (sym last);
       few = omega arith;
     }

@@ -16,9 +16,28 @@ use uvm_tree::{NodeId, laws as trees};
 use world_services::rounds::Rounds;
 use world_services::services::{LastAnswer, Services};
 
-/// Keeps that somebody had the call of a phase in progress, and answered with so many acts, in the entry at a place.
-pub fn hear(services: &mut Services, place: usize, who: Who, call: &Call, count: usize)
-    ensures { (acts : List Act) → length acts ≡ count → GoesOnWith (λ _. Answer who call.now None) (Heard who call.now None acts) place services.old services.new }
+/// Keeps that somebody had a call, and answered with so many acts, in the entry at a place. The call was due with an origin, or is that of a
+/// phase in progress.
+pub fn hear(
+    services: &mut Services,
+    place: usize,
+    who: Who,
+    call: &Call,
+    origin: Option<Origin>,
+    count: usize,
+)
+    requires { IsDueNext (λ _. Answer who call.now origin) place services.old }
+    ensures { (acts : List Act) → length acts ≡ count → GoesOnWith (λ _. Answer who call.now origin) (Heard who origin call.now acts) place services.old services.new }
+{
+    match origin {
+        None => hear_in_turn(services, place, who, call, count),
+        Some(origin) => hear_due(services, place, who, origin, count),
+    }
+}
+
+// Keeps that somebody had the call of a phase in progress, and answered with so many acts, in the entry at a place.
+fn hear_in_turn(services: &mut Services, place: usize, who: Who, call: &Call, count: usize)
+    ensures { (acts : List Act) → length acts ≡ count → GoesOnWith (λ _. Answer who call.now None) (Heard who None call.now acts) place services.old services.new }
 {
     // Who is asked is there, and stands at a node: a sequence at its home.
     laws::asked_are_there();
@@ -57,11 +76,11 @@ fn phase_called(call: &Call) -> Option<Phase>
     }
 }
 
-/// Keeps that somebody had a call that was due, and answered with so many acts, in the entry at a place. These belong to the phase of
-/// the call.
-pub fn hear_due(services: &mut Services, place: usize, who: Who, origin: Origin, count: usize)
+// Keeps that somebody had a call that was due, and answered with so many acts, in the entry at a place. These belong to the phase of the
+// call.
+fn hear_due(services: &mut Services, place: usize, who: Who, origin: Origin, count: usize)
     requires { (call : calls.Call) × IsDueNext (λ _. Answer who call (Some origin)) place services.old }
-    ensures { (call : calls.Call) (acts : List Act) → length acts ≡ count → GoesOnWith (λ _. Answer who call (Some origin)) (Heard who call (Some origin) acts) place services.old services.new }
+    ensures { (call : calls.Call) (acts : List Act) → length acts ≡ count → GoesOnWith (λ _. Answer who call (Some origin)) (Heard who (Some origin) call acts) place services.old services.new }
 {
     // The call is the first of the agenda, which is then taken from it.
     laws::due_calls_go_in_order();

@@ -4,4 +4,5 @@
 
 pub mod answers;
 pub mod grants;
-pub mod phases;
+pub mod marks;
+mod phases;

@@ -50,9 +50,9 @@ start-of nodes started performer (act.Start type_name name on priority) home is 
 start-of nodes started performer deed home is asked = absurd is
 
 -- a sequence that was started before has another number than the next
-not-next : (n home : ℕ) (one : Who) → number_of one ≤ n → same_who (who.Sequence (suc n) home) one ≡ false
+not-next : (n home : ℕ) (one : Who) → number_of one ≤ n → same_who (who.Sequence home (suc n)) one ≡ false
 not-next n home (who.Node node) low = refl
-not-next n home (who.Sequence other there) low = let differs : (suc n == other) ≡ false = grind (arith, nat_tests, low) in rw differs refl
+not-next n home (who.Sequence there other) low = let differs : (suc n == other) ≡ false = grind (arith, nat_tests, low) in rw differs refl
 
 module _ {begun : List Beginning} {finished : List Who} {ended : List Phase} {enders : List Who} {old : SequencesValue} {beginnings : List kept.Beginning} (s : IsSequencing begun finished ended enders old beginnings) where
   -- how many were started
@@ -60,16 +60,16 @@ module _ {begun : List Beginning} {finished : List Who} {ended : List Phase} {en
   started-count = ap length s.started ∙ length-map begun (λ (b : Beginning). b.start)
 
   -- the next sequence has not finished
-  pub next-unfinished : (id home : ℕ) → id ≡ suc (length old.started) → is_of_one finished (Object (who.Sequence id home)) ≡ false
+  pub next-unfinished : (id home : ℕ) → id ≡ suc (length old.started) → is_of_one finished (Object (who.Sequence home id)) ≡ false
   next-unfinished id home is =
-      rw (is, started-count) (list_any_none (same_who (who.Sequence (suc (length begun)) home)) finished (All-weaker (λ (one : Who). number_of one ≤ length begun) (λ (one : Who). same_who (who.Sequence (suc (length begun)) home) one ≡ false) (λ one low. not-next (length begun) home one low) finished s.finished_within))
+      rw (is, started-count) (list_any_none (same_who (who.Sequence home (suc (length begun)))) finished (All-weaker (λ (one : Who). number_of one ≤ length begun) (λ (one : Who). same_who (who.Sequence home (suc (length begun))) one ≡ false) (λ one low. not-next (length begun) home one low) finished s.finished_within))
 
   -- an act has started it
   pub sequencing-started :
       (nodes : List Node) (performer : Who) (deed : Act) (home id : ℕ) (phase : Option Phase) (name : List ℕ) (given : Option ℕ) (new : SequencesValue) (items : List kept.Beginning)
       → IsStart deed → home_for nodes performer deed ≡ Some home → name ≡ name_started deed → given ≡ priority_given deed
       → new.started ≡ record { home = home; parent = sequence_in performer; name = name; priority = start_priority old.started (sequence_in performer) given } ∷ old.started
-      → new.steps ≡ Some PreStart ∷ old.steps → id ≡ length old.started + 1 → items ≡ beginnings ++ record { who = who.Sequence id home; starter = performer; phase = phase } ∷ []
+      → new.steps ≡ Some PreStart ∷ old.steps → id ≡ length old.started + 1 → items ≡ beginnings ++ record { who = who.Sequence home id; starter = performer; phase = phase } ∷ []
       → is_over_phase ended phase ≡ false → IsStarter begun phase performer
       → IsSequencing (record { start = start_by nodes (starts_in begun) performer deed; starter = performer; phase = phase } ∷ begun) finished ended enders new items
   sequencing-started nodes performer deed home id phase name given new items is asked name_is given_is started steps number are goes starter =
@@ -78,8 +78,8 @@ module _ {begun : List Beginning} {finished : List Who} {ended : List Phase} {en
       let same_home : (start_by nodes (starts_in begun) performer deed).home ≡ home = ap (λ (x : Start). x.home) start in
       let count : id ≡ suc (length begun) = number ∙ add-one (length old.started) ∙ ap suc started-count in
       let first : new.started ≡ start_by nodes (starts_in begun) performer deed ∷ old.started = started ∙ ap (λ (x : Start). x ∷ old.started) (rw (name_is, given_is, s.started) (sym start)) in
-      let whole : items ≡ beginnings ++ record { who = who.Sequence (suc (length begun)) beginning.start.home; starter = performer; phase = phase } ∷ [] =
-      are ∙ ap (λ (n : ℕ). beginnings ++ record { who = who.Sequence n home; starter = performer; phase = phase } ∷ []) count ∙ ap (λ (h : ℕ). beginnings ++ record { who = who.Sequence (suc (length begun)) h; starter = performer; phase = phase } ∷ []) (sym same_home) in
+      let whole : items ≡ beginnings ++ record { who = who.Sequence beginning.start.home (suc (length begun)); starter = performer; phase = phase } ∷ [] =
+      are ∙ ap (λ (n : ℕ). beginnings ++ record { who = who.Sequence home n; starter = performer; phase = phase } ∷ []) count ∙ ap (λ (h : ℕ). beginnings ++ record { who = who.Sequence h (suc (length begun)); starter = performer; phase = phase } ∷ []) (sym same_home) in
       rw whole (sequencing-begun s beginning new first steps goes starter)
 
 -- a phase that takes time has not ended, if there is one that has not
@@ -89,7 +89,7 @@ task-goes ended (Some phase) task unended = unended
 
 there-starts : (history : List Entry) (performer : Who) → IsInPhase history performer → IsThere history performer → IsStarter (begun_of history) (act_phase history) performer
 there-starts history (who.Node node) own there = tt
-there-starts history (who.Sequence id home) own there = by (numbered (begun_of history) id) there.home_is own
+there-starts history (who.Sequence home id) own there = by (numbered (begun_of history) id) there.home_is own
   where
     by : (found : Option Beginning) → option_map (λ beginning. beginning.start.home) found ≡ Some home → option_and_then (λ beginning. beginning.phase) found ≡ act_phase history → place_of found ≡ Some (home, act_phase history)
     by None at e = cc

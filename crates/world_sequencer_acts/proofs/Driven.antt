@@ -295,7 +295,7 @@ module _ {script : ScriptValue} {history : List Entry} {act : Act} {place : ℕ}
   -- whose item it was hears of it, if it lives, in the phase in which it was started
   pub done-told : (response : Option Item) (id : ℕ) → hand_of (driver_state history node) ≡ Some id → All (IsToldOpen (is_told services.sequences.steps) (ended_of history) (finished_of history)) (told_done (phase_begun history) response node (Some id))
   done-told response id hand =
-      All-cons (IsToldOpen (is_told services.sequences.steps) (ended_of history) (finished_of history)) (told_in (phase_begun history id) (who.Sequence id node) (call.ItemDone response)) []
+      All-cons (IsToldOpen (is_told services.sequences.steps) (ended_of history) (finished_of history)) (told_in (phase_begun history id) (who.Sequence node id) (call.ItemDone response)) []
       (rw (s.known.sequencing.living id) (found-told (numbered (begun_of history) id) (s.driving.hands node id hand))) (All-nil _)
     where
       swap : (a b : Bool) → a && b ≡ b && a
@@ -306,15 +306,15 @@ module _ {script : ScriptValue} {history : List Entry} {act : Act} {place : ℕ}
 
       found-told :
           (found : Option Beginning) → option_map (λ beginning. beginning.start.home) found ≡ Some node
-          → IfSome (option_and_then (λ beginning. beginning.phase) found) (λ phase. option_map_or (lives_by (finished_of history) (ended_of history) id) found false ≡ (not (list_any (same_phase phase) (ended_of history)) && not (is_of_one (finished_of history) (Object (who.Sequence id node)))))
+          → IfSome (option_and_then (λ beginning. beginning.phase) found) (λ phase. option_map_or (lives_by (finished_of history) (ended_of history) id) found false ≡ (not (list_any (same_phase phase) (ended_of history)) && not (is_of_one (finished_of history) (Object (who.Sequence node id)))))
       found-told None e = cc
       found-told (Some b) e = by b.phase refl
         where
-          by : (phase : Option Phase) → b.phase ≡ phase → IfSome phase (λ one. lives_by (finished_of history) (ended_of history) id b ≡ (not (list_any (same_phase one) (ended_of history)) && not (is_of_one (finished_of history) (Object (who.Sequence id node)))))
+          by : (phase : Option Phase) → b.phase ≡ phase → IfSome phase (λ one. lives_by (finished_of history) (ended_of history) id b ≡ (not (list_any (same_phase one) (ended_of history)) && not (is_of_one (finished_of history) (Object (who.Sequence node id)))))
           by None is = tt
           by (Some one) is =
               let at : b.start.home ≡ node = cc in
-              rw (is, at) (swap (not (list_any (same_who (who.Sequence id node)) (finished_of history))) (not (list_any (same_phase one) (ended_of history))))
+              rw (is, at) (swap (not (list_any (same_who (who.Sequence node id)) (finished_of history))) (not (list_any (same_phase one) (ended_of history))))
 
   pub done-calls : (response : Option Item) (id : ℕ) → hand_of (driver_state history node) ≡ Some id → calls_told history services.answer.speaker Done (ItemDone name response) ≡ told_done (phase_begun history) response node (Some id)
   done-calls response id hand = rw (r.leads, hand) refl
@@ -335,7 +335,7 @@ module _ {script : ScriptValue} {history : List Entry} {act : Act} {place : ℕ}
   home = b.start.home
 
   abbrev gone : ℕ → Bool
-  gone = live_by (begun_of history) (who.Sequence id b.start.home ∷ finished_of history) (ended_of history)
+  gone = live_by (begun_of history) (who.Sequence b.start.home id ∷ finished_of history) (ended_of history)
 
   abbrev live : ℕ → Bool
   live = live_by (begun_of history) (finished_of history) (ended_of history)
@@ -351,7 +351,7 @@ module _ {script : ScriptValue} {history : List Entry} {act : Act} {place : ℕ}
       and-true true = refl
       and-true false = refl
 
-      others : (one : Option Beginning) → (n == id) ≡ false → option_map_or (lives_by (who.Sequence id b.start.home ∷ finished_of history) (ended_of history) n) one false ≡ option_map_or (lives_by (finished_of history) (ended_of history) n) one false
+      others : (one : Option Beginning) → (n == id) ≡ false → option_map_or (lives_by (who.Sequence b.start.home id ∷ finished_of history) (ended_of history) n) one false ≡ option_map_or (lives_by (finished_of history) (ended_of history) n) one false
       others None e = refl
       others (Some other) e = rw e refl
 
@@ -390,22 +390,22 @@ module _ {script : ScriptValue} {history : List Entry} {act : Act} {place : ℕ}
       (All-weaker (runs_on (begun_of history) n) (λ m. gone m ≡ live m) (λ m here. alike-at n apart m here) (ledger_at history n).held one.held_here)
 
   pub finish-kept : (more : Kept) → ChangesAt b.start.home (at_sequencer (after_leave id)) services.arbiters more → (after : Contest) → after.nodes.items ≡ b.start.home ∷ [] → LearnsAt b.start.home 0 services.contest after
-      → IsArbitrating (suc (length history)) (nodes_of history) (begun_of history) (who.Sequence id b.start.home ∷ finished_of history) (ended_of history) (ledger_at (Did (who.Sequence id b.start.home) Finished EndStep ∷ history)) more after
+      → IsArbitrating (suc (length history)) (nodes_of history) (begun_of history) (who.Sequence b.start.home id ∷ finished_of history) (ended_of history) (ledger_at (Did (who.Sequence b.start.home id) Finished EndStep ∷ history)) more after
   finish-kept more changes after is learns =
       let l = ledger_at history b.start.home in
       let m = s.known in
-      let here : ledger_at (Did (who.Sequence id b.start.home) Finished EndStep ∷ history) b.start.home ≡ record l { driver = left_by (grant_of id l.driver) l.driver } = rw (itself b.start.home) refl in
-      arbitrating-one m.arbitrating (who.Sequence id b.start.home ∷ finished_of history) (ledger_at (Did (who.Sequence id b.start.home) Finished EndStep ∷ history)) more b.start.home (at_sequencer (after_leave id))
+      let here : ledger_at (Did (who.Sequence b.start.home id) Finished EndStep ∷ history) b.start.home ≡ record l { driver = left_by (grant_of id l.driver) l.driver } = rw (itself b.start.home) refl in
+      arbitrating-one m.arbitrating (who.Sequence b.start.home id ∷ finished_of history) (ledger_at (Did (who.Sequence b.start.home id) Finished EndStep ∷ history)) more b.start.home (at_sequencer (after_leave id))
       (λ n apart. rw apart (elsewhere n apart)) (ap (arbiter_of gone) here ∙ left-is live gone l id but-one) changes (λ n. every n (b.start.home == n) refl) there
       (none-locked history m.arbitrating.contested_is s.settled.unlocked) (none-served history m.arbitrating.contested_is s.settled.unserved)
       after is (learns-else b.start.home 0 services.contest after learns) (learns-here (starts_in (begun_of history)) b.start.home 0 services.contest after learns _ (known-none (starts_in (begun_of history)) _))
     where
-      every : (n : ℕ) (v : Bool) → (b.start.home == n) ≡ v → IsArbitrated (suc (length history)) (length (nodes_of history)) (begun_of history) n (ledger_at (Did (who.Sequence id b.start.home) Finished EndStep ∷ history) n)
+      every : (n : ℕ) (v : Bool) → (b.start.home == n) ≡ v → IsArbitrated (suc (length history)) (length (nodes_of history)) (begun_of history) n (ledger_at (Did (who.Sequence b.start.home id) Finished EndStep ∷ history) n)
       every n false is = rw is (arbitrated-more (s.known.arbitrating.arbitrated.each n))
       every n true is =
           let same : b.start.home ≡ n = grind (arith, nat_tests) in
           let l = ledger_at history b.start.home in
-          subst (λ (k : ℕ). IsArbitrated (suc (length history)) (length (nodes_of history)) (begun_of history) k (ledger_at (Did (who.Sequence id b.start.home) Finished EndStep ∷ history) k)) same
+          subst (λ (k : ℕ). IsArbitrated (suc (length history)) (length (nodes_of history)) (begun_of history) k (ledger_at (Did (who.Sequence b.start.home id) Finished EndStep ∷ history) k)) same
           (rw (itself b.start.home) (arbitrated-driver (s.known.arbitrating.arbitrated.each b.start.home) (left_by (grant_of id l.driver) l.driver) l.asker moded))
 
   -- the driver of a `try` that lapses is told

@@ -47,19 +47,19 @@ pub record IsBegunLiving (history : List Entry) (performer : Who) (id : ℕ) : T
   pub beginning : Beginning
   pub found : numbered (begun_of history) id ≡ Some beginning
   pub lives : lives_by (finished_of history) (ended_of history) id beginning ≡ true
-  pub performer_is : performer ≡ who.Sequence id beginning.start.home
+  pub performer_is : performer ≡ who.Sequence beginning.start.home id
 
 pub there-begun : (history : List Entry) (performer : Who) (id : ℕ) → IsThere history performer → sequence_in performer ≡ Some id → IsBegunLiving history performer id
 unfolding is_live
 there-begun history (who.Node node) id there is = cc
-there-begun history (who.Sequence other home) id there is = by (numbered (begun_of history) other) refl there.lives there.home_is
+there-begun history (who.Sequence home other) id there is = by (numbered (begun_of history) other) refl there.lives there.home_is
   where
-    by : (one : Option Beginning) → numbered (begun_of history) other ≡ one → option_map_or (lives_by (finished_of history) (ended_of history) other) one false ≡ true → option_map (λ beginning. beginning.start.home) one ≡ Some home → IsBegunLiving history (who.Sequence other home) id
+    by : (one : Option Beginning) → numbered (begun_of history) other ≡ one → option_map_or (lives_by (finished_of history) (ended_of history) other) one false ≡ true → option_map (λ beginning. beginning.start.home) one ≡ Some home → IsBegunLiving history (who.Sequence home other) id
     by None found lives e = cc
     by (Some beginning) found lives e =
         let same : other ≡ id = cc in
         let at : beginning.start.home ≡ home = cc in
-        subst (λ (n : ℕ). IsBegunLiving history (who.Sequence other home) n) same (record { beginning = beginning; found = found; lives = lives; performer_is = ap (λ (h : ℕ). who.Sequence other h) (sym at) })
+        subst (λ (n : ℕ). IsBegunLiving history (who.Sequence home other) n) same (record { beginning = beginning; found = found; lives = lives; performer_is = ap (λ (h : ℕ). who.Sequence h other) (sym at) })
 
 pub scene-begun : {script : ScriptValue} {history : List Entry} {act : Act} {place : ℕ} {services : Services} (id : ℕ) → IsScene script history act place services → (act ≡ opening script → ⊥) → sequence_in services.answer.speaker ≡ Some id → IsBegunLiving history services.answer.speaker id
 scene-begun {script} {history} {act} {services = services} id s other is = by s.there
@@ -79,24 +79,24 @@ module _
   name-known : name_at services.sequences.started id ≡ Some beginning.start.name
   name-known = rw (m.sequencing.started, numbered-map (λ (b : Beginning). b.start) (begun_of history) id, found) refl
 
-  calls-known : finished_calls (beginning_at services.beginnings.items id) (name_at services.sequences.started id) id ++ lapse ≡ calls_told history (who.Sequence id beginning.start.home) Finished EndStep
+  calls-known : finished_calls (beginning_at services.beginnings.items id) (name_at services.sequences.started id) id ++ lapse ≡ calls_told history (who.Sequence beginning.start.home id) Finished EndStep
   calls-known = rw (m.sequencing.are, kept-at (begun_of history) id beginning found, name-known, lapses, found) refl
 
   pub has-finished :
       (more : List Event)
-      → All (IsToldOpen (is_told (service.finished id services.sequences).steps) (ended_of history) (who.Sequence id beginning.start.home ∷ finished_of history)) (lapsed_by history beginning.start.home (Some id))
+      → All (IsToldOpen (is_told (service.finished id services.sequences).steps) (ended_of history) (who.Sequence beginning.start.home id ∷ finished_of history)) (lapsed_by history beginning.start.home (Some id))
       → more ≡ in_order (living_numbered (is_told (service.finished id services.sequences).steps) (now_of history) (length history) 0
       (finished_calls (beginning_at services.beginnings.items id) (name_at services.sequences.started id) id ++ lapse)
-      ++ filter (λ event. not (is_of_one (who.Sequence id beginning.start.home ∷ []) event.owner)) (filter (is_open (heard_of history) (ended_of history) (finished_of history)) (caused_of script history)))
-      → HasFinished script history (who.Sequence id beginning.start.home) more
+      ++ filter (λ event. not (is_of_one (who.Sequence beginning.start.home id ∷ []) event.owner)) (filter (is_open (heard_of history) (ended_of history) (finished_of history)) (caused_of script history)))
+      → HasFinished script history (who.Sequence beginning.start.home id) more
   has-finished more lapsed is = record {
-    agenda = agenda-living (is_told (service.finished id services.sequences).steps) (heard_of history) (ended_of history) (who.Sequence id beginning.start.home ∷ finished_of history) (now_of history) (calls_told history (who.Sequence id beginning.start.home) Finished EndStep) (caused_of script history) (length history) _ more told left (rw (calls-known, ← twice) at is);
-    events = events-calls (λ phase. objections_of script phase history) (is_open (heard_of history) (ended_of history) (who.Sequence id beginning.start.home ∷ finished_of history)) (now_of history) (length history) 0 (calls_told history (who.Sequence id beginning.start.home) Finished EndStep) (caused_of script history)
-        (events-finished (who.Sequence id beginning.start.home) (λ phase. objections_of script phase history) (caused_of script history) (heard_of history) (ended_of history) (finished_of history) m.events);
+    agenda = agenda-living (is_told (service.finished id services.sequences).steps) (heard_of history) (ended_of history) (who.Sequence beginning.start.home id ∷ finished_of history) (now_of history) (calls_told history (who.Sequence beginning.start.home id) Finished EndStep) (caused_of script history) (length history) _ more told left (rw (calls-known, ← twice) at is);
+    events = events-calls (λ phase. objections_of script phase history) (is_open (heard_of history) (ended_of history) (who.Sequence beginning.start.home id ∷ finished_of history)) (now_of history) (length history) 0 (calls_told history (who.Sequence beginning.start.home id) Finished EndStep) (caused_of script history)
+        (events-finished (who.Sequence beginning.start.home id) (λ phase. objections_of script phase history) (caused_of script history) (heard_of history) (ended_of history) (finished_of history) m.events);
   }
     where
-      told : All (IsToldOpen (is_told (service.finished id services.sequences).steps) (ended_of history) (who.Sequence id beginning.start.home ∷ finished_of history)) (calls_told history (who.Sequence id beginning.start.home) Finished EndStep)
-      told = rw found (All-cons (IsToldOpen (is_told (service.finished id services.sequences).steps) (ended_of history) (who.Sequence id beginning.start.home ∷ finished_of history)) (told_in beginning.phase beginning.starter (call.Finished beginning.start.name id)) _
+      told : All (IsToldOpen (is_told (service.finished id services.sequences).steps) (ended_of history) (who.Sequence beginning.start.home id ∷ finished_of history)) (calls_told history (who.Sequence beginning.start.home id) Finished EndStep)
+      told = rw found (All-cons (IsToldOpen (is_told (service.finished id services.sequences).steps) (ended_of history) (who.Sequence beginning.start.home id ∷ finished_of history)) (told_in beginning.phase beginning.starter (call.Finished beginning.start.name id)) _
           (by beginning.phase (goes-on _ _ lives)) lapsed)
         where
           goes-on : (a b : Bool) → not a && not b ≡ true → b ≡ false
@@ -105,12 +105,12 @@ module _
           goes-on false false e = refl
 
           by : (phase : Option Phase) → is_over_phase (ended_of history) phase ≡ false
-              → IfSome phase (λ one. is_told (service.finished id services.sequences).steps beginning.starter ≡ (not (list_any (same_phase one) (ended_of history)) && not (is_of_one (who.Sequence id beginning.start.home ∷ finished_of history) (Object beginning.starter))))
+              → IfSome phase (λ one. is_told (service.finished id services.sequences).steps beginning.starter ≡ (not (list_any (same_phase one) (ended_of history)) && not (is_of_one (who.Sequence beginning.start.home id ∷ finished_of history) (Object beginning.starter))))
           by None goes = tt
           by (Some one) goes = rw goes (starter-open m.sequencing alone id beginning found lives beginning.starter refl)
 
-      twice : filter (is_open (heard_of history) (ended_of history) (who.Sequence id beginning.start.home ∷ finished_of history)) (caused_of script history) ≡ filter (λ event. not (is_of_one (who.Sequence id beginning.start.home ∷ []) event.owner)) (filter (is_open (heard_of history) (ended_of history) (finished_of history)) (caused_of script history))
-      twice = filter-twice (λ event. not (is_of_one (who.Sequence id beginning.start.home ∷ []) event.owner)) (is_open (heard_of history) (ended_of history) (finished_of history)) (is_open (heard_of history) (ended_of history) (who.Sequence id beginning.start.home ∷ finished_of history)) (open-finished (who.Sequence id beginning.start.home) (heard_of history) (ended_of history) (finished_of history)) (caused_of script history)
+      twice : filter (is_open (heard_of history) (ended_of history) (who.Sequence beginning.start.home id ∷ finished_of history)) (caused_of script history) ≡ filter (λ event. not (is_of_one (who.Sequence beginning.start.home id ∷ []) event.owner)) (filter (is_open (heard_of history) (ended_of history) (finished_of history)) (caused_of script history))
+      twice = filter-twice (λ event. not (is_of_one (who.Sequence beginning.start.home id ∷ []) event.owner)) (is_open (heard_of history) (ended_of history) (finished_of history)) (is_open (heard_of history) (ended_of history) (who.Sequence beginning.start.home id ∷ finished_of history)) (open-finished (who.Sequence beginning.start.home id) (heard_of history) (ended_of history) (finished_of history)) (caused_of script history)
 
-      left : IsAgenda (caused_of script history) (heard_of history) (ended_of history) (who.Sequence id beginning.start.home ∷ finished_of history) (length history) (in_order (filter (λ event. not (is_of_one (who.Sequence id beginning.start.home ∷ []) event.owner)) (filter (is_open (heard_of history) (ended_of history) (finished_of history)) (caused_of script history))))
-      left = agenda-finished (who.Sequence id beginning.start.home) (caused_of script history) (heard_of history) (ended_of history) (finished_of history) (length history) services.agenda.dues m.agenda
+      left : IsAgenda (caused_of script history) (heard_of history) (ended_of history) (who.Sequence beginning.start.home id ∷ finished_of history) (length history) (in_order (filter (λ event. not (is_of_one (who.Sequence beginning.start.home id ∷ []) event.owner)) (filter (is_open (heard_of history) (ended_of history) (finished_of history)) (caused_of script history))))
+      left = agenda-finished (who.Sequence beginning.start.home id) (caused_of script history) (heard_of history) (ended_of history) (finished_of history) (length history) services.agenda.dues m.agenda

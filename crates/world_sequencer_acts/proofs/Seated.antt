@@ -70,7 +70,7 @@ ordered nodes n order low high = permutation-contains _ (path_order nodes) n ord
 
 -- a sequence is there that acts: it lives, and runs on a sequencer
 pub record IsSeated (history : List Entry) (speaker : Who) (id home : ℕ) : Type 0 where
-  pub speaker_is : speaker ≡ who.Sequence id home
+  pub speaker_is : speaker ≡ who.Sequence home id
   pub lives : live_by (begun_of history) (finished_of history) (ended_of history) id ≡ true
   pub here : runs_on (begun_of history) home id
   pub moded : IsSome (mode_at history home)
@@ -94,15 +94,15 @@ module _ {script : ScriptValue} {history : List Entry} {act : Act} {place : ℕ}
   unfolding is_live
   seated id home other order is at = by s.there
     where
-      speaks : (speaker : Who) → sequence_in speaker ≡ Some id → home ≡ node_of speaker → speaker ≡ who.Sequence id home
+      speaks : (speaker : Who) → sequence_in speaker ≡ Some id → home ≡ node_of speaker → speaker ≡ who.Sequence home id
       speaks (who.Node node) e stands = cc
-      speaks (who.Sequence n h) e stands = let same : n ≡ id = cc in rw (same, stands) refl
+      speaks (who.Sequence h n) e stands = let same : n ≡ id = cc in rw (same, stands) refl
 
       by : (act ≡ opening script) ⊎ IsThere history (speaker_of history) → IsSeated history services.answer.speaker id home
       by (inl opens) = absurd (other opens)
       by (inr there) =
           let same = speaks services.answer.speaker is at in
-          let living : IsThere history (who.Sequence id home) = subst (IsThere history) (sym s.known.answer.speaker ∙ same) there in
+          let living : IsThere history (who.Sequence home id) = subst (IsThere history) (sym s.known.answer.speaker ∙ same) there in
           let moded = home-of history home (numbered (begun_of history) id) id refl living.home_is s.driving.homes in
           record { speaker_is = same; lives = living.lives; here = living.home_is; moded = moded; there = placed home order moded }
 
@@ -151,7 +151,7 @@ module _ {script : ScriptValue} {history : List Entry} {act : Act} {place : ℕ}
         let l = ledger_at history home in
         let live = live_by (begun_of history) (finished_of history) (ended_of history) in
         rw seat.speaker_is
-        (kept-there home seat.there (ledger_at (Did (who.Sequence id home) Done (Request priority) ∷ history)) more (at_sequencer (with_item id (request_priority (sequences_of history) id priority))) (λ n is. rw is refl)
+        (kept-there home seat.there (ledger_at (Did (who.Sequence home id) Done (Request priority) ∷ history)) more (at_sequencer (with_item id (request_priority (sequences_of history) id priority))) (λ n is. rw is refl)
         (rw (itself home) (asked-behind live (length history) l one-there.grants_within one-there.locks_within request seat.lives))
         (rw (itself home) (arbitrated-behind one-there request seat.here seat.moded)) changes after is (λ n other. knows n)
         (still (at_sequencer (with_item id (request_priority (sequences_of history) id priority))) after knows (λ a passed. stays.item (starts_in (begun_of history)) a.sequencer (known_at services.contest home) passed id (request_priority (sequences_of history) id priority))))
@@ -161,7 +161,7 @@ module _ {script : ScriptValue} {history : List Entry} {act : Act} {place : ℕ}
         let l = ledger_at history home in
         let live = live_by (begun_of history) (finished_of history) (ended_of history) in
         rw seat.speaker_is
-        (kept-there home seat.there (ledger_at (Did (who.Sequence id home) Done Lock ∷ history)) more (at_sequencer (with_lock id)) (λ n is. rw is refl)
+        (kept-there home seat.there (ledger_at (Did (who.Sequence home id) Done Lock ∷ history)) more (at_sequencer (with_lock id)) (λ n is. rw is refl)
         (rw (itself home) (asked-behind live (length history) l one-there.grants_within one-there.locks_within (lock_request id) seat.lives))
         (rw (itself home) (arbitrated-behind one-there (lock_request id) seat.here seat.moded)) changes after is (λ n other. knows n)
         (still (at_sequencer (with_lock id)) after knows (λ a passed. stays.lock (starts_in (begun_of history)) a.sequencer (known_at services.contest home) passed id)))
@@ -171,7 +171,7 @@ module _ {script : ScriptValue} {history : List Entry} {act : Act} {place : ℕ}
         let l = ledger_at history home in
         let live = live_by (begun_of history) (finished_of history) (ended_of history) in
         rw seat.speaker_is
-        (kept-there home seat.there (ledger_at (Did (who.Sequence id home) Done Grab ∷ history)) more (at_sequencer (with_grab id)) (λ n is. rw is refl)
+        (kept-there home seat.there (ledger_at (Did (who.Sequence home id) Done Grab ∷ history)) more (at_sequencer (with_grab id)) (λ n is. rw is refl)
         (rw (itself home) (asked-before live (length history) l one-there.grants_within one-there.locks_within (lock_request id) seat.lives))
         (rw (itself home) (arbitrated-before one-there (lock_request id) seat.here seat.moded)) changes after is (learns-else home 0 services.contest after learns)
         (λ a passed. anew (at_sequencer (with_grab id)) after learns a))
@@ -182,7 +182,7 @@ module _ {script : ScriptValue} {history : List Entry} {act : Act} {place : ℕ}
         let l = ledger_at history home in
         let live = live_by (begun_of history) (finished_of history) (ended_of history) in
         rw seat.speaker_is
-        (kept-there home seat.there (ledger_at (Did (who.Sequence id home) Done Unlock ∷ history)) more (at_sequencer (unlocked id)) (λ n is. rw is refl)
+        (kept-there home seat.there (ledger_at (Did (who.Sequence home id) Done Unlock ∷ history)) more (at_sequencer (unlocked id)) (λ n is. rw is refl)
         (rw (itself home) (unlocked-is live l id seat.lives))
         (rw (itself home) (arbitrated-unlocked one-there id seat.moded)) changes after is (learns-else home 0 services.contest after learns)
         (λ a passed. anew (at_sequencer (unlocked id)) after learns a))
@@ -193,7 +193,7 @@ module _ {script : ScriptValue} {history : List Entry} {act : Act} {place : ℕ}
         let l = ledger_at history home in
         let live = live_by (begun_of history) (finished_of history) (ended_of history) in
         rw seat.speaker_is
-        (kept-there home seat.there (ledger_at (Did (who.Sequence id home) Done (Send item) ∷ history)) more (at_sequencer (after_send id way)) (λ n is. rw is refl)
+        (kept-there home seat.there (ledger_at (Did (who.Sequence home id) Done (Send item) ∷ history)) more (at_sequencer (after_send id way)) (λ n is. rw is refl)
         (rw (itself home, granted) (arbiter-changed live live l (record l { driver = sent id way }) (at_sequencer (after_send id way)) refl (λ mode. refl)))
         (rw (itself home, granted) (arbitrated-driver one-there (sent id way) l.asker seat.moded)) changes after is (λ n other. knows n) (still (at_sequencer (after_send id way)) after knows (λ a passed. record { within = passed.within; blocked = passed.blocked })))
 
@@ -284,7 +284,7 @@ module _ {script : ScriptValue} {history : List Entry} {services : Services} (m 
       by None e = cc
       by (Some mode) e = e
 
-pub sent-calls : (history : List Entry) (speaker : Who) (id home : ℕ) (item : Item) (way : How) → speaker ≡ who.Sequence id home → grant_of id (driver_state history home) ≡ Some way → calls_told history speaker Done (Send item) ≡ told_sent (act_phase history) speaker (driver_asker history home) item (Some way)
+pub sent-calls : (history : List Entry) (speaker : Who) (id home : ℕ) (item : Item) (way : How) → speaker ≡ who.Sequence home id → grant_of id (driver_state history home) ≡ Some way → calls_told history speaker Done (Send item) ≡ told_sent (act_phase history) speaker (driver_asker history home) item (Some way)
 sent-calls history speaker id home item way is granted = subst (λ (w : Who). calls_told history w Done (Send item) ≡ told_sent (act_phase history) w (driver_asker history home) item (Some way)) (sym is) (rw granted refl)
 
 -- who is told of an item is a component, and hears of it in the phase in which it asked, which has not ended
@@ -297,7 +297,7 @@ item-told ended finished steps components (Some driver) item has unended = All-c
     by : (w : Who) (phase : Option Phase) → IsComponent components w → HasNotEnded ended phase → IfSome phase (λ one. is_told steps w ≡ (not (list_any (same_phase one) ended) && not (is_of_one finished (Object w))))
     by w None has unended = tt
     by (who.Node node) (Some phase) has unended = rw unended refl
-    by (who.Sequence id home) (Some phase) has unended = absurd has
+    by (who.Sequence home id) (Some phase) has unended = absurd has
 
 module _ {script : ScriptValue} {history : List Entry} {act : Act} {place : ℕ} {services : Services} (s : IsScene script history act place services) (id home : ℕ) (seat : IsSeated history services.answer.speaker id home) where
   performer-told : is_of_one (finished_of history) (Object services.answer.speaker) ≡ false → IsToldOpen (is_told services.sequences.steps) (ended_of history) (finished_of history) (told_in (act_phase history) services.answer.speaker (call.ItemDone None))

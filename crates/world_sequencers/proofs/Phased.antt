@@ -299,7 +299,7 @@ module _ (script : ScriptValue) (history : List Entry) (phase : Phase) (run : Li
             where
               by : (one : Who) → asker.who ≡ one → IsComponent (components_of history) one → All IsTold (told_item (Some asker) None)
               by (who.Node node) is there = All-cons IsTold _ [] (rw is (open-in asker.phase node other going)) (All-nil IsTold)
-              by (who.Sequence id home) is there = absurd there
+              by (who.Sequence home id) is there = absurd there
 
           told : (n : ℕ) → All IsTold (lapsed_at phase history n)
           told n = by (loses_try (ends_ask phase (driver_asker history n)) (is_live (End phase ∷ history)) (driver_state history n)) refl

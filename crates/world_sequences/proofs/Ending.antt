@@ -49,7 +49,7 @@ ended-more alone leaving (who.Node node) {old} {mid} a = record {
   many = a.many;
   steps = λ id. a.steps id ∙ ap (λ (b : Bool). if b then None else step_at old.steps id) (sym (any-last (is_sequence id) leaving (who.Node node) ∙ or-false (list_any (is_sequence id) leaving)));
 }
-ended-more alone leaving (who.Sequence id home) {old} {mid} a = record {
+ended-more alone leaving (who.Sequence home id) {old} {mid} a = record {
   started = a.started;
   many = length-step id None mid.steps ∙ a.many;
   steps = λ other. step-changed alone mid.steps id None other ∙ changed other (other == id) refl;
@@ -65,13 +65,13 @@ ended-more alone leaving (who.Sequence id home) {old} {mid} a = record {
 
     changed :
         (other : ℕ) (same : Bool) → (other == id) ≡ same
-        → (if same then option_and_then (λ _. None) (numbered mid.steps other) else step_at mid.steps other) ≡ (if list_any (is_sequence other) (leaving ++ who.Sequence id home ∷ []) then None else step_at old.steps other)
+        → (if same then option_and_then (λ _. None) (numbered mid.steps other) else step_at mid.steps other) ≡ (if list_any (is_sequence other) (leaving ++ who.Sequence home id ∷ []) then None else step_at old.steps other)
     changed other true e =
         let is : (id == other) ≡ true = grind (arith, nat_tests) in
-        none-there (numbered mid.steps other) None refl ∙ rw (any-last (is_sequence other) leaving (who.Sequence id home), is) (none-left (list_any (is_sequence other) leaving) (step_at old.steps other))
+        none-there (numbered mid.steps other) None refl ∙ rw (any-last (is_sequence other) leaving (who.Sequence home id), is) (none-left (list_any (is_sequence other) leaving) (step_at old.steps other))
     changed other false e =
         let is : (id == other) ≡ false = grind (arith, nat_tests) in
-        a.steps other ∙ rw (any-last (is_sequence other) leaving (who.Sequence id home), is, or-false (list_any (is_sequence other) leaving)) refl
+        a.steps other ∙ rw (any-last (is_sequence other) leaving (who.Sequence home id), is, or-false (list_any (is_sequence other) leaving)) refl
 
 -- somebody among those that end is this sequence
 any-kept : (f : kept.Beginning → Bool) (id : ℕ) (xs : List kept.Beginning) → list_any (is_sequence id) (map (λ b. b.who) (filter f xs)) ≡ list_any (λ b. f b && is_sequence id b.who) xs
@@ -176,7 +176,7 @@ sequencing-ended {begun} {finished} {ended} {enders} {old} {beginnings} phase ne
 -- those that were started, as they are kept
 all-kept : (begun : List Beginning) → all_begun begun ≡ map (λ b. b.who) (kept_beginnings begun)
 all-kept [] = refl
-all-kept (b ∷ older) = ap (λ (l : List Who). l ++ who.Sequence (suc (length older)) b.start.home ∷ []) (all-kept older) ∙ sym (map-append (λ (k : kept.Beginning). k.who) (kept_beginnings older) (kept_as (suc (length older)) b ∷ []))
+all-kept (b ∷ older) = ap (λ (l : List Who). l ++ who.Sequence b.start.home (suc (length older)) ∷ []) (all-kept older) ∙ sym (map-append (λ (k : kept.Beginning). k.who) (kept_beginnings older) (kept_as (suc (length older)) b ∷ []))
 
 -- what holds of each that was started holds of all as they are kept
 kept-all : (P : kept.Beginning → Type 0) (begun : List Beginning) → ((id : ℕ) (b : Beginning) → numbered begun id ≡ Some b → P (kept_as id b)) → All P (kept_beginnings begun)
@@ -206,7 +206,7 @@ leaves before phase who = is_living before who && not (is_living (End phase ∷ 
 
 -- the sequences that live in a phase end with it
 module _ (before : List Entry) (phase : Phase) {enders : List Who} {old : SequencesValue} {beginnings : List kept.Beginning} (s : IsSequencing (begun_of before) (finished_of before) (ended_of before) enders old beginnings) where
-  ends-leaves : (id : ℕ) (b : Beginning) → numbered (begun_of before) id ≡ Some b → ends_with old.steps phase (kept_as id b) ≡ leaves before phase (who.Sequence id b.start.home)
+  ends-leaves : (id : ℕ) (b : Beginning) → numbered (begun_of before) id ≡ Some b → ends_with old.steps phase (kept_as id b) ≡ leaves before phase (who.Sequence b.start.home id)
   ends-leaves id b found =
       let lived : is_some (step_at old.steps id) ≡ lives_by (finished_of before) (ended_of before) id b = s.living id ∙ rw found refl in
       rw (lived, is-live before id, is-live (End phase ∷ before) id, found, lives-on (finished_of before) (ended_of before) phase id b) (left-out (is_in_phase phase b.phase) (lives_by (finished_of before) (ended_of before) id b))

@@ -87,7 +87,7 @@ next-listed (suc (suc (suc n))) old e = cc
 module _ {begun : List Beginning} {finished : List Who} {ended : List Phase} {enders : List Who} {old : SequencesValue} {beginnings : List kept.Beginning} (s : IsSequencing begun finished ended enders old beginnings) where
   pub sequencing-stepped :
       StepsChangeAlone → (id home : ℕ) (before step : SeqStep) → step_at old.steps id ≡ Some before → step_after before ≡ Some step → id ≤ length begun
-      → IsSequencing begun finished ended (who.Sequence id home ∷ enders) (record old { steps = with_step id (Some step) old.steps }) beginnings
+      → IsSequencing begun finished ended (who.Sequence home id ∷ enders) (record old { steps = with_step id (Some step) old.steps }) beginnings
   sequencing-stepped alone id home before step at next low = record {
     started = s.started;
     many = length-step id (Some step) old.steps ∙ s.many;
@@ -95,7 +95,7 @@ module _ {begun : List Beginning} {finished : List Who} {ended : List Phase} {en
     steps = λ other. step-changed alone old.steps id (Some step) other ∙ changed other (other == id) refl;
     living = λ other. ap is_some (step-changed alone old.steps id (Some step) other) ∙ lives other (other == id) refl;
     finished_within = s.finished_within;
-    enders_within = All-cons (λ (who : Who). number_of who ≤ length begun) (who.Sequence id home) enders low s.enders_within;
+    enders_within = All-cons (λ (who : Who). number_of who ≤ length begun) (who.Sequence home id) enders low s.enders_within;
     starters = s.starters;
   }
     where
@@ -108,23 +108,23 @@ module _ {begun : List Beginning} {finished : List Who} {ended : List Phase} {en
       listed : slice_get all_steps (steps_ended enders id) ≡ Some before
       listed = let e : step_by begun finished ended enders id ≡ Some before = sym (s.steps id) ∙ at in (rw lived at e)
 
-      more : (b : Bool) → b ≡ true → length (if b then who.Sequence id home ∷ filter (is_sequence id) enders else filter (is_sequence id) enders) ≡ suc (steps_ended enders id)
+      more : (b : Bool) → b ≡ true → length (if b then who.Sequence home id ∷ filter (is_sequence id) enders else filter (is_sequence id) enders) ≡ suc (steps_ended enders id)
       more true e = refl
       more false e = cc
 
       itself : (n : ℕ) → (n == n) ≡ true
       itself n = grind (arith, nat_tests)
 
-      here : Some step ≡ step_by begun finished ended (who.Sequence id home ∷ enders) id
+      here : Some step ≡ step_by begun finished ended (who.Sequence home id ∷ enders) id
       here = rw (lived, more (id == id) (itself id)) (sym (next-listed (steps_ended enders id) before listed ∙ next))
 
-      fewer : (other : ℕ) → (id == other) ≡ false → steps_ended (who.Sequence id home ∷ enders) other ≡ steps_ended enders other
+      fewer : (other : ℕ) → (id == other) ≡ false → steps_ended (who.Sequence home id ∷ enders) other ≡ steps_ended enders other
       fewer other e = rw e refl
 
-      changed : (other : ℕ) (same : Bool) → (other == id) ≡ same → (if same then option_and_then (λ _. Some step) (numbered old.steps other) else step_at old.steps other) ≡ step_by begun finished ended (who.Sequence id home ∷ enders) other
+      changed : (other : ℕ) (same : Bool) → (other == id) ≡ same → (if same then option_and_then (λ _. Some step) (numbered old.steps other) else step_at old.steps other) ≡ step_by begun finished ended (who.Sequence home id ∷ enders) other
       changed other true e =
           let is : id ≡ other = sym (at-it other e) in
-          subst (λ (n : ℕ). option_and_then (λ _. Some step) (numbered old.steps n) ≡ step_by begun finished ended (who.Sequence id home ∷ enders) n) is (found-step (numbered old.steps id) before (Some step) at ∙ here)
+          subst (λ (n : ℕ). option_and_then (λ _. Some step) (numbered old.steps n) ≡ step_by begun finished ended (who.Sequence home id ∷ enders) n) is (found-step (numbered old.steps id) before (Some step) at ∙ here)
       changed other false e =
           let apart : (id == other) ≡ false = grind (arith, nat_tests) in
           s.steps other ∙ ap (λ (n : ℕ). if live_by begun finished ended other then slice_get all_steps n else None) (sym (fewer other apart))
@@ -147,11 +147,11 @@ module _ {begun : List Beginning} {finished : List Who} {ended : List Phase} {en
       StepsChangeAlone → (speaker : Who) (id : ℕ) (step : SeqStep) → sequence_in speaker ≡ Some id → option_and_then step_after (step_at old.steps id) ≡ Some step
       → IsSequencing begun finished ended (speaker ∷ enders) (record old { steps = with_step id (Some step) old.steps }) beginnings
   sequencing-step alone (who.Node node) id step e next = cc
-  sequencing-step alone (who.Sequence other home) id step e next =
+  sequencing-step alone (who.Sequence home other) id step e next =
       let same : other ≡ id = cc in
-      subst (λ (n : ℕ). IsSequencing begun finished ended (who.Sequence n home ∷ enders) (record old { steps = with_step id (Some step) old.steps }) beginnings) (sym same) (was (step_at old.steps id) refl next)
+      subst (λ (n : ℕ). IsSequencing begun finished ended (who.Sequence home n ∷ enders) (record old { steps = with_step id (Some step) old.steps }) beginnings) (sym same) (was (step_at old.steps id) refl next)
     where
-      was : (found : Option SeqStep) → step_at old.steps id ≡ found → option_and_then step_after found ≡ Some step → IsSequencing begun finished ended (who.Sequence id home ∷ enders) (record old { steps = with_step id (Some step) old.steps }) beginnings
+      was : (found : Option SeqStep) → step_at old.steps id ≡ found → option_and_then step_after found ≡ Some step → IsSequencing begun finished ended (who.Sequence home id ∷ enders) (record old { steps = with_step id (Some step) old.steps }) beginnings
       was None is e = cc
       was (Some before) is e =
           let b = started-within id before is in
@@ -162,10 +162,10 @@ module _ {begun : List Beginning} {finished : List Who} {ended : List Phase} {en
     itself-is : (n : ℕ) → (n == n) ≡ true
     itself-is n = grind (arith, nat_tests)
 
-    dead : live_by begun (who.Sequence id beginning.start.home ∷ finished) ended id ≡ false
+    dead : live_by begun (who.Sequence beginning.start.home id ∷ finished) ended id ≡ false
     dead = rw (found, itself-is id, itself-is beginning.start.home) refl
 
-    others-live : (other : ℕ) → (other == id) ≡ false → (one : Option Beginning) → option_map_or (lives_by (who.Sequence id beginning.start.home ∷ finished) ended other) one false ≡ option_map_or (lives_by finished ended other) one false
+    others-live : (other : ℕ) → (other == id) ≡ false → (one : Option Beginning) → option_map_or (lives_by (who.Sequence beginning.start.home id ∷ finished) ended other) one false ≡ option_map_or (lives_by finished ended other) one false
     others-live other e None = refl
     others-live other e (Some b) = rw e refl
 
@@ -173,28 +173,28 @@ module _ {begun : List Beginning} {finished : List Who} {ended : List Phase} {en
     none-there None step e = refl
     none-there (Some old) step e = e
 
-    pub sequencing-finished : IsSequencing begun (who.Sequence id beginning.start.home ∷ finished) ended enders (service.finished id old) beginnings
+    pub sequencing-finished : IsSequencing begun (who.Sequence beginning.start.home id ∷ finished) ended enders (service.finished id old) beginnings
     sequencing-finished = record {
       started = s.started;
       many = length-step id None old.steps ∙ s.many;
       are = s.are;
       steps = λ other. step-changed alone old.steps id None other ∙ changed other (other == id) refl;
       living = λ other. ap is_some (step-changed alone old.steps id None other) ∙ left other (other == id) refl;
-      finished_within = All-cons (λ (who : Who). number_of who ≤ length begun) (who.Sequence id beginning.start.home) finished (numbered-within begun id beginning found) s.finished_within;
+      finished_within = All-cons (λ (who : Who). number_of who ≤ length begun) (who.Sequence beginning.start.home id) finished (numbered-within begun id beginning found) s.finished_within;
       enders_within = s.enders_within;
       starters = s.starters;
     }
       where
-        changed : (other : ℕ) (same : Bool) → (other == id) ≡ same → (if same then option_and_then (λ _. None) (numbered old.steps other) else step_at old.steps other) ≡ step_by begun (who.Sequence id beginning.start.home ∷ finished) ended enders other
+        changed : (other : ℕ) (same : Bool) → (other == id) ≡ same → (if same then option_and_then (λ _. None) (numbered old.steps other) else step_at old.steps other) ≡ step_by begun (who.Sequence beginning.start.home id ∷ finished) ended enders other
         changed other true e =
             let is : id ≡ other = grind (arith, nat_tests) in
-            subst (λ (n : ℕ). option_and_then (λ _. None) (numbered old.steps n) ≡ step_by begun (who.Sequence id beginning.start.home ∷ finished) ended enders n) is (none-there (numbered old.steps id) None refl ∙ rw dead refl)
+            subst (λ (n : ℕ). option_and_then (λ _. None) (numbered old.steps n) ≡ step_by begun (who.Sequence beginning.start.home id ∷ finished) ended enders n) is (none-there (numbered old.steps id) None refl ∙ rw dead refl)
         changed other false e = s.steps other ∙ ap (λ (b : Bool). if b then slice_get all_steps (steps_ended enders other) else None) (sym (others-live other e (numbered begun other)))
 
-        left : (other : ℕ) (same : Bool) → (other == id) ≡ same → is_some {T = SeqStep} (if same then option_and_then (λ _. None) (numbered old.steps other) else step_at old.steps other) ≡ live_by begun (who.Sequence id beginning.start.home ∷ finished) ended other
+        left : (other : ℕ) (same : Bool) → (other == id) ≡ same → is_some {T = SeqStep} (if same then option_and_then (λ _. None) (numbered old.steps other) else step_at old.steps other) ≡ live_by begun (who.Sequence beginning.start.home id ∷ finished) ended other
         left other true e =
             let is : id ≡ other = grind (arith, nat_tests) in
-            subst (λ (n : ℕ). is_some {T = SeqStep} (option_and_then (λ _. None) (numbered old.steps n)) ≡ live_by begun (who.Sequence id beginning.start.home ∷ finished) ended n) is (ap (is_some {T = SeqStep}) (none-there (numbered old.steps id) None refl) ∙ sym dead)
+            subst (λ (n : ℕ). is_some {T = SeqStep} (option_and_then (λ _. None) (numbered old.steps n)) ≡ live_by begun (who.Sequence beginning.start.home id ∷ finished) ended n) is (ap (is_some {T = SeqStep}) (none-there (numbered old.steps id) None refl) ∙ sym dead)
         left other false e = s.living other ∙ sym (others-live other e (numbered begun other))
 
     runs-on : (a b : Bool) → a && not b ≡ true → b ≡ false
@@ -203,14 +203,14 @@ module _ {begun : List Beginning} {finished : List Who} {ended : List Phase} {en
     runs-on false b e = cc
 
     -- who started it is told, unless he has finished
-    pub starter-open : (starter : Who) → beginning.starter ≡ starter → is_told (service.finished id old).steps starter ≡ not (is_of_one (who.Sequence id beginning.start.home ∷ finished) (Object starter))
+    pub starter-open : (starter : Who) → beginning.starter ≡ starter → is_told (service.finished id old).steps starter ≡ not (is_of_one (who.Sequence beginning.start.home id ∷ finished) (Object starter))
     starter-open (who.Node node) is = refl
-    starter-open (who.Sequence parent home) is =
+    starter-open (who.Sequence home parent) is =
         let p = has-parent begun id beginning parent home s.starters found is in
         let other : (parent == id) ≡ false = grind (arith, nat_tests, p.before) in
         let same : step_at (with_step id None old.steps) parent ≡ step_at old.steps parent = rw other at (step-changed alone old.steps id None parent) in
         let goes : is_over_phase ended beginning.phase ≡ false = runs-on _ _ lives in
-        let lived : live_by begun finished ended parent ≡ not (list_any (same_who (who.Sequence parent home)) finished) = rw (p.found, p.home_is, p.phase_is, goes) (and-true _) in
+        let lived : live_by begun finished ended parent ≡ not (list_any (same_who (who.Sequence home parent)) finished) = rw (p.found, p.home_is, p.phase_is, goes) (and-true _) in
         ap is_some same ∙ s.living parent ∙ lived ∙ rw other refl
       where
         and-true : (b : Bool) → b && true ≡ b
@@ -220,11 +220,11 @@ module _ {begun : List Beginning} {finished : List Who} {ended : List Phase} {en
   -- one more is started
   pub sequencing-begun :
       (b : Beginning) (new : SequencesValue) → new.started ≡ b.start ∷ old.started → new.steps ≡ Some PreStart ∷ old.steps → is_over_phase ended b.phase ≡ false → IsStarter begun b.phase b.starter
-      → IsSequencing (b ∷ begun) finished ended enders new (beginnings ++ record { who = who.Sequence (suc (length begun)) b.start.home; starter = b.starter; phase = b.phase } ∷ [])
+      → IsSequencing (b ∷ begun) finished ended enders new (beginnings ++ record { who = who.Sequence b.start.home (suc (length begun)); starter = b.starter; phase = b.phase } ∷ [])
   sequencing-begun b new starts steps goes starter = record {
     started = starts ∙ ap (λ (l : List Start). b.start ∷ l) s.started;
     many = ap length steps ∙ ap suc s.many;
-    are = ap (λ (l : List kept.Beginning). l ++ record { who = who.Sequence (suc (length begun)) b.start.home; starter = b.starter; phase = b.phase } ∷ []) s.are;
+    are = ap (λ (l : List kept.Beginning). l ++ record { who = who.Sequence b.start.home (suc (length begun)); starter = b.starter; phase = b.phase } ∷ []) s.are;
     steps = λ id. ap (λ (l : List (Option SeqStep)). step_at l id) steps ∙ rw s.many (step id (id == suc (length begun)) refl);
     living = λ id. ap (λ (l : List (Option SeqStep)). is_some (step_at l id)) steps ∙ rw s.many (live id (id == suc (length begun)) refl);
     finished_within = All-weaker (λ (one : Who). number_of one ≤ length begun) (λ (one : Who). number_of one ≤ suc (length begun)) (λ one low. omega (arith, low)) finished s.finished_within;
@@ -232,16 +232,16 @@ module _ {begun : List Beginning} {finished : List Who} {ended : List Phase} {en
     starters = (starter, s.starters);
   }
     where
-      not-same : (id home : ℕ) (one : Who) → id ≡ suc (length begun) → number_of one ≤ length begun → same_who (who.Sequence id home) one ≡ false
+      not-same : (id home : ℕ) (one : Who) → id ≡ suc (length begun) → number_of one ≤ length begun → same_who (who.Sequence home id) one ≡ false
       not-same id home (who.Node node) is low = refl
-      not-same id home (who.Sequence other there) is low = let differs : (id == other) ≡ false = grind (arith, nat_tests, is, low) in rw differs refl
+      not-same id home (who.Sequence there other) is low = let differs : (id == other) ≡ false = grind (arith, nat_tests, is, low) in rw differs refl
 
       not-of : (id : ℕ) (one : Who) → id ≡ suc (length begun) → number_of one ≤ length begun → is_sequence id one ≡ false
       not-of id (who.Node node) is low = refl
-      not-of id (who.Sequence other there) is low = grind (arith, nat_tests, is, low)
+      not-of id (who.Sequence there other) is low = grind (arith, nat_tests, is, low)
 
-      unfinished : (id home : ℕ) → id ≡ suc (length begun) → list_any (same_who (who.Sequence id home)) finished ≡ false
-      unfinished id home is = list_any_none (same_who (who.Sequence id home)) finished (All-weaker (λ (one : Who). number_of one ≤ length begun) (λ (one : Who). same_who (who.Sequence id home) one ≡ false) (λ one low. not-same id home one is low) finished s.finished_within)
+      unfinished : (id home : ℕ) → id ≡ suc (length begun) → list_any (same_who (who.Sequence home id)) finished ≡ false
+      unfinished id home is = list_any_none (same_who (who.Sequence home id)) finished (All-weaker (λ (one : Who). number_of one ≤ length begun) (λ (one : Who). same_who (who.Sequence home id) one ≡ false) (λ one low. not-same id home one is low) finished s.finished_within)
 
       none-ended : (id : ℕ) (whos : List Who) → id ≡ suc (length begun) → All (λ who. number_of who ≤ length begun) whos → filter (is_sequence id) whos ≡ []
       none-ended id [] is all = refl

@@ -28,16 +28,16 @@ parent-placed x older id phase parent home (Some beginning) is e low =
 parent-more : (x : Beginning) (older : List Beginning) (id : ℕ) (phase : Option Phase) (parent home : ℕ) → HasParent older id phase parent home → HasParent (x ∷ older) id phase parent home
 parent-more x older id phase parent home h = record { beginning = h.beginning; found = numbered-more x older parent h.beginning h.found; home_is = h.home_is; phase_is = h.phase_is; before = h.before }
 
-pub has-parent : (begun : List Beginning) (id : ℕ) (beginning : Beginning) (parent home : ℕ) → AreStarters begun → numbered begun id ≡ Some beginning → beginning.starter ≡ who.Sequence parent home → HasParent begun id beginning.phase parent home
+pub has-parent : (begun : List Beginning) (id : ℕ) (beginning : Beginning) (parent home : ℕ) → AreStarters begun → numbered begun id ≡ Some beginning → beginning.starter ≡ who.Sequence home parent → HasParent begun id beginning.phase parent home
 has-parent [] id beginning parent home are e starts = cc
 has-parent (x ∷ older) id beginning parent home are e starts = tested (id == length (x ∷ older)) refl e (has-parent older id beginning parent home are.1)
   where
     tested :
-        (same : Bool) → (id == length (x ∷ older)) ≡ same → (if same then Some x else numbered older id) ≡ Some beginning → (numbered older id ≡ Some beginning → beginning.starter ≡ who.Sequence parent home → HasParent older id beginning.phase parent home)
+        (same : Bool) → (id == length (x ∷ older)) ≡ same → (if same then Some x else numbered older id) ≡ Some beginning → (numbered older id ≡ Some beginning → beginning.starter ≡ who.Sequence home parent → HasParent older id beginning.phase parent home)
         → HasParent (x ∷ older) id beginning.phase parent home
     tested true is found rest =
         let here : x ≡ beginning = cc in
-        let starter : x.starter ≡ who.Sequence parent home = ap (λ (b : Beginning). b.starter) here ∙ starts in
+        let starter : x.starter ≡ who.Sequence home parent = ap (λ (b : Beginning). b.starter) here ∙ starts in
         let placed : place_of (numbered older parent) ≡ Some (home, x.phase) = rw starter at are.0 in
         let low : length older < id = grind (arith, nat_tests) in
         subst (λ (b : Beginning). HasParent (x ∷ older) id b.phase parent home) here (parent-placed x older id x.phase parent home (numbered older parent) refl placed low)
@@ -60,7 +60,7 @@ get-end (y ∷ ys) x (suc n) e = get-end ys x n (omega arith)
 
 -- a sequence as it is kept
 abbrev pub kept_as : ℕ → Beginning → kept.Beginning
-kept_as id beginning = record { who = who.Sequence id beginning.start.home; starter = beginning.starter; phase = beginning.phase }
+kept_as id beginning = record { who = who.Sequence beginning.start.home id; starter = beginning.starter; phase = beginning.phase }
 
 pub kept-at : (begun : List Beginning) (id : ℕ) (beginning : Beginning) → numbered begun id ≡ Some beginning → beginning_at (kept_beginnings begun) id ≡ Some (kept_as id beginning)
 kept-at [] id beginning e = cc

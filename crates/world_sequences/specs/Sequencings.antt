@@ -31,7 +31,7 @@ enders_of history = flat_map enders_in history
 
 -- a sequence lives, and at which step it is, by those that have finished and ended a step, and the phases that have ended
 abbrev pub lives_by : List Who → List Phase → ℕ → Beginning → Bool
-lives_by finished ended id beginning = not (list_any (same_who (who.Sequence id beginning.start.home)) finished) && not (is_over_phase ended beginning.phase)
+lives_by finished ended id beginning = not (list_any (same_who (who.Sequence beginning.start.home id)) finished) && not (is_over_phase ended beginning.phase)
 
 abbrev pub live_by : List Beginning → List Who → List Phase → ℕ → Bool
 live_by begun finished ended id = option_map_or (lives_by finished ended id) (numbered begun id) false
@@ -45,12 +45,12 @@ step_by begun finished ended enders id = if live_by begun finished ended id then
 -- what is kept of each that was started, the oldest first
 abbrev pub kept_beginnings : List Beginning → List kept.Beginning
 kept_beginnings [] = []
-kept_beginnings (beginning ∷ older) = kept_beginnings older ++ record { who = who.Sequence (length (beginning ∷ older)) beginning.start.home; starter = beginning.starter; phase = beginning.phase } ∷ []
+kept_beginnings (beginning ∷ older) = kept_beginnings older ++ record { who = who.Sequence beginning.start.home (length (beginning ∷ older)); starter = beginning.starter; phase = beginning.phase } ∷ []
 
 -- who starts a sequence in a phase is a component, or a sequence that was started before, in the same phase
 abbrev pub IsStarter : List Beginning → Option Phase → Who → Type 0
 IsStarter older phase (who.Node node) = Unit {0}
-IsStarter older phase (who.Sequence id home) = place_of (numbered older id) ≡ Some (home, phase)
+IsStarter older phase (who.Sequence home id) = place_of (numbered older id) ≡ Some (home, phase)
 
 abbrev pub AreStarters : List Beginning → Type 0
 AreStarters [] = Unit {0}
@@ -74,7 +74,7 @@ is_in_phase phase (Some other) = same_phase other phase
 
 abbrev pub is_live_in : List (Option SeqStep) → Who → Bool
 is_live_in steps (who.Node node) = false
-is_live_in steps (who.Sequence id home) = is_some (step_at steps id)
+is_live_in steps (who.Sequence home id) = is_some (step_at steps id)
 
 -- and ends with it
 abbrev pub ends_with : List (Option SeqStep) → Phase → kept.Beginning → Bool
@@ -86,7 +86,7 @@ leaving_with steps phase beginnings = map (λ beginning. beginning.who) (filter 
 -- somebody ends, if it is a sequence
 abbrev pub finished_by : Who → SequencesValue → SequencesValue
 finished_by (who.Node node) sequences = sequences
-finished_by (who.Sequence id home) sequences = finished id sequences
+finished_by (who.Sequence home id) sequences = finished id sequences
 
 -- some sequences end, and no other
 pub record AreEnded (leaving : List Who) (old new : SequencesValue) : Type 0 where

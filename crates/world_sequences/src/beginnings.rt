@@ -62,12 +62,10 @@ pub fn path_below(path: &Path, names: &[Name], name: &Name) -> Result<Path, Path
 {
     let mut below = path.copy()?;
     for parent in names {
-        below = match below.child(parent) {
-            Ok(longer) => longer,
-            Err(fault) => return Err(fault),
-        };
+        below.push(parent)?;
     }
-    below.child(name)
+    below.push(name)?;
+    Ok(below)
 }
 
 /// Starts a sequence on a sequencer, as a child of its starter where that is a sequence, with the priority that it is given, else

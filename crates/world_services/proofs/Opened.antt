@@ -34,22 +34,22 @@ first-not false b e = refl
 
 found-open :
     (history : List Entry) (id home : ℕ) (found : Option Beginning) → option_map_or (lives history id) found false ≡ true → option_map (λ beginning. beginning.start.home) found ≡ Some home
-    → list_any (same_who (Sequence id home)) (finished_of history) ≡ false
+    → list_any (same_who (Sequence home id)) (finished_of history) ≡ false
 found-open history id home None lives e = cc
 found-open history id home (Some beginning) lives e =
     let same : beginning.start.home ≡ home = cc in
-    subst (λ (h : ℕ). list_any (same_who (Sequence id h)) (finished_of history) ≡ false) same (first-not _ _ lives)
+    subst (λ (h : ℕ). list_any (same_who (Sequence h id)) (finished_of history) ≡ false) same (first-not _ _ lives)
 
 -- who is there has not finished
 pub there-open : (history : List Entry) (who : Who) → IsThere history who → is_of_one (finished_of history) (Object who) ≡ false
 unfolding is_live
 there-open history (Node node) there = refl
-there-open history (Sequence id home) there = found-open history id home (numbered (begun_of history) id) there.lives there.home_is
+there-open history (Sequence home id) there = found-open history id home (numbered (begun_of history) id) there.lives there.home_is
 
 -- nor has a component
 pub component-open : (history : List Entry) (who : Who) → IsComponent (components_of history) who → is_of_one (finished_of history) (Object who) ≡ false
 component-open history (Node node) has = refl
-component-open history (Sequence id home) has = absurd has
+component-open history (Sequence home id) has = absurd has
 
 -- nor who performs an act, other than the script
 pub scene-open : {script : ScriptValue} {history : List Entry} {act : Act} {place : ℕ} {services : Services} → IsScene script history act place services → (act ≡ opening script → ⊥) → is_of_one (finished_of history) (Object services.answer.speaker) ≡ false

@@ -49,8 +49,8 @@ called-alike-in phase other node rest others call same is = is
 pub called-alike : (phase other : Phase) (history : List Entry) → is_runtime phase ≡ is_runtime other → called_of phase history ≡ called_of other history
 called-alike phase other [] same = refl
 called-alike phase other (Begin begun ∷ before) same = let rest = called-alike phase other before same in rw (rest, same) refl
-called-alike phase other (Heard hearer call None acts ∷ before) same = called-alike-in phase other (node_of hearer) (called_of phase before) (called_of other before) call same (called-alike phase other before same)
-called-alike phase other (Heard hearer call (Some origin) acts ∷ before) same = called-alike phase other before same
+called-alike phase other (Heard hearer None call acts ∷ before) same = called-alike-in phase other (node_of hearer) (called_of phase before) (called_of other before) call same (called-alike phase other before same)
+called-alike phase other (Heard hearer (Some origin) call acts ∷ before) same = called-alike phase other before same
 called-alike phase other (entry ∷ before) same = called-alike phase other before same
 
 -- which phases of a sort are in progress

@@ -50,7 +50,7 @@ CanMake act (Some home) services = CanBegin act home services
 -- who it is then, and the outcome
 abbrev pub who_made : Services → Option ℕ → Who
 who_made services None = who.Node (length services.tree.nodes)
-who_made services (Some home) = who.Sequence (suc (length services.sequences.started)) home
+who_made services (Some home) = who.Sequence home (suc (length services.sequences.started))
 
 abbrev pub outcome_made : Services → List ℕ → Option ℕ → Outcome
 outcome_made services type_name None = Made type_name

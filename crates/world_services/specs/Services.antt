@@ -50,7 +50,7 @@ pub record IsFactory (types : Types) (overrides : List Override) (kept : Kept) :
 
 -- the acts of the answer at a place, or the opening
 abbrev pub acts_in : Option Entry → List Act
-acts_in (Some (Heard performer call cause acts)) = acts
+acts_in (Some (Heard performer cause call acts)) = acts
 acts_in entry = []
 
 abbrev pub acts_at : Act → List Entry → Option ℕ → List Act

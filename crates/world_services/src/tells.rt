@@ -1,12 +1,13 @@
 //! Calls that the services have due, and the drains that begin and end with them.
 
-ghost use Rattle.std.specs.Prelude.{◌≡◌, ◌++◌, List, not, filter, OnOk, [], ◌∷◌, Some, ◌<◌, ◌≤◌, IsOk};
+ghost use Rattle.std.specs.Prelude.{◌≡◌, ◌++◌, List, not, filter, OnOk, [], ◌∷◌, Some, true, ◌<◌, ◌≤◌, IsOk};
 ghost use Rattle.std.specs.List.{flat_map};
 ghost use Rattle.std.specs.Option.{option_to_list};
 ghost use Rattle.uvm_phase.specs.Dues.{in_order};
 ghost use Rattle.bench_history.specs.Dues.{caused_at, drain_from, due_from, told_of};
 ghost use Rattle.bench_history.specs.Owners.{Event, is_drain_of};
 ghost use Rattle.uvm_acts.specs.declared.acts.Act.TheVariants.{Put, Take, Peek};
+ghost use Rattle.uvm_acts.specs.HeldCalls.{is_of_numbers};
 ghost use Rattle.uvm_phase.specs.declared.agendas.Due.{Due};
 ghost use Rattle.world_agenda.specs.Tellings.{living_numbered, is_told};
 
@@ -18,7 +19,7 @@ use uvm_objection::Due;
 use uvm_phase::Phase;
 use uvm_tlm::MoveKind;
 use uvm_tree::NodeId;
-use world_agenda::events::{add_event, caused_at, end_drain, tell_each};
+use world_agenda::events::{add_call, add_event, caused_at, end_drain, tell_each};
 
 /// Makes the end of a drain due that began in the objection of a phase, and takes that of one that ended there out of what is due. The place
 /// of the entry is the cause. Its error is want of memory.
@@ -88,7 +89,7 @@ pub fn tell(services: &mut Services, call: Call, time: u64, place: usize) -> Res
 }
 
 /// Makes a call of somebody due at a time, in ticks, in a phase; of none it makes nothing due. The place of the entry is its cause. Its
-/// error is want of memory. It does not come where the agenda has room.
+/// error is want of memory. It does not come where the agenda has room and the call has neither a name nor an item.
 pub fn tell_to(
     services: &mut Services,
     who: Who,
@@ -100,11 +101,10 @@ pub fn tell_to(
     ensures dues { OnOk result ((caused : List Event) → services.old.agenda.dues ≡ in_order caused →
         services.new.agenda.dues ≡ in_order (due_from (Some call) who phase time (caused_at place) ++ caused)) }
     ensures rest { services.new ≡ record services.old { agenda = services.new.agenda } }
-    ensures memory { 0 < services.old.agenda.spare → IsOk result }
+    ensures memory { 0 < services.old.agenda.spare → is_of_numbers call ≡ true → IsOk result }
 {
-    let owner = Owner::Object(who);
     let agenda = &mut services.agenda;
-    add_event(agenda, phase, time, caused_at(place), owner, Some(call))
+    add_call(agenda, phase, time, caused_at(place), who, call)
 }
 
 /// Makes calls due at once, each in its phase, but for those to sequences that live no longer. The place of the entry is their cause,

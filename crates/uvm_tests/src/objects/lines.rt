@@ -136,7 +136,7 @@ fn write_call(page: &mut Page, place: &Place, field: Name) -> Result<(), AllocEr
         home: place.home,
     };
     let call = Call::Config { field, value };
-    let heard = Entry::heard(page.alloc, who, call, None, Acts::new(page.alloc))?;
+    let heard = Entry::heard(page.alloc, who, &call, None, Acts::new(page.alloc))?;
     page.write(place, heard)
 }
 

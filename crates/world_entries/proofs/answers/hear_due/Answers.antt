@@ -23,7 +23,7 @@ pub returns : goal.returns
 returns c = λ call acts many script before coming known.
     let origin = c.args.origin in
     let m = rw (← c.pass_blocked.ensures.rest) at (known-better c.pass_blocked.new.self.contest c.pass_blocked.ensures.nodes c.pass_blocked.ensures.known known) in
-    let stays = c.wiring_stays.ensures script before (Heard c.args.who call (Some origin) acts) (rw coming.next (_, refl)) in
+    let stays = c.wiring_stays.ensures script before (Heard c.args.who (Some origin) call acts) (rw coming.next (_, refl)) in
     let d = c.due_calls_go_in_order.ensures script before c.args.who call origin coming.next in
     let first = ap (λ l. slice_get l 0) m.agenda.are ∙ d.first in
     let at-origin : d.event.cause ≡ origin.cause = ap (λ (one : Origin). one.cause) d.origin_is in

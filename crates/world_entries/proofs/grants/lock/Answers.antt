@@ -35,8 +35,8 @@ returns c = λ script before coming m.
     let phase = (rw c.as_slice.ensures.value at c.phase_at-phase.ensures) ∙ living-phase m id living in
     let unended = living-unended before id living.lives in
     let dues = rw (phase, m.time, ← coming.place_is) at (told.dues (filter (is_open (heard_of before) (ended_of before) (finished_of before)) (caused_of script before)) m.agenda.are) in
-    let events = events-told (λ phase. objections_of script phase before) (is_open (heard_of before) (ended_of before) (finished_of before)) (phase_begun before id) (now_of before) (caused_at (length before)) (Sequence id c.args.sequencer) call (caused_of script before) m.events in
-    let agenda = agenda-event (Object (Sequence id c.args.sequencer)) (Some call) (now_of before) (phase_begun before id) (caused_of script before) (heard_of before) (ended_of before) (finished_of before) _ _ _ unended (there-open before (Sequence id c.args.sequencer) living) m.agenda dues in
+    let events = events-told (λ phase. objections_of script phase before) (is_open (heard_of before) (ended_of before) (finished_of before)) (phase_begun before id) (now_of before) (caused_at (length before)) (Sequence c.args.sequencer id) call (caused_of script before) m.events in
+    let agenda = agenda-event (Object (Sequence c.args.sequencer id)) (Some call) (now_of before) (phase_begun before id) (caused_of script before) (heard_of before) (ended_of before) (finished_of before) _ _ _ unended (there-open before (Sequence c.args.sequencer id) living) m.agenda dues in
     let changes = rw told.rest at c.settle_at.ensures in
     let arbitrating = locked-kept m c.args.sequencer id c.settle_at.new.arbiters next living changes c.passed_at-passed.result c.learn.new.self (rw told.rest at c.passed_at-passed.ensures) (rw told.rest at c.learn.ensures.nodes) (rw told.rest at c.learn.ensures.known) in
     rw told.rest (search (rules, later))

@@ -1,6 +1,9 @@
+use Rattle.std.proofs.lemmas.Result.{err_from_is_err_and}
 use Rattle.world_sequences.proofs.Longer.{below-fails}
 use Rattle.world_sequences.proofs.beginnings.path_below.Goals as goal
 
-pub returns-in-Err-clause-err : goal.returns-in-Err-clause-err
-returns-in-Err-clause-err c =
-    below-fails c.args.path.now c.args.names.now c.loop-parent.parent-index c.parent-item.result c.args.name.now c.in-Err.fault c.loop-parent-test.true (rw (c.loop-parent.invariant, c.parent-item.is) at c.in-Err.ensures.err)
+pub returns-in_err-push-clause-err : goal.returns-in_err-push-clause-err
+returns-in_err-push-clause-err c =
+    let p = err_from_is_err_and c.from_residual-in_err-push.result c.from_residual-in_err-push.ensures.1 in
+    let fails = below-fails c.args.path.now c.args.names.now c.loop-parent.parent-index c.parent-item.result c.args.name.now c.in_err-push.field-0.0 c.loop-parent-test.true (rw (c.loop-parent.invariant, c.parent-item.is) at c.in_err-push.ensures.fault) in
+    rw (p.1, p.2) fails

@@ -154,7 +154,7 @@ invariant_of-self-in-Ok-Ask g c =
     let is = heard-is c.in-Ok-Ask.who c.in-Ok-Ask.call c.in-Ok.acts k.core c.next.new.self c.heard.new.self asks c.in_ok-heard-in-Ok-Ask.ensures.ok in
     let under = nodes-asked k.core.history (paths_in k.seats.taken) (paths_in c.hear-answer.new.seats.taken) c.hear-answer.ensures.paths (below c.hold.ensures m.view m.name m.says kernel k.seats.taken k.sequences.held refl kept) in (
       kept-heard c.hold.ensures m.view m.name m.says kernel c.heard.new.self (all_held c.hear-answer.new.seats.taken c.hear-answer.new.sequences.held) c.in-Ok-Ask.who c.in-Ok-Ask.call asks.origin c.in-Ok.acts asks.answers c.if-self.false is c.in-Ok.ensures.asked kept,
-      rw is (seated-later c.hold.ensures k.core.history (Heard c.in-Ok-Ask.who c.in-Ok-Ask.call asks.origin c.in-Ok.acts) (paths_in c.hear-answer.new.seats.taken) c.hear-answer.new.sequences.count c.hear-answer.new.sequences.held refl under
+      rw is (seated-later c.hold.ensures k.core.history (Heard c.in-Ok-Ask.who asks.origin c.in-Ok-Ask.call c.in-Ok.acts) (paths_in c.hear-answer.new.seats.taken) c.hear-answer.new.sequences.count c.hear-answer.new.sequences.held refl under
           (seated-asked k.core.history (paths_in k.seats.taken) (paths_in c.hear-answer.new.seats.taken) k.sequences.count c.hear-answer.new.sequences.count k.sequences.held c.hear-answer.new.sequences.held c.hear-answer.ensures.paths c.hear-answer.ensures.count c.hear-answer.ensures.keys c.self.invariant.1)),
     )
 

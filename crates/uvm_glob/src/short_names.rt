@@ -1,14 +1,14 @@
 //! Names of few bytes, held in little room.
 
-ghost use Rattle.std.specs.Prelude.{◌≡◌, ◌≤◌, length, take, IfSome, is_some, nat_le};
-ghost use Rattle.uvm_acts.specs.ShortNames.{most_short_bytes};
+ghost use Rattle.std.specs.Prelude.{◌≡◌, length, IfSome, is_some, nat_le};
+ghost use Rattle.uvm_glob.specs.Limits.{most_short_bytes};
 
+use crate::names::{Name, padded};
 use std::marker::Model;
-use uvm_glob::Name;
 
 /// A name of at most `MAX_LEN` bytes, held in as many and one. Contracts see its bytes.
 #[derive(Drop)]
-pub(crate) struct ShortName {
+pub struct ShortName {
     len: u8,
     // The bytes, and others after them.
     bytes: [u8; ShortName::MAX_LEN],
@@ -17,7 +17,7 @@ pub(crate) struct ShortName {
 impl Model for ShortName {
     ghost use Rattle.std.specs.Prelude.{◌≡◌, ◌≤◌, List, ℕ, length, take, None};
     ghost use Rattle.uvm_glob.specs.Names.{name_fault};
-    ghost use Rattle.uvm_acts.specs.ShortNames.{most_short_bytes};
+    ghost use Rattle.uvm_glob.specs.Limits.{most_short_bytes};
 
     ghost Value = { List ℕ };
 
@@ -28,10 +28,10 @@ impl Model for ShortName {
 
 impl ShortName {
     /// The most bytes of a name that is held so.
-    pub(crate) const MAX_LEN: usize = 15;
+    pub const MAX_LEN: usize = 13;
 
     /// The name, if it has few enough bytes.
-    pub(crate) fn new(name: &Name) -> Option<ShortName>
+    pub fn new(name: &Name) -> Option<ShortName>
         ensures some { is_some result ≡ nat_le (length name.now) most_short_bytes }
         ensures name { IfSome result (λ short. short ≡ name.now) }
     {
@@ -45,23 +45,20 @@ impl ShortName {
         })
     }
 
-    /// The name.
-    pub(crate) fn name(&self) -> Name
+    /// The same name. It takes no memory.
+    pub fn copy(&self) -> ShortName
         ensures { result ≡ self.now }
     {
-        let Ok(name) = Name::new(&self.bytes[..usize::from(self.len)]) else {
-            unreachable!()
-        };
-        name
+        ShortName {
+            len: self.len,
+            bytes: self.bytes,
+        }
     }
-}
 
-// The bytes, and zeros after them.
-fn padded(bytes: &[u8]) -> [u8; ShortName::MAX_LEN]
-    requires { length bytes.now ≤ most_short_bytes }
-    ensures { take (length bytes.now) result ≡ bytes.now }
-{
-    let mut held = [0; ShortName::MAX_LEN];
-    held[..bytes.len()].copy_from_slice(bytes);
-    held
+    /// The name.
+    pub fn name(&self) -> Name
+        ensures { result ≡ self.now }
+    {
+        Name::of_sound(&self.bytes[..usize::from(self.len)])
+    }
 }

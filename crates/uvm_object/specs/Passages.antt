@@ -1,0 +1,10 @@
+-- The passage that an entry holds.
+use Rattle.uvm_object.specs.declared.entries.Passage.{Passage}
+use Rattle.uvm_object.specs.declared.entries.CompactPassage.{CompactPassage}
+use Rattle.uvm_object.specs.declared.entries.CompactPassage.TheVariants.{Short, Whole}
+
+abbrev pub passage_of : CompactPassage → Passage
+passage_of (Short box) =
+    let p = box.value in
+    record { kind = p.kind; who = p.who; port = p.port; item = p.item; request = p.request; phase = p.phase }
+passage_of (Whole box) = box.value

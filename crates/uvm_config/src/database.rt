@@ -18,7 +18,6 @@ use uvm_glob::{Glob, Name, Path};
 /// The settings of fields for the paths that scopes match, as uvm_config_db holds them (IEEE 1800.2-2020, Annex C).
 /// Contracts see the precedence and the value of the setting that answers at each path and field, and how many settings
 /// were accepted.
-#[derive(Drop)]
 pub struct Settings {
     // The settings of each field that may answer.
     fields: HashMap<Name, FieldSettings>,
@@ -26,6 +25,17 @@ pub struct Settings {
     count: usize,
     // Where the lists take their memory.
     alloc: Global,
+}
+
+// (By hand, so that crates above prove no drop of what it holds.)
+impl Drop for Settings {
+    fn drop(self) {
+        let Settings {
+            fields: _,
+            count: _,
+            alloc: _,
+        } = self;
+    }
 }
 
 impl Model for Settings {

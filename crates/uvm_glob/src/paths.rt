@@ -105,7 +105,19 @@ impl Path {
         ensures fault { IfErr result (λ fault. path_fault (self.old ++ name.now ∷ []) ≡ refusal fault) }
         ensures err { OnErr result (self.new ≡ self.old) }
     {
-        self.extend(name.as_bytes())
+        self.extend(self.depth(), name.as_bytes())
+    }
+
+    /// Goes on with a name, as `push` does, where it is known how many names there are (`TooLong`, `TooDeep`, `Memory`). So nothing is
+    /// counted, and the time does not grow with the path. Where there is a fault the path stays as it was.
+    pub fn push_at(&mut self, depth: usize, name: &Name) -> Result<(), PathFault>
+        requires { depth ≡ length self.old }
+        ensures ok { OnOk result (self.new ≡ self.old ++ name.now ∷ []) }
+        ensures fits { OnOk result (path_fault (self.old ++ name.now ∷ []) ≡ None) }
+        ensures fault { IfErr result (λ fault. path_fault (self.old ++ name.now ∷ []) ≡ refusal fault) }
+        ensures err { OnErr result (self.new ≡ self.old) }
+    {
+        self.extend(depth, name.as_bytes())
     }
 
     /// Why there is no path of a child, if there is none (`TooLong`, `TooDeep`). Takes no memory.
@@ -182,15 +194,16 @@ impl Path {
         self.text.as_slice()
     }
 
-    // Goes on with the names of a text. Where there is a fault the path stays as it was.
-    fn extend(&mut self, back: &[u8]) -> Result<(), PathFault>
-        requires { path_fault (names_of back.now) ≡ None }
+    // Goes on with the names of a text, where the path has so many. Where there is a fault the path stays as it was.
+    fn extend(&mut self, depth: usize, back: &[u8]) -> Result<(), PathFault>
+        requires depth { depth ≡ length self.old }
+        requires back { path_fault (names_of back.now) ≡ None }
         ensures ok { OnOk result (self.new ≡ self.old ++ names_of back.now) }
         ensures fits { OnOk result (path_fault (self.old ++ names_of back.now) ≡ None) }
         ensures fault { IfErr result (λ fault. path_fault (self.old ++ names_of back.now) ≡ refusal fault) }
         ensures err { OnErr result (self.new ≡ self.old) }
     {
-        if let Some(fault) = size_fault(self.text.as_slice(), back) {
+        if let Some(fault) = size_fault_at(self.text.as_slice(), depth, back) {
             return Err(fault);
         }
         go_on(&mut self.text, back)?;
@@ -297,10 +310,21 @@ pub(crate) fn size_fault(front: &[u8], back: &[u8]) -> Option<PathFault>
     requires back_short { length back.now ≤ most_text_bytes }
     ensures { result ≡ size_fault (length (dotted front.now back.now)) (length (names_of front.now) + length (names_of back.now)) }
 {
+    size_fault_at(front, count_names(front), back)
+}
+
+// What keeps them from that, where it is known how many names the first has.
+fn size_fault_at(front: &[u8], depth: usize, back: &[u8]) -> Option<PathFault>
+    requires depth { depth ≡ length (names_of front.now) }
+    requires few { depth ≤ most_text_bytes + 1 }
+    requires front_short { length front.now ≤ most_text_bytes }
+    requires back_short { length back.now ≤ most_text_bytes }
+    ensures { result ≡ size_fault (length (dotted front.now back.now)) (length (names_of front.now) + length (names_of back.now)) }
+{
     let dot = usize::from(!front.is_empty() && !back.is_empty());
     if front.len() + dot + back.len() > Path::MAX_LEN {
         Some(PathFault::TooLong)
-    } else if count_names(front) + count_names(back) > Path::MAX_NAMES {
+    } else if depth + count_names(back) > Path::MAX_NAMES {
         Some(PathFault::TooDeep)
     } else {
         None

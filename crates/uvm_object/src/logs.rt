@@ -49,10 +49,19 @@ impl<T: Drop> From<AllocFailed<T>> for LogFault {
 
 /// The entries so far, up to a limit. Contracts see them with the newest first, so that what was before an entry is what stands
 /// after it in the list, and beside them the limit, and for how many more entries there is room.
-#[derive(Drop)]
 pub struct Log {
     entries: Vec<Entry>,
     limit: usize,
+}
+
+// (By hand, so that crates above prove no drop of what it holds.)
+impl Drop for Log {
+    fn drop(self) {
+        let Log {
+            entries: _,
+            limit: _,
+        } = self;
+    }
 }
 
 impl Model for Log {

@@ -66,12 +66,18 @@ impl<O, N> Due<O, N> {
 /// or those behind it; to take the first takes a constant time. To take out those of an owner takes a constant time where nothing
 /// is due to it, few looks where one call is, which was added last, and else the time of a look at all, as it takes to take out
 /// those of a phase.
-#[derive(Drop)]
 pub struct Agenda<O: Eq + Hash, N> {
     // In the order in which they come due.
     dues: VecDeque<Due<O, N>>,
     // How many of them are whose.
     owners: Owners<O>,
+}
+
+// (By hand, so that crates above prove no drop of what it holds.)
+impl<O: Eq + Hash + Drop, N: Drop> Drop for Agenda<O, N> {
+    fn drop(self) {
+        let Agenda { dues: _, owners: _ } = self;
+    }
 }
 
 impl<O: Eq + Hash, N> Model for Agenda<O, N> {

@@ -36,7 +36,6 @@ use uvm_tree::NodeId;
 /// priorities count, and a granted request is taken out at its place. A look at a request whose sequence may be blocked goes up
 /// that sequence's ancestors. The calls that end in `_behind` begin the look behind requests that are known to be of blocked
 /// sequences, as `passed` counts them. None but `request`, `lock` and `grab` takes memory.
-#[derive(Drop)]
 pub struct Sequencer {
     mode: Mode,
     port: Option<NodeId>,
@@ -44,6 +43,19 @@ pub struct Sequencer {
     queue: Queue,
     // There is room for each lock that waits.
     holders: Vec<SeqId>,
+}
+
+// (By hand, so that crates above prove no drop of what it holds.)
+impl Drop for Sequencer {
+    fn drop(self) {
+        let Sequencer {
+            mode: _,
+            port: _,
+            driver: _,
+            queue: _,
+            holders: _,
+        } = self;
+    }
 }
 
 impl Model for Sequencer {

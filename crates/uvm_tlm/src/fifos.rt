@@ -64,7 +64,6 @@ pub struct WaitingTake {
 /// call moves what is there to find room, the time of a call does not grow with what is there.
 ///
 /// Contracts see the size, the items, and what waits.
-#[derive(Drop)]
 pub struct Fifo {
     // 0 where there is no limit.
     size: u16,
@@ -72,6 +71,18 @@ pub struct Fifo {
     // There is room for their items.
     puts: VecDeque<WaitingPut>,
     takes: VecDeque<WaitingTake>,
+}
+
+// (By hand, so that crates above prove no drop of what it holds.)
+impl Drop for Fifo {
+    fn drop(self) {
+        let Fifo {
+            size: _,
+            items: _,
+            puts: _,
+            takes: _,
+        } = self;
+    }
 }
 
 impl Model for Fifo {

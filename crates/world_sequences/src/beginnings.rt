@@ -61,10 +61,13 @@ pub fn path_below(path: &Path, names: &[Name], name: &Name) -> Result<Path, Path
     ensures err { IfErr result (λ fault. MayFail (path_fault (path.now ++ names.now ++ name.now ∷ [])) fault) }
 {
     let mut below = path.copy()?;
+    // Counted along, so that no push counts the names before it.
+    let mut depth = path.depth();
     for parent in names {
-        below.push(parent)?;
+        below.push_at(depth, parent)?;
+        depth += 1;
     }
-    below.push(name)?;
+    below.push_at(depth, name)?;
     Ok(below)
 }
 

@@ -1,8 +1,8 @@
 use Rattle.uvm_glob.proofs.PathTexts.{names_of-name, fault-name}
 use Rattle.uvm_glob.proofs.paths.Path.push.Goals as goal
 
-pub extend-requires : goal.extend-requires
-extend-requires c =
+pub extend-requires-clause-back : goal.extend-requires-clause-back
+extend-requires-clause-back c =
     rw (c.as_bytes.ensures.value, names_of-name _ c.as_bytes.ensures.name) (fault-name _ c.as_bytes.ensures.name)
 
 pub returns-clause-ok : goal.returns-clause-ok

@@ -123,13 +123,13 @@ impl Deed {
             Act::SetDrain { ticks } => CompactAct::SetDrain { ticks },
             Act::Wait { ticks, tag } => CompactAct::Wait { tag, ticks },
             Act::Send { item } => CompactAct::Send(Rc::new(alloc, item)?),
-            act => return Deed::behind_pointer(alloc, act),
+            act => return Deed::named(alloc, act),
         };
         Ok(Deed { compact })
     }
 
-    // An act that is held by its name, or takes memory.
-    fn behind_pointer(alloc: Global, act: Act) -> Result<Deed, AllocError>
+    // An act with a name: in place where that is short and there is no item, else behind a pointer.
+    fn named(alloc: Global, act: Act) -> Result<Deed, AllocError>
         ensures { IfOk result (λ deed. deed ≡ act) }
     {
         if let Some(compact) = at_port(&act) {

@@ -206,13 +206,13 @@ impl HeldCall {
                 response: Some(item),
             } => CompactCall::Responded(Box::new(alloc, *item)?),
             Call::Held => CompactCall::Held,
-            _ => return HeldCall::behind_pointer(alloc, call),
+            _ => return HeldCall::named(alloc, call),
         };
         Ok(HeldCall { compact })
     }
 
-    // A call that is held by its name, or takes memory.
-    fn behind_pointer(alloc: Global, call: &Call) -> Result<HeldCall, AllocError>
+    // A call with a name: in place where that is short and there is no item, else behind a pointer.
+    fn named(alloc: Global, call: &Call) -> Result<HeldCall, AllocError>
         ensures { IfOk result (λ held. held ≡ call.now) }
     {
         if let Some(compact) = at_port(call) {

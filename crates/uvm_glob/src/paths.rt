@@ -98,18 +98,8 @@ impl Path {
         self.extended(name.as_bytes())
     }
 
-    /// Goes on with a name (`TooLong`, `TooDeep`, `Memory`). Where there is a fault the path stays as it was.
-    pub fn push(&mut self, name: &Name) -> Result<(), PathFault>
-        ensures ok { OnOk result (self.new ≡ self.old ++ name.now ∷ []) }
-        ensures fits { OnOk result (path_fault (self.old ++ name.now ∷ []) ≡ None) }
-        ensures fault { IfErr result (λ fault. path_fault (self.old ++ name.now ∷ []) ≡ refusal fault) }
-        ensures err { OnErr result (self.new ≡ self.old) }
-    {
-        self.extend(self.depth(), name.as_bytes())
-    }
-
-    /// Goes on with a name, as `push` does, where it is known how many names there are (`TooLong`, `TooDeep`, `Memory`). So nothing is
-    /// counted, and the time does not grow with the path. Where there is a fault the path stays as it was.
+    /// Goes on with a name, where it is known how many names there are (`TooLong`, `TooDeep`, `Memory`). So none is counted, and the
+    /// time does not grow with the path, but where it finds new room. Where there is a fault the path stays as it was.
     pub fn push_at(&mut self, depth: usize, name: &Name) -> Result<(), PathFault>
         requires { depth ≡ length self.old }
         ensures ok { OnOk result (self.new ≡ self.old ++ name.now ∷ []) }

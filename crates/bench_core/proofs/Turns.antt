@@ -16,7 +16,7 @@ pub told-there : AskedAreThere → (script : ScriptValue) (history : List Entry)
 told-there components script history Nothing told legal comes e = cc
 told-there components script history (Needed need) told legal comes e = let same : turn.TheVariants.Need ≡ told = cc in subst (λ t. AsksThere t history) same tt
 told-there components script history (Asked hearer call origin) told legal comes e =
-    let same : turn.TheVariants.Ask hearer call ≡ told = cc in
+    let same : turn.TheVariants.Ask hearer ≡ told = cc in
     subst (λ t. AsksThere t history) same (components script history hearer call origin legal.each comes)
 
 -- and so is who is asked now

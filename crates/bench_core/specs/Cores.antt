@@ -93,7 +93,7 @@ HasEntered old new = (entry : Entry) × IsNext old.script old.history entry × (
 -- what a turn is, by what comes next
 abbrev pub IsTurn : next.Next → turn.Turn → CoreValue → CoreValue → Type 0
 IsTurn (next.Exactly entry) result old new = (result ≡ turn.TheVariants.Moved) × (new ≡ core_after entry old)
-IsTurn (next.Answer hearer call origin) result old new = (result ≡ turn.TheVariants.Ask hearer call) × (new ≡ record old { standing = Asked hearer call origin })
+IsTurn (next.Answer hearer call origin) result old new = (result ≡ turn.TheVariants.Ask hearer) × (new ≡ record old { standing = Asked hearer call origin })
 IsTurn (next.Grant sequencer drawn chosen) result old new = (result ≡ turn.TheVariants.Moved) × (entry : Entry) × Allows (next.Grant sequencer drawn chosen) entry × (new ≡ core_after entry old)
 IsTurn (next.Need need made performer act) result old new = (result ≡ turn.TheVariants.Need) × (new ≡ record old { standing = Needed need })
 IsTurn next.Nothing result old new = (result ≡ turn.TheVariants.Over) × (new ≡ old)
@@ -114,7 +114,7 @@ abbrev pub IsNextTurn : Standing → Result turn.Turn CoreFault → CoreValue �
 IsNextTurn Nothing (Ok result) old new = (old.health ≡ Good) × IsTurn (next_of old.script old.history) result old new × HasRoom old
 IsNextTurn Nothing (Err fault) old new = IsRefusedTurn fault old new
 IsNextTurn (Needed need) result old new = (result ≡ Ok turn.TheVariants.Need) × (new ≡ old)
-IsNextTurn (Asked hearer call origin) result old new = (result ≡ Ok (turn.TheVariants.Ask hearer call)) × (new ≡ old)
+IsNextTurn (Asked hearer call origin) result old new = (result ≡ Ok (turn.TheVariants.Ask hearer)) × (new ≡ old)
 
 -- before that the next of them is told
 abbrev pub IsToldTurn : List Who → Result turn.Turn CoreFault → CoreValue → CoreValue → Type 0
@@ -132,7 +132,7 @@ IsUnmade script Failed = ⊥
 abbrev pub turn_of : Standing → Option turn.Turn
 turn_of Nothing = None
 turn_of (Needed need) = Some turn.TheVariants.Need
-turn_of (Asked hearer call origin) = Some (turn.TheVariants.Ask hearer call)
+turn_of (Asked hearer call origin) = Some (turn.TheVariants.Ask hearer)
 
 -- the turn that comes of the next entry: where something is asked for it is what stands
 abbrev pub turn_after : Progress → Standing → turn.Turn
@@ -166,19 +166,25 @@ IsDrawing stream drawn (Err fault) old new = new ≡ old
 -- something is asked: an object, or an answer
 abbrev pub IsRequest : turn.Turn → Type 0
 IsRequest turn.TheVariants.Need = Unit {0}
-IsRequest (turn.TheVariants.Ask hearer call) = Unit {0}
+IsRequest (turn.TheVariants.Ask hearer) = Unit {0}
 IsRequest result = ⊥
 
 -- who is called, if somebody is, is there: a component, or a sequence that lives
 abbrev pub AsksThere : turn.Turn → List Entry → Type 0
-AsksThere (turn.TheVariants.Ask hearer call) history = IsThere history hearer
+AsksThere (turn.TheVariants.Ask hearer) history = IsThere history hearer
 AsksThere result history = Unit {0}
 
 -- somebody is called
 abbrev pub IsAsk : Option turn.Turn → Type 0
-IsAsk (Some (turn.TheVariants.Ask hearer call)) = Unit {0}
+IsAsk (Some (turn.TheVariants.Ask hearer)) = Unit {0}
 IsAsk (Some other) = ⊥
 IsAsk None = ⊥
+
+-- the call that somebody is asked to answer
+abbrev pub call_of : Standing → Option Call
+call_of Nothing = None
+call_of (Needed need) = None
+call_of (Asked hearer call origin) = Some call
 
 -- the object that is needed
 abbrev pub need_of : Standing → Option Need

@@ -1,6 +1,6 @@
 //! The choice of the next entry.
 
-ghost use Rattle.std.specs.Prelude.{◌≡◌, true, [], ◌∷◌, Some, IfOk, if◌then◌else◌};
+ghost use Rattle.std.specs.Prelude.{◌≡◌, true, [], ◌∷◌, None, Some, IfOk, OnErr, if◌then◌else◌};
 ghost use Rattle.uvm_object.specs.declared.entries.Entry.TheVariants.{End};
 ghost use Rattle.bench_history.specs.Dues.{first_due};
 ghost use Rattle.bench_history.specs.Cases.{Exactly, by_call, origin_of, phase_to_begin, port_check, phase_end, time_passes};
@@ -15,7 +15,7 @@ use bench_history::{Owner, Stage};
 use bench_views::{lent, told, upcoming};
 use bench_world::World;
 use std::alloc::AllocError;
-use uvm_object::{Call, Fatal, HeldCall, Origin, Passage, Reason, Who};
+use uvm_object::{Call, Fatal, HeldCall, Origin, Reason, Who};
 use uvm_phase::{Due, Phase, Schedule};
 use uvm_tree::NodeId;
 use world_entries::marks::Mark;
@@ -30,18 +30,23 @@ pub(crate) enum Choice {
     /// An item is granted at a sequencer, and a word decides to which sequence, or none does.
     Grant(NodeId, bool),
     /// What somebody waits for at a FIFO comes to pass.
-    Pass(NodeId, Passage),
+    Pass,
     /// An act of the last answer, which has its entry at once or needs an object.
     Act,
-    /// The answer of somebody to a call.
-    Ask(Question),
+    /// The answer of somebody to a call, which the question says.
+    Ask,
 }
 
-// What comes next after the log of a world.
+// What comes next after the log of a world. Where it is the answer of somebody, the question is that.
 #[tactic(auto, unfolding(bench_history::specs::Limits::has_runtime, bench_history::specs::Next::next_of))]
-pub(crate) fn choose(world: &mut World) -> Result<Choice, AllocError>
-    requires { world.old.sound ≡ true }
-    ensures choice { IfOk result (IsChoice (next_of world.old.script world.old.history)) }
+pub(crate) fn choose(
+    world: &mut World,
+    question: &mut Option<Question>,
+) -> Result<Choice, AllocError>
+    requires sound { world.old.sound ≡ true }
+    requires unasked { question.old ≡ None }
+    ensures choice { IfOk result (IsChoice (next_of world.old.script world.old.history) question.new) }
+    ensures err { OnErr result (question.new ≡ None) }
     ensures unchanged { world.new ≡ world.old }
 {
     let stage = told::stage(world);
@@ -57,8 +62,8 @@ pub(crate) fn choose(world: &mut World) -> Result<Choice, AllocError>
     if let Some((sequencer, drawn)) = upcoming::next_served(world) {
         return Ok(Choice::Grant(sequencer, drawn));
     }
-    if let Some((fifo, passage)) = upcoming::next_passed(world) {
-        return Ok(Choice::Pass(fifo, passage));
+    if upcoming::is_passing(world) {
+        return Ok(Choice::Pass);
     }
     match told::acts_left(world) {
         0 => {}
@@ -69,22 +74,23 @@ pub(crate) fn choose(world: &mut World) -> Result<Choice, AllocError>
         _ => return Ok(Choice::Act),
     }
     if let Some(due) = upcoming::due_now(world) {
-        return Ok(happening(due));
+        return Ok(happening(due, question));
     }
     if let Some(phase) = next_begin(world.script().has_runtime(), stage) {
         return Ok(Choice::Enter(Mark::Begin(phase)));
     }
     if let Some((node, phase)) = upcoming::next_turn(world) {
-        return Ok(Choice::Ask(Question {
+        *question = Some(Question {
             who: Who::Node(node),
             call: Call::Phase(phase),
             origin: None,
-        }));
+        });
+        return Ok(Choice::Ask);
     }
-    Ok(Choice::Enter(match told::phase(world) {
-        Some(phase) => done(world, phase)?,
-        None => Mark::Over(Reason::Finished),
-    }))
+    match told::phase(world) {
+        Some(phase) => Ok(Choice::Enter(done(world, phase)?)),
+        None => Ok(Choice::Enter(Mark::Over(Reason::Finished))),
+    }
 }
 
 // The phase that begins next, if one does (Clause 9): the first, or that which follows the one that has ended. With run begins the first of
@@ -102,6 +108,7 @@ fn next_begin(has_runtime: bool, stage: Stage) -> Option<Phase>
 }
 
 // Where each component had its call: in connect the next unsound port is reported, and else the phase comes to its end.
+#[inline(never)]
 fn done(world: &mut World, phase: Phase) -> Result<Mark, AllocError>
     requires sound { world.old.sound ≡ true }
     requires at_check { phase ≡ Phase.Connect → is_at_check world.old.script world.old.history ≡ true }
@@ -117,8 +124,9 @@ fn done(world: &mut World, phase: Phase) -> Result<Mark, AllocError>
 }
 
 // The owner of an event hears its call, or its drain ends.
-fn happening(due: &Due<Owner, Option<HeldCall>>) -> Choice
-    ensures { IsChoice (by_call due.now.owner due.now.notice (origin_of due.now)) result }
+fn happening(due: &Due<Owner, Option<HeldCall>>, question: &mut Option<Question>) -> Choice
+    requires { question.old ≡ None }
+    ensures { IsChoice (by_call due.now.owner due.now.notice (origin_of due.now)) question.new result }
 {
     let who = due.owner.who();
     let origin = Origin {
@@ -126,11 +134,14 @@ fn happening(due: &Due<Owner, Option<HeldCall>>) -> Choice
         phase: due.phase,
     };
     match &due.notice {
-        Some(call) => Choice::Ask(Question {
-            who,
-            call: call.get(),
-            origin: Some(origin),
-        }),
+        Some(call) => {
+            *question = Some(Question {
+                who,
+                call: call.get(),
+                origin: Some(origin),
+            });
+            Choice::Ask
+        }
         None => Choice::Enter(Mark::Drained(who.node(), origin)),
     }
 }

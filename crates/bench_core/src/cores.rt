@@ -19,7 +19,7 @@ ghost use Rattle.uvm_report.specs.Changes.{Gives};
 ghost use Rattle.bench_history.specs.Next.{HasWord, next_of, made_in, declined_in, IsLegal};
 ghost use Rattle.bench_history.specs.Cases as comes;
 ghost use Rattle.bench_history.specs.Laws.{IsSomething};
-ghost use Rattle.bench_core.specs.Cores.{DrawsOne, HasEntered, IsDrawing, IsDrawn, IsNextTurn, IsToldTurn, IsTurn, drawn_by, word_in, IsUnmade, core_after, failed_from, is_sound, turn_of, need_of, answer_in, turn_after, IsAsk, AsksSomething, AsksThere, last_line, last_text};
+ghost use Rattle.bench_core.specs.Cores.{DrawsOne, HasEntered, IsDrawing, IsDrawn, IsNextTurn, IsToldTurn, IsTurn, drawn_by, word_in, IsUnmade, core_after, failed_from, is_sound, turn_of, need_of, answer_in, turn_after, call_of, IsAsk, AsksSomething, AsksThere, last_line, last_text};
 ghost use Rattle.bench_world.specs.Worlds.{broken, made_who};
 ghost use Rattle.bench_core.specs.Choices.{IsChoice};
 ghost use Rattle.bench_core.specs.Cores.{Nothing, IsRequest};
@@ -28,7 +28,7 @@ use crate::choices::{Choice, choose};
 use crate::faults::CoreFault;
 use bench_history::{Need, laws};
 use bench_script::Script;
-use bench_views::{lent, report_lines, told};
+use bench_views::{lent, report_lines, told, upcoming};
 use bench_world::World;
 use rand_core::Rng;
 use std::alloc::{AllocError, Global};
@@ -45,12 +45,10 @@ use uvm_tree::NodeId;
 pub enum Turn {
     /// An object is needed; `need` says which.
     Need,
-    /// Somebody is called.
+    /// Somebody is called; `call` says with what.
     Ask {
         /// Who is to answer: a component, or a sequence.
         who: Who,
-        /// What it is called with.
-        call: Call,
     },
     /// A sequence has ended (IEEE 1800.2-2020, Clause 14).
     Leave {
@@ -69,17 +67,6 @@ pub(crate) struct Question {
     pub(crate) who: Who,
     pub(crate) call: Call,
     pub(crate) origin: Option<Origin>,
-}
-
-impl Question {
-    fn turn(&self) -> Turn
-        ensures { result ≡ Turn.Ask self.now.who self.now.call }
-    {
-        Turn::Ask {
-            who: self.who,
-            call: self.call,
-        }
-    }
 }
 
 /// What came of the next entry.
@@ -171,8 +158,18 @@ impl Core {
     {
         match (self.world.need(), &self.question) {
             (Some(_), _) => Some(Turn::Need),
-            (None, Some(question)) => Some(question.turn()),
+            (None, Some(question)) => Some(Turn::Ask { who: question.who }),
             (None, None) => None,
+        }
+    }
+
+    /// The call that somebody is asked to answer, if somebody is. Takes no memory.
+    pub fn call(&self) -> Option<&Call>
+        ensures { option_copied result ≡ call_of self.now.standing }
+    {
+        match (self.world.need(), &self.question) {
+            (None, Some(question)) => Some(&question.call),
+            _ => None,
         }
     }
 
@@ -210,17 +207,22 @@ impl Core {
         ensures ok { OnOk result (IfSome (answer_in self.old.standing acts) (λ entry. self.new ≡ core_after entry self.old)) }
         ensures err { IfErr result (λ fault. (fault ≡ CoreFault.Memory) × (self.new ≡ failed_from Health.Broken self.old)) }
     {
-        let Some(Question { who, call, origin }) = self.question.take() else {
+        let Some(question) = &self.question else {
             unreachable!()
         };
-        self.health = Health::Broken;
-        match self.world.heard(who, &call, origin, acts) {
+        let entered = self
+            .world
+            .heard(question.who, &question.call, question.origin, acts);
+        self.question = None;
+        match entered {
             Ok(()) => {
                 self.told = 0;
-                self.health = Health::Good;
                 Ok(())
             }
-            Err(_) => Err(CoreFault::Memory),
+            Err(_) => {
+                self.health = Health::Broken;
+                Err(CoreFault::Memory)
+            }
         }
     }
 
@@ -459,7 +461,7 @@ impl Core {
         ensures lost { OnErr result (DrawsOne R.stream words.old words.new) }
     {
         self.health = Health::Broken;
-        let progress = match choose(&mut self.world)? {
+        let progress = match choose(&mut self.world, &mut self.question)? {
             Choice::Nothing => Progress::Over,
             Choice::Enter(mark) => {
                 self.world.enter(mark)?;
@@ -471,8 +473,8 @@ impl Core {
                 self.told = 0;
                 Progress::Moved
             }
-            Choice::Pass(fifo, passage) => {
-                self.world.passed(fifo, passage)?;
+            Choice::Pass => {
+                pass(&mut self.world)?;
                 self.told = 0;
                 Progress::Moved
             }
@@ -485,17 +487,34 @@ impl Core {
                     Progress::Moved
                 }
             }
-            Choice::Ask(question) => {
-                self.question = Some(question);
-                Progress::Asked
-            }
+            Choice::Ask => Progress::Asked,
         };
         self.health = Health::Good;
         Ok(progress)
     }
 }
 
+// What somebody waits for at a FIFO comes to pass.
+#[inline(never)]
+fn pass(world: &mut World) -> Result<(), AllocError>
+    requires sound { world.old.sound ≡ true }
+    requires room { length world.old.history < log_limit world.old.script }
+    requires next { IsChoice (next_of world.old.script world.old.history) None Choice.Pass }
+    ensures entered { OnOk result (HasEntered world.old world.new) }
+    ensures sound { OnOk result (world.new.sound ≡ true) }
+    ensures settled { OnOk result (world.new.waiting ≡ None) }
+    ensures err { OnErr result (world.new ≡ broken world.old) }
+{
+    // It is the first FIFO at which something can.
+    laws::passages_go_in_order();
+    let Some((fifo, passage)) = upcoming::next_passed(world) else {
+        unreachable!()
+    };
+    world.passed(fifo, passage)
+}
+
 // Grants an item at a sequencer, by a word where one decides.
+#[inline(never)]
 fn grant<R: Rng>(
     world: &mut World,
     sequencer: NodeId,
@@ -504,7 +523,7 @@ fn grant<R: Rng>(
 ) -> Result<(), AllocError>
     requires sound { world.old.sound ≡ true }
     requires room { length world.old.history < log_limit world.old.script }
-    requires next { IsChoice (next_of world.old.script world.old.history) (Choice.Grant sequencer drawn) }
+    requires next { IsChoice (next_of world.old.script world.old.history) None (Choice.Grant sequencer drawn) }
     ensures entered { OnOk result (HasEntered world.old world.new) }
     ensures sound { OnOk result (world.new.sound ≡ true) }
     ensures settled { OnOk result (world.new.waiting ≡ None) }

@@ -22,7 +22,7 @@ use Rattle.bench_core.specs.declared.cores.Health.{Health}
 use Rattle.bench_core.specs.declared.cores.Health.TheVariants.{Good}
 use Rattle.bench_core.specs.declared.faults.CoreFault.{CoreFault}
 use Rattle.bench_core.specs.declared.faults.CoreFault.TheVariants.{Memory, LogFull, Failed, NoTest}
-use Rattle.bench_core.specs.Cores.{CoreValue, IsTurn, IsNextTurn, IsRefusedTurn, IsToldTurn, IsAskedNext, core_after, answer_in, failed_from, need_of}
+use Rattle.bench_core.specs.Cores.{CoreValue, IsTurn, IsNextTurn, IsRefusedTurn, IsToldTurn, IsAskedNext, call_of, core_after, answer_in, failed_from, need_of}
 use Rattle.bench_kernel.specs.Kernels.{KernelValue}
 use Rattle.object_seats.specs.Asked.{IsAsked}
 use Rattle.bench_kernel.specs.Steps.{IsBack, IsReady, IsWaiting, IsMoved, IsRefusedStep, IsSameLog, WasGiven, unanswered_from}
@@ -155,29 +155,30 @@ pub record HasAsked (performer : Who) (call : Call) (old new : CoreValue) : Type
   pub answers : next_of old.script old.history ≡ next.Answer performer call origin
   pub nothing_needed : need_of old.standing ≡ None
 
+-- who is asked, and the call that stands
 ask-by : (comes : next.Next) (performer : Who) (call : Call) (old new : CoreValue) → next_of old.script old.history ≡ comes → old.standing ≡ Nothing
-    → IsTurn comes (turn.TheVariants.Ask performer call) old new → HasAsked performer call old new
-ask-by (next.Exactly entry) performer call old new comes none t = absurd (let e = t.0 in cc)
-ask-by (next.Answer other told origin) performer call old new comes none t =
+    → IsTurn comes (turn.TheVariants.Ask performer) old new → call_of new.standing ≡ Some call → HasAsked performer call old new
+ask-by (next.Exactly entry) performer call old new comes none t stands = absurd (let e = t.0 in cc)
+ask-by (next.Answer other told origin) performer call old new comes none t stands =
     let same_who : other ≡ performer = let e = t.0 in cc in
-    let same_call : told ≡ call = let e = t.0 in cc in
+    let same_call : told ≡ call = let e = rw t.1 at stands in cc in
     record {
       origin = origin;
       is = t.1 ∙ ap (λ w. record old { standing = Asked w told origin }) same_who ∙ ap (λ c. record old { standing = Asked performer c origin }) same_call;
       answers = comes ∙ ap (λ w. next.Answer w told origin) same_who ∙ ap (λ c. next.Answer performer c origin) same_call;
       nothing_needed = rw none refl;
     }
-ask-by (next.Grant sequencer drawn chosen) performer call old new comes none t = absurd (let e = t.0 in cc)
-ask-by (next.Need need made other act) performer call old new comes none t = absurd (let e = t.0 in cc)
-ask-by next.Nothing performer call old new comes none t = absurd (let e = t.0 in cc)
+ask-by (next.Grant sequencer drawn chosen) performer call old new comes none t stands = absurd (let e = t.0 in cc)
+ask-by (next.Need need made other act) performer call old new comes none t stands = absurd (let e = t.0 in cc)
+ask-by next.Nothing performer call old new comes none t stands = absurd (let e = t.0 in cc)
 
 ask-at : (standing : Standing) (performer : Who) (call : Call) (old new : CoreValue) → old.standing ≡ standing → IsAskedNext standing (next_of old.script old.history)
-    → IsNextTurn standing (Ok (turn.TheVariants.Ask performer call)) old new → HasAsked performer call old new
-ask-at Nothing performer call old new is comes t = ask-by (next_of old.script old.history) performer call old new refl is t.1
-ask-at (Needed need) performer call old new is comes t = absurd (let e = t.0 in cc)
-ask-at (Asked other told origin) performer call old new is comes t =
+    → IsNextTurn standing (Ok (turn.TheVariants.Ask performer)) old new → call_of new.standing ≡ Some call → HasAsked performer call old new
+ask-at Nothing performer call old new is comes t stands = ask-by (next_of old.script old.history) performer call old new refl is t.1 stands
+ask-at (Needed need) performer call old new is comes t stands = absurd (let e = t.0 in cc)
+ask-at (Asked other told origin) performer call old new is comes t stands =
     let same_who : other ≡ performer = let e = t.0 in cc in
-    let same_call : told ≡ call = let e = t.0 in cc in
+    let same_call : told ≡ call = let e = rw (t.1, is) at stands in cc in
     record {
       origin = origin;
       is =
@@ -188,8 +189,8 @@ ask-at (Asked other told origin) performer call old new is comes t =
     }
 
 pub ask-turn : (performer : Who) (call : Call) (old new : CoreValue) → IsAskedNext old.standing (next_of old.script old.history)
-    → IsNextTurn old.standing (Ok (turn.TheVariants.Ask performer call)) old new → HasAsked performer call old new
-ask-turn performer call old new comes t = ask-at old.standing performer call old new refl comes t
+    → IsNextTurn old.standing (Ok (turn.TheVariants.Ask performer)) old new → call_of new.standing ≡ Some call → HasAsked performer call old new
+ask-turn performer call old new comes t stands = ask-at old.standing performer call old new refl comes t stands
 
 -- for which there is room
 pub asked-room : (performer : Who) (call : Call) (old asking : CoreValue) → HasAsked performer call old asking → length asking.history < log_limit asking.script → length old.history < log_limit old.script

@@ -129,16 +129,13 @@ impl<O: UvmObject> Kernel<O> {
                 Ok(Step::Back { who, object })
             }
             Ok(Turn::Need) => Ok(Step::Need),
-            Ok(Turn::Ask { who, call }) => {
+            Ok(Turn::Ask { who }) => {
+                let Some(call) = self.core.call() else {
+                    unreachable!()
+                };
                 self.failed = true;
                 self.unknown = Some(who.copy());
-                let answer = hear(
-                    &mut self.seats,
-                    &mut self.sequences,
-                    &who,
-                    self.alloc,
-                    &call,
-                );
+                let answer = hear(&mut self.seats, &mut self.sequences, &who, self.alloc, call);
                 let Ok(acts) = answer else {
                     return Err(CoreFault::Memory);
                 };

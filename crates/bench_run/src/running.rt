@@ -203,7 +203,8 @@ fn why_over<O: UvmObject>(kernel: &Kernel<O>) -> Reason
     }
 }
 
-// Supplies the object that is needed, or declines where there is none of its type.
+// Supplies the object that is needed, or declines where there is none of its type. (Not inlined, so that no entry has room for objects.)
+#[inline(never)]
 fn fill<O: UvmObject, F: Fn(&Name) -> Result<Option<O>, AllocError>>(
     kernel: &mut Kernel<O>,
     make: &F,

@@ -2,8 +2,7 @@
 
 ghost use Rattle.std.specs.Prelude.{◌≡◌, IfSome, IsSome};
 
-use crate::benches::make_idle;
-use crate::objects::Idle;
+use bench_plays::{Idle, make_idle};
 use bench_run::{Ending, run_script};
 use bench_script::Script;
 use rand_pcg::Pcg32;

@@ -2,8 +2,8 @@
 
 ghost use Rattle.std.specs.Prelude.{◌≡◌, ◌≢◌, Err, IsSome};
 
-use crate::benches::make_idle;
 use crate::runs::script;
+use bench_plays::make_idle;
 use bench_run::{Ending, RunFault, Sink, run_script};
 use bench_script::Script;
 use rand_pcg::Pcg32;

@@ -1,6 +1,7 @@
 //! What may come to pass next in a world.
 
-ghost use Rattle.std.specs.Prelude.{◌≡◌, true, None, option_map};
+ghost use Rattle.std.specs.Prelude.{◌≡◌, true, None, IsSome, option_map};
+ghost use Rattle.std.specs.Bool.{OnTrue, OnFalse};
 ghost use Rattle.uvm_acts.specs.declared.acts.Call.TheVariants as call;
 ghost use Rattle.uvm_acts.specs.declared.acts.Who.TheVariants as who;
 ghost use Rattle.std.specs.Option.{option_copied};
@@ -42,6 +43,29 @@ pub fn next_passed(world: &World) -> Option<(NodeId, Passage)>
 {
     let services = world.services();
     first_passing(&services.stations, services.unsettled.as_slice())
+}
+
+/// Whether something passes next: something that waits at a FIFO can come to pass (Clause 12). For a sound world.
+pub fn is_passing(world: &World) -> bool
+    requires { world.now.sound ≡ true }
+    ensures some { OnTrue result (IsSome (next_passed world.now.history)) }
+    ensures none { OnFalse result (next_passed world.now.history ≡ None) }
+{
+    let services = world.services();
+    if services.unsettled.as_slice().is_empty() {
+        return false;
+    }
+    passes(world)
+}
+
+// Whether something passes next. (Not inlined, so that who asks has no room for a passage.)
+#[inline(never)]
+fn passes(world: &World) -> bool
+    requires { world.now.sound ≡ true }
+    ensures some { OnTrue result (IsSome (next_passed world.now.history)) }
+    ensures none { OnFalse result (next_passed world.now.history ≡ None) }
+{
+    next_passed(world).is_some()
 }
 
 /// The lock that leads, and whose it is: of the sequencers at which one does the first in path order (Clause 15). For a sound

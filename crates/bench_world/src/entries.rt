@@ -9,7 +9,7 @@ ghost use Rattle.bench_world.specs.Worlds.{IsGranted, MayEnter, MayGrant, world_
 use crate::worlds::World;
 use bench_history::laws;
 use std::alloc::AllocError;
-use uvm_object::{Acts, Call, Entry, Grant, LoggedGrant, LoggedPassage, Origin, Passage, Who};
+use uvm_object::{Acts, Call, Entry, Grant, LoggedPassage, Origin, Passage, Who};
 use uvm_tree::NodeId;
 use world_deeds::logs::push;
 use world_entries::marks::{self, Mark};
@@ -78,7 +78,7 @@ impl World {
         self.leaving.clear();
         let place = self.log.len();
         let id = grants::grant(&mut self.services, place, sequencer, word)?;
-        let grant = LoggedGrant::new(self.alloc, Grant { id, word })?;
+        let grant = Grant { id, word };
         push(&mut self.log, Entry::Granted { sequencer, grant })?;
         self.sound = true;
         Ok(())

@@ -100,7 +100,7 @@ fn run_objects<R: Rng, S: Sink>(
         trace,
         |type_name: &Name| -> Result<Option<BusObject>, AllocError>
             ensures { IfOk result (GivesNamed type_name.now) }
-        { Ok(BusObject::of_type(alloc, type_name)) },
+        { BusObject::of_type(alloc, type_name) },
         out,
     )
 }

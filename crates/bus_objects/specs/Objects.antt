@@ -22,19 +22,26 @@ use Rattle.bus_objects.specs.Spinner.{SpinnerSays, spinner_named, spinner_view}
 use Rattle.bus_objects.specs.declared.objects.BusObject.{BusObject}
 use Rattle.bus_objects.specs.declared.objects.BusObject.TheVariants.{BusAgent, BusDriver, BusEnv, BusMem, BusMemBad, BusMonitor, BusScoreboard, BusTest, Idle, Loud, Pulse, SeqBurst, SeqPair, SeqSmoke, Sleeper, SlowDriver, Spinner}
 
--- the new object of the type of this name, if it is that of a component of the bus
+-- the new object of the type of this name, if it is that of an object that keeps more than a count
+abbrev pub large_named : List ℕ → Option BusObject
+large_named name =
+    first_given (
+    option_map BusMem (bus_mem_named name)
+    ∷ option_map BusMemBad (bus_mem_bad_named name)
+    ∷ option_map BusScoreboard (bus_scoreboard_named name)
+    ∷ option_map Sleeper (sleeper_named name)
+    ∷ option_map SlowDriver (slow_driver_named name)
+    ∷ [])
+
+-- the new object of the type of this name, if it is that of a component of the bus that keeps nothing
 abbrev pub part_named : List ℕ → Option BusObject
 part_named name =
     first_given (
     option_map BusAgent (bus_agent_named name)
     ∷ option_map BusDriver (bus_driver_named name)
     ∷ option_map BusEnv (bus_env_named name)
-    ∷ option_map BusMem (bus_mem_named name)
-    ∷ option_map BusMemBad (bus_mem_bad_named name)
     ∷ option_map BusMonitor (bus_monitor_named name)
-    ∷ option_map BusScoreboard (bus_scoreboard_named name)
     ∷ option_map BusTest (bus_test_named name)
-    ∷ option_map SlowDriver (slow_driver_named name)
     ∷ [])
 
 -- the new object of the type of this name, if it is that of a sequence
@@ -46,18 +53,21 @@ sequence_named name =
     ∷ option_map SeqSmoke (seq_smoke_named name)
     ∷ [])
 
--- the new object of the type of this name, if the bench has the type
-abbrev pub object_named : List ℕ → Option BusObject
-object_named name =
+-- the new object of the type of this name, if it is that of an object that keeps a count at most
+abbrev pub small_named : List ℕ → Option BusObject
+small_named name =
     first_given (
     part_named name
     ∷ sequence_named name
     ∷ option_map Idle (idle_named name)
     ∷ option_map Loud (loud_named name)
     ∷ option_map Pulse (pulse_named name)
-    ∷ option_map Sleeper (sleeper_named name)
     ∷ option_map Spinner (spinner_named name)
     ∷ [])
+
+-- the new object of the type of this name, if the bench has the type
+abbrev pub object_named : List ℕ → Option BusObject
+object_named name = first_given (large_named name ∷ small_named name ∷ [])
 
 abbrev pub view_of : BusObject → View
 view_of (BusAgent bus_agent) = bus_agent_view bus_agent

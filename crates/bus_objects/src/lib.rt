@@ -1,6 +1,7 @@
 //! The objects of the bus bench: each in a file of its own, with what it says in a file of `specs/`.
 #![tactic(auto)]
 
+mod boxed;
 mod bus_agent;
 mod bus_driver;
 mod bus_env;
@@ -25,6 +26,7 @@ mod slow_driver;
 mod spinner;
 mod words;
 
+pub use boxed::Boxed;
 pub use bus_agent::BusAgent;
 pub use bus_driver::BusDriver;
 pub use bus_env::BusEnv;

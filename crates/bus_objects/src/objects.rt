@@ -1,7 +1,8 @@
 //! The objects of the bench, of whichever type.
 
-ghost use Rattle.std.specs.Prelude.{◌≡◌};
+ghost use Rattle.std.specs.Prelude.{◌≡◌, IfOk};
 
+use crate::boxed::Boxed;
 use crate::bus_agent::BusAgent;
 use crate::bus_driver::BusDriver;
 use crate::bus_env::BusEnv;
@@ -33,13 +34,13 @@ pub enum BusObject {
     /// Of the type `bus_env`.
     BusEnv(BusEnv),
     /// Of the type `bus_mem`.
-    BusMem(BusMem),
+    BusMem(Boxed<BusMem>),
     /// Of the type `bus_mem_bad`.
-    BusMemBad(BusMemBad),
+    BusMemBad(Boxed<BusMemBad>),
     /// Of the type `bus_monitor`.
     BusMonitor(BusMonitor),
     /// Of the type `bus_scoreboard`.
-    BusScoreboard(BusScoreboard),
+    BusScoreboard(Boxed<BusScoreboard>),
     /// Of the type `bus_test`.
     BusTest(BusTest),
     /// Of the type `idle`.
@@ -55,21 +56,54 @@ pub enum BusObject {
     /// Of the type `seq_smoke`.
     SeqSmoke(SeqSmoke),
     /// Of the type `sleeper`.
-    Sleeper(Sleeper),
+    Sleeper(Boxed<Sleeper>),
     /// Of the type `slow_driver`.
-    SlowDriver(SlowDriver),
+    SlowDriver(Boxed<SlowDriver>),
     /// Of the type `spinner`.
     Spinner(Spinner),
 }
 
 impl BusObject {
-    ghost use Rattle.bus_objects.specs.Objects.{object_named, part_named, sequence_named};
+    ghost use Rattle.bus_objects.specs.Objects.{large_named, object_named, part_named, sequence_named, small_named};
 
-    /// A new object of the type of this name, if the bench has the type. Takes no memory.
-    pub fn of_type(alloc: Global, type_name: &Name) -> Option<BusObject>
-        ensures { result ≡ object_named type_name.now }
+    /// A new object of the type of this name, if the bench has the type. The error is want of memory.
+    pub fn of_type(alloc: Global, type_name: &Name) -> Result<Option<BusObject>, AllocError>
+        ensures { IfOk result (λ object. object ≡ object_named type_name.now) }
     {
-        if let Some(part) = BusObject::part_of_type(alloc, type_name) {
+        if let Some(object) = BusObject::large_of_type(alloc, type_name)? {
+            return Ok(Some(object));
+        }
+        Ok(BusObject::small_of_type(type_name))
+    }
+
+    // A new object of the type of this name, if it is that of an object that keeps more than a count.
+    fn large_of_type(alloc: Global, type_name: &Name) -> Result<Option<BusObject>, AllocError>
+        ensures { IfOk result (λ object. object ≡ large_named type_name.now) }
+    {
+        if let Some(bus_mem) = BusMem::of_type(alloc, type_name) {
+            return Ok(Some(BusObject::BusMem(Boxed::new(alloc, bus_mem)?)));
+        }
+        if let Some(bus_mem_bad) = BusMemBad::of_type(alloc, type_name) {
+            return Ok(Some(BusObject::BusMemBad(Boxed::new(alloc, bus_mem_bad)?)));
+        }
+        if let Some(bus_scoreboard) = BusScoreboard::of_type(alloc, type_name) {
+            let bus_scoreboard = Boxed::new(alloc, bus_scoreboard)?;
+            return Ok(Some(BusObject::BusScoreboard(bus_scoreboard)));
+        }
+        if let Some(sleeper) = Sleeper::of_type(type_name) {
+            return Ok(Some(BusObject::Sleeper(Boxed::new(alloc, sleeper)?)));
+        }
+        if let Some(slow_driver) = SlowDriver::of_type(type_name) {
+            return Ok(Some(BusObject::SlowDriver(Boxed::new(alloc, slow_driver)?)));
+        }
+        Ok(None)
+    }
+
+    // A new object of the type of this name, if it is that of an object that keeps a count at most.
+    fn small_of_type(type_name: &Name) -> Option<BusObject>
+        ensures { result ≡ small_named type_name.now }
+    {
+        if let Some(part) = BusObject::part_of_type(type_name) {
             return Some(part);
         }
         if let Some(sequence) = BusObject::sequence_of_type(type_name) {
@@ -84,14 +118,11 @@ impl BusObject {
         if let Some(pulse) = Pulse::of_type(type_name) {
             return Some(BusObject::Pulse(pulse));
         }
-        if let Some(sleeper) = Sleeper::of_type(type_name) {
-            return Some(BusObject::Sleeper(sleeper));
-        }
         Spinner::of_type(type_name).map(BusObject::Spinner)
     }
 
-    // A new object of the type of this name, if it is that of a component of the bus.
-    fn part_of_type(alloc: Global, type_name: &Name) -> Option<BusObject>
+    // A new object of the type of this name, if it is that of a component of the bus that keeps nothing.
+    fn part_of_type(type_name: &Name) -> Option<BusObject>
         ensures { result ≡ part_named type_name.now }
     {
         if let Some(bus_agent) = BusAgent::of_type(type_name) {
@@ -103,22 +134,10 @@ impl BusObject {
         if let Some(bus_env) = BusEnv::of_type(type_name) {
             return Some(BusObject::BusEnv(bus_env));
         }
-        if let Some(bus_mem) = BusMem::of_type(alloc, type_name) {
-            return Some(BusObject::BusMem(bus_mem));
-        }
-        if let Some(bus_mem_bad) = BusMemBad::of_type(alloc, type_name) {
-            return Some(BusObject::BusMemBad(bus_mem_bad));
-        }
         if let Some(bus_monitor) = BusMonitor::of_type(type_name) {
             return Some(BusObject::BusMonitor(bus_monitor));
         }
-        if let Some(bus_scoreboard) = BusScoreboard::of_type(alloc, type_name) {
-            return Some(BusObject::BusScoreboard(bus_scoreboard));
-        }
-        if let Some(bus_test) = BusTest::of_type(type_name) {
-            return Some(BusObject::BusTest(bus_test));
-        }
-        SlowDriver::of_type(type_name).map(BusObject::SlowDriver)
+        BusTest::of_type(type_name).map(BusObject::BusTest)
     }
 
     // A new object of the type of this name, if it is that of a sequence.

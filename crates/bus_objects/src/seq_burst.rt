@@ -24,7 +24,7 @@ const ITEMS: [Item; 4] = [
 pub struct SeqBurst {
     type_name: Name,
     // How many items it has sent.
-    sent: usize,
+    sent: u8,
 }
 
 impl SeqBurst {
@@ -65,13 +65,13 @@ impl UvmObject for SeqBurst {
             Call::Body => acts.push(Act::Lock)?,
             Call::Held => acts.request(None)?,
             Call::Grant => {
-                if let Some(item) = ITEMS.get(self.sent) {
+                if let Some(item) = ITEMS.get(usize::from(self.sent)) {
                     acts.send(*item)?;
                     self.sent += 1;
                 }
             }
             Call::ItemDone { .. } => {
-                if self.sent < ITEMS.len() {
+                if usize::from(self.sent) < ITEMS.len() {
                     acts.request(None)?;
                 } else {
                     acts.push(Act::Unlock)?;

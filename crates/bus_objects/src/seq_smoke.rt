@@ -18,7 +18,7 @@ const ITEMS: [Item; 2] = [Item([1, 0, 10, 0]), Item([0, 0, 0, 0])];
 pub struct SeqSmoke {
     type_name: Name,
     // How many items it has sent.
-    sent: usize,
+    sent: u8,
 }
 
 impl SeqSmoke {
@@ -58,13 +58,13 @@ impl UvmObject for SeqSmoke {
             Call::PreStart | Call::PostStart => acts.end_step()?,
             Call::Body => acts.request(None)?,
             Call::Grant => {
-                if let Some(item) = ITEMS.get(self.sent) {
+                if let Some(item) = ITEMS.get(usize::from(self.sent)) {
                     acts.send(*item)?;
                     self.sent += 1;
                 }
             }
             Call::ItemDone { .. } => {
-                if self.sent < ITEMS.len() {
+                if usize::from(self.sent) < ITEMS.len() {
                     acts.request(None)?;
                 } else {
                     acts.end_step()?;

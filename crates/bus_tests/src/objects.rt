@@ -28,9 +28,12 @@ fn says(alloc: Global, type_name: &str, text: &str) -> bool {
 
 // A new object of a type, which has the name of the type.
 fn object_of(alloc: Global, type_name: &str) -> Option<BusObject> {
-    match Name::new(type_name.as_bytes()) {
-        Ok(name) => BusObject::of_type(alloc, &name).filter(|object| *object.type_name() == name),
-        Err(_) => None,
+    let name = Name::new(type_name.as_bytes()).ok()?;
+    let object = BusObject::of_type(alloc, &name).ok()??;
+    if *object.type_name() == name {
+        Some(object)
+    } else {
+        None
     }
 }
 

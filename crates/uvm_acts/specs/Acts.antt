@@ -3,7 +3,7 @@ use Rattle.std.specs.Prelude.{ℕ, Bool, true, false, List, [], ◌∷◌}
 use Rattle.uvm_acts.specs.declared.acts.Act.{Act}
 use Rattle.uvm_acts.specs.declared.acts.Act.TheVariants.{Ask, ItemDone, Start, Request, Lock, Grab, Unlock, Send, EndStep}
 use Rattle.uvm_acts.specs.declared.deeds.Deeds.{Deeds}
-use Rattle.uvm_acts.specs.declared.deeds.Deeds.TheVariants.{None, One, Many}
+use Rattle.uvm_acts.specs.declared.deeds.Deeds.TheVariants.{None, One, Two, Many}
 use Rattle.uvm_acts.specs.declared.acts.Who.{Who}
 use Rattle.uvm_acts.specs.declared.acts.Who.TheVariants.{Node, Sequence}
 
@@ -16,6 +16,7 @@ node_of (Sequence home id) = home
 abbrev pub acts_of : Deeds → List Act
 acts_of None = []
 acts_of (One deed) = deed ∷ []
+acts_of (Two deeds) = deeds.value
 acts_of (Many deeds) = deeds.value.items
 
 -- it has to do with sequences and the sequencer: the driver's acts, those of a sequence, and the start of one

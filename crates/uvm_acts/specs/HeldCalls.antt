@@ -3,7 +3,7 @@ use Rattle.std.specs.Prelude.{Bool, true, false, Some, None}
 use Rattle.uvm_acts.specs.declared.acts.Call.{Call}
 use Rattle.uvm_acts.specs.declared.acts.Call.TheVariants as call
 use Rattle.uvm_acts.specs.declared.held_calls.CompactCall.{CompactCall}
-use Rattle.uvm_acts.specs.declared.held_calls.CompactCall.TheVariants.{Phase, Wake, PreStart, Body, PostStart, Grant, Done, Responded, Held, Stored, TryStored, NoneTaken, NoItem, AtPort, Whole}
+use Rattle.uvm_acts.specs.declared.held_calls.CompactCall.TheVariants.{Phase, Wake, PreStart, Body, PostStart, Grant, Done, Responded, Held, Stored, TryStored, NoneTaken, NoItem, AtPort, Finished, Whole}
 
 abbrev pub held_call : CompactCall → Call
 held_call (Phase phase) = call.Phase phase
@@ -20,6 +20,7 @@ held_call (TryStored stored port) = call.TryStored port stored
 held_call (NoneTaken port) = call.TryTaken port None
 held_call (NoItem port) = call.NextItem port None
 held_call (AtPort box) = box.value
+held_call (Finished box) = call.Finished box.value.name box.value.id
 held_call (Whole box) = box.value
 
 -- it has neither a name nor an item, and stands in place

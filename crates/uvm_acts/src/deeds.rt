@@ -294,13 +294,15 @@ impl LentAct<'_> {
     }
 }
 
-// Most answers have one act, for which no list is made.
+// Most answers have one act or two, for which no list is made.
 #[derive(Drop)]
 enum Deeds {
     /// No act.
     None,
     /// One act.
     One(Deed),
+    /// Two acts, in order.
+    Two(Box<[Deed; 2]>),
     /// Any number of acts, in order.
     Many(Box<Vec<Deed>>),
 }
@@ -347,8 +349,12 @@ impl Acts {
         match &mut self.deeds {
             Deeds::None => self.deeds = Deeds::One(deed),
             Deeds::One(first) => {
-                let both = two(self.alloc, first.share()?, deed)?;
-                self.deeds = Deeds::Many(both);
+                let both = Box::new(self.alloc, [first.share()?, deed])?;
+                self.deeds = Deeds::Two(both);
+            }
+            Deeds::Two(both) => {
+                let all = three(self.alloc, both, deed)?;
+                self.deeds = Deeds::Many(all);
             }
             Deeds::Many(all) => all.push(deed)?,
         }
@@ -371,6 +377,7 @@ impl Acts {
         match &self.deeds {
             Deeds::None => 0,
             Deeds::One(_) => 1,
+            Deeds::Two(both) => both.as_slice().len(),
             Deeds::Many(all) => all.len(),
         }
     }
@@ -398,6 +405,7 @@ impl Acts {
     {
         match &self.deeds {
             Deeds::One(deed) if place == 0 => Some(deed),
+            Deeds::Two(both) => both.get(place),
             Deeds::Many(all) => all.get(place),
             _ => None,
         }
@@ -411,6 +419,7 @@ impl Acts {
             left: match &self.deeds {
                 Deeds::None => &[],
                 Deeds::One(deed) => slice::from_ref(deed),
+                Deeds::Two(both) => both.as_slice(),
                 Deeds::Many(all) => all.as_slice(),
             },
         }
@@ -482,11 +491,14 @@ impl<'a> IntoIterator for &'a Acts {
     }
 }
 
-fn two(alloc: Global, first: Deed, second: Deed) -> Result<Box<Vec<Deed>>, AllocError>
-    ensures { IfOk result (λ deeds. deeds.value.items ≡ first ∷ second ∷ []) }
+// Two acts and one more.
+fn three(alloc: Global, both: &[Deed; 2], third: Deed) -> Result<Box<Vec<Deed>>, AllocError>
+    ensures { IfOk result (λ deeds. deeds.value.items ≡ both.now ++ third ∷ []) }
 {
-    let mut deeds = Vec::with_capacity(alloc, 2)?;
-    deeds.push(first)?;
-    deeds.push(second)?;
+    let [first, second] = both;
+    let mut deeds = Vec::with_capacity(alloc, 3)?;
+    deeds.push(first.share()?)?;
+    deeds.push(second.share()?)?;
+    deeds.push(third)?;
     Ok(Box::new(alloc, deeds)?)
 }

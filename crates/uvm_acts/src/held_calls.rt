@@ -1,6 +1,7 @@
 //! Calls, held in little room.
 
 ghost use Rattle.std.specs.Prelude.{◌≡◌, true, IfOk, IfSome, IsOk};
+ghost use Rattle.uvm_acts.specs.declared.acts.Call.TheVariants.{Finished};
 ghost use Rattle.uvm_acts.specs.HeldCalls.{held_call, is_of_numbers};
 ghost use Rattle.uvm_acts.specs.PortCalls.{call_at};
 
@@ -9,6 +10,7 @@ use std::alloc::{AllocError, Global};
 use std::marker::Model;
 use uvm_glob::{Name, ShortName};
 use uvm_phase::Phase;
+use uvm_sequences::SeqId;
 use uvm_tlm::Item;
 
 // What is told of an item through a port.
@@ -77,6 +79,13 @@ impl PortCall {
     }
 }
 
+// The call that a sequence of a short name has finished.
+#[derive(Drop)]
+struct Finish {
+    name: ShortName,
+    id: SeqId,
+}
+
 // The port of a call with an item through one, what is told of the item, and the item.
 fn parts(call: &Call) -> Option<(&Name, PortNews, Item)>
     ensures { IfSome result (λ parts. call_at parts.0.now parts.1 parts.2 ≡ call.now) }
@@ -117,6 +126,19 @@ fn at_port(call: &Call) -> Option<CompactCall>
         },
         _ => return None,
     })
+}
+
+// That a sequence of a short name has finished.
+fn finish_of(call: &Call) -> Option<Finish>
+    ensures { IfSome result (λ finish. call.now ≡ Finished finish.name finish.id) }
+{
+    match call {
+        Call::Finished { name, id } => Some(Finish {
+            name: ShortName::new(name)?,
+            id: *id,
+        }),
+        _ => None,
+    }
 }
 
 // A call in two words: one with an item or with a long name stands behind a pointer.
@@ -163,6 +185,8 @@ enum CompactCall {
     },
     /// A call with an item through a port of a short name.
     AtPort(Box<PortCall>),
+    /// `Call::Finished` of a sequence of a short name.
+    Finished(Box<Finish>),
     /// Any call.
     Whole(Box<Call>),
 }
@@ -218,8 +242,13 @@ impl HeldCall {
         if let Some(compact) = at_port(call) {
             return Ok(HeldCall { compact });
         }
-        let compact = match PortCall::new(call) {
-            Some(port_call) => CompactCall::AtPort(Box::new(alloc, port_call)?),
+        if let Some(port_call) = PortCall::new(call) {
+            return Ok(HeldCall {
+                compact: CompactCall::AtPort(Box::new(alloc, port_call)?),
+            });
+        }
+        let compact = match finish_of(call) {
+            Some(finish) => CompactCall::Finished(Box::new(alloc, finish)?),
             None => CompactCall::Whole(Box::new(alloc, *call)?),
         };
         Ok(HeldCall { compact })
@@ -255,6 +284,10 @@ impl HeldCall {
                 item: None,
             },
             CompactCall::AtPort(port_call) => port_call.call(),
+            CompactCall::Finished(finish) => Call::Finished {
+                name: finish.name.name(),
+                id: finish.id,
+            },
             CompactCall::Whole(call) => **call,
         }
     }

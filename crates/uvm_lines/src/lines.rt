@@ -86,7 +86,7 @@ fn push_entry(
         }
         Entry::Locked { sequencer, id } => push_locked(*sequencer, *id, tree, sequences, line),
         Entry::Granted { sequencer, grant } => {
-            push_granted(*sequencer, grant.get(), tree, sequences, line)
+            push_granted(*sequencer, grant, tree, sequences, line)
         }
         Entry::Passed { fifo, passage } => {
             push_passage(*fifo, &passage.get(), tree, sequences, line)

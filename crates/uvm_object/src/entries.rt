@@ -402,44 +402,6 @@ pub struct Grant {
     pub word: Option<u64>,
 }
 
-/// The grant of an entry. Contracts see the grant.
-pub struct LoggedGrant {
-    grant: Box<Grant>,
-}
-
-// (By hand, so that crates above prove no drop of what it holds.)
-impl Drop for LoggedGrant {
-    fn drop(self) {
-        let LoggedGrant { grant: _ } = self;
-    }
-}
-
-impl Model for LoggedGrant {
-    ghost use Rattle.uvm_object.specs.declared.entries.Grant.{Grant};
-
-    ghost Value = { Grant };
-
-    ghost view = { λ l. l.grant.value };
-}
-
-impl LoggedGrant {
-    /// A grant, to be logged. The error is want of memory.
-    pub fn new(alloc: Global, grant: Grant) -> Result<LoggedGrant, AllocError>
-        ensures { IfOk result (λ logged. logged ≡ grant) }
-    {
-        Ok(LoggedGrant {
-            grant: Box::new(alloc, grant)?,
-        })
-    }
-
-    /// The grant.
-    pub fn get(&self) -> &Grant
-        ensures { result.now ≡ self.now }
-    {
-        &self.grant
-    }
-}
-
 /// An entry of the log. Its place is the number of the entries before it.
 #[derive(Drop)]
 pub enum Entry {
@@ -481,7 +443,7 @@ pub enum Entry {
         /// The sequencer.
         sequencer: NodeId,
         /// Which, and how it was chosen.
-        grant: LoggedGrant,
+        grant: Grant,
     },
     /// An item went into a FIFO or out of it, or was shown: what somebody had asked for came to pass (Clause 12).
     Passed {

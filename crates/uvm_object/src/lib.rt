@@ -7,8 +7,7 @@ mod logs;
 mod objects;
 
 pub use entries::{
-    Entry, Grant, LoggedGrant, LoggedOrigin, LoggedOutcome, LoggedPassage, Origin, Outcome,
-    Passage, Reason,
+    Entry, Grant, LoggedOrigin, LoggedOutcome, LoggedPassage, Origin, Outcome, Passage, Reason,
 };
 pub use fatals::Fatal;
 pub use logs::{Log, LogFault};

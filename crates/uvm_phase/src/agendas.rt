@@ -64,12 +64,12 @@ impl<O, N> Due<O, N> {
 /// by its number, and where these are equal in the order in which they were added. Contracts see them in this order, and
 /// beside them for how many more there is room. To add one takes few looks, as in a binary search, and moves those in front of it
 /// or those behind it; to take the first takes a constant time. To take out those of an owner takes a constant time where nothing
-/// is due to it, few looks where one call is, which was added last, and else the time of a look at all, as it takes to take out
-/// those of a phase.
+/// is due to it, few looks where one call is, which was added last, and else the time of a look at all, as it takes at the first time,
+/// and to take out those of a phase.
 pub struct Agenda<O: Eq + Hash, N> {
     // In the order in which they come due.
     dues: VecDeque<Due<O, N>>,
-    // How many of them are whose.
+    // How many of them are whose, from the first `cancel` on, and from the first after each `clear`.
     owners: Owners<O>,
 }
 
@@ -177,7 +177,7 @@ impl<O: Copy + Eq + Hash + Drop, N: Drop> Agenda<O, N> {
         ensures capacity { capacity_of self.new ≡ capacity_of self.old }
     {
         take_out_phase(&mut self.dues, phase);
-        self.owners.count_anew(&self.dues);
+        self.owners.forget();
     }
 
     /// How many calls are due. None comes due before one that stands in front of it.
@@ -198,7 +198,8 @@ impl<O: Copy + Eq + Hash + Drop, N: Drop> Agenda<O, N> {
     /// Takes out the calls of an owner. Takes no memory, and leaves room for as many. Where nothing is due to the owner it takes a
     /// constant time. Where one call is, which was added last, it takes few looks, as in a binary search, and moves those in front
     /// of it or those behind it. Else it takes the time of a look at all: where several are due, where the one is not that which was
-    /// added last, and where calls were added without `reserve` for more owners than there was room for.
+    /// added last, where nothing was cancelled yet since the agenda is new or a phase was cleared, and where calls were added without
+    /// `reserve` for more owners than there was room for.
     pub fn cancel(&mut self, owner: &O)
         ensures dues { self.new.dues ≡ filter (λ due. not (O.eq due.owner owner.now)) self.old.dues }
         ensures capacity { capacity_of self.new ≡ capacity_of self.old }

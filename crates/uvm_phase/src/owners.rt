@@ -1,6 +1,6 @@
 //! How many of the calls that are due are whose.
 
-ghost use Rattle.std.specs.Prelude.{◌≡◌, ◌<◌, ◌+◌, ◌^◌, ◌∷◌, List, [], true, not, filter, option_map};
+ghost use Rattle.std.specs.Prelude.{◌≡◌, ◌<◌, ◌+◌, ◌^◌, ◌∷◌, List, true, false, not, filter, option_map};
 ghost use Rattle.std.specs.HashMap.{spare};
 ghost use Rattle.uvm_phase.specs.Owners.{CountsEach, count_at, counted, owners_of, times};
 
@@ -26,8 +26,8 @@ pub(crate) struct Owned {
     pub last: Key,
 }
 
-/// How many calls are due to each owner. An owner to whom nothing is due is not kept. Where there was no room for an owner the
-/// counts are incomplete, and say nothing until they are counted anew.
+/// How many calls are due to each owner. An owner to whom nothing is due is not kept. The counts are incomplete, and say nothing, until
+/// they are counted anew, after `forget`, and where there was no room for an owner.
 #[derive(Drop)]
 pub(crate) struct Owners<O: Eq + Hash> {
     pub counts: HashMap<O, Owned>,
@@ -35,15 +35,21 @@ pub(crate) struct Owners<O: Eq + Hash> {
 }
 
 impl<O: Copy + Eq + Hash + Drop> Owners<O> {
-    // Nothing is due, and there is room for nothing.
+    // Nothing is counted yet, and there is room for nothing.
     pub(crate) fn new(alloc: Global) -> Owners<O>
-        ensures counts { CountsEach O.eq result [] }
-        ensures complete { result.complete ≡ true }
+        ensures { result.complete ≡ false }
     {
         Owners {
             counts: HashMap::new(alloc),
-            complete: true,
+            complete: false,
         }
+    }
+
+    // Counts no more, until the calls are counted anew. Keeps its room.
+    pub(crate) fn forget(&mut self)
+        ensures { self.new ≡ record self.old { complete = false } }
+    {
+        self.complete = false;
     }
 
     // Makes room for as many more owners. Where memory is refused there is none; the counts stay in any case.
@@ -83,6 +89,9 @@ impl<O: Copy + Eq + Hash + Drop> Owners<O> {
         ensures counts { (owners : List O) → CountsEach O.eq self.old (owner.now ∷ owners) → CountsEach O.eq self.new owners }
         ensures complete { self.new.complete ≡ self.old.complete }
     {
+        if !self.complete {
+            return;
+        }
         if let Some(owned) = self.counts.get_mut(owner) {
             if owned.count > 1 {
                 owned.count -= 1;

@@ -1,9 +1,3 @@
-mod Shown
-mod EntryLines
-mod CallLines
-mod ActLines
-mod ItemLines
-mod FatalReports
 mod FifoMoves
 mod Wirings
 mod SequencerGrants

@@ -1,4 +1,5 @@
-use Rattle.std.proofs.Common.{◌≡◌, ◌∙◌, Err, refl, rules}
+use Rattle.std.proofs.Common.{◌≡◌, ◌∙◌, Err, ap, refl, rules, sym}
+use Rattle.std.specs.Option.{option_copied}
 use Rattle.bench_core.specs.declared.cores.Turn.TheVariants.{Ask, Moved, Need, Over}
 use Rattle.uvm_object.specs.declared.entries.Entry.TheVariants.{Heard}
 use Rattle.bench_core.specs.declared.faults.CoreFault.TheVariants.{Memory}
@@ -84,35 +85,38 @@ hear-answer-requires-clause-sits g c =
     let k = c.self.inside in
     let kernel : KernelValue g.row.O.Denot = record { core = k.core; held = all_held k.seats.taken k.sequences.held; failed = k.failed; unknown = k.unknown } in
     let kept = c.self.invariant.0 in
-    let told = told-turn (Ask c.in-Ok-Ask.who c.in-Ok-Ask.call) k.core c.next.new.self tt (rw c.in-Ok-Ask.field-0-is at (c.in-Ok-Ask.ensures.turn)) in
-    let asks = ask-turn c.in-Ok-Ask.who c.in-Ok-Ask.call k.core c.next.new.self (kept.comes c.if-self.false) told.turn in
-    asked-held c.hold.ensures m.view m.name m.says kernel c.in-Ok-Ask.who c.in-Ok-Ask.call asks.origin asks.answers c.if-self.false (rw c.in-Ok-Ask.field-0-is at (c.in-Ok-Ask.ensures.asked)) kept
+    let told = told-turn (Ask c.in-Ok-Ask.who) k.core c.next.new.self tt (rw c.in-Ok-Ask.field-0-is at (c.in-Ok-Ask.ensures.turn)) in
+    let stands = sym c.call.ensures ∙ ap option_copied c.in-Some.is in
+    let asks = ask-turn c.in-Ok-Ask.who c.in-Some.call.now k.core c.next.new.self (kept.comes c.if-self.false) told.turn stands in
+    asked-held c.hold.ensures m.view m.name m.says kernel c.in-Ok-Ask.who c.in-Some.call.now asks.origin asks.answers c.if-self.false (rw c.in-Ok-Ask.field-0-is at (c.in-Ok-Ask.ensures.asked)) kept
 
-pub invariant_of-self-in_default : goal.invariant_of-self-in_default
-invariant_of-self-in_default g c =
+pub invariant_of-self-in_default-answer : goal.invariant_of-self-in_default-answer
+invariant_of-self-in_default-answer g c =
     let m = g.O.UvmObject in
     let k = c.self.inside in
     let kernel : KernelValue g.row.O.Denot = record { core = k.core; held = all_held k.seats.taken k.sequences.held; failed = k.failed; unknown = k.unknown } in
     let kept = c.self.invariant.0 in
-    let told = told-turn (Ask c.in-Ok-Ask.who c.in-Ok-Ask.call) k.core c.next.new.self tt (rw c.in-Ok-Ask.field-0-is at (c.in-Ok-Ask.ensures.turn)) in
-    let asks = ask-turn c.in-Ok-Ask.who c.in-Ok-Ask.call k.core c.next.new.self (kept.comes c.if-self.false) told.turn in
-    let same_log = asked-log c.in-Ok-Ask.who c.in-Ok-Ask.call k.core c.next.new.self asks in (
-      kept-unanswered m.view m.name m.says kernel (all_held c.hear-answer.new.seats.taken c.hear-answer.new.sequences.held) c.next.new.self c.in-Ok-Ask.who c.copy.result c.in-Ok-Ask.call c.hear-answer.result c.copy.ensures c.if-self.false same_log c.hear-answer.ensures.asked kept,
+    let told = told-turn (Ask c.in-Ok-Ask.who) k.core c.next.new.self tt (rw c.in-Ok-Ask.field-0-is at (c.in-Ok-Ask.ensures.turn)) in
+    let stands = sym c.call.ensures ∙ ap option_copied c.in-Some.is in
+    let asks = ask-turn c.in-Ok-Ask.who c.in-Some.call.now k.core c.next.new.self (kept.comes c.if-self.false) told.turn stands in
+    let same_log = asked-log c.in-Ok-Ask.who c.in-Some.call.now k.core c.next.new.self asks in (
+      kept-unanswered m.view m.name m.says kernel (all_held c.hear-answer.new.seats.taken c.hear-answer.new.sequences.held) c.next.new.self c.in-Ok-Ask.who c.copy.result c.in-Some.call.now c.hear-answer.result c.copy.ensures c.if-self.false same_log c.hear-answer.ensures.asked kept,
       rw same_log.history (seated-asked k.core.history (paths_in k.seats.taken) (paths_in c.hear-answer.new.seats.taken) k.sequences.count c.hear-answer.new.sequences.count k.sequences.held c.hear-answer.new.sequences.held c.hear-answer.ensures.paths c.hear-answer.ensures.count c.hear-answer.ensures.keys c.self.invariant.1),
     )
 
-pub returns-in_default-clause-step : goal.returns-in_default-clause-step
-returns-in_default-clause-step g c =
+pub returns-in_default-answer-clause-step : goal.returns-in_default-answer-clause-step
+returns-in_default-answer-clause-step g c =
     let m = g.O.UvmObject in
     let k = c.self.inside in
     let kernel : KernelValue g.row.O.Denot = record { core = k.core; held = all_held k.seats.taken k.sequences.held; failed = k.failed; unknown = k.unknown } in
     let kept = c.self.invariant.0 in
-    let told = told-turn (Ask c.in-Ok-Ask.who c.in-Ok-Ask.call) k.core c.next.new.self tt (rw c.in-Ok-Ask.field-0-is at (c.in-Ok-Ask.ensures.turn)) in
-    let asks = ask-turn c.in-Ok-Ask.who c.in-Ok-Ask.call k.core c.next.new.self (kept.comes c.if-self.false) told.turn in
-    let room = asked-room c.in-Ok-Ask.who c.in-Ok-Ask.call k.core c.next.new.self asks ((rw c.in-Ok-Ask.field-0-is at (c.in-Ok-Ask.ensures.room)) tt) in
+    let told = told-turn (Ask c.in-Ok-Ask.who) k.core c.next.new.self tt (rw c.in-Ok-Ask.field-0-is at (c.in-Ok-Ask.ensures.turn)) in
+    let stands = sym c.call.ensures ∙ ap option_copied c.in-Some.is in
+    let asks = ask-turn c.in-Ok-Ask.who c.in-Some.call.now k.core c.next.new.self (kept.comes c.if-self.false) told.turn stands in
+    let room = asked-room c.in-Ok-Ask.who c.in-Some.call.now k.core c.next.new.self asks ((rw c.in-Ok-Ask.field-0-is at (c.in-Ok-Ask.ensures.room)) tt) in
     rw (← c.self.view_is)
-    (unanswered-step m.view m.name m.says kernel c.next.new.self c.in-Ok-Ask.who c.copy.result c.in-Ok-Ask.call asks.origin c.hear-answer.result (all_held c.hear-answer.new.seats.taken c.hear-answer.new.sequences.held) c.copy.ensures asks.answers asks.nothing_needed
-    (record { going = c.if-self.false; told = told.told }) (asked-log c.in-Ok-Ask.who c.in-Ok-Ask.call k.core c.next.new.self asks) (rw c.in_default.is asks.is) room c.hear-answer.ensures.asked)
+    (unanswered-step m.view m.name m.says kernel c.next.new.self c.in-Ok-Ask.who c.copy.result c.in-Some.call.now asks.origin c.hear-answer.result (all_held c.hear-answer.new.seats.taken c.hear-answer.new.sequences.held) c.copy.ensures asks.answers asks.nothing_needed
+    (record { going = c.if-self.false; told = told.told }) (asked-log c.in-Ok-Ask.who c.in-Some.call.now k.core c.next.new.self asks) (rw c.in_default-answer.is asks.is) room c.hear-answer.ensures.asked)
 
 pub invariant_of-self-in_err-heard-in-Ok-Ask : goal.invariant_of-self-in_err-heard-in-Ok-Ask
 invariant_of-self-in_err-heard-in-Ok-Ask g c =
@@ -120,10 +124,11 @@ invariant_of-self-in_err-heard-in-Ok-Ask g c =
     let k = c.self.inside in
     let kernel : KernelValue g.row.O.Denot = record { core = k.core; held = all_held k.seats.taken k.sequences.held; failed = k.failed; unknown = k.unknown } in
     let kept = c.self.invariant.0 in
-    let told = told-turn (Ask c.in-Ok-Ask.who c.in-Ok-Ask.call) k.core c.next.new.self tt (rw c.in-Ok-Ask.field-0-is at (c.in-Ok-Ask.ensures.turn)) in
-    let asks = ask-turn c.in-Ok-Ask.who c.in-Ok-Ask.call k.core c.next.new.self (kept.comes c.if-self.false) told.turn in
-    let same_log = unheard-log c.in-Ok-Ask.who c.in-Ok-Ask.call k.core c.next.new.self c.heard.new.self Broken asks c.in_err-heard-in-Ok-Ask.ensures.err.1 in (
-      kept-unanswered m.view m.name m.says kernel (all_held c.hear-answer.new.seats.taken c.hear-answer.new.sequences.held) c.heard.new.self c.in-Ok-Ask.who c.copy.result c.in-Ok-Ask.call c.hear-answer.result c.copy.ensures c.if-self.false same_log c.hear-answer.ensures.asked kept,
+    let told = told-turn (Ask c.in-Ok-Ask.who) k.core c.next.new.self tt (rw c.in-Ok-Ask.field-0-is at (c.in-Ok-Ask.ensures.turn)) in
+    let stands = sym c.call.ensures ∙ ap option_copied c.in-Some.is in
+    let asks = ask-turn c.in-Ok-Ask.who c.in-Some.call.now k.core c.next.new.self (kept.comes c.if-self.false) told.turn stands in
+    let same_log = unheard-log c.in-Ok-Ask.who c.in-Some.call.now k.core c.next.new.self c.heard.new.self Broken asks c.in_err-heard-in-Ok-Ask.ensures.err.1 in (
+      kept-unanswered m.view m.name m.says kernel (all_held c.hear-answer.new.seats.taken c.hear-answer.new.sequences.held) c.heard.new.self c.in-Ok-Ask.who c.copy.result c.in-Some.call.now c.hear-answer.result c.copy.ensures c.if-self.false same_log c.hear-answer.ensures.asked kept,
       rw same_log.history (seated-asked k.core.history (paths_in k.seats.taken) (paths_in c.hear-answer.new.seats.taken) k.sequences.count c.hear-answer.new.sequences.count k.sequences.held c.hear-answer.new.sequences.held c.hear-answer.ensures.paths c.hear-answer.ensures.count c.hear-answer.ensures.keys c.self.invariant.1),
     )
 
@@ -133,14 +138,15 @@ returns-in_err-heard-in-Ok-Ask-clause-step g c =
     let k = c.self.inside in
     let kernel : KernelValue g.row.O.Denot = record { core = k.core; held = all_held k.seats.taken k.sequences.held; failed = k.failed; unknown = k.unknown } in
     let kept = c.self.invariant.0 in
-    let told = told-turn (Ask c.in-Ok-Ask.who c.in-Ok-Ask.call) k.core c.next.new.self tt (rw c.in-Ok-Ask.field-0-is at (c.in-Ok-Ask.ensures.turn)) in
-    let asks = ask-turn c.in-Ok-Ask.who c.in-Ok-Ask.call k.core c.next.new.self (kept.comes c.if-self.false) told.turn in
-    let same_log = unheard-log c.in-Ok-Ask.who c.in-Ok-Ask.call k.core c.next.new.self c.heard.new.self Broken asks c.in_err-heard-in-Ok-Ask.ensures.err.1 in
+    let told = told-turn (Ask c.in-Ok-Ask.who) k.core c.next.new.self tt (rw c.in-Ok-Ask.field-0-is at (c.in-Ok-Ask.ensures.turn)) in
+    let stands = sym c.call.ensures ∙ ap option_copied c.in-Some.is in
+    let asks = ask-turn c.in-Ok-Ask.who c.in-Some.call.now k.core c.next.new.self (kept.comes c.if-self.false) told.turn stands in
+    let same_log = unheard-log c.in-Ok-Ask.who c.in-Some.call.now k.core c.next.new.self c.heard.new.self Broken asks c.in_err-heard-in-Ok-Ask.ensures.err.1 in
     let refused = c.in_err-heard-in-Ok-Ask.ensures.err in
-    let room = asked-room c.in-Ok-Ask.who c.in-Ok-Ask.call k.core c.next.new.self asks ((rw c.in-Ok-Ask.field-0-is at (c.in-Ok-Ask.ensures.room)) tt) in
+    let room = asked-room c.in-Ok-Ask.who c.in-Some.call.now k.core c.next.new.self asks ((rw c.in-Ok-Ask.field-0-is at (c.in-Ok-Ask.ensures.room)) tt) in
     let result : c.from_residual.result ≡ Err Memory = search rules in
     rw (← c.self.view_is, result)
-    (unanswered-step m.view m.name m.says kernel c.heard.new.self c.in-Ok-Ask.who c.copy.result c.in-Ok-Ask.call asks.origin c.hear-answer.result (all_held c.hear-answer.new.seats.taken c.hear-answer.new.sequences.held) c.copy.ensures asks.answers asks.nothing_needed
+    (unanswered-step m.view m.name m.says kernel c.heard.new.self c.in-Ok-Ask.who c.copy.result c.in-Some.call.now asks.origin c.hear-answer.result (all_held c.hear-answer.new.seats.taken c.hear-answer.new.sequences.held) c.copy.ensures asks.answers asks.nothing_needed
     (record { going = c.if-self.false; told = told.told }) same_log (rw c.in-Ok.is (refused.1 ∙ rw asks.is refl)) room c.hear-answer.ensures.asked)
 
 pub invariant_of-self-in-Ok-Ask : goal.invariant_of-self-in-Ok-Ask
@@ -149,12 +155,13 @@ invariant_of-self-in-Ok-Ask g c =
     let k = c.self.inside in
     let kernel : KernelValue g.row.O.Denot = record { core = k.core; held = all_held k.seats.taken k.sequences.held; failed = k.failed; unknown = k.unknown } in
     let kept = c.self.invariant.0 in
-    let told = told-turn (Ask c.in-Ok-Ask.who c.in-Ok-Ask.call) k.core c.next.new.self tt (rw c.in-Ok-Ask.field-0-is at (c.in-Ok-Ask.ensures.turn)) in
-    let asks = ask-turn c.in-Ok-Ask.who c.in-Ok-Ask.call k.core c.next.new.self (kept.comes c.if-self.false) told.turn in
-    let is = heard-is c.in-Ok-Ask.who c.in-Ok-Ask.call c.in-Ok.acts k.core c.next.new.self c.heard.new.self asks c.in_ok-heard-in-Ok-Ask.ensures.ok in
+    let told = told-turn (Ask c.in-Ok-Ask.who) k.core c.next.new.self tt (rw c.in-Ok-Ask.field-0-is at (c.in-Ok-Ask.ensures.turn)) in
+    let stands = sym c.call.ensures ∙ ap option_copied c.in-Some.is in
+    let asks = ask-turn c.in-Ok-Ask.who c.in-Some.call.now k.core c.next.new.self (kept.comes c.if-self.false) told.turn stands in
+    let is = heard-is c.in-Ok-Ask.who c.in-Some.call.now c.in-Ok.acts k.core c.next.new.self c.heard.new.self asks c.in_ok-heard-in-Ok-Ask.ensures.ok in
     let under = nodes-asked k.core.history (paths_in k.seats.taken) (paths_in c.hear-answer.new.seats.taken) c.hear-answer.ensures.paths (below c.hold.ensures m.view m.name m.says kernel k.seats.taken k.sequences.held refl kept) in (
-      kept-heard c.hold.ensures m.view m.name m.says kernel c.heard.new.self (all_held c.hear-answer.new.seats.taken c.hear-answer.new.sequences.held) c.in-Ok-Ask.who c.in-Ok-Ask.call asks.origin c.in-Ok.acts asks.answers c.if-self.false is c.in-Ok.ensures.asked kept,
-      rw is (seated-later c.hold.ensures k.core.history (Heard c.in-Ok-Ask.who asks.origin c.in-Ok-Ask.call c.in-Ok.acts) (paths_in c.hear-answer.new.seats.taken) c.hear-answer.new.sequences.count c.hear-answer.new.sequences.held refl under
+      kept-heard c.hold.ensures m.view m.name m.says kernel c.heard.new.self (all_held c.hear-answer.new.seats.taken c.hear-answer.new.sequences.held) c.in-Ok-Ask.who c.in-Some.call.now asks.origin c.in-Ok.acts asks.answers c.if-self.false is c.in-Ok.ensures.asked kept,
+      rw is (seated-later c.hold.ensures k.core.history (Heard c.in-Ok-Ask.who asks.origin c.in-Some.call.now c.in-Ok.acts) (paths_in c.hear-answer.new.seats.taken) c.hear-answer.new.sequences.count c.hear-answer.new.sequences.held refl under
           (seated-asked k.core.history (paths_in k.seats.taken) (paths_in c.hear-answer.new.seats.taken) k.sequences.count c.hear-answer.new.sequences.count k.sequences.held c.hear-answer.new.sequences.held c.hear-answer.ensures.paths c.hear-answer.ensures.count c.hear-answer.ensures.keys c.self.invariant.1)),
     )
 
@@ -164,12 +171,13 @@ returns-in_ok-heard-in-Ok-Ask-clause-step g c =
     let k = c.self.inside in
     let kernel : KernelValue g.row.O.Denot = record { core = k.core; held = all_held k.seats.taken k.sequences.held; failed = k.failed; unknown = k.unknown } in
     let kept = c.self.invariant.0 in
-    let told = told-turn (Ask c.in-Ok-Ask.who c.in-Ok-Ask.call) k.core c.next.new.self tt (rw c.in-Ok-Ask.field-0-is at (c.in-Ok-Ask.ensures.turn)) in
-    let asks = ask-turn c.in-Ok-Ask.who c.in-Ok-Ask.call k.core c.next.new.self (kept.comes c.if-self.false) told.turn in
-    let is = heard-is c.in-Ok-Ask.who c.in-Ok-Ask.call c.in-Ok.acts k.core c.next.new.self c.heard.new.self asks c.in_ok-heard-in-Ok-Ask.ensures.ok in
+    let told = told-turn (Ask c.in-Ok-Ask.who) k.core c.next.new.self tt (rw c.in-Ok-Ask.field-0-is at (c.in-Ok-Ask.ensures.turn)) in
+    let stands = sym c.call.ensures ∙ ap option_copied c.in-Some.is in
+    let asks = ask-turn c.in-Ok-Ask.who c.in-Some.call.now k.core c.next.new.self (kept.comes c.if-self.false) told.turn stands in
+    let is = heard-is c.in-Ok-Ask.who c.in-Some.call.now c.in-Ok.acts k.core c.next.new.self c.heard.new.self asks c.in_ok-heard-in-Ok-Ask.ensures.ok in
     rw (← c.self.view_is) (
       record { going = c.if-self.false; told = told.told },
-      answered-step m.view m.name m.says kernel c.heard.new.self (all_held c.hear-answer.new.seats.taken c.hear-answer.new.sequences.held) c.in-Ok-Ask.who c.in-Ok-Ask.call asks.origin c.in-Ok.acts asks.answers c.if-self.false (kept.known c.if-self.false) is c.in-Ok.ensures.asked,
+      answered-step m.view m.name m.says kernel c.heard.new.self (all_held c.hear-answer.new.seats.taken c.hear-answer.new.sequences.held) c.in-Ok-Ask.who c.in-Some.call.now asks.origin c.in-Ok.acts asks.answers c.if-self.false (kept.known c.if-self.false) is c.in-Ok.ensures.asked,
     )
 
 pub invariant_of-self-in-Ok-Moved : goal.invariant_of-self-in-Ok-Moved

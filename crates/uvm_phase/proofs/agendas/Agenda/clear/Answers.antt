@@ -1,5 +1,11 @@
+use Rattle.std.proofs.Common.{sym, ◌∙◌, ap}
+use Rattle.std.proofs.lemmas.Bool.{false≢true}
 use Rattle.uvm_phase.proofs.Places.{left-in-order}
 use Rattle.uvm_phase.proofs.agendas.Agenda.clear.Goals as goal
 
+-- nothing is counted any more
 pub invariant_of-self : goal.invariant_of-self
-invariant_of-self g c = (left-in-order _ c.self.inside.dues.items c.take_out_phase.new.dues.items c.self.invariant.0 c.take_out_phase.ensures.left, c.count_anew.ensures)
+invariant_of-self g c = (
+  left-in-order _ c.self.inside.dues.items c.take_out_phase.new.dues.items c.self.invariant.0 c.take_out_phase.ensures.left,
+  λ complete. absurd (false≢true (sym (ap (λ owners. owners.complete) c.forget.ensures) ∙ complete)),
+)

@@ -1,0 +1,55 @@
+//! How a run of a kernel ends, and what the kernel holds then.
+
+ghost use Rattle.std.specs.Prelude.{◌≡◌, [], false};
+ghost use Rattle.bench_core.specs.declared.cores.Health.TheVariants.{Good};
+
+use bench_kernel::Kernel;
+use bench_run::{Ending, RunFault, run_kernel};
+use rand_pcg::Pcg32;
+use std::alloc::{AllocError, Global};
+use std::io;
+use std::io::{ErrorKind, Write};
+use uvm_glob::Name;
+use uvm_object::UvmObject;
+
+// A writer that takes so many writes and fails at the next.
+#[derive(Drop)]
+struct Failing {
+    left: usize,
+}
+
+impl Write for Failing {
+    fn write(&mut self, buf: &[u8]) -> io::Result<usize> {
+        if self.left == 0 {
+            return Err(io::Error::from(ErrorKind::Other));
+        }
+        self.left -= 1;
+        Ok(buf.len())
+    }
+
+    fn flush(&mut self) -> io::Result<()> {
+        Ok(())
+    }
+}
+
+/// How a run ended, how many entries its log has, and how many objects the kernel then holds.
+pub type Ended = (Result<Ending, RunFault>, usize, usize);
+
+/// Runs a kernel over a writer that takes so many writes.
+pub(crate) fn ended<O: UvmObject, F: Fn(&Name) -> Result<Option<O>, AllocError>>(
+    alloc: Global,
+    kernel: &mut Kernel<O>,
+    trace: bool,
+    make: &F,
+    writes: usize,
+) -> Ended
+    requires callable { F.IsAlwaysCallable make.now }
+    requires good { kernel.old.core.health ≡ Good }
+    requires going { kernel.old.failed ≡ false }
+    requires begun { kernel.old.core.history ≡ [] }
+{
+    let mut out = Failing { left: writes };
+    let mut words = Pcg32::new(1, 1);
+    let ended = run_kernel(alloc, kernel, &mut words, trace, make, &mut out);
+    (ended, kernel.log().len(), kernel.live())
+}

@@ -1,0 +1,14 @@
+//! Runs of benches, and what is looked at in them: what the tests of the machine and of the kernel share. Tests alone use it.
+#![tactic(auto)]
+
+mod benches;
+mod endings;
+mod objects;
+mod plays;
+mod views;
+
+pub use benches::{
+    Count, Look, make_idle, make_mute, make_spinner, shows, shows_in_boxes, shows_with,
+};
+pub use endings::Ended;
+pub use objects::{Idle, Mute, Spinner};

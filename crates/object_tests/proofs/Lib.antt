@@ -1,0 +1,6 @@
+mod Shown
+mod EntryLines
+mod CallLines
+mod ActLines
+mod ItemLines
+mod FatalReports

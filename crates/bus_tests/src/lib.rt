@@ -1,11 +1,9 @@
-//! Tests of the crates of the bus bench by their public calls, and of scripts that are no text of a few lines. They stand apart from
-//! these, since a crate with tests is proved twice.
+//! Tests of the command line and the jobs of the bus bench by their public calls, and of scripts that are no text of a few lines. They
+//! stand apart from these, since a crate with tests is proved twice.
 #![tactic(auto)]
 
 #[cfg(test)]
 mod bus_runs;
-#[cfg(test)]
-mod calls;
 #[cfg(test)]
 mod commands;
 #[cfg(test)]
@@ -16,10 +14,6 @@ mod example;
 mod files;
 #[cfg(test)]
 mod hostile;
-#[cfg(test)]
-mod memories;
-#[cfg(test)]
-mod objects;
 #[cfg(test)]
 mod runs;
 #[cfg(test)]

@@ -1,16 +1,8 @@
 //! The program `hostile_bench`: it runs benches that are made to break the kernel, and checks what can be seen from outside.
 #![tactic(auto)]
 
-mod acts;
-mod arguments;
-mod checks;
 mod commands;
-mod dice;
-mod habits;
 mod program;
-mod scripts;
-mod whims;
-mod wild;
 
 use std::process::ExitCode;
 

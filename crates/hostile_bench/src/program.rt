@@ -1,10 +1,10 @@
 //! What the program does, on any runtime and with any writers.
 
-use crate::checks::check_benches;
 use crate::commands::command;
 use clap::error::ErrorKind;
 use clap::{ArgMatches, Error};
 use counted_files::{Checked, End, check_file, run_counted, tell};
+use random_benches::check_benches;
 use std::io::Write;
 use std::rt::{Env, Files};
 use std::{env, io};

@@ -1,6 +1,6 @@
 //! The object that a creation or a start needs, and room for it.
 
-ghost use Rattle.std.specs.Prelude.{◌≡◌, ℕ, List, OnOk, IfOk, IsSome, length};
+ghost use Rattle.std.specs.Prelude.{◌≡◌, ℕ, List, None, OnOk, IfOk, IsSome, length};
 ghost use Rattle.uvm_object.specs.declared.entries.Outcome.TheVariants.{Made};
 ghost use Rattle.bench_script.specs.Factories.{IsFactoryOf};
 ghost use Rattle.bench_history.specs.History.{created_name, opening};
@@ -14,6 +14,7 @@ ghost use Rattle.world_deeds.specs.Rooms.{GiveTheSame, HasRoomToMake};
 use bench_history::Need;
 use bench_script::Script;
 use std::alloc::{AllocError, Global};
+use std::marker::Model;
 use uvm_factory::Factory;
 use uvm_glob::Name;
 use uvm_object::{Act, Deed, Fatal, Log, LoggedOutcome, Who};
@@ -25,10 +26,10 @@ use world_services::nodes::add_node;
 use world_services::rooms::{reserve_component, reserve_sequence};
 use world_services::services::Services;
 
-/// A creation or a start that waits for its object: what it needs, the act, the sequencer of a sequence, room for the name of the
-/// type that is made, and the report of an object that is declined.
+/// What a creation or a start waits with: what it needs, the act, the sequencer of a sequence, room for the name of the type that is made,
+/// and the report of an object that is declined.
 #[derive(Drop)]
-pub struct Waiting {
+pub struct Want {
     pub need: Need,
     pub deed: Deed,
     pub home: Option<NodeId>,
@@ -36,8 +37,30 @@ pub struct Waiting {
     pub declined: Report,
 }
 
+/// A creation or a start that waits for its object, behind a pointer, so that an act that needs none has no room for it. Contracts see what
+/// it waits with.
+pub struct Waiting {
+    want: Box<Want>,
+}
+
+// (By hand, so that crates above prove no drop of what it holds.)
+impl Drop for Waiting {
+    fn drop(self) {
+        let Waiting { want: _ } = self;
+    }
+}
+
+impl Model for Waiting {
+    ghost use Rattle.world_deeds.specs.declared.making.Want.{Want};
+
+    ghost Value = { Want };
+
+    ghost view = { λ w. w.want.value };
+}
+
 impl Waiting {
     /// What waits, before its object is there. The error is want of memory.
+    #[inline(never)]
     pub fn new(
         alloc: Global,
         need: Need,
@@ -48,13 +71,41 @@ impl Waiting {
     {
         let name = Box::new(alloc, placeholder())?;
         let declined = Fatal::NoObject.report(alloc)?;
-        Ok(Waiting {
+        let want = Want {
             need,
             deed,
             home,
             name,
             declined,
+        };
+        Ok(Waiting {
+            want: Box::new(alloc, want)?,
         })
+    }
+
+    /// What it waits with.
+    pub fn want(&self) -> &Want
+        ensures { result.now ≡ self.now }
+    {
+        &self.want
+    }
+
+    fn into_want(self) -> Want
+        ensures { result ≡ self }
+    {
+        let Waiting { want } = self;
+        Box::into_inner(want)
+    }
+}
+
+/// Takes out what a creation or a start waits with, if one waits. Takes no memory.
+pub fn take_want(waiting: &mut Option<Waiting>) -> Option<Want>
+    ensures value { result ≡ waiting.old }
+    ensures after { waiting.new ≡ None }
+{
+    match waiting.take() {
+        Some(waiting) => Some(waiting.into_want()),
+        None => None,
     }
 }
 

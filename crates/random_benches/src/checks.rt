@@ -13,7 +13,7 @@ const ANSWERS: u64 = 150;
 
 /// Runs the benches of so many seeds from the first, each twice. It writes a line for each that fails a check, and one that says how many
 /// did, and answers the exit status: 0 where none did, and 1 else; 3 where it could not write.
-pub(crate) fn check_benches<O: Write>(
+pub fn check_benches<O: Write>(
     alloc: Global,
     first: u64,
     count: u64,

@@ -1,0 +1,11 @@
+use Rattle.std.proofs.lemmas.List.Elements.{All-push}
+use Rattle.script_tables.specs.Drains.{CanDrain, drain_row}
+use Rattle.script_tables.proofs.RowsRead.{row-read}
+use Rattle.script_tables.proofs.drains.read_drains.Goals as goal
+
+pub loop-element-preserved : goal.loop-element-preserved
+loop-element-preserved c =
+    let pushed = c.in_ok-push.ensures.items in (
+      row-read (λ _. drain_row) _ _ _ _ _ _ _ c.loop-element-test.true c.element-item.is c.loop-element.invariant.0 c.in_ok-drain_row.ensures.row pushed,
+      rw pushed (All-push CanDrain _ _ c.loop-element.invariant.1 c.in_ok-drain_row.ensures.sound),
+    )

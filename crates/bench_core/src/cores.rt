@@ -163,7 +163,7 @@ impl Core {
         }
     }
 
-    /// The call that somebody is asked to answer, if somebody is. Takes no memory.
+    /// Lends the call that somebody is asked to answer, if somebody is. Takes no memory.
     pub fn call(&self) -> Option<&Call>
         ensures { option_copied result ≡ call_of self.now.standing }
     {
@@ -494,7 +494,7 @@ impl Core {
     }
 }
 
-// What somebody waits for at a FIFO comes to pass.
+// What somebody waits for at a FIFO comes to pass. (Not inlined, so that no other turn has room for a passage.)
 #[inline(never)]
 fn pass(world: &mut World) -> Result<(), AllocError>
     requires sound { world.old.sound ≡ true }
@@ -513,7 +513,7 @@ fn pass(world: &mut World) -> Result<(), AllocError>
     world.passed(fifo, passage)
 }
 
-// Grants an item at a sequencer, by a word where one decides.
+// Grants an item at a sequencer, by a word where one decides. (Not inlined, so that no other turn has room for it.)
 #[inline(never)]
 fn grant<R: Rng>(
     world: &mut World,

@@ -38,7 +38,7 @@ impl<W: io::Write> Sink for W {
     ghost refuses = { λ _. Unit {0} };
 
     fn put(&mut self, text: &[u8]) -> io::Result<()> {
-        // Most entries have no text, for which no writer is called.
+        // Without a trace most entries have no text: no writer is called for an empty one.
         if text.is_empty() {
             return Ok(());
         }

@@ -22,7 +22,7 @@ use Rattle.bus_objects.specs.Spinner.{SpinnerSays, spinner_named, spinner_view}
 use Rattle.bus_objects.specs.declared.objects.BusObject.{BusObject}
 use Rattle.bus_objects.specs.declared.objects.BusObject.TheVariants.{BusAgent, BusDriver, BusEnv, BusMem, BusMemBad, BusMonitor, BusScoreboard, BusTest, Idle, Loud, Pulse, SeqBurst, SeqPair, SeqSmoke, Sleeper, SlowDriver, Spinner}
 
--- the new object of the type of this name, if it is that of an object that keeps more than a count
+-- the new object of the type of this name, if it is that of an object that stands behind a pointer, since it keeps more than a name and a byte
 abbrev pub large_named : List ℕ → Option BusObject
 large_named name =
     first_given (
@@ -53,7 +53,7 @@ sequence_named name =
     ∷ option_map SeqSmoke (seq_smoke_named name)
     ∷ [])
 
--- the new object of the type of this name, if it is that of an object that keeps a count at most
+-- the new object of the type of this name, if it is that of an object that stands in place
 abbrev pub small_named : List ℕ → Option BusObject
 small_named name =
     first_given (

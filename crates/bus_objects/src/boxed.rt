@@ -20,7 +20,7 @@ impl<O> Model for Boxed<O> {
 }
 
 impl<O: Drop> Boxed<O> {
-    /// An object, behind a pointer. The error is want of memory.
+    /// Puts an object behind a pointer. The error is want of memory.
     pub fn new(alloc: Global, object: O) -> Result<Boxed<O>, AllocError>
         ensures { IfOk result (λ boxed. boxed ≡ object) }
     {

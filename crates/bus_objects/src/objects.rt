@@ -66,7 +66,8 @@ pub enum BusObject {
 impl BusObject {
     ghost use Rattle.bus_objects.specs.Objects.{large_named, object_named, part_named, sequence_named, small_named};
 
-    /// A new object of the type of this name, if the bench has the type. The error is want of memory.
+    /// A new object of the type of this name, if the bench has the type. The error is want of memory, and comes only for one that stands
+    /// behind a pointer.
     pub fn of_type(alloc: Global, type_name: &Name) -> Result<Option<BusObject>, AllocError>
         ensures { IfOk result (λ object. object ≡ object_named type_name.now) }
     {
@@ -76,7 +77,7 @@ impl BusObject {
         Ok(BusObject::small_of_type(type_name))
     }
 
-    // A new object of the type of this name, if it is that of an object that keeps more than a count.
+    // A new object of the type of this name, if it is that of an object that stands behind a pointer.
     fn large_of_type(alloc: Global, type_name: &Name) -> Result<Option<BusObject>, AllocError>
         ensures { IfOk result (λ object. object ≡ large_named type_name.now) }
     {
@@ -99,7 +100,7 @@ impl BusObject {
         Ok(None)
     }
 
-    // A new object of the type of this name, if it is that of an object that keeps a count at most.
+    // A new object of the type of this name, if it is that of an object that stands in place.
     fn small_of_type(type_name: &Name) -> Option<BusObject>
         ensures { result ≡ small_named type_name.now }
     {

@@ -235,7 +235,7 @@ impl HeldCall {
         Ok(HeldCall { compact })
     }
 
-    // A call with a name: in place where that is short and there is no item, else behind a pointer.
+    // A call with a name: in place where it is one without an item through a port of a short name, else behind a pointer.
     fn named(alloc: Global, call: &Call) -> Result<HeldCall, AllocError>
         ensures { IfOk result (λ held. held ≡ call.now) }
     {

@@ -63,9 +63,9 @@ impl<O, N> Due<O, N> {
 /// The calls that are due while a phase runs (IEEE 1800.2-2020, Clause 9). They come due by time, at one time by the place of the cause, then
 /// by its number, and where these are equal in the order in which they were added. Contracts see them in this order, and
 /// beside them for how many more there is room. To add one takes few looks, as in a binary search, and moves those in front of it
-/// or those behind it; to take the first takes a constant time. To take out those of an owner takes a constant time where nothing
-/// is due to it, few looks where one call is, which was added last, and else the time of a look at all, as it takes at the first time,
-/// and to take out those of a phase.
+/// or those behind it; to take the first takes a constant time. To take out those of a phase takes the time of a look at all, and so does
+/// to take out those of an owner the first time, and the first after a phase was taken out. From then on that takes a constant time where
+/// nothing is due to the owner, few looks where one call is, which was added last, and else a look at all.
 pub struct Agenda<O: Eq + Hash, N> {
     // In the order in which they come due.
     dues: VecDeque<Due<O, N>>,
@@ -195,11 +195,11 @@ impl<O: Copy + Eq + Hash + Drop, N: Drop> Agenda<O, N> {
         self.dues.is_empty()
     }
 
-    /// Takes out the calls of an owner. Takes no memory, and leaves room for as many. Where nothing is due to the owner it takes a
-    /// constant time. Where one call is, which was added last, it takes few looks, as in a binary search, and moves those in front
-    /// of it or those behind it. Else it takes the time of a look at all: where several are due, where the one is not that which was
-    /// added last, where nothing was cancelled yet since the agenda is new or a phase was cleared, and where calls were added without
-    /// `reserve` for more owners than there was room for.
+    /// Takes out the calls of an owner. Takes no memory, and leaves room for as many. The first time, and the first after each `clear`, it
+    /// looks at all. From then on it takes a constant time where nothing is due to the owner. Where one call is, which was added last, it
+    /// takes few looks, as in a binary search, and moves those in front of it or those behind it. Else it looks at all: where several are
+    /// due, where the one is not that which was added last, and where calls were added without `reserve` for more owners than there was
+    /// room for.
     pub fn cancel(&mut self, owner: &O)
         ensures dues { self.new.dues ≡ filter (λ due. not (O.eq due.owner owner.now)) self.old.dues }
         ensures capacity { capacity_of self.new ≡ capacity_of self.old }

@@ -59,7 +59,7 @@ impl Model for Waiting {
 }
 
 impl Waiting {
-    /// What waits, before its object is there. The error is want of memory.
+    /// Makes what waits, before its object is there. The error is want of memory. (Not inlined, so that an act that needs none has no room for it.)
     #[inline(never)]
     pub fn new(
         alloc: Global,
@@ -83,7 +83,7 @@ impl Waiting {
         })
     }
 
-    /// What it waits with.
+    /// Lends what it waits with.
     pub fn want(&self) -> &Want
         ensures { result.now ≡ self.now }
     {

@@ -53,7 +53,7 @@ pub enum Look<'a> {
     Nothing,
 }
 
-/// Whether a scene is as it should be, over objects whose answers are data.
+/// Tells whether a file of a bench shows what it is looked at for, over objects whose answers are data of the file.
 pub fn shows(alloc: Global, file: &[u8], look: Look) -> bool {
     let scene = Scene { file, look };
     match read_document(alloc, file) {
@@ -95,7 +95,7 @@ fn scripted<'a>(
     Ok(Some(Scripted::new(alloc, type_name, rules)?))
 }
 
-/// Whether a scene is as it should be, over what `make` makes.
+/// Tells whether a file of a bench shows what it is looked at for, over the objects that `make` makes.
 pub fn shows_with<O: UvmObject, F: Fn(&Name) -> Result<Option<O>, AllocError>>(
     alloc: Global,
     file: &[u8],
@@ -194,7 +194,7 @@ pub fn make_spinner(type_name: &Name) -> Result<Option<Spinner>, AllocError> {
     }))
 }
 
-/// Whether a scene is as it should be, over boxes of objects that wait so many times in run, and then again and again.
+/// Tells whether a file of a bench shows what it is looked at for, over boxes of objects that wait so many times in run, and then again and again.
 pub fn shows_in_boxes(alloc: Global, file: &[u8], waits: usize, look: Look) -> bool {
     let make = |type_name: &Name| -> Result<Option<Box<dyn UvmObject>>, AllocError> {
         let type_name = *type_name;

@@ -3,7 +3,9 @@
 ghost use Rattle.std.specs.Prelude.{◌≡◌, true, [], ◌∷◌, None, Some, IfOk, OnErr, if◌then◌else◌};
 ghost use Rattle.uvm_object.specs.declared.entries.Entry.TheVariants.{End};
 ghost use Rattle.bench_history.specs.Dues.{first_due};
-ghost use Rattle.bench_history.specs.Cases.{Exactly, by_call, origin_of, phase_to_begin, port_check, phase_end, time_passes};
+ghost use Rattle.uvm_acts.specs.declared.acts.Call.TheVariants as call;
+ghost use Rattle.uvm_acts.specs.declared.acts.Who.TheVariants as who;
+ghost use Rattle.bench_history.specs.Cases.{Answer, Exactly, by_call, origin_of, phase_to_begin, port_check, phase_end, time_passes};
 ghost use Rattle.bench_history.specs.Objections.{is_kept};
 ghost use Rattle.bench_history.specs.Laws.{is_at_check};
 ghost use Rattle.bench_history.specs.Next.{first_next, next_of};
@@ -80,12 +82,7 @@ pub(crate) fn choose(
         return Ok(Choice::Enter(Mark::Begin(phase)));
     }
     if let Some((node, phase)) = upcoming::next_turn(world) {
-        *question = Some(Question {
-            who: Who::Node(node),
-            call: Call::Phase(phase),
-            origin: None,
-        });
-        return Ok(Choice::Ask);
+        return Ok(in_turn(node, phase, question));
     }
     match told::phase(world) {
         Some(phase) => Ok(Choice::Enter(done(world, phase)?)),
@@ -121,6 +118,18 @@ fn done(world: &mut World, phase: Phase) -> Result<Mark, AllocError>
         return Ok(Mark::Note(fatal, port));
     }
     Ok(ending(world, phase))
+}
+
+// A component hears the call of a phase.
+fn in_turn(node: NodeId, phase: Phase, question: &mut Option<Question>) -> Choice
+    ensures { IsChoice (Answer (who.Node node) (call.Phase phase) None) question.new result }
+{
+    *question = Some(Question {
+        who: Who::Node(node),
+        call: Call::Phase(phase),
+        origin: None,
+    });
+    Choice::Ask
 }
 
 // The owner of an event hears its call, or its drain ends.

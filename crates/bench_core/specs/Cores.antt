@@ -20,7 +20,7 @@ use Rattle.bench_core.specs.declared.cores.Health.TheVariants.{Good, Full, Broke
 use Rattle.bench_history.specs.Cases as next
 use Rattle.bench_history.specs.Next.{Allows, IsNext, next_of, need_in}
 use Rattle.bench_world.specs.Worlds.{WorldValue, world_after}
-use Rattle.bench_core.specs.declared.cores.Question.{Question}
+use Rattle.bench_choices.specs.declared.choices.Question.{Question}
 use Rattle.bench_core.specs.declared.cores.Progress.{Progress}
 use Rattle.bench_core.specs.declared.cores.Progress.TheVariants as progress
 use Rattle.bench_core.specs.declared.cores.Turn as turn

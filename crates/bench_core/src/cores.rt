@@ -21,11 +21,11 @@ ghost use Rattle.bench_history.specs.Cases as comes;
 ghost use Rattle.bench_history.specs.Laws.{IsSomething};
 ghost use Rattle.bench_core.specs.Cores.{DrawsOne, HasEntered, IsDrawing, IsDrawn, IsNextTurn, IsToldTurn, IsTurn, drawn_by, word_in, IsUnmade, core_after, failed_from, is_sound, turn_of, need_of, answer_in, turn_after, call_of, IsAsk, AsksSomething, AsksThere, last_line, last_text};
 ghost use Rattle.bench_world.specs.Worlds.{broken, made_who};
-ghost use Rattle.bench_core.specs.Choices.{IsChoice};
+ghost use Rattle.bench_choices.specs.Choices.{IsChoice};
 ghost use Rattle.bench_core.specs.Cores.{Nothing, IsRequest};
 
-use crate::choices::{Choice, choose};
 use crate::faults::CoreFault;
+use bench_choices::{Choice, Question, choose};
 use bench_history::{Need, laws};
 use bench_script::Script;
 use bench_views::{lent, report_lines, told, upcoming};
@@ -35,7 +35,7 @@ use std::alloc::{AllocError, Global};
 use std::marker::Model;
 use uvm_glob::{Name, Path};
 use uvm_lines::line_of;
-use uvm_object::{Acts, Call, Entry, Log, Origin, Who};
+use uvm_object::{Acts, Call, Entry, Log, Who};
 use uvm_phase::Phase;
 use uvm_report::Reports;
 use uvm_tree::NodeId;
@@ -59,14 +59,6 @@ pub enum Turn {
     Moved,
     /// The run is over.
     Over,
-}
-
-/// A call that somebody was asked to answer, and has not answered yet. It was due with an origin, or is a phase's.
-#[derive(Drop)]
-pub(crate) struct Question {
-    pub(crate) who: Who,
-    pub(crate) call: Call,
-    pub(crate) origin: Option<Origin>,
 }
 
 /// What came of the next entry.

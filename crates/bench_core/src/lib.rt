@@ -1,7 +1,6 @@
-//! The machine of a testbench with answers as values: it chooses the next entry of the log, and nothing else.
+//! The machine of a testbench with answers as values: it makes the next entry of the log, and nothing else.
 #![tactic(auto)]
 
-mod choices;
 mod cores;
 mod faults;
 pub mod laws;

@@ -5,4 +5,5 @@ mod kernels;
 pub mod laws;
 mod seating;
 
+pub use bench_core::{Core, CoreFault};
 pub use kernels::{Kernel, Misfit, Step, Unfit};

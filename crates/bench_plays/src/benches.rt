@@ -5,8 +5,6 @@ ghost use Rattle.bench_core.specs.declared.cores.Health.TheVariants.{Good};
 
 use crate::endings::{Ended, ended};
 use crate::objects::{Idle, Mute, Spinner};
-use crate::plays::{write_break, write_run};
-use crate::views::{begins, write_counts};
 use bench_core::CoreFault;
 use bench_kernel::Kernel;
 use bench_script::{Script, read_document, read_table};
@@ -15,8 +13,8 @@ use std::alloc::{AllocError, Global};
 use toml::Table;
 use uvm_glob::Name;
 use uvm_object::UvmObject;
-use uvm_phase::Phase;
 use watched_runs::end;
+use written_runs::{Count, begins, write_break, write_counts, write_run};
 
 /// A kernel that has not begun, and what is looked at in it.
 #[derive(Clone, Copy)]
@@ -24,15 +22,6 @@ pub(crate) struct Scene<'a> {
     /// The script, with the answers of its objects.
     pub(crate) file: &'a [u8],
     pub(crate) look: Look<'a>,
-}
-
-/// What is counted at a node.
-#[derive(Clone, Copy)]
-pub enum Count {
-    /// How many wait there.
-    Waiting,
-    /// What is raised there and below to the end of a phase.
-    Raised(Phase),
 }
 
 /// What is looked at in a kernel.

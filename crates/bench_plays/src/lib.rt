@@ -4,11 +4,8 @@
 mod benches;
 mod endings;
 mod objects;
-mod plays;
-mod views;
 
-pub use benches::{
-    Count, Look, make_idle, make_mute, make_spinner, shows, shows_in_boxes, shows_with,
-};
+pub use benches::{Look, make_idle, make_mute, make_spinner, shows, shows_in_boxes, shows_with};
 pub use endings::Ended;
 pub use objects::{Idle, Mute, Spinner};
+pub use written_runs::Count;

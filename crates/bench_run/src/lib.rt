@@ -18,6 +18,7 @@ pub mod laws;
 mod running;
 mod sinks;
 
+pub use bench_kernel::{CoreFault, Kernel};
 pub use endings::{Ending, exit_status};
 pub use faults::RunFault;
 pub use running::{run_kernel, run_script};

@@ -6,3 +6,5 @@ pub mod refusals;
 pub mod report_lines;
 pub mod told;
 pub mod upcoming;
+
+pub use bench_world::World;

@@ -5,7 +5,7 @@ ghost use Rattle.bench_history.specs.Arbitration.{waiters_at};
 ghost use Rattle.bench_history.specs.Configuration.{settings_of};
 ghost use Rattle.bench_history.specs.History.{left_of, nodes_of, now_of, running, speaker_of, stage_of};
 ghost use Rattle.bench_history.specs.Objections.{is_kept, objections_of, stands};
-ghost use Rattle.bench_history.specs.Reports.{newest_fate, reason_of, report_commands};
+ghost use Rattle.bench_history.specs.Reports.{newest_fate, noted_end, reason_of, report_commands};
 ghost use Rattle.uvm_config.specs.Answers.{config_answer};
 ghost use Rattle.uvm_glob.specs.Paths.{path_text};
 ghost use Rattle.uvm_objection.specs.Totals.{total};
@@ -15,11 +15,10 @@ ghost use Rattle.uvm_report.specs.Commands.{is_exit_asked};
 use bench_history::Stage;
 use bench_world::World;
 use uvm_glob::{Name, Path};
-use uvm_object::{Reason, Who};
+use uvm_object::{Entry, Fatal, Reason, Who};
 use uvm_phase::Phase;
 use uvm_report::Fate;
 use uvm_tree::NodeId;
-use world_deeds::logs::noted_end;
 use world_fifos::stations::waiting_at;
 use world_sequencers::arbiters::requests_at;
 
@@ -150,6 +149,23 @@ pub fn reason(world: &World) -> Option<Reason>
         Some(Reason::Exit)
     } else {
         None
+    }
+}
+
+// Why the run is given up, if an entry notes it.
+fn noted_end(entry: &Entry) -> Option<Reason>
+    ensures { result ≡ noted_end entry.now }
+{
+    match entry {
+        Entry::Note {
+            fatal: Fatal::Timeout,
+            ..
+        } => Some(Reason::Timeout),
+        Entry::Note {
+            fatal: Fatal::Stall,
+            ..
+        } => Some(Reason::Stall),
+        _ => None,
     }
 }
 

@@ -8,7 +8,7 @@ use Rattle.bench_history.specs.History.{nodes_of}
 use Rattle.bench_history.specs.Wires.{wiring_of}
 use Rattle.bench_history.specs.Next.{EachIsNext}
 use Rattle.bench_history.specs.Laws.{ConnectFollowsBuild, is_at_check}
-use Rattle.world_deeds.specs.declared.making.Want.{Want}
+use Rattle.world_deeds.specs.declared.making.WaitingParts.{WaitingParts}
 use Rattle.world_services.specs.declared.services.Services.{Services}
 use Rattle.world_wiring.specs.Connectings.{IsConnecting, IsClosing}
 use Rattle.world_services.specs.Services.{ServicesMatch}
@@ -25,7 +25,7 @@ closed-match {script} {services} log follows each at_check m =
     let closing : IsClosing script log.entries true = closing-now true follows each at_check in
     search (rules, connecting, closing)
 
-closed-ready : {script : ScriptValue} {log : LogValue} {services : Services} {waiting : Want} → IsReady waiting script log services → IsReady waiting script log (with_order services)
+closed-ready : {script : ScriptValue} {log : LogValue} {services : Services} {waiting : WaitingParts} → IsReady waiting script log services → IsReady waiting script log (with_order services)
 closed-ready r = record {
   left = r.left;
   needed = r.needed;
@@ -46,7 +46,7 @@ closed-ready r = record {
 
 -- it is as good as before
 pub world-closed :
-    {P : Type 0} {sound : Bool} {script : ScriptValue} {log : LogValue} {services : Services} {waiting : Option Want} {leaving : List Who}
+    {P : Type 0} {sound : Bool} {script : ScriptValue} {log : LogValue} {services : Services} {waiting : Option WaitingParts} {leaving : List Who}
     → P × IsWorld sound script log services waiting leaving → ConnectFollowsBuild → is_at_check script log.entries ≡ true → P × IsWorld sound script log (with_order services) waiting leaving
 world-closed {log = log} p follows at_check =
     let w = p.1 in

@@ -14,7 +14,7 @@ use Rattle.world_entries.specs.Coming.{Comes, GoesOnWith, IsComing, IsDueNext}
 use Rattle.bench_world.specs.Worlds.{IsWorld}
 use Rattle.uvm_object.specs.declared.entries.Entry.TheVariants.{Did}
 use Rattle.uvm_object.specs.declared.entries.Outcome.{Outcome}
-use Rattle.world_deeds.specs.declared.making.Want.{Want}
+use Rattle.world_deeds.specs.declared.making.WaitingParts.{WaitingParts}
 use Rattle.uvm_phase.specs.declared.phases.Phase.{Phase}
 use Rattle.bench_history.specs.declared.stages.Stage.TheVariants.{Ended}
 use Rattle.bench_history.specs.History.{act_phase, in_progress, in_task, left_of, rest_of, speaker_of, stage_of}
@@ -50,13 +50,13 @@ pub here : {script : ScriptValue} {history : List Entry} (comes : Comes) → Eac
 here comes each next = record { each = each; next = next; place_is = refl }
 
 pub due-here :
-    {P : Type 0} {sound : Bool} {script : ScriptValue} {log : LogValue} {services : Services} {waiting : Option Want} {left : List Who} (comes : Comes)
+    {P : Type 0} {sound : Bool} {script : ScriptValue} {log : LogValue} {services : Services} {waiting : Option WaitingParts} {left : List Who} (comes : Comes)
     → P × IsWorld sound script log services waiting left → sound ≡ true → next_of script log.entries ≡ comes log.entries → IsDueNext comes (length log.entries) services
 due-here {script = script} {log} comes p sound next = record { script = script; history = log.entries; coming = here comes p.1.legal.each next; known = p.1.services_match sound }
 
 -- a world goes on with an entry that is next
 goes-on :
-    {P : Type 0} {sound : Bool} {script : ScriptValue} {log more : LogValue} {old services : Services} {waiting : Option Want} {left leaving : List Who} (entry : Entry)
+    {P : Type 0} {sound : Bool} {script : ScriptValue} {log more : LogValue} {old services : Services} {waiting : Option WaitingParts} {left leaving : List Who} (entry : Entry)
     → P × IsWorld sound script log old waiting left → sound ≡ true → length log.entries < log_limit script → IsNext script log.entries entry
     → more.entries ≡ entry ∷ log.entries → more.limit ≡ log.limit → leaving ≡ leaving_of (entry ∷ log.entries)
     → (ServicesMatch script log.entries old → ServicesMatch script (entry ∷ log.entries) services)
@@ -66,7 +66,7 @@ goes-on {log} entry p sound room next is limit leaves match =
 
 -- with what the machine enters by itself, or somebody's answer
 pub entered :
-    {P : Type 0} {sound : Bool} {script : ScriptValue} {log more : LogValue} {old services : Services} {waiting : Option Want} {left leaving : List Who} (comes : Comes) (entry : Entry)
+    {P : Type 0} {sound : Bool} {script : ScriptValue} {log more : LogValue} {old services : Services} {waiting : Option WaitingParts} {left leaving : List Who} (comes : Comes) (entry : Entry)
     → P × IsWorld sound script log old waiting left → sound ≡ true → length log.entries < log_limit script → next_of script log.entries ≡ comes log.entries → Allows (comes log.entries) entry
     → more.entries ≡ entry ∷ log.entries → more.limit ≡ log.limit → (ServicesMatch script log.entries old → leaving ≡ leaving_of (entry ∷ log.entries)) → GoesOnWith comes entry (length log.entries) old services
     → P × IsWorld true script more services None leaving
@@ -97,7 +97,7 @@ goes-still history going task ended = by (act_phase history) refl task
 
 -- and with the entry of an act
 pub acted-on :
-    {P : Type 0} {sound : Bool} {script : ScriptValue} {log more : LogValue} {old new services : Services} {waiting : Option Want} {others leaving : List Who} (outcome : Outcome) (act : Act)
+    {P : Type 0} {sound : Bool} {script : ScriptValue} {log more : LogValue} {old new services : Services} {waiting : Option WaitingParts} {others leaving : List Who} (outcome : Outcome) (act : Act)
     → P × IsWorld sound script log old waiting others → sound ≡ true → length log.entries < log_limit script
     → IsSettled log.entries → left_of script log.entries ≡ act ∷ rest_of (left_of script log.entries) → IsNext script log.entries (Did (speaker_of log.entries) outcome act)
     → IsAct (next_of script log.entries) → ActsAreInPhase → PerformersAreThere → DriversAreThere → TakesIn act outcome (length log.entries) old new
@@ -110,7 +110,7 @@ acted-on {script = script} {log} {old = old} {new} outcome act p sound room sett
 
 -- what an act comes to by itself is next
 pub performed :
-    {P : Type 0} {sound : Bool} {script : ScriptValue} {log more : LogValue} {old new services : Services} {waiting : Option Want} {others leaving : List Who} (outcome : Outcome) (act : Act)
+    {P : Type 0} {sound : Bool} {script : ScriptValue} {log more : LogValue} {old new services : Services} {waiting : Option WaitingParts} {others leaving : List Who} (outcome : Outcome) (act : Act)
     → P × IsWorld sound script log old waiting others → sound ≡ true → length log.entries < log_limit script
     → IsSettled log.entries → left_of script log.entries ≡ act ∷ rest_of (left_of script log.entries) → next_of script log.entries ≡ by_act script log.entries (speaker_of log.entries) act
     → ActsAreInPhase → PerformersAreThere → DriversAreThere → IsPerformed by_act act outcome (length log.entries) old new

@@ -15,7 +15,7 @@ use Rattle.bench_history.specs.History.{nodes_of, opening, speaker_of}
 use Rattle.bench_history.specs.Laws.{IsBegun, IsCreated, IsCreation, IsMadeBy, IsThere}
 use Rattle.bench_history.specs.Sequences.{Beginning, begun_of, home_asked, leaving_after, sequence_in, sequences_of, start_by}
 use Rattle.bench_history.specs.Upshots.{starting_now}
-use Rattle.world_deeds.specs.declared.making.Want.{Want}
+use Rattle.world_deeds.specs.declared.making.WaitingParts.{WaitingParts}
 use Rattle.world_services.specs.declared.services.Services.{Services}
 use Rattle.world_services.specs.Makings.{CanMake, outcome_made, who_made}
 use Rattle.world_sequences.specs.Sequencings.{home_for}
@@ -45,7 +45,7 @@ parent-found found beginning is = rw is refl
 started-at : (nodes : List Node) (started : List Start) (performer : Who) (deed : Act) (asked name : List ℕ) (on : List (List ℕ)) (priority : Option ℕ) (home : ℕ) → deed ≡ act.Start asked name on priority → home_asked nodes performer on ≡ Some home → (start_by nodes started performer deed).home ≡ home
 started-at nodes started performer deed asked name on priority home starts is = rw (starts, is) refl
 
-module _ {script : ScriptValue} {log : LogValue} {services : Services} (waiting : Want) (m : ServicesMatch script log.entries services) (ready : IsReady waiting script log services) where
+module _ {script : ScriptValue} {log : LogValue} {services : Services} (waiting : WaitingParts) (m : ServicesMatch script log.entries services) (ready : IsReady waiting script log services) where
   created : (need : needs.Need) (type_name : List ℕ) → need ≡ waiting.need → IsCreated log.entries need type_name waiting.deed → IsMakeable log.entries services waiting.deed waiting.home waiting.need.type_name need (Made type_name)
   created need type_name same w =
       let none : waiting.home ≡ None = ready.home ∙ creation-home services.tree.nodes services.answer.speaker waiting.deed w.creates in

@@ -15,7 +15,7 @@ use Rattle.bench_history.specs.Laws.{DriversAreThere, IsSettled, PerformersAreTh
 use Rattle.bench_history.specs.Dues.{caused_of, heard_of}
 use Rattle.bench_history.specs.Sequences.{finished_of}
 use Rattle.uvm_acts.specs.declared.acts.Who.{Who}
-use Rattle.world_deeds.specs.declared.making.Want.{Want}
+use Rattle.world_deeds.specs.declared.making.WaitingParts.{WaitingParts}
 use Rattle.world_services.specs.declared.services.Services.{Services}
 use Rattle.world_services.specs.Services.{ServicesMatch}
 use Rattle.world_services.proofs.Settling.{objectings-same}
@@ -51,7 +51,7 @@ need-comes script history act {need} other same c = subst (λ (w : Who). need_in
 
 -- an act that needs an object waits, with room for it
 pub waits :
-    {P : Type 0} {sound : Bool} {script : ScriptValue} {log more : LogValue} {old services : Services} {waiting : Option Want} {leaving : List Who} (act : Act) (wait : Want)
+    {P : Type 0} {sound : Bool} {script : ScriptValue} {log more : LogValue} {old services : Services} {waiting : Option WaitingParts} {leaving : List Who} (act : Act) (wait : WaitingParts)
     → P × IsWorld sound script log old waiting leaving → sound ≡ true → length log.entries < log_limit script
     → IsSettled log.entries → left_of script log.entries ≡ act ∷ rest_of (left_of script log.entries) → next_of script log.entries ≡ by_act script log.entries (speaker_of log.entries) act
     → ActsAreInPhase → PerformersAreThere → DriversAreThere → WaitsForObject act wait log more old services → more.limit ≡ log.limit

@@ -12,7 +12,7 @@ use Rattle.uvm_object.specs.declared.fatals.Fatal.TheVariants.{NoObject}
 use Rattle.uvm_object.specs.declared.entries.Entry.TheVariants.{Granted}
 use Rattle.uvm_object.specs.Logs.{LogValue}
 use Rattle.bench_script.specs.Scripts.{ScriptValue}
-use Rattle.world_deeds.specs.declared.making.Want.{Want}
+use Rattle.world_deeds.specs.declared.making.WaitingParts.{WaitingParts}
 use Rattle.bench_history.specs.Limits.{log_limit}
 use Rattle.bench_history.specs.History.{left_of, nodes_of, rest_of, speaker_of}
 use Rattle.bench_history.specs.Sequences.{leaving_of, sequences_of, start_by}
@@ -48,7 +48,7 @@ abbrev pub broken : WorldValue → WorldValue
 broken world = record world { sound = false; waiting = None }
 
 -- a creation or a start waits: it is the next act, and needs this object; there is room for its entry, and for the report of an object that is declined
-pub record IsReady (waiting : Want) (script : ScriptValue) (log : LogValue) (services : Services) : Type 0 where
+pub record IsReady (waiting : WaitingParts) (script : ScriptValue) (log : LogValue) (services : Services) : Type 0 where
   pub left : left_of script log.entries ≡ waiting.deed ∷ rest_of (left_of script log.entries)
   pub needed : need_in (next_of script log.entries) ≡ Some waiting.need
   pub home : waiting.home ≡ home_for services.tree.nodes services.answer.speaker waiting.deed
@@ -57,7 +57,7 @@ pub record IsReady (waiting : Want) (script : ScriptValue) (log : LogValue) (ser
   pub has_room : HasRoomToMake (id_of NoObject) log services
 
 -- the log is legal, and while the world is sound its services are what the log says, and those that leave are kept
-pub record IsWorld (sound : Bool) (script : ScriptValue) (log : LogValue) (services : Services) (waiting : Option Want) (leaving : List Who) : Type 0 where
+pub record IsWorld (sound : Bool) (script : ScriptValue) (log : LogValue) (services : Services) (waiting : Option WaitingParts) (leaving : List Who) : Type 0 where
   pub limit : log.limit ≡ log_limit script
   pub legal : IsLegal script log.entries
   pub services_match : sound ≡ true → ServicesMatch script log.entries services

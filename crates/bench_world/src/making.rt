@@ -8,7 +8,7 @@ ghost use Rattle.bench_world.specs.Worlds.{made_who, world_after};
 use crate::worlds::World;
 use bench_history::{Need, laws};
 use uvm_object::{Fatal, Who};
-use world_deeds::making::{Want, make, take_want};
+use world_deeds::making::{WaitingParts, make, take_parts};
 use world_deeds::performing::enter;
 use world_services::attempts::refused_by;
 
@@ -18,7 +18,7 @@ impl World {
         ensures { option_copied result ≡ self.now.waiting }
     {
         match &self.waiting {
-            Some(waiting) => Some(&waiting.want().need),
+            Some(waiting) => Some(&waiting.parts().need),
             None => None,
         }
     }
@@ -35,16 +35,16 @@ impl World {
         laws::acts_are_in_phase();
         self.sound = false;
         self.leaving.clear();
-        let Some(want) = take_want(&mut self.waiting) else {
+        let Some(parts) = take_parts(&mut self.waiting) else {
             unreachable!()
         };
-        let Want {
+        let WaitingParts {
             need,
             deed,
             home,
             name,
             declined: _,
-        } = want;
+        } = parts;
         let place = self.log.len();
         let services = &mut self.services;
         let (who, outcome) = make(
@@ -74,10 +74,10 @@ impl World {
         laws::reports_are_few();
         self.sound = false;
         self.leaving.clear();
-        let Some(want) = take_want(&mut self.waiting) else {
+        let Some(parts) = take_parts(&mut self.waiting) else {
             unreachable!()
         };
-        let Want { deed, declined, .. } = want;
+        let WaitingParts { deed, declined, .. } = parts;
         let services = &mut self.services;
         let Ok(refused) = refused_by(services, self.alloc, Fatal::NoObject, &declined) else {
             unreachable!()

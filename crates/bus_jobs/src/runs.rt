@@ -100,7 +100,7 @@ fn run_objects<R: Rng, S: Sink>(
         trace,
         |type_name: &Name| -> Result<Option<BusObject>, AllocError>
             ensures { IfOk result (GivesNamed type_name.now) }
-        { BusObject::of_type(alloc, type_name) },
+        { Ok(BusObject::of_type(type_name)) },
         out,
     )
 }

@@ -207,7 +207,7 @@ fn run(alloc: Global, script: Script, out: &mut Vec<u8>) -> Result<Ending, RunFa
                 Err(_) => Err(AllocError),
             };
         }
-        match BusObject::of_type(alloc, type_name)? {
+        match BusObject::of_type(type_name) {
             Some(object) => match Box::new(alloc, object) {
                 Ok(object) => Ok(Some(object)),
                 Err(_) => Err(AllocError),

@@ -17,7 +17,7 @@ use uvm_tree::{NodeId, Tree};
 // Whether a new object of a type says this: it is asked by each line `> CALL`, and answers with the acts behind.
 fn says(alloc: Global, type_name: &str, text: &str) -> bool {
     let mut told = Vec::new(alloc);
-    match object_of(alloc, type_name) {
+    match object_of(type_name) {
         Some(mut object) => {
             hear_all(alloc, &mut object, text, &mut told).is_some()
                 && told.as_slice() == text.as_bytes()
@@ -27,9 +27,9 @@ fn says(alloc: Global, type_name: &str, text: &str) -> bool {
 }
 
 // A new object of a type, which has the name of the type.
-fn object_of(alloc: Global, type_name: &str) -> Option<BusObject> {
+fn object_of(type_name: &str) -> Option<BusObject> {
     let name = Name::new(type_name.as_bytes()).ok()?;
-    let object = BusObject::of_type(alloc, &name).ok()??;
+    let object = BusObject::of_type(&name)?;
     if *object.type_name() == name {
         Some(object)
     } else {
@@ -213,6 +213,6 @@ fn other_types_have_no_object(rt: HostRuntime) {
         "seq",
         "seq_smok",
     ] {
-        assert!(rt; object_of(rt.alloc(), name).is_none(), "of {name}");
+        assert!(rt; object_of(name).is_none(), "of {name}");
     }
 }

@@ -13,6 +13,10 @@ bus_mem_view bus_mem = memory_view bus_mem.memory
 abbrev pub BusMemSays : View → Call → List Act → View → Type 0
 BusMemSays = MemorySays Exact
 
--- the new object of the type of this name, if it is that type
+-- the new object of the type of this name
+abbrev pub new_bus_mem : List ℕ → BusMem
+new_bus_mem name = record { type_name = name; memory = new_memory }
+
+-- it, if the name is that of its type
 abbrev pub bus_mem_named : List ℕ → Option BusMem
-bus_mem_named name = if bytes_eq name (codes "bus_mem") then Some (record { type_name = name; memory = new_memory }) else None
+bus_mem_named name = if bytes_eq name (codes "bus_mem") then Some (new_bus_mem name) else None

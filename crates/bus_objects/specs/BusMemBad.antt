@@ -13,6 +13,10 @@ bus_mem_bad_view bus_mem_bad = memory_view bus_mem_bad.memory
 abbrev pub BusMemBadSays : View → Call → List Act → View → Type 0
 BusMemBadSays = MemorySays Flipped
 
--- the new object of the type of this name, if it is that type
+-- the new object of the type of this name
+abbrev pub new_bus_mem_bad : List ℕ → BusMemBad
+new_bus_mem_bad name = record { type_name = name; memory = new_memory }
+
+-- it, if the name is that of its type
 abbrev pub bus_mem_bad_named : List ℕ → Option BusMemBad
-bus_mem_bad_named name = if bytes_eq name (codes "bus_mem_bad") then Some (record { type_name = name; memory = new_memory }) else None
+bus_mem_bad_named name = if bytes_eq name (codes "bus_mem_bad") then Some (new_bus_mem_bad name) else None

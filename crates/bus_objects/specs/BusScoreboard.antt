@@ -75,6 +75,10 @@ score_after score call = score
 abbrev pub BusScoreboardSays : View → Call → List Act → View → Type 0
 BusScoreboardSays before call acts after = let score = score_of before in (acts ≡ bus_scoreboard_acts score call) × (after ≡ score_view (score_after score call))
 
--- the new object of the type of this name, if it is that type
+-- the new object of the type of this name
+abbrev pub new_bus_scoreboard : List ℕ → BusScoreboard
+new_bus_scoreboard name = record { type_name = name; score = new_score }
+
+-- it, if the name is that of its type
 abbrev pub bus_scoreboard_named : List ℕ → Option BusScoreboard
-bus_scoreboard_named name = if bytes_eq name (codes "bus_scoreboard") then Some (record { type_name = name; score = new_score }) else None
+bus_scoreboard_named name = if bytes_eq name (codes "bus_scoreboard") then Some (new_bus_scoreboard name) else None

@@ -1,3 +1,4 @@
+pub mod Boxed
 pub mod BusAgent
 pub mod BusDriver
 pub mod BusEnv

@@ -43,6 +43,10 @@ sleeper_after view call = view
 abbrev pub SleeperSays : View → Call → List Act → View → Type 0
 SleeperSays before call acts after = (acts ≡ sleeper_acts before call) × (after ≡ sleeper_after before call)
 
--- the new object of the type of this name, if it is that type
+-- the new object of the type of this name
+abbrev pub new_sleeper : List ℕ → Sleeper
+new_sleeper name = record { type_name = name; ticks = Some 0 }
+
+-- it, if the name is that of its type
 abbrev pub sleeper_named : List ℕ → Option Sleeper
-sleeper_named name = if bytes_eq name (codes "sleeper") then Some (record { type_name = name; ticks = Some 0 }) else None
+sleeper_named name = if bytes_eq name (codes "sleeper") then Some (new_sleeper name) else None

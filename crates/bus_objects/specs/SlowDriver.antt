@@ -35,8 +35,12 @@ kept_after kept call = kept
 abbrev pub SlowDriverSays : View → Call → List Act → View → Type 0
 SlowDriverSays before call acts after = let kept = item_of before in (acts ≡ slow_driver_acts kept call) × (after ≡ item_view (kept_after kept call))
 
--- the new object of the type of this name, if it is that type: it keeps an item of zeros
+-- the new object of the type of this name
+abbrev pub new_slow_driver : List ℕ → SlowDriver
+new_slow_driver name = record { type_name = name; item = record { 0 = replicate 4 (pos 0) } }
+
+-- it, if the name is that of its type
 abbrev pub slow_driver_named : List ℕ → Option SlowDriver
 slow_driver_named name =
-    if bytes_eq name (codes "slow_driver") then Some (record { type_name = name; item = record { 0 = replicate 4 (pos 0) } })
+    if bytes_eq name (codes "slow_driver") then Some (new_slow_driver name)
     else None

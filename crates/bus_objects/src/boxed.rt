@@ -1,36 +1,58 @@
-//! Objects behind a pointer.
+//! Objects that stand behind a pointer once they are called.
 
-ghost use Rattle.std.specs.Prelude.{◌≡◌, IfOk};
+ghost use Rattle.std.specs.Prelude.{◌≡◌, ℕ, List};
 
 use std::alloc::{AllocError, Global};
 use std::marker::Model;
 use uvm_glob::Name;
 use uvm_object::{Acts, Call, UvmObject};
 
-/// An object behind a pointer, so that one that keeps much takes a word where it is kept beside those that keep little. Contracts see the object.
-#[derive(Drop)]
-pub struct Boxed<O> {
-    object: Box<O>,
+/// An object whose type has one new object for each name of a type.
+pub trait Fresh: UvmObject {
+    ghost fresh: { List ℕ → Self };
+
+    /// Makes the new object of the type of this name. Takes no memory.
+    fn fresh(alloc: Global, type_name: Name) -> Self
+        ensures { result ≡ fresh type_name };
+
+    // It has that name.
+    ghost named: { (type_name : List ℕ) → Self.name (fresh type_name) ≡ type_name };
 }
 
-impl<O> Model for Boxed<O> {
+// An object that was not called yet, of which the name of its type says all, or one that was.
+#[derive(Drop)]
+enum Place<O: Fresh> {
+    New(Name),
+    Called(Box<O>),
+}
+
+/// An object that stands behind a pointer from its first call on, so that one that keeps much takes little room where it is kept beside
+/// those that keep little. Contracts see the object.
+#[derive(Drop)]
+pub struct Boxed<O: Fresh> {
+    place: Place<O>,
+}
+
+impl<O: Fresh> Model for Boxed<O> {
+    ghost use Rattle.bus_objects.specs.Boxed.{object_at};
+
     ghost Value = { O };
 
-    ghost view = { λ b. b.object.value };
+    ghost view = { λ b. object_at O.fresh b.place };
 }
 
-impl<O: Drop> Boxed<O> {
-    /// Puts an object behind a pointer. The error is want of memory.
-    pub fn new(alloc: Global, object: O) -> Result<Boxed<O>, AllocError>
-        ensures { IfOk result (λ boxed. boxed ≡ object) }
+impl<O: Fresh> Boxed<O> {
+    /// The new object of the type of this name. Takes no memory before it is called.
+    pub fn new(type_name: Name) -> Boxed<O>
+        ensures { result ≡ O.fresh type_name }
     {
-        Ok(Boxed {
-            object: Box::new(alloc, object)?,
-        })
+        Boxed {
+            place: Place::New(type_name),
+        }
     }
 }
 
-impl<O: UvmObject> UvmObject for Boxed<O> {
+impl<O: Fresh> UvmObject for Boxed<O> {
     ghost view = { O.view };
 
     ghost name = { O.name };
@@ -38,10 +60,21 @@ impl<O: UvmObject> UvmObject for Boxed<O> {
     ghost says = { O.says };
 
     fn type_name(&self) -> &Name {
-        self.object.type_name()
+        match &self.place {
+            Place::New(type_name) => type_name,
+            Place::Called(object) => object.type_name(),
+        }
     }
 
     fn hear(&mut self, alloc: Global, call: &Call) -> Result<Acts, AllocError> {
-        self.object.hear(alloc, call)
+        match &mut self.place {
+            Place::New(type_name) => {
+                let mut object = O::fresh(alloc, *type_name);
+                let acts = object.hear(alloc, call)?;
+                self.place = Place::Called(Box::new(alloc, object)?);
+                Ok(acts)
+            }
+            Place::Called(object) => object.hear(alloc, call),
+        }
     }
 }

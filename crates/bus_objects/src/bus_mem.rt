@@ -2,6 +2,7 @@
 
 ghost use Rattle.std.specs.Prelude.{◌≡◌};
 
+use crate::boxed::{Boxed, Fresh};
 use crate::memory::{Memory, Reading};
 use std::alloc::{AllocError, Global};
 use uvm_glob::Name;
@@ -23,18 +24,31 @@ impl BusMem {
     ghost use Rattle.bus_objects.specs.BusMem.{bus_mem_named};
 
     /// A new object, if the type is this one's. Takes no memory.
-    pub fn of_type(alloc: Global, type_name: &Name) -> Option<BusMem>
+    pub fn of_type(type_name: &Name) -> Option<Boxed<BusMem>>
         ensures { result ≡ bus_mem_named type_name.now }
     {
         if type_name.as_bytes() == b"bus_mem".as_slice() {
-            Some(BusMem {
-                type_name: *type_name,
-                memory: Memory::new(alloc),
-            })
+            Some(Boxed::new(*type_name))
         } else {
             None
         }
     }
+}
+
+impl Fresh for BusMem {
+    ghost use Rattle.std.specs.Prelude.{refl};
+    ghost use Rattle.bus_objects.specs.BusMem.{new_bus_mem};
+
+    ghost fresh = { new_bus_mem };
+
+    fn fresh(alloc: Global, type_name: Name) -> BusMem {
+        BusMem {
+            type_name,
+            memory: Memory::new(alloc),
+        }
+    }
+
+    ghost named = { λ _. refl };
 }
 
 impl UvmObject for BusMem {

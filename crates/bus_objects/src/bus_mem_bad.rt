@@ -2,6 +2,7 @@
 
 ghost use Rattle.std.specs.Prelude.{◌≡◌};
 
+use crate::boxed::{Boxed, Fresh};
 use crate::memory::{Memory, Reading};
 use std::alloc::{AllocError, Global};
 use uvm_glob::Name;
@@ -18,18 +19,31 @@ impl BusMemBad {
     ghost use Rattle.bus_objects.specs.BusMemBad.{bus_mem_bad_named};
 
     /// A new object, if the type is this one's. Takes no memory.
-    pub fn of_type(alloc: Global, type_name: &Name) -> Option<BusMemBad>
+    pub fn of_type(type_name: &Name) -> Option<Boxed<BusMemBad>>
         ensures { result ≡ bus_mem_bad_named type_name.now }
     {
         if type_name.as_bytes() == b"bus_mem_bad".as_slice() {
-            Some(BusMemBad {
-                type_name: *type_name,
-                memory: Memory::new(alloc),
-            })
+            Some(Boxed::new(*type_name))
         } else {
             None
         }
     }
+}
+
+impl Fresh for BusMemBad {
+    ghost use Rattle.std.specs.Prelude.{refl};
+    ghost use Rattle.bus_objects.specs.BusMemBad.{new_bus_mem_bad};
+
+    ghost fresh = { new_bus_mem_bad };
+
+    fn fresh(alloc: Global, type_name: Name) -> BusMemBad {
+        BusMemBad {
+            type_name,
+            memory: Memory::new(alloc),
+        }
+    }
+
+    ghost named = { λ _. refl };
 }
 
 impl UvmObject for BusMemBad {

@@ -3,6 +3,7 @@
 ghost use Rattle.std.specs.Prelude.{◌≡◌, IfOk, OnOk, OnErr};
 ghost use Rattle.bus_objects.specs.BusScoreboard.{bus_scoreboard_acts, is_bad, mismatch_text, new_score, one_more, score_after, score_text, score_with};
 
+use crate::boxed::{Boxed, Fresh};
 use crate::items::{address_of, data_of, is_write};
 use crate::words::WordMap;
 use std::alloc::{AllocError, Global};
@@ -27,18 +28,31 @@ impl BusScoreboard {
     ghost use Rattle.bus_objects.specs.BusScoreboard.{bus_scoreboard_named};
 
     /// A new object, if the type is this one's. Takes no memory.
-    pub fn of_type(alloc: Global, type_name: &Name) -> Option<BusScoreboard>
+    pub fn of_type(type_name: &Name) -> Option<Boxed<BusScoreboard>>
         ensures { result ≡ bus_scoreboard_named type_name.now }
     {
         if type_name.as_bytes() == b"bus_scoreboard".as_slice() {
-            Some(BusScoreboard {
-                type_name: *type_name,
-                score: Score::new(alloc),
-            })
+            Some(Boxed::new(*type_name))
         } else {
             None
         }
     }
+}
+
+impl Fresh for BusScoreboard {
+    ghost use Rattle.std.specs.Prelude.{refl};
+    ghost use Rattle.bus_objects.specs.BusScoreboard.{new_bus_scoreboard};
+
+    ghost fresh = { new_bus_scoreboard };
+
+    fn fresh(alloc: Global, type_name: Name) -> BusScoreboard {
+        BusScoreboard {
+            type_name,
+            score: Score::new(alloc),
+        }
+    }
+
+    ghost named = { λ _. refl };
 }
 
 impl UvmObject for BusScoreboard {

@@ -26,7 +26,7 @@ mod slow_driver;
 mod spinner;
 mod words;
 
-pub use boxed::Boxed;
+pub use boxed::{Boxed, Fresh};
 pub use bus_agent::BusAgent;
 pub use bus_driver::BusDriver;
 pub use bus_env::BusEnv;

@@ -1,6 +1,6 @@
 //! The objects of the bench, of whichever type.
 
-ghost use Rattle.std.specs.Prelude.{◌≡◌, IfOk};
+ghost use Rattle.std.specs.Prelude.{◌≡◌};
 
 use crate::boxed::Boxed;
 use crate::bus_agent::BusAgent;
@@ -66,38 +66,33 @@ pub enum BusObject {
 impl BusObject {
     ghost use Rattle.bus_objects.specs.Objects.{large_named, object_named, part_named, sequence_named, small_named};
 
-    /// A new object of the type of this name, if the bench has the type. The error is want of memory, and comes only for one that stands
-    /// behind a pointer.
-    pub fn of_type(alloc: Global, type_name: &Name) -> Result<Option<BusObject>, AllocError>
-        ensures { IfOk result (λ object. object ≡ object_named type_name.now) }
+    /// A new object of the type of this name, if the bench has the type. Takes no memory.
+    pub fn of_type(type_name: &Name) -> Option<BusObject>
+        ensures { result ≡ object_named type_name.now }
     {
-        if let Some(object) = BusObject::large_of_type(alloc, type_name)? {
-            return Ok(Some(object));
+        if let Some(object) = BusObject::large_of_type(type_name) {
+            return Some(object);
         }
-        Ok(BusObject::small_of_type(type_name))
+        BusObject::small_of_type(type_name)
     }
 
-    // A new object of the type of this name, if it is that of an object that stands behind a pointer.
-    fn large_of_type(alloc: Global, type_name: &Name) -> Result<Option<BusObject>, AllocError>
-        ensures { IfOk result (λ object. object ≡ large_named type_name.now) }
+    // A new object of the type of this name, if it is that of an object that stands behind a pointer once it is called.
+    fn large_of_type(type_name: &Name) -> Option<BusObject>
+        ensures { result ≡ large_named type_name.now }
     {
-        if let Some(bus_mem) = BusMem::of_type(alloc, type_name) {
-            return Ok(Some(BusObject::BusMem(Boxed::new(alloc, bus_mem)?)));
+        if let Some(bus_mem) = BusMem::of_type(type_name) {
+            return Some(BusObject::BusMem(bus_mem));
         }
-        if let Some(bus_mem_bad) = BusMemBad::of_type(alloc, type_name) {
-            return Ok(Some(BusObject::BusMemBad(Boxed::new(alloc, bus_mem_bad)?)));
+        if let Some(bus_mem_bad) = BusMemBad::of_type(type_name) {
+            return Some(BusObject::BusMemBad(bus_mem_bad));
         }
-        if let Some(bus_scoreboard) = BusScoreboard::of_type(alloc, type_name) {
-            let bus_scoreboard = Boxed::new(alloc, bus_scoreboard)?;
-            return Ok(Some(BusObject::BusScoreboard(bus_scoreboard)));
+        if let Some(bus_scoreboard) = BusScoreboard::of_type(type_name) {
+            return Some(BusObject::BusScoreboard(bus_scoreboard));
         }
         if let Some(sleeper) = Sleeper::of_type(type_name) {
-            return Ok(Some(BusObject::Sleeper(Boxed::new(alloc, sleeper)?)));
+            return Some(BusObject::Sleeper(sleeper));
         }
-        if let Some(slow_driver) = SlowDriver::of_type(type_name) {
-            return Ok(Some(BusObject::SlowDriver(Boxed::new(alloc, slow_driver)?)));
-        }
-        Ok(None)
+        SlowDriver::of_type(type_name).map(BusObject::SlowDriver)
     }
 
     // A new object of the type of this name, if it is that of an object that stands in place.

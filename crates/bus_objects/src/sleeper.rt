@@ -3,6 +3,7 @@
 ghost use Rattle.std.specs.Prelude.{◌≡◌};
 ghost use Rattle.bus_objects.specs.Sleeper.{shown, ticks_kept};
 
+use crate::boxed::{Boxed, Fresh};
 use std::alloc::{AllocError, Global};
 use uvm_glob::Name;
 use uvm_object::{Acts, Call, UvmObject};
@@ -22,18 +23,31 @@ impl Sleeper {
     ghost use Rattle.bus_objects.specs.Sleeper.{sleeper_named};
 
     /// A new object, if the type is this one's. It keeps 0.
-    pub fn of_type(type_name: &Name) -> Option<Sleeper>
+    pub fn of_type(type_name: &Name) -> Option<Boxed<Sleeper>>
         ensures { result ≡ sleeper_named type_name.now }
     {
         if type_name.as_bytes() == b"sleeper".as_slice() {
-            Some(Sleeper {
-                type_name: *type_name,
-                ticks: Some(0),
-            })
+            Some(Boxed::new(*type_name))
         } else {
             None
         }
     }
+}
+
+impl Fresh for Sleeper {
+    ghost use Rattle.std.specs.Prelude.{refl};
+    ghost use Rattle.bus_objects.specs.Sleeper.{new_sleeper};
+
+    ghost fresh = { new_sleeper };
+
+    fn fresh(_alloc: Global, type_name: Name) -> Sleeper {
+        Sleeper {
+            type_name,
+            ticks: Some(0),
+        }
+    }
+
+    ghost named = { λ _. refl };
 }
 
 impl UvmObject for Sleeper {

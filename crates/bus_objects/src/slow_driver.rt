@@ -2,6 +2,7 @@
 
 ghost use Rattle.std.specs.Prelude.{◌≡◌};
 
+use crate::boxed::{Boxed, Fresh};
 use crate::driver::{driver_acts, put_item};
 use std::alloc::{AllocError, Global};
 use uvm_glob::Name;
@@ -21,18 +22,31 @@ impl SlowDriver {
     ghost use Rattle.bus_objects.specs.SlowDriver.{slow_driver_named};
 
     /// A new object, if the type is this one's.
-    pub fn of_type(type_name: &Name) -> Option<SlowDriver>
+    pub fn of_type(type_name: &Name) -> Option<Boxed<SlowDriver>>
         ensures { result ≡ slow_driver_named type_name.now }
     {
         if type_name.as_bytes() == b"slow_driver".as_slice() {
-            Some(SlowDriver {
-                type_name: *type_name,
-                item: Item([0; 4]),
-            })
+            Some(Boxed::new(*type_name))
         } else {
             None
         }
     }
+}
+
+impl Fresh for SlowDriver {
+    ghost use Rattle.std.specs.Prelude.{refl};
+    ghost use Rattle.bus_objects.specs.SlowDriver.{new_slow_driver};
+
+    ghost fresh = { new_slow_driver };
+
+    fn fresh(_alloc: Global, type_name: Name) -> SlowDriver {
+        SlowDriver {
+            type_name,
+            item: Item([0; 4]),
+        }
+    }
+
+    ghost named = { λ _. refl };
 }
 
 impl UvmObject for SlowDriver {

@@ -3,9 +3,7 @@
 use crate::benches::{answers_of, bytes_of, script_of};
 use crate::counted::Counted;
 use crate::ends::{End, tell};
-use bench_core::CoreFault;
-use bench_kernel::Kernel;
-use bench_run::{RunFault, run_kernel};
+use bench_run::{CoreFault, Kernel, RunFault, run_kernel};
 use bench_script::{Script, read_document};
 use rand_core::SeedableRng;
 use rand_pcg::Pcg64;

@@ -31,7 +31,7 @@ impl<'a> BenchObject<'a> {
         if let Some(rules) = answers.of_type(type_name) {
             return Ok(BenchObject::Scripted(Scripted::new(alloc, type_name, rules)?));
         }
-        match BusObject::of_type(alloc, type_name)? {
+        match BusObject::of_type(type_name) {
             Some(object) => Ok(BenchObject::Bus(object)),
             None => Ok(BenchObject::Scripted(Scripted::new(alloc, type_name, &[])?)),
         }

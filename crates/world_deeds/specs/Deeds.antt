@@ -11,7 +11,7 @@ use Rattle.bench_history.specs.Cases.{by_act}
 use Rattle.bench_history.specs.Sequences.{leaving_after}
 use Rattle.world_services.specs.declared.services.Services.{Services}
 use Rattle.world_services.specs.Attempts.{IsInNeed, IsPerformed, one_done}
-use Rattle.world_deeds.specs.declared.making.Want.{Want}
+use Rattle.world_deeds.specs.declared.making.WaitingParts.{WaitingParts}
 use Rattle.world_deeds.specs.declared.deeds.CarriedOut.{CarriedOut}
 use Rattle.world_deeds.specs.declared.deeds.CarriedOut.TheVariants.{Entered, Waits}
 use Rattle.world_deeds.specs.Rooms.{GiveTheSame, HasRoomToMake}
@@ -26,7 +26,7 @@ pub record IsEntered (act : Act) (leaving : List Who) (log more : LogValue) (old
   pub done : new ≡ one_done kept
 
 -- it waits for the object that it needs, with room for its entry, and nothing else has changed
-pub record WaitsForObject (act : Act) (waiting : Want) (log more : LogValue) (old new : Services) : Type 0 where
+pub record WaitsForObject (act : Act) (waiting : WaitingParts) (log more : LogValue) (old new : Services) : Type 0 where
   pub need : IsInNeed by_act act waiting.need waiting.home (length log.entries) old old
   pub deed : waiting.deed ≡ act
   pub declined : waiting.declined ≡ fatal_report NoObject

@@ -49,7 +49,7 @@ pub fn carry_out(
         }
         Attempt::Needed { need, home } => {
             let waiting = Waiting::new(alloc, need, deed, home)?;
-            make_room(log, services, &waiting.want().declined.id)?;
+            make_room(log, services, &waiting.parts().declined.id)?;
             Ok(CarriedOut::Waits(waiting))
         }
     }

@@ -29,7 +29,7 @@ use world_services::services::Services;
 /// What a creation or a start waits with: what it needs, the act, the sequencer of a sequence, room for the name of the type that is made,
 /// and the report of an object that is declined.
 #[derive(Drop)]
-pub struct Want {
+pub struct WaitingParts {
     pub need: Need,
     pub deed: Deed,
     pub home: Option<NodeId>,
@@ -40,22 +40,22 @@ pub struct Want {
 /// A creation or a start that waits for its object, behind a pointer, so that an act that needs none has no room for it. Contracts see what
 /// it waits with.
 pub struct Waiting {
-    want: Box<Want>,
+    parts: Box<WaitingParts>,
 }
 
 // (By hand, so that crates above prove no drop of what it holds.)
 impl Drop for Waiting {
     fn drop(self) {
-        let Waiting { want: _ } = self;
+        let Waiting { parts: _ } = self;
     }
 }
 
 impl Model for Waiting {
-    ghost use Rattle.world_deeds.specs.declared.making.Want.{Want};
+    ghost use Rattle.world_deeds.specs.declared.making.WaitingParts.{WaitingParts};
 
-    ghost Value = { Want };
+    ghost Value = { WaitingParts };
 
-    ghost view = { λ w. w.want.value };
+    ghost view = { λ w. w.parts.value };
 }
 
 impl Waiting {
@@ -71,7 +71,7 @@ impl Waiting {
     {
         let name = Box::new(alloc, placeholder())?;
         let declined = Fatal::NoObject.report(alloc)?;
-        let want = Want {
+        let parts = WaitingParts {
             need,
             deed,
             home,
@@ -79,32 +79,32 @@ impl Waiting {
             declined,
         };
         Ok(Waiting {
-            want: Box::new(alloc, want)?,
+            parts: Box::new(alloc, parts)?,
         })
     }
 
     /// Lends what it waits with.
-    pub fn want(&self) -> &Want
+    pub fn parts(&self) -> &WaitingParts
         ensures { result.now ≡ self.now }
     {
-        &self.want
+        &self.parts
     }
 
-    fn into_want(self) -> Want
+    fn into_parts(self) -> WaitingParts
         ensures { result ≡ self }
     {
-        let Waiting { want } = self;
-        Box::into_inner(want)
+        let Waiting { parts } = self;
+        Box::into_inner(parts)
     }
 }
 
 /// Takes out what a creation or a start waits with, if one waits. Takes no memory.
-pub fn take_want(waiting: &mut Option<Waiting>) -> Option<Want>
+pub fn take_parts(waiting: &mut Option<Waiting>) -> Option<WaitingParts>
     ensures value { result ≡ waiting.old }
     ensures after { waiting.new ≡ None }
 {
     match waiting.take() {
-        Some(waiting) => Some(waiting.into_want()),
+        Some(waiting) => Some(waiting.into_parts()),
         None => None,
     }
 }

@@ -10,12 +10,10 @@ ghost use Rattle.bench_history.specs.Objections.{is_kept};
 ghost use Rattle.bench_history.specs.Laws.{is_at_check};
 ghost use Rattle.bench_history.specs.Next.{first_next, next_of};
 ghost use Rattle.world_entries.specs.Marks.{entry_of};
-ghost use Rattle.bench_core.specs.Choices.{IsChoice};
+ghost use Rattle.bench_choices.specs.Choices.{IsChoice};
 
-use crate::cores::Question;
 use bench_history::{Owner, Stage};
-use bench_views::{lent, told, upcoming};
-use bench_world::World;
+use bench_views::{World, lent, told, upcoming};
 use std::alloc::AllocError;
 use uvm_object::{Call, Fatal, HeldCall, Origin, Reason, Who};
 use uvm_phase::{Due, Phase, Schedule};
@@ -24,7 +22,7 @@ use world_entries::marks::Mark;
 
 /// What comes next.
 #[derive(Drop)]
-pub(crate) enum Choice {
+pub enum Choice {
     /// Nothing.
     Nothing,
     /// This entry.
@@ -39,12 +37,21 @@ pub(crate) enum Choice {
     Ask,
 }
 
-// What comes next after the log of a world. Where it is the answer of somebody, the question is that.
+/// A call that somebody was asked to answer, and has not answered yet. It was due with an origin, or is a phase's.
+#[derive(Drop)]
+pub struct Question {
+    /// Who is to answer: a component, or a sequence.
+    pub who: Who,
+    /// The call.
+    pub call: Call,
+    /// What caused the call, and in which phase. None for the call of a phase.
+    pub origin: Option<Origin>,
+}
+
+/// Chooses what comes next after the log of a sound world. Where it is the answer of somebody, the question is that. The error is want of
+/// memory; the world stays as it is, and nothing is asked.
 #[tactic(auto, unfolding(bench_history::specs::Limits::has_runtime, bench_history::specs::Next::next_of))]
-pub(crate) fn choose(
-    world: &mut World,
-    question: &mut Option<Question>,
-) -> Result<Choice, AllocError>
+pub fn choose(world: &mut World, question: &mut Option<Question>) -> Result<Choice, AllocError>
     requires sound { world.old.sound ≡ true }
     requires unasked { question.old ≡ None }
     ensures choice { IfOk result (IsChoice (next_of world.old.script world.old.history) question.new) }

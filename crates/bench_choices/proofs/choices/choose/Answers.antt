@@ -1,7 +1,7 @@
 use Rattle.std.proofs.Common.{◌≡◌, None, refl, rules, sym, subst, ◌∙◌}
 use Rattle.bench_history.specs.Cases.{chosen_at, end_reached}
-use Rattle.bench_core.proofs.Serving.{goes-on, passes-next, serves-next}
-use Rattle.bench_core.proofs.choices.choose.Goals as goal
+use Rattle.bench_choices.proofs.Serving.{goes-on, passes-next, serves-next}
+use Rattle.bench_choices.proofs.choices.choose.Goals as goal
 
 pub returns-in-Some-next_served : goal.returns-in-Some-next_served
 returns-in-Some-next_served c =

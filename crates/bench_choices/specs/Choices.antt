@@ -5,9 +5,9 @@ use Rattle.uvm_object.specs.declared.entries.Passage.{Passage}
 use Rattle.bench_history.specs.Cases as next
 use Rattle.bench_history.specs.Next.{IsAct}
 use Rattle.world_entries.specs.Marks.{entry_of}
-use Rattle.bench_core.specs.declared.cores.Question.{Question}
-use Rattle.bench_core.specs.declared.choices.Choice.{Choice}
-use Rattle.bench_core.specs.declared.choices.Choice.TheVariants.{Nothing, Enter, Grant, Pass, Act, Ask}
+use Rattle.bench_choices.specs.declared.choices.Question.{Question}
+use Rattle.bench_choices.specs.declared.choices.Choice.{Choice}
+use Rattle.bench_choices.specs.declared.choices.Choice.TheVariants.{Nothing, Enter, Grant, Pass, Act, Ask}
 
 -- it is what comes next: what is asked, where something is, and else nothing is asked
 abbrev pub IsChoice : next.Next → Option Question → Choice → Type 0

@@ -1,9 +1,7 @@
 //! What a machine tells while it runs.
 
-use crate::benches::Count;
-use crate::plays::{push, supply};
-use bench_core::Core;
-use bench_kernel::{Kernel, Step};
+use crate::runs::{push, supply};
+use bench_kernel::{Core, Kernel, Step};
 use rand_pcg::Pcg32;
 use std::alloc::{AllocError, Global};
 use uvm_factory::Kind;
@@ -12,8 +10,17 @@ use uvm_object::UvmObject;
 use uvm_phase::Phase;
 use uvm_tree::NodeId;
 
+/// What is counted at a node.
+#[derive(Clone, Copy)]
+pub enum Count {
+    /// How many wait there.
+    Waiting,
+    /// What is raised there and below to the end of a phase.
+    Raised(Phase),
+}
+
 /// Runs to the end, and writes what is counted at a path each time that it changes.
-pub(crate) fn write_counts<O: UvmObject, F: Fn(&Name) -> Result<Option<O>, AllocError>>(
+pub fn write_counts<O: UvmObject, F: Fn(&Name) -> Result<Option<O>, AllocError>>(
     alloc: Global,
     kernel: &mut Kernel<O>,
     count: Count,
@@ -83,7 +90,7 @@ fn digit_of(count: u64) -> &'static [u8] {
 }
 
 /// Whether the test is needed, and needed again, and then made and begun to build.
-pub(crate) fn begins<O: UvmObject, F: Fn(&Name) -> Result<Option<O>, AllocError>>(
+pub fn begins<O: UvmObject, F: Fn(&Name) -> Result<Option<O>, AllocError>>(
     alloc: Global,
     kernel: &mut Kernel<O>,
     make: &F,

@@ -15,7 +15,7 @@ ghost use Rattle.bench_choices.specs.Choices.{IsChoice};
 use bench_history::{Owner, Stage};
 use bench_views::{World, lent, told, upcoming};
 use std::alloc::AllocError;
-use uvm_object::{Call, Fatal, HeldCall, Origin, Reason, Who};
+use uvm_object::{Call, Fatal, Notice, Origin, Reason, Who};
 use uvm_phase::{Due, Phase, Schedule};
 use uvm_tree::NodeId;
 use world_entries::marks::Mark;
@@ -140,7 +140,7 @@ fn in_turn(node: NodeId, phase: Phase, question: &mut Option<Question>) -> Choic
 }
 
 // The owner of an event hears its call, or its drain ends.
-fn happening(due: &Due<Owner, Option<HeldCall>>, question: &mut Option<Question>) -> Choice
+fn happening(due: &Due<Owner, Notice>, question: &mut Option<Question>) -> Choice
     requires { question.old ≡ None }
     ensures { IsChoice (by_call due.now.owner due.now.notice (origin_of due.now)) question.new result }
 {
@@ -149,11 +149,11 @@ fn happening(due: &Due<Owner, Option<HeldCall>>, question: &mut Option<Question>
         cause: due.cause,
         phase: due.phase,
     };
-    match &due.notice {
+    match due.notice.call() {
         Some(call) => {
             *question = Some(Question {
                 who,
-                call: call.get(),
+                call,
                 origin: Some(origin),
             });
             Choice::Ask

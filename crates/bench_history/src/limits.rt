@@ -5,13 +5,13 @@ ghost use Rattle.bench_history.specs.Limits.{log_limit};
 
 use bench_script::Script;
 
-const ENTRIES_OF_VERSION_1: usize = 1_000_000;
+const ENTRIES_OF_VERSION_1: u32 = 1_000_000;
 
-const ENTRIES_OF_VERSION_2: usize = 8_000_000;
+const ENTRIES_OF_VERSION_2: u32 = 8_000_000;
 
 /// Answers how many entries the log of a script may have: 1,000,000 in version 1 of scripts, and 8,000,000 in version 2. Takes no memory.
 #[tactic(auto, unfolding(crate::specs::Limits::log_limit))]
-pub fn log_limit(script: &Script) -> usize
+pub fn log_limit(script: &Script) -> u32
     ensures { result ≡ log_limit script.now }
 {
     if script.version() == 2 {

@@ -3,14 +3,15 @@
 ghost use Rattle.std.specs.Prelude.{◌≡◌, true, IfSome, IsSome};
 ghost use Rattle.bench_world.specs.Worlds.{IsMaking};
 
-use bench_history::Stage;
+use bench_history::{Owner, Stage};
 use bench_script::{Script, read};
 use bench_views::{lent, refusals, told, upcoming};
 use bench_world::World;
 use std::alloc::Global;
+use std::mem::size_of;
 use uvm_glob::Name;
-use uvm_object::{Act, Fatal};
-use uvm_phase::Phase;
+use uvm_object::{Act, Fatal, Notice};
+use uvm_phase::{Due, Phase};
 use uvm_tree::NodeId;
 
 const SCRIPT: &[u8] = b"version = 1\ntest = \"t\"\n[[type]]\nname = \"t\"\nkind = \"component\"\n";
@@ -22,6 +23,12 @@ const SCRIPT_OF_VERSION_2: &[u8] =
 fn a_new_world_is_to_create_the_test(rt: HostRuntime) {
     assert!(rt; begins(rt.alloc(), SCRIPT, 1_000_000));
     assert!(rt; begins(rt.alloc(), SCRIPT_OF_VERSION_2, 8_000_000));
+}
+
+#[test]
+fn events_are_small(rt: HostRuntime) {
+    let size = size_of::<Due<Owner, Notice>>();
+    assert!(rt; size <= 48, "{size} bytes");
 }
 
 // Whether the world of a script begins so, with a log that may have so many entries.

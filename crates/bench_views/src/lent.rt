@@ -21,7 +21,7 @@ use bench_history::Owner;
 use bench_world::World;
 use uvm_config::Settings;
 use uvm_factory::Factory;
-use uvm_object::HeldCall;
+use uvm_object::Notice;
 use uvm_phase::{Agenda, Phase};
 use uvm_report::Reports;
 use uvm_sequences::Sequences;
@@ -55,7 +55,7 @@ pub fn reports(world: &World) -> &Reports
 }
 
 /// The agenda: the events that are due, in their order. For a sound world.
-pub fn agenda(world: &World) -> &Agenda<Owner, Option<HeldCall>>
+pub fn agenda(world: &World) -> &Agenda<Owner, Notice>
     requires { world.now.sound ≡ true }
     ensures { result.now.dues ≡ in_order (due_events world.now.script world.now.history) }
 {

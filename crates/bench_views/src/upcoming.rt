@@ -14,7 +14,7 @@ ghost use Rattle.bench_history.specs.Passing.{next_passed};
 use crate::told;
 use bench_history::{Owner, laws};
 use bench_world::World;
-use uvm_object::{HeldCall, Passage};
+use uvm_object::{Notice, Passage};
 use uvm_phase::{Due, Phase};
 use uvm_sequences::SeqId;
 use uvm_tree::{NodeId, laws as trees};
@@ -24,7 +24,7 @@ use world_sequencers::arbiters::{first_locked, first_served};
 /// The event that is due at the present time, of several the first: somebody is to hear a call, or a drain ends. For a sound
 /// world.
 #[tactic(auto, unfolding(bench_history::specs::Dues::due_now))]
-pub fn due_now(world: &World) -> Option<&Due<Owner, Option<HeldCall>>>
+pub fn due_now(world: &World) -> Option<&Due<Owner, Notice>>
     requires { world.now.sound ≡ true }
     ensures { option_copied result ≡ due_now world.now.script world.now.history }
 {

@@ -30,7 +30,7 @@ impl World {
         let _limit = self.script.time_limit();
         self.sound = false;
         self.waiting = None;
-        let place = self.log.len();
+        let place = self.log.next_place();
         let (entry, leaving) = marks::enter(&mut self.services, self.alloc, place, mark)?;
         self.leaving = leaving;
         push(&mut self.log, entry)?;
@@ -56,7 +56,7 @@ impl World {
         self.sound = false;
         self.waiting = None;
         self.leaving.clear();
-        let (place, count) = (self.log.len(), acts.len());
+        let (place, count) = (self.log.next_place(), acts.len());
         answers::hear(&mut self.services, place, who.copy(), call, origin, count);
         let entry = Entry::heard(self.alloc, who, call, origin, acts)?;
         push(&mut self.log, entry)?;
@@ -76,7 +76,7 @@ impl World {
         self.sound = false;
         self.waiting = None;
         self.leaving.clear();
-        let place = self.log.len();
+        let place = self.log.next_place();
         let id = grants::grant(&mut self.services, place, sequencer, word)?;
         let grant = Grant { id, word };
         push(&mut self.log, Entry::Granted { sequencer, grant })?;
@@ -96,7 +96,7 @@ impl World {
         self.sound = false;
         self.waiting = None;
         self.leaving.clear();
-        let place = self.log.len();
+        let place = self.log.next_place();
         grants::pass_item(&mut self.services, place, fifo, &passage)?;
         let passage = LoggedPassage::new(self.alloc, passage)?;
         push(&mut self.log, Entry::Passed { fifo, passage })?;

@@ -45,7 +45,7 @@ impl World {
             name,
             declined: _,
         } = parts;
-        let place = self.log.len();
+        let place = self.log.next_place();
         let services = &mut self.services;
         let (who, outcome) = make(
             services,

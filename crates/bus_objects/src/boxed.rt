@@ -21,7 +21,7 @@ pub trait Fresh: UvmObject {
 
 // An object that was not called yet, of which the name of its type says all, or one that was.
 #[derive(Drop)]
-enum Place<O: Fresh> {
+enum BoxedState<O: Fresh> {
     New(Name),
     Called(Box<O>),
 }
@@ -30,7 +30,7 @@ enum Place<O: Fresh> {
 /// those that keep little. Contracts see the object.
 #[derive(Drop)]
 pub struct Boxed<O: Fresh> {
-    place: Place<O>,
+    state: BoxedState<O>,
 }
 
 impl<O: Fresh> Model for Boxed<O> {
@@ -38,16 +38,16 @@ impl<O: Fresh> Model for Boxed<O> {
 
     ghost Value = { O };
 
-    ghost view = { λ b. object_at O.fresh b.place };
+    ghost view = { λ b. object_at O.fresh b.state };
 }
 
 impl<O: Fresh> Boxed<O> {
-    /// The new object of the type of this name. Takes no memory before it is called.
+    /// Makes the new object of the type of this name. Takes no memory before its first call, and stays new where that call is refused memory.
     pub fn new(type_name: Name) -> Boxed<O>
         ensures { result ≡ O.fresh type_name }
     {
         Boxed {
-            place: Place::New(type_name),
+            state: BoxedState::New(type_name),
         }
     }
 }
@@ -60,21 +60,21 @@ impl<O: Fresh> UvmObject for Boxed<O> {
     ghost says = { O.says };
 
     fn type_name(&self) -> &Name {
-        match &self.place {
-            Place::New(type_name) => type_name,
-            Place::Called(object) => object.type_name(),
+        match &self.state {
+            BoxedState::New(type_name) => type_name,
+            BoxedState::Called(object) => object.type_name(),
         }
     }
 
     fn hear(&mut self, alloc: Global, call: &Call) -> Result<Acts, AllocError> {
-        match &mut self.place {
-            Place::New(type_name) => {
+        match &mut self.state {
+            BoxedState::New(type_name) => {
                 let mut object = O::fresh(alloc, *type_name);
                 let acts = object.hear(alloc, call)?;
-                self.place = Place::Called(Box::new(alloc, object)?);
+                self.state = BoxedState::Called(Box::new(alloc, object)?);
                 Ok(acts)
             }
-            Place::Called(object) => object.hear(alloc, call),
+            BoxedState::Called(object) => object.hear(alloc, call),
         }
     }
 }

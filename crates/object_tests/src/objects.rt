@@ -8,7 +8,7 @@ use std::test::Fail;
 use uvm_glob::{Name, Path};
 use uvm_object::{
     Act, Acts, Call, Deed, Entry, Fatal, HeldCall, LentAct, Log, LogFault, LoggedOutcome,
-    LoggedPassage, Origin, Outcome, Passage, Who,
+    LoggedPassage, Notice, Origin, Outcome, Passage, Who,
 };
 use uvm_phase::{Cause, Phase};
 use uvm_report::{Report, Severity};
@@ -148,7 +148,12 @@ fn a_call_is_as_it_was_given(rt: HostRuntime) -> Result<(), Fail> {
 
 fn is_held(alloc: Global, call: Call) -> Result<bool, AllocError> {
     let held = HeldCall::new(alloc, &call)?;
-    Ok(held.get() == call)
+    let is_same = held.get() == call;
+    Ok(is_same && is_noticed(held, call))
+}
+
+fn is_noticed(held: HeldCall, call: Call) -> bool {
+    Notice::nothing().call().is_none() && Notice::of_call(held).call() == Some(call)
 }
 
 fn ended(entry: Option<&Entry>) -> Option<Phase> {
@@ -161,7 +166,7 @@ fn ended(entry: Option<&Entry>) -> Option<Phase> {
 #[test]
 fn a_log_keeps_entries_up_to_its_limit(rt: HostRuntime) {
     let mut log = Log::new(rt.alloc(), 2);
-    assert!(rt; log.is_empty());
+    assert!(rt; log.is_empty() && log.next_place() == 0);
     assert!(rt; is_filled(&mut log));
     assert!(rt; is_gone_over(&log));
 }

@@ -88,13 +88,13 @@ enum Done {
 }
 
 // How many of the three calls are left, and the places of their causes in the order in which they are taken.
-fn taken(alloc: Global, done: Done) -> Result<(usize, [Option<u64>; 3]), AllocError> {
+fn taken(alloc: Global, done: Done) -> Result<(usize, [Option<u32>; 3]), AllocError> {
     let mut agenda = Agenda::new(alloc);
     add_three(&mut agenda)?;
     Ok(taken_after(&mut agenda, done))
 }
 
-fn taken_after(agenda: &mut Agenda<char, u8>, done: Done) -> (usize, [Option<u64>; 3]) {
+fn taken_after(agenda: &mut Agenda<char, u8>, done: Done) -> (usize, [Option<u32>; 3]) {
     match done {
         Done::Nothing => {}
         Done::Cancelled(owner) => agenda.cancel(&owner),
@@ -104,7 +104,7 @@ fn taken_after(agenda: &mut Agenda<char, u8>, done: Done) -> (usize, [Option<u64
     (count, [take(agenda), take(agenda), take(agenda)])
 }
 
-fn take(agenda: &mut Agenda<char, u8>) -> Option<u64> {
+fn take(agenda: &mut Agenda<char, u8>) -> Option<u32> {
     match agenda.take_first() {
         Some(due) => Some(due.cause.place),
         None => None,
@@ -143,7 +143,11 @@ fn shown(agenda: &Agenda<char, u8>) -> Option<([u64; 3], char, u8)> {
     }
     let due = agenda.first()?;
     Some((
-        [due.time, due.cause.place, due.cause.number],
+        [
+            due.time,
+            u64::from(due.cause.place),
+            u64::from(due.cause.number),
+        ],
         due.owner,
         due.notice,
     ))

@@ -1,11 +1,18 @@
 -- The call that is held.
-use Rattle.std.specs.Prelude.{Bool, true, false, Some, None}
+use Rattle.std.specs.Prelude.{Bool, true, false, Option, Some, None, if◌then◌else◌}
 use Rattle.uvm_acts.specs.declared.acts.Call.{Call}
 use Rattle.uvm_acts.specs.declared.acts.Call.TheVariants as call
 use Rattle.uvm_acts.specs.declared.held_calls.CompactCall.{CompactCall}
-use Rattle.uvm_acts.specs.declared.held_calls.CompactCall.TheVariants.{Phase, Wake, PreStart, Body, PostStart, Grant, Done, Responded, Held, Stored, TryStored, NoneTaken, NoItem, AtPort, Finished, Whole}
+use Rattle.uvm_acts.specs.declared.held_calls.CompactCall.TheVariants.{Nothing, Phase, Wake, PreStart, Body, PostStart, Grant, Done, Responded, Held, Stored, TryStored, NoneTaken, NoItem, AtPort, Finished, Whole}
 
+-- there is one
+abbrev pub is_call : CompactCall → Bool
+is_call Nothing = false
+is_call compact = true
+
+-- it, where there is one
 abbrev pub held_call : CompactCall → Call
+held_call Nothing = call.Held
 held_call (Phase phase) = call.Phase phase
 held_call (Wake tag) = call.Wake tag
 held_call PreStart = call.PreStart
@@ -22,6 +29,10 @@ held_call (NoItem port) = call.NextItem port None
 held_call (AtPort box) = box.value
 held_call (Finished box) = call.Finished box.value.name box.value.id
 held_call (Whole box) = box.value
+
+-- what an owner is told, if anything
+abbrev pub noticed_call : CompactCall → Option Call
+noticed_call compact = if is_call compact then Some (held_call compact) else None
 
 -- it has neither a name nor an item, and stands in place
 abbrev pub is_of_numbers : Call → Bool

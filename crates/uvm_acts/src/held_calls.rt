@@ -1,8 +1,8 @@
 //! Calls, held in little room.
 
-ghost use Rattle.std.specs.Prelude.{◌≡◌, true, IfOk, IfSome, IsOk};
+ghost use Rattle.std.specs.Prelude.{◌≡◌, true, None, Some, IfOk, IfSome, IsOk};
 ghost use Rattle.uvm_acts.specs.declared.acts.Call.TheVariants.{Finished};
-ghost use Rattle.uvm_acts.specs.HeldCalls.{held_call, is_of_numbers};
+ghost use Rattle.uvm_acts.specs.HeldCalls.{held_call, is_call, is_of_numbers};
 ghost use Rattle.uvm_acts.specs.PortCalls.{call_at};
 
 use crate::acts::Call;
@@ -79,13 +79,6 @@ impl PortCall {
     }
 }
 
-// The call that a sequence of a short name has finished.
-#[derive(Drop)]
-struct Finish {
-    name: ShortName,
-    id: SeqId,
-}
-
 // The port of a call with an item through one, what is told of the item, and the item.
 fn parts(call: &Call) -> Option<(&Name, PortNews, Item)>
     ensures { IfSome result (λ parts. call_at parts.0.now parts.1 parts.2 ≡ call.now) }
@@ -108,7 +101,7 @@ fn parts(call: &Call) -> Option<(&Name, PortNews, Item)>
 
 // A call without an item through a port of a short name.
 fn at_port(call: &Call) -> Option<CompactCall>
-    ensures { IfSome result (λ compact. held_call compact ≡ call.now) }
+    ensures { IfSome result (λ compact. (is_call compact ≡ true) × (held_call compact ≡ call.now)) }
 {
     Some(match call {
         Call::Stored { port } => CompactCall::Stored {
@@ -129,21 +122,42 @@ fn at_port(call: &Call) -> Option<CompactCall>
 }
 
 // That a sequence of a short name has finished.
-fn finish_of(call: &Call) -> Option<Finish>
-    ensures { IfSome result (λ finish. call.now ≡ Finished finish.name finish.id) }
-{
-    match call {
-        Call::Finished { name, id } => Some(Finish {
-            name: ShortName::new(name)?,
-            id: *id,
-        }),
-        _ => None,
+#[derive(Drop)]
+struct Finish {
+    name: ShortName,
+    id: SeqId,
+}
+
+impl Finish {
+    // The call, if it is that a sequence of a short name has finished.
+    fn new(call: &Call) -> Option<Finish>
+        ensures { IfSome result (λ finish. call.now ≡ Finished finish.name finish.id) }
+    {
+        match call {
+            Call::Finished { name, id } => Some(Finish {
+                name: ShortName::new(name)?,
+                id: *id,
+            }),
+            _ => None,
+        }
+    }
+
+    // The call.
+    fn call(&self) -> Call
+        ensures { result ≡ Finished self.now.name self.now.id }
+    {
+        Call::Finished {
+            name: self.name.name(),
+            id: self.id,
+        }
     }
 }
 
-// A call in two words: one with an item or with a long name stands behind a pointer.
+// A call, or none, in two words: one with an item or with a long name stands behind a pointer.
 #[derive(Drop)]
 enum CompactCall {
+    /// No call.
+    Nothing,
     /// `Call::Phase`.
     Phase(Phase),
     /// `Call::Wake`.
@@ -204,12 +218,15 @@ impl Drop for HeldCall {
 }
 
 impl Model for HeldCall {
+    ghost use Rattle.std.specs.Prelude.{◌≡◌, true};
     ghost use Rattle.uvm_acts.specs.declared.acts.Call.{Call};
-    ghost use Rattle.uvm_acts.specs.HeldCalls.{held_call};
+    ghost use Rattle.uvm_acts.specs.HeldCalls.{held_call, is_call};
 
     ghost Value = { Call };
 
     ghost view = { λ h. held_call h.compact };
+
+    ghost invariant = { λ h. is_call h.compact ≡ true };
 }
 
 impl HeldCall {
@@ -247,7 +264,7 @@ impl HeldCall {
                 compact: CompactCall::AtPort(Box::new(alloc, port_call)?),
             });
         }
-        let compact = match finish_of(call) {
+        let compact = match Finish::new(call) {
             Some(finish) => CompactCall::Finished(Box::new(alloc, finish)?),
             None => CompactCall::Whole(Box::new(alloc, *call)?),
         };
@@ -258,37 +275,104 @@ impl HeldCall {
     pub fn get(&self) -> Call
         ensures { result ≡ self.now }
     {
+        call_of(&self.compact)
+    }
+
+    fn into_compact(self) -> CompactCall
+        ensures call { is_call result ≡ true }
+        ensures same { held_call result ≡ self }
+    {
+        let HeldCall { compact } = self;
+        compact
+    }
+}
+
+// The call, where there is one.
+fn call_of(compact: &CompactCall) -> Call
+    requires { is_call compact.now ≡ true }
+    ensures { result ≡ held_call compact.now }
+{
+    match compact {
+        CompactCall::Nothing => unreachable!(),
+        CompactCall::Phase(phase) => Call::Phase(*phase),
+        CompactCall::Wake { tag } => Call::Wake { tag: *tag },
+        CompactCall::PreStart => Call::PreStart,
+        CompactCall::Body => Call::Body,
+        CompactCall::PostStart => Call::PostStart,
+        CompactCall::Grant => Call::Grant,
+        CompactCall::Done => Call::ItemDone { response: None },
+        CompactCall::Responded(item) => Call::ItemDone {
+            response: Some(**item),
+        },
+        CompactCall::Held => Call::Held,
+        CompactCall::Stored { port } => Call::Stored { port: port.name() },
+        CompactCall::TryStored { stored, port } => Call::TryStored {
+            port: port.name(),
+            stored: *stored,
+        },
+        CompactCall::NoneTaken { port } => Call::TryTaken {
+            port: port.name(),
+            item: None,
+        },
+        CompactCall::NoItem { port } => Call::NextItem {
+            port: port.name(),
+            item: None,
+        },
+        CompactCall::AtPort(port_call) => port_call.call(),
+        CompactCall::Finished(finish) => finish.call(),
+        CompactCall::Whole(call) => **call,
+    }
+}
+
+/// What the owner of an event is told: a call, or nothing where a drain ends. It takes no more room than a held call. Contracts see the
+/// call, if there is one.
+pub struct Notice {
+    compact: CompactCall,
+}
+
+// (By hand, so that crates above prove no drop of what it holds.)
+impl Drop for Notice {
+    fn drop(self) {
+        let Notice { compact: _ } = self;
+    }
+}
+
+impl Model for Notice {
+    ghost use Rattle.std.specs.Prelude.{Option};
+    ghost use Rattle.uvm_acts.specs.declared.acts.Call.{Call};
+    ghost use Rattle.uvm_acts.specs.HeldCalls.{noticed_call};
+
+    ghost Value = { Option Call };
+
+    ghost view = { λ n. noticed_call n.compact };
+}
+
+impl Notice {
+    /// No call.
+    pub fn nothing() -> Notice
+        ensures { result ≡ None }
+    {
+        Notice {
+            compact: CompactCall::Nothing,
+        }
+    }
+
+    /// A call. Takes no memory.
+    pub fn of_call(call: HeldCall) -> Notice
+        ensures { result ≡ Some call }
+    {
+        Notice {
+            compact: call.into_compact(),
+        }
+    }
+
+    /// The call, if there is one.
+    pub fn call(&self) -> Option<Call>
+        ensures { result ≡ self.now }
+    {
         match &self.compact {
-            CompactCall::Phase(phase) => Call::Phase(*phase),
-            CompactCall::Wake { tag } => Call::Wake { tag: *tag },
-            CompactCall::PreStart => Call::PreStart,
-            CompactCall::Body => Call::Body,
-            CompactCall::PostStart => Call::PostStart,
-            CompactCall::Grant => Call::Grant,
-            CompactCall::Done => Call::ItemDone { response: None },
-            CompactCall::Responded(item) => Call::ItemDone {
-                response: Some(**item),
-            },
-            CompactCall::Held => Call::Held,
-            CompactCall::Stored { port } => Call::Stored { port: port.name() },
-            CompactCall::TryStored { stored, port } => Call::TryStored {
-                port: port.name(),
-                stored: *stored,
-            },
-            CompactCall::NoneTaken { port } => Call::TryTaken {
-                port: port.name(),
-                item: None,
-            },
-            CompactCall::NoItem { port } => Call::NextItem {
-                port: port.name(),
-                item: None,
-            },
-            CompactCall::AtPort(port_call) => port_call.call(),
-            CompactCall::Finished(finish) => Call::Finished {
-                name: finish.name.name(),
-                id: finish.id,
-            },
-            CompactCall::Whole(call) => **call,
+            CompactCall::Nothing => None,
+            compact => Some(call_of(compact)),
         }
     }
 }

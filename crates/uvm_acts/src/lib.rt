@@ -10,4 +10,4 @@ mod port_acts;
 
 pub use acts::{Act, Call, What, Who};
 pub use deeds::{Acts, ActsIter, Deed, LentAct};
-pub use held_calls::HeldCall;
+pub use held_calls::{HeldCall, Notice};

@@ -95,27 +95,19 @@ impl Model for LoggedOrigin {
 }
 
 impl LoggedOrigin {
-    // An origin, to be logged. The error is that its place or its number has more than 32 bits: so many entries, or calls of one entry, are more than
-    // memory holds.
-    fn new(origin: Option<Origin>) -> Result<LoggedOrigin, AllocError>
-        ensures { IfOk result (λ logged. logged ≡ origin) }
+    // An origin, to be logged.
+    fn new(origin: Option<Origin>) -> LoggedOrigin
+        ensures { result ≡ origin }
     {
-        let Some(Origin { cause, phase }) = origin else {
-            return Ok(LoggedOrigin {
-                compact: CompactOrigin::None,
-            });
-        };
-        let (Ok(place), Ok(number)) = (u32::try_from(cause.place), u32::try_from(cause.number))
-        else {
-            return Err(AllocError);
-        };
-        Ok(LoggedOrigin {
-            compact: CompactOrigin::Caused {
+        let compact = match origin {
+            Some(Origin { cause, phase }) => CompactOrigin::Caused {
                 phase,
-                place,
-                number,
+                place: cause.place,
+                number: cause.number,
             },
-        })
+            None => CompactOrigin::None,
+        };
+        LoggedOrigin { compact }
     }
 
     /// The origin, which a phase's call has not.
@@ -130,8 +122,8 @@ impl LoggedOrigin {
                 number,
             } => Some(Origin {
                 cause: Cause {
-                    place: u64::from(*place),
-                    number: u64::from(*number),
+                    place: *place,
+                    number: *number,
                 },
                 phase: *phase,
             }),
@@ -471,8 +463,7 @@ pub enum Entry {
 }
 
 impl Entry {
-    /// The entry of a call that was answered. It takes memory for a call with an item or a long name; the error is want of it, or of room for an origin
-    /// whose place or number has more than 32 bits.
+    /// The entry of a call that was answered. It takes memory for a call with an item or a long name; the error is want of it.
     pub fn heard(
         alloc: Global,
         who: Who,
@@ -485,7 +476,7 @@ impl Entry {
         acts.shrink_to_fit();
         Ok(Entry::Heard {
             who,
-            origin: LoggedOrigin::new(origin)?,
+            origin: LoggedOrigin::new(origin),
             call: HeldCall::new(alloc, call)?,
             acts,
         })

@@ -12,4 +12,4 @@ pub use entries::{
 pub use fatals::Fatal;
 pub use logs::{Log, LogFault};
 pub use objects::{Answers, Object, UvmObject};
-pub use uvm_acts::{Act, Acts, ActsIter, Call, Deed, HeldCall, LentAct, What, Who};
+pub use uvm_acts::{Act, Acts, ActsIter, Call, Deed, HeldCall, LentAct, Notice, What, Who};

@@ -51,7 +51,7 @@ impl<T: Drop> From<AllocFailed<T>> for LogFault {
 /// after it in the list, and beside them the limit, and for how many more entries there is room.
 pub struct Log {
     entries: Vec<Entry>,
-    limit: usize,
+    limit: u32,
 }
 
 // (By hand, so that crates above prove no drop of what it holds.)
@@ -75,7 +75,7 @@ impl Model for Log {
 
 impl Log {
     /// No entries, and room for none. The limit is how many entries there may be.
-    pub fn new(alloc: Global, limit: usize) -> Log
+    pub fn new(alloc: Global, limit: u32) -> Log
         ensures entries { result.entries ≡ [] }
         ensures limit { result.limit ≡ limit }
     {
@@ -120,14 +120,14 @@ impl Log {
     pub fn limit(&self) -> usize
         ensures { result ≡ self.now.limit }
     {
-        self.limit
+        self.limit as usize
     }
 
     /// Whether the limit is reached.
     pub fn is_full(&self) -> bool
         ensures { result ≡ nat_le self.now.limit (length self.now.entries) }
     {
-        self.limit <= self.entries.len()
+        self.limit() <= self.entries.len()
     }
 
     /// How many entries there are.
@@ -135,6 +135,18 @@ impl Log {
         ensures { result ≡ length self.now.entries }
     {
         self.entries.len()
+    }
+
+    /// The place of the next entry, from 0. For a log that is not full.
+    pub fn next_place(&self) -> u32
+        requires { length self.now.entries < self.now.limit }
+        ensures { result ≡ length self.now.entries }
+    {
+        let place = self.entries.len();
+        if place >= self.limit as usize {
+            unreachable!()
+        }
+        place as u32
     }
 
     /// Whether there is none.

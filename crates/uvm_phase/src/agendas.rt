@@ -17,9 +17,9 @@ use std::marker::Model;
 #[derive(Clone, Copy, PartialEq, Eq)]
 pub struct Cause {
     /// The place of an entry of a log, from 0.
-    pub place: u64,
+    pub place: u32,
     /// The number of the call among those of that entry, from 0.
-    pub number: u64,
+    pub number: u32,
 }
 
 /// A call that is due.

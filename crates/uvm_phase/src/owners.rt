@@ -14,8 +14,8 @@ use std::hash::Hash;
 #[derive(Clone, Copy, PartialEq, Eq, PartialOrd, Ord)]
 pub(crate) struct Key {
     pub time: u64,
-    pub place: u64,
-    pub number: u64,
+    pub place: u32,
+    pub number: u32,
 }
 
 /// How many calls are due to an owner, at least 1, and the key of the one that was added last. That one may be due no longer: the

@@ -16,7 +16,7 @@ pub fn shown_path(node: NodeId, tree: &Tree) -> &[u8]
     ensures { result.now ≡ shown_path (path_at tree.now.nodes node) }
 {
     match tree.path(node) {
-        Some(path) if path.depth() > 0 => path.as_bytes(),
+        Some(path) if !path.as_bytes().is_empty() => path.as_bytes(),
         _ => b"uvm_top",
     }
 }

@@ -40,7 +40,7 @@ pub fn carry_out(
     ensures limit { log.new.limit ≡ log.old.limit }
 {
     let performer = services.answer.speaker;
-    let attempt = perform(services, alloc, log.len(), deed.act().get())?;
+    let attempt = perform(services, alloc, log.next_place(), deed.act().get())?;
     match attempt {
         Attempt::Became(outcome) => {
             let leaving = leaving_after(alloc, performer, &outcome)?;

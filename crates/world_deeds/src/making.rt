@@ -140,7 +140,7 @@ pub fn make(
     home: Option<NodeId>,
     room: Box<Name>,
     type_name: Name,
-    place: usize,
+    place: u32,
 ) -> (Who, LoggedOutcome)
     requires { CanMake act.now home services.old }
     ensures who { result.0 ≡ who_made services.old home }

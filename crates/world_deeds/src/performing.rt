@@ -19,7 +19,7 @@ use world_tree_acts::performing::perform_tree_act;
 pub fn perform(
     services: &mut Services,
     alloc: Global,
-    place: usize,
+    place: u32,
     act: &Act,
 ) -> Result<Attempt, AllocError>
     requires { CanPerform services.old }
@@ -36,7 +36,7 @@ pub fn perform(
 fn perform_open(
     services: &mut Services,
     alloc: Global,
-    place: usize,
+    place: u32,
     act: &Act,
 ) -> Result<Attempt, AllocError>
     requires can { CanPerform services.old }

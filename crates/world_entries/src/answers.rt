@@ -20,7 +20,7 @@ use world_services::services::{LastAnswer, Services};
 /// phase in progress.
 pub fn hear(
     services: &mut Services,
-    place: usize,
+    place: u32,
     who: Who,
     call: &Call,
     origin: Option<Origin>,
@@ -36,7 +36,7 @@ pub fn hear(
 }
 
 // Keeps that somebody had the call of a phase in progress, and answered with so many acts, in the entry at a place.
-fn hear_in_turn(services: &mut Services, place: usize, who: Who, call: &Call, count: usize)
+fn hear_in_turn(services: &mut Services, place: u32, who: Who, call: &Call, count: usize)
     ensures { (acts : List Act) → length acts ≡ count → GoesOnWith (λ _. Answer who call.now None) (Heard who None call.now acts) place services.old services.new }
 {
     // Who is asked is there, and stands at a node: a sequence at its home.
@@ -78,7 +78,7 @@ fn phase_called(call: &Call) -> Option<Phase>
 
 // Keeps that somebody had a call that was due, and answered with so many acts, in the entry at a place. These belong to the phase of the
 // call.
-fn hear_due(services: &mut Services, place: usize, who: Who, origin: Origin, count: usize)
+fn hear_due(services: &mut Services, place: u32, who: Who, origin: Origin, count: usize)
     requires { (call : calls.Call) × IsDueNext (λ _. Answer who call (Some origin)) place services.old }
     ensures { (call : calls.Call) (acts : List Act) → length acts ≡ count → GoesOnWith (λ _. Answer who call (Some origin)) (Heard who (Some origin) call acts) place services.old services.new }
 {
@@ -100,13 +100,13 @@ fn hear_due(services: &mut Services, place: usize, who: Who, origin: Origin, cou
 }
 
 // An answer of which nothing is done.
-fn last_answer(place: usize, who: Who, phase: Option<Phase>, count: usize) -> LastAnswer
+fn last_answer(place: u32, who: Who, phase: Option<Phase>, count: usize) -> LastAnswer
     ensures { result ≡ record { speaker = who; phase = phase; place = Some place; count = count; done = 0; noted = false } }
 {
     LastAnswer {
         speaker: who,
         phase,
-        place: Some(place),
+        place: Some(place as usize),
         count,
         done: 0,
         noted: false,

@@ -25,7 +25,7 @@ use world_services::tells::{tell_passed, tell_to};
 /// 1800.2-2020, Clause 15). Its error is want of memory.
 pub fn lock(
     services: &mut Services,
-    place: usize,
+    place: u32,
     sequencer: NodeId,
     id: SeqId,
 ) -> Result<(), AllocError>
@@ -62,7 +62,7 @@ pub fn lock(
 /// answers, is to hear of it (Clause 15). Its error is want of memory.
 pub fn grant(
     services: &mut Services,
-    place: usize,
+    place: u32,
     sequencer: NodeId,
     word: Option<u64>,
 ) -> Result<SeqId, AllocError>
@@ -99,7 +99,7 @@ pub fn grant(
 /// want of memory.
 pub fn pass_item(
     services: &mut Services,
-    place: usize,
+    place: u32,
     fifo: NodeId,
     passage: &Passage,
 ) -> Result<(), AllocError>

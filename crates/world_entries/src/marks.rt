@@ -41,7 +41,7 @@ pub enum Mark {
 pub fn enter(
     services: &mut Services,
     alloc: Global,
-    place: usize,
+    place: u32,
     mark: Mark,
 ) -> Result<(Entry, Vec<Who>), AllocError>
     requires next { IsDueNext (λ _. Exactly (entry_of mark)) place services.old }

@@ -48,7 +48,7 @@ pub fn begin(services: &mut Services, phase: Phase)
 pub fn end(
     services: &mut Services,
     alloc: Global,
-    place: usize,
+    place: u32,
     phase: Phase,
 ) -> Result<Vec<Who>, AllocError>
     requires { IsDueNext (λ _. Exactly (End phase)) place services.old }
@@ -131,7 +131,7 @@ pub fn pass_time(services: &mut Services, time: u64)
 /// 10.5). What begins with that belongs to the same phase. Its error is want of memory.
 pub fn end_drain(
     services: &mut Services,
-    place: usize,
+    place: u32,
     node: NodeId,
     origin: Origin,
 ) -> Result<(), AllocError>

@@ -22,7 +22,7 @@ use world_wiring::ports::{gate_of, port_below};
 pub fn put(
     services: &mut Services,
     alloc: Global,
-    place: usize,
+    place: u32,
     name: &Name,
     item: Item,
 ) -> Result<Attempt, AllocError>
@@ -43,7 +43,7 @@ pub fn put(
 pub fn take(
     services: &mut Services,
     alloc: Global,
-    place: usize,
+    place: u32,
     name: &Name,
 ) -> Result<Attempt, AllocError>
     requires { CanPerform services.old }
@@ -63,7 +63,7 @@ pub fn take(
 pub fn peek(
     services: &mut Services,
     alloc: Global,
-    place: usize,
+    place: u32,
     name: &Name,
 ) -> Result<Attempt, AllocError>
     requires { CanPerform services.old }
@@ -84,7 +84,7 @@ pub fn peek(
 pub fn try_put(
     services: &mut Services,
     alloc: Global,
-    place: usize,
+    place: u32,
     name: &Name,
     item: Item,
 ) -> Result<Attempt, AllocError>
@@ -111,7 +111,7 @@ pub fn try_put(
 pub fn try_take(
     services: &mut Services,
     alloc: Global,
-    place: usize,
+    place: u32,
     name: &Name,
 ) -> Result<Attempt, AllocError>
     requires { CanPerform services.old }
@@ -148,11 +148,11 @@ fn open_gate(services: &Services, kind: PortKind, name: &Name) -> Result<(Phase,
 }
 
 // The performer asks for something.
-fn asker(services: &Services, phase: Phase, place: usize, name: &Name) -> Asker
+fn asker(services: &Services, phase: Phase, place: u32, name: &Name) -> Asker
     ensures { result ≡ record { place = place; who = services.now.answer.speaker; port = name.now; phase = phase } }
 {
     Asker {
-        place: place as u64,
+        place: u64::from(place),
         who: services.answer.speaker,
         port: *name,
         phase,

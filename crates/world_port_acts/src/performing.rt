@@ -15,7 +15,7 @@ use world_services::services::Services;
 pub fn perform_port_act(
     services: &mut Services,
     alloc: Global,
-    place: usize,
+    place: u32,
     act: &Act,
 ) -> Result<Attempt, AllocError>
     requires can { CanPerform services.old }

@@ -21,7 +21,7 @@ use world_wiring::ports::{port_below, written_calls};
 pub fn write(
     services: &mut Services,
     alloc: Global,
-    place: usize,
+    place: u32,
     name: &Name,
     item: Item,
 ) -> Result<Attempt, AllocError>

@@ -27,7 +27,7 @@ use world_wiring::ports::port_below;
 pub fn ask(
     services: &mut Services,
     alloc: Global,
-    place: usize,
+    place: u32,
     name: &Name,
     how: How,
 ) -> Result<Attempt, AllocError>
@@ -83,7 +83,7 @@ fn waiting(services: &mut Services, how: How) -> Attempt
 pub fn item_done(
     services: &mut Services,
     alloc: Global,
-    place: usize,
+    place: u32,
     name: &Name,
     response: Option<Item>,
 ) -> Result<Attempt, AllocError>

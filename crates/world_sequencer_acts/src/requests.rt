@@ -113,7 +113,7 @@ pub fn unlock(services: &mut Services, alloc: Global) -> Result<Attempt, AllocEr
 pub fn send(
     services: &mut Services,
     alloc: Global,
-    place: usize,
+    place: u32,
     item: Item,
 ) -> Result<Attempt, AllocError>
     requires can { CanPerform services.old }

@@ -169,7 +169,7 @@ fn started_path(
 }
 
 /// Starts a sequence for the speaker, in the room for it, makes its first step due, and answers its number. Takes no memory.
-pub fn begin(services: &mut Services, act: &Act, home: &NodeId, place: usize) -> SeqId
+pub fn begin(services: &mut Services, act: &Act, home: &NodeId, place: u32) -> SeqId
     requires { CanBegin act.now home.now services.old }
     ensures id { result ≡ length services.old.sequences.started + 1 }
     ensures kept { TakesIn act.now (Started (suc (length services.old.sequences.started))) place services.old services.new }

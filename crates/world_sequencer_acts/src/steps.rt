@@ -23,7 +23,7 @@ use world_services::tells::{tell, tell_living};
 
 /// Ends the step at which the speaker, a sequence, is, and tells it the next one; or ends the sequence, and tells who started it.
 /// Its error is want of memory.
-pub fn end_step(services: &mut Services, alloc: Global, place: usize) -> Result<Attempt, AllocError>
+pub fn end_step(services: &mut Services, alloc: Global, place: u32) -> Result<Attempt, AllocError>
     requires { is_open_to EndStep services.old.answer.speaker ≡ true }
     ensures { IfOk result (λ attempt. IsAttempt EndStep attempt place services.old services.new) }
 {
@@ -50,7 +50,7 @@ pub fn end_step(services: &mut Services, alloc: Global, place: usize) -> Result<
 
 // A sequence finishes: nothing is due to it any more, none of its acts is left, what it asked for and holds is gone, and who started it
 // is told, as is a driver whose `Try` it lets lapse.
-fn finish(services: &mut Services, alloc: Global, place: usize, id: SeqId) -> Result<(), AllocError>
+fn finish(services: &mut Services, alloc: Global, place: u32, id: SeqId) -> Result<(), AllocError>
     requires { is_open_to EndStep services.old.answer.speaker ≡ true }
     ensures { OnOk result (IsFinished id place services.old services.new) }
 {

@@ -19,7 +19,7 @@ use bench_script::Script;
 use std::alloc::{AllocError, Global};
 use uvm_config::Settings;
 use uvm_factory::Factory;
-use uvm_object::{HeldCall, Who};
+use uvm_object::{Notice, Who};
 use uvm_objection::laws as objections;
 use uvm_phase::{Agenda, Phase};
 use uvm_sequences::Sequences;
@@ -72,7 +72,7 @@ pub struct Services {
     pub settings: Settings,
     pub reporting: Reporting,
     /// The events that are due.
-    pub agenda: Agenda<Owner, Option<HeldCall>>,
+    pub agenda: Agenda<Owner, Notice>,
     /// Which components wait for their call.
     pub turns: Rounds,
     pub answer: LastAnswer,

@@ -14,7 +14,7 @@ ghost use Rattle.world_agenda.specs.Tellings.{living_numbered, is_told};
 use crate::services::Services;
 use bench_history::{Owner, Told};
 use std::alloc::AllocError;
-use uvm_object::{Call, Passage, Who};
+use uvm_object::{Call, Notice, Passage, Who};
 use uvm_objection::Due;
 use uvm_phase::Phase;
 use uvm_tlm::MoveKind;
@@ -26,7 +26,7 @@ use world_agenda::events::{add_call, add_event, caused_at, end_drain, tell_each}
 pub fn move_drains(
     services: &mut Services,
     phase: Phase,
-    place: usize,
+    place: u32,
     began: Option<Due>,
     ended: Option<NodeId>,
 ) -> Result<(), AllocError>
@@ -45,7 +45,7 @@ pub fn move_drains(
             drain.at,
             cause,
             owner,
-            None,
+            Notice::nothing(),
         )?;
     }
     Ok(())
@@ -53,11 +53,7 @@ pub fn move_drains(
 
 /// Makes due at once the call that tells what came to pass to who had asked for it. The place of the entry is the cause. Its
 /// error is want of memory.
-pub fn tell_passed(
-    services: &mut Services,
-    place: usize,
-    passage: &Passage,
-) -> Result<(), AllocError>
+pub fn tell_passed(services: &mut Services, place: u32, passage: &Passage) -> Result<(), AllocError>
     ensures dues { OnOk result ((caused : List Event) → services.old.agenda.dues ≡ in_order caused →
         services.new.agenda.dues ≡ in_order (due_from (Some (told_of passage.now.kind passage.now)) passage.now.who (Some passage.now.phase) services.old.time (caused_at place) ++ caused)) }
     ensures rest { services.new ≡ record services.old { agenda = services.new.agenda } }
@@ -79,7 +75,7 @@ fn told_of(passage: &Passage) -> Call
 
 /// Makes a call of the speaker due at a time, in ticks, in the phase of its act. The place of the entry is its cause. Its error is want
 /// of memory.
-pub fn tell(services: &mut Services, call: Call, time: u64, place: usize) -> Result<(), AllocError>
+pub fn tell(services: &mut Services, call: Call, time: u64, place: u32) -> Result<(), AllocError>
     ensures dues { OnOk result ((caused : List Event) → services.old.agenda.dues ≡ in_order caused →
         services.new.agenda.dues ≡ in_order (due_from (Some call) services.old.answer.speaker services.old.answer.phase time (caused_at place) ++ caused)) }
     ensures rest { services.new ≡ record services.old { agenda = services.new.agenda } }
@@ -96,7 +92,7 @@ pub fn tell_to(
     phase: Option<Phase>,
     call: Call,
     time: u64,
-    place: usize,
+    place: u32,
 ) -> Result<(), AllocError>
     ensures dues { OnOk result ((caused : List Event) → services.old.agenda.dues ≡ in_order caused →
         services.new.agenda.dues ≡ in_order (due_from (Some call) who phase time (caused_at place) ++ caused)) }
@@ -109,7 +105,7 @@ pub fn tell_to(
 
 /// Makes calls due at once, each in its phase, but for those to sequences that live no longer. The place of the entry is their cause,
 /// and they are numbered in their order. Its error is want of memory.
-pub fn tell_living(services: &mut Services, place: usize, calls: &[Told]) -> Result<(), AllocError>
+pub fn tell_living(services: &mut Services, place: u32, calls: &[Told]) -> Result<(), AllocError>
     ensures dues { OnOk result ((caused : List Event) → services.old.agenda.dues ≡ in_order caused →
         services.new.agenda.dues ≡ in_order (living_numbered (is_told services.old.sequences.steps) services.old.time place 0 calls.now ++ caused)) }
     ensures rest { services.new ≡ record services.old { agenda = services.new.agenda } }

@@ -47,7 +47,7 @@ pub fn set_field(
 pub fn get_field(
     services: &mut Services,
     alloc: Global,
-    place: usize,
+    place: u32,
     field: Name,
 ) -> Result<Attempt, AllocError>
     ensures { IfOk result (λ attempt. IsAttempt (Get field) attempt place services.old services.new) }

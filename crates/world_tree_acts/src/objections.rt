@@ -24,7 +24,7 @@ use world_services::tells::move_drains;
 pub fn raise(
     services: &mut Services,
     alloc: Global,
-    place: usize,
+    place: u32,
     count: u16,
 ) -> Result<Attempt, AllocError>
     requires { CanPerform services.old }
@@ -40,7 +40,7 @@ pub fn raise(
 fn raise_in(
     services: &mut Services,
     phase: Phase,
-    place: usize,
+    place: u32,
     count: u16,
 ) -> Result<Attempt, AllocError>
     requires can { CanPerform services.old }
@@ -63,7 +63,7 @@ fn raise_in(
 pub fn drop(
     services: &mut Services,
     alloc: Global,
-    place: usize,
+    place: u32,
     count: u16,
 ) -> Result<Attempt, AllocError>
     requires { CanPerform services.old }
@@ -80,7 +80,7 @@ fn drop_in(
     services: &mut Services,
     alloc: Global,
     phase: Phase,
-    place: usize,
+    place: u32,
     count: u16,
 ) -> Result<Attempt, AllocError>
     requires can { CanPerform services.old }

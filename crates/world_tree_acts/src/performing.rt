@@ -22,7 +22,7 @@ use world_services::services::Services;
 pub fn perform_tree_act(
     services: &mut Services,
     alloc: Global,
-    place: usize,
+    place: u32,
     act: &Act,
 ) -> Result<Attempt, AllocError>
     requires can { CanPerform services.old }

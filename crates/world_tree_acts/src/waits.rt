@@ -19,7 +19,7 @@ use world_services::tells::tell;
 pub fn wait(
     services: &mut Services,
     alloc: Global,
-    place: usize,
+    place: u32,
     ticks: u64,
     tag: u32,
 ) -> Result<Attempt, AllocError>

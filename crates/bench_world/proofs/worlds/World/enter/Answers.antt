@@ -12,7 +12,7 @@ use Rattle.bench_world.proofs.worlds.World.enter.Goals as goal
 pub enter-requires-clause-next : goal.enter-requires-clause-next
 enter-requires-clause-next c =
     let r = rw (← c.self.view_is) at c.requires in
-    rw c.len-place.ensures (due-here (λ _. Exactly (entry_of c.args.mark)) c.self.invariant r.sound r.next)
+    rw c.next_place-place.ensures (due-here (λ _. Exactly (entry_of c.args.mark)) c.self.invariant r.sound r.next)
 
 -- the services can take it in
 can-enter : (mark : Mark) (services : Services) → ((time : ℕ) → mark ≡ Time time → time ≤ 10 ^ 18) → ((fatal : Fatal) (node : ℕ) → CanEnter (Note fatal node) services) → CanEnter mark services
@@ -39,4 +39,4 @@ pub invariant_of-self-2 : goal.invariant_of-self-2
 invariant_of-self-2 c =
     let r = rw (← c.self.view_is) at c.requires in
     let entries = rw c.in_ok-entry.ensures.entry at c.in_ok-push.ensures.ok in
-    entered (λ _. Exactly (entry_of c.args.mark)) (entry_of c.args.mark) c.self.invariant r.sound r.room r.next refl entries c.in_ok-push.ensures.limit (λ m. c.in_ok-entry.ensures.leaving c.self.inside.script c.self.inside.log.entries m) (rw c.len-place.ensures at c.in_ok-entry.ensures.goes_on)
+    entered (λ _. Exactly (entry_of c.args.mark)) (entry_of c.args.mark) c.self.invariant r.sound r.room r.next refl entries c.in_ok-push.ensures.limit (λ m. c.in_ok-entry.ensures.leaving c.self.inside.script c.self.inside.log.entries m) (rw c.next_place-place.ensures at c.in_ok-entry.ensures.goes_on)

@@ -9,7 +9,7 @@ use Rattle.bench_world.proofs.worlds.World.granted.Goals as goal
 pub grant-requires : goal.grant-requires
 grant-requires c =
     let r = rw (← c.self.view_is) at c.requires in
-    rw c.len-place.ensures (due-here (λ history. cases.Grant c.args.sequencer (is_some c.args.word) (chosen_at history c.args.sequencer)) c.self.invariant r.sound r.next)
+    rw c.next_place-place.ensures (due-here (λ history. cases.Grant c.args.sequencer (is_some c.args.word) (chosen_at history c.args.sequencer)) c.self.invariant r.sound r.next)
 
 pub returns-clause-ok : goal.returns-clause-ok
 returns-clause-ok c =
@@ -24,4 +24,4 @@ invariant_of-self-2 c =
     let grant : Grant = record { id = c.in_ok-id.id; word = c.args.word } in
     let chosen = c.in_ok-id.ensures.chosen c.self.inside.script c.self.inside.log.entries m in
     entered (λ history. cases.Grant c.args.sequencer (is_some c.args.word) (chosen_at history c.args.sequencer)) (Granted c.args.sequencer grant) c.self.invariant r.sound r.room r.next (grant, refl, chosen, refl) c.in_ok-push.ensures.ok c.in_ok-push.ensures.limit (λ m. c.clear.ensures.items)
-    (rw c.len-place.ensures at c.in_ok-id.ensures.goes_on)
+    (rw c.next_place-place.ensures at c.in_ok-id.ensures.goes_on)

@@ -23,6 +23,11 @@ make-who-requires c =
     let performs = c.performers_are_there.ensures c.self.inside.script before act c.self.invariant.1.legal.each (subst IsAct (sym w.next) tt) ready.left in
     rw (c.get.ensures, c.act.ensures) (makeable c.in-Some.parts m ready w.need w.made same performs w.makes).can
 
+pub next_place-place-requires : goal.next_place-place-requires
+next_place-place-requires c =
+    let ready = c.self.invariant.1.ready c.in-Some.parts (sym c.take_parts.ensures.value ∙ c.in-Some.is) in
+    rw c.self.invariant.1.limit ready.room
+
 pub enter-requires-clause-room : goal.enter-requires-clause-room
 enter-requires-clause-room c =
     let ready = c.self.invariant.1.ready c.in-Some.parts (sym c.take_parts.ensures.value ∙ c.in-Some.is) in
@@ -56,7 +61,7 @@ invariant_of-self c =
     let k = makeable c.in-Some.parts m ready w.need w.made same performs w.makes in
     let outcome = outcome_made services c.in-Some.parts.need.type_name c.in-Some.parts.home in
     let next : IsNext c.self.inside.script before (Did (speaker_of before) outcome act) = rw (w.next, ← k.made_is) (inl refl) in
-    let kept = rw (c.get.ensures, c.act.ensures, c.len-place.ensures) at c.make-who.ensures.kept in
+    let kept = rw (c.get.ensures, c.act.ensures, c.next_place-place.ensures) at c.make-who.ensures.kept in
     let entries = rw c.make-who.ensures.outcome at c.in-Ok.ensures.ok in
     let leaves = c.clear.ensures.items ∙ sym (made-leaves services c.in-Some.parts.need.type_name c.in-Some.parts.home services.answer.speaker) in
     rw c.take_parts.ensures.after (acted-on outcome act c.self.invariant sound ready.room w.settled ready.left next is_act c.acts_are_in_phase.ensures c.performers_are_there.ensures c.drivers_are_there.ensures kept entries c.in-Ok.ensures.limit leaves (ap (λ (a : LastAnswer). record c.make-who.new.services { answer = a }) c.in-Ok.ensures.answer))

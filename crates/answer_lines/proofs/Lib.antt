@@ -1,6 +1,1 @@
-mod Inverse
-mod Parts
-mod Passing
-mod Splits
 mod Tells
-mod WordsOf

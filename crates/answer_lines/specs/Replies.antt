@@ -2,41 +2,16 @@
 use Rattle.std.specs.Prelude.{ℕ, Bool, true, false, pos, List, [], ◌∷◌, ◌++◌, Option, Some, None, codes}
 use Rattle.uvm_tlm.specs.declared.items.Item.{Item}
 use Rattle.uvm_acts.specs.declared.acts.Act.{Act}
-use Rattle.uvm_acts.specs.declared.acts.Act.TheVariants as act
-use Rattle.answer_lines.specs.Lines.{act_line}
-use Rattle.answer_lines.specs.Sound.{HasPlainId, HasSoundPlaces, IsName, IsSound}
-use Rattle.answer_lines.specs.declared.relays.Relay.{Relay}
-use Rattle.answer_lines.specs.declared.relays.Relay.TheVariants as relay
+use Rattle.answer_acts.specs.Lines.{act_line}
+use Rattle.answer_acts.specs.Relays.{HasName, relay_stem, relayed}
+use Rattle.answer_acts.specs.Sound.{HasPlainId, HasSoundPlaces, IsSound}
 use Rattle.answer_lines.specs.declared.replies.Reply.{Reply}
 use Rattle.answer_lines.specs.declared.replies.Reply.TheVariants.{Says, Passes}
-
--- an act that passes on the item of a call: what stands before the item, and the act with an item
-abbrev pub relay_stem : Relay → List ℕ
-relay_stem (relay.Put port) = codes "put " ++ port
-relay_stem (relay.TryPut port) = codes "try_put " ++ port
-relay_stem (relay.Write port) = codes "write " ++ port
-relay_stem (relay.ItemDone port) = codes "item_done " ++ port
-relay_stem relay.Send = codes "send"
-
-abbrev pub relayed : Relay → Item → Act
-relayed (relay.Put port) item = act.Put port item
-relayed (relay.TryPut port) item = act.TryPut port item
-relayed (relay.Write port) item = act.Write port item
-relayed (relay.ItemDone port) item = act.ItemDone port (Some item)
-relayed relay.Send item = act.Send item
 
 -- the text of an act of an answer: its line, or, where it passes on the item of a call, a `*` in place of the item
 abbrev pub reply_line : Reply → List ℕ
 reply_line (Says other) = act_line other
 reply_line (Passes passing) = relay_stem passing ++ codes " *"
-
--- its port has a name
-abbrev pub HasName : Relay → Type 0
-HasName (relay.Put port) = IsName port
-HasName (relay.TryPut port) = IsName port
-HasName (relay.Write port) = IsName port
-HasName (relay.ItemDone port) = IsName port
-HasName relay.Send = Unit {0}
 
 -- an act of an answer is the only one with its text: its parts are what their types say, and it changes no severity for the id `none`
 abbrev pub IsAlone : Reply → Type 0

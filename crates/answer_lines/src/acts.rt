@@ -25,19 +25,12 @@ pub(crate) fn act_of(alloc: Global, line: &str) -> Result<Act, LineFault>
             name: words.name()?,
             what: what(&mut words)?,
         }),
-        "set" => Ok(Act::Set {
-            glob: words.glob(alloc)?,
-            field: words.name()?,
-            value: words.integer()?,
-        }),
+        "set" => set_act(alloc, &mut words),
         "get" => Ok(Act::Get {
             field: words.name()?,
         }),
         "override" => override_act(alloc, &mut words),
-        "connect" => Ok(Act::Connect {
-            from: words.path(alloc)?,
-            to: words.path(alloc)?,
-        }),
+        "connect" => connect_act(alloc, &mut words),
         "raise" | "drop" | "set_drain" | "wait" => time_act(line),
         "put" | "try_put" | "write" | "take" | "try_take" | "peek" => port_act(line),
         "report" | "verbosity" | "actions" | "severity" => report_act(alloc, line),
@@ -114,6 +107,25 @@ fn what(words: &mut Words<'_>) -> Result<What, LineFault> {
         "imp" => Ok(What::Imp),
         _ => Err(LineFault::NoAct),
     }
+}
+
+fn set_act(alloc: Global, words: &mut Words<'_>) -> Result<Act, LineFault>
+    ensures { IfOk result IsPlain }
+{
+    Ok(Act::Set {
+        glob: words.glob(alloc)?,
+        field: words.name()?,
+        value: words.integer()?,
+    })
+}
+
+fn connect_act(alloc: Global, words: &mut Words<'_>) -> Result<Act, LineFault>
+    ensures { IfOk result IsPlain }
+{
+    Ok(Act::Connect {
+        from: words.path(alloc)?,
+        to: words.path(alloc)?,
+    })
 }
 
 fn override_act(alloc: Global, words: &mut Words<'_>) -> Result<Act, LineFault>

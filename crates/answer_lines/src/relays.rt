@@ -1,83 +1,36 @@
-//! The acts that pass on an item.
+//! The act that passes on an item, in a text.
 
 ghost use Rattle.std.specs.Prelude.{◌≡◌, IfSome};
-ghost use Rattle.answer_lines.specs.Replies.{HasName, relay_stem, relayed};
+ghost use Rattle.answer_acts.specs.Relays.{HasName, relay_stem};
 
 use crate::words::name_of;
-use uvm_glob::Name;
-use uvm_object::Act;
-use uvm_tlm::Item;
+use answer_acts::Relay;
 
-/// An act that passes on the item that was heard.
-#[derive(Clone, Copy)]
-pub enum Relay {
-    /// Puts it through a port (IEEE 1800.2-2020, Clause 12).
-    Put {
-        /// The port.
-        port: Name,
-    },
-    /// Puts it through a port, if that can be done at once.
-    TryPut {
-        /// The port.
-        port: Name,
-    },
-    /// Writes it through an analysis port.
-    Write {
-        /// The port.
-        port: Name,
-    },
-    /// Is done with the item of a sequence, and responds with it (Clause 15).
-    ItemDone {
-        /// The port.
-        port: Name,
-    },
-    /// Sends it to the driver (Clause 15).
-    Send,
-}
-
-impl Relay {
-    // Reads what stands before the item in the text of such an act: none where it is no such text.
-    pub(crate) fn read(stem: &str) -> Option<Relay>
-        ensures stem { IfSome result (λ passing. relay_stem passing ≡ stem.now) }
-        ensures named { IfSome result HasName }
-    {
-        if stem == "send" {
-            return Some(Relay::Send);
-        }
-        if let Some(port) = stem.strip_prefix("put ") {
-            return Some(Relay::Put {
-                port: name_of(port).ok()?,
-            });
-        }
-        if let Some(port) = stem.strip_prefix("try_put ") {
-            return Some(Relay::TryPut {
-                port: name_of(port).ok()?,
-            });
-        }
-        if let Some(port) = stem.strip_prefix("write ") {
-            return Some(Relay::Write {
-                port: name_of(port).ok()?,
-            });
-        }
-        let port = stem.strip_prefix("item_done ")?;
-        Some(Relay::ItemDone {
+// The act that passes on an item, by what stands before the item in its text: none where that is no such text.
+pub(crate) fn relay_of(stem: &str) -> Option<Relay>
+    ensures stem { IfSome result (λ passing. relay_stem passing ≡ stem.now) }
+    ensures named { IfSome result HasName }
+{
+    if stem == "send" {
+        return Some(Relay::Send);
+    }
+    if let Some(port) = stem.strip_prefix("put ") {
+        return Some(Relay::Put {
             port: name_of(port).ok()?,
-        })
+        });
     }
-
-    // The act, with an item.
-    pub(crate) fn act(&self, item: Item) -> Act
-        ensures { result ≡ relayed self.now item }
-    {
-        match *self {
-            Relay::Put { port } => Act::Put { port, item },
-            Relay::TryPut { port } => Act::TryPut { port, item },
-            Relay::Write { port } => Act::Write { port, item },
-            Relay::ItemDone { port } => Act::ItemDone {
-                port,
-                response: Some(item),
-            },
-            Relay::Send => Act::Send { item },
-        }
+    if let Some(port) = stem.strip_prefix("try_put ") {
+        return Some(Relay::TryPut {
+            port: name_of(port).ok()?,
+        });
     }
+    if let Some(port) = stem.strip_prefix("write ") {
+        return Some(Relay::Write {
+            port: name_of(port).ok()?,
+        });
+    }
+    let port = stem.strip_prefix("item_done ")?;
+    Some(Relay::ItemDone {
+        port: name_of(port).ok()?,
+    })
 }

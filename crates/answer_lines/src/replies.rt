@@ -1,14 +1,13 @@
 //! One act of an answer, as it is read.
 
 ghost use Rattle.std.specs.Prelude.{◌≡◌, IfOk};
-ghost use Rattle.answer_lines.specs.Lines.{act_line};
+ghost use Rattle.answer_acts.specs.Lines.{act_line};
 ghost use Rattle.answer_lines.specs.Replies.{IsAlone, act_with, passes, reply_line};
 
 use crate::acts::act_of;
 use crate::faults::LineFault;
-use crate::lines::act_line;
-use crate::relays::Relay;
-use crate::types::acts_are_sound;
+use crate::relays::relay_of;
+use answer_acts::{Relay, act_line, acts_are_sound};
 use std::alloc::{AllocError, Global};
 use uvm_object::Act;
 use uvm_tlm::Item;
@@ -33,7 +32,7 @@ impl Reply {
         ensures alone { IfOk result IsAlone }
     {
         if let Some(stem) = line.strip_suffix(HEARD) {
-            if let Some(relay) = Relay::read(stem) {
+            if let Some(relay) = relay_of(stem) {
                 return Ok(Reply::Passes(relay));
             }
         }

@@ -24,12 +24,7 @@ pub(crate) fn sequence_act(alloc: Global, line: &str) -> Result<Act, LineFault>
             port: words.name()?,
             response: some_item(&mut words)?,
         }),
-        "start" => Ok(Act::Start {
-            type_name: words.name()?,
-            name: words.name()?,
-            on: words.path(alloc)?,
-            priority: words.priority()?,
-        }),
+        "start" => start_act(alloc, &mut words),
         "request" => Ok(Act::Request {
             priority: words.priority()?,
         }),
@@ -42,6 +37,17 @@ pub(crate) fn sequence_act(alloc: Global, line: &str) -> Result<Act, LineFault>
         "end_step" => Ok(Act::EndStep),
         _ => Err(LineFault::NoAct),
     }
+}
+
+fn start_act(alloc: Global, words: &mut Words<'_>) -> Result<Act, LineFault>
+    ensures { IfOk result IsPlain }
+{
+    Ok(Act::Start {
+        type_name: words.name()?,
+        name: words.name()?,
+        on: words.path(alloc)?,
+        priority: words.priority()?,
+    })
 }
 
 // The next word is the mode of a sequencer.

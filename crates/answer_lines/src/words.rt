@@ -1,7 +1,7 @@
 //! The words of a line.
 
 ghost use Rattle.std.specs.Prelude.{◌≡◌, IfOk};
-ghost use Rattle.answer_lines.specs.Sound.{IsGlob, IsPath};
+ghost use Rattle.answer_acts.specs.Sound.{IsGlob, IsPath};
 
 use crate::faults::LineFault;
 use std::alloc::Global;

@@ -1,1 +1,2 @@
 pub mod Choices
+pub use Rattle.bench_views.specs.Worlds

@@ -53,11 +53,11 @@ pub struct Question {
 #[tactic(auto, unfolding(bench_history::specs::Limits::has_runtime, bench_history::specs::Next::next_of))]
 pub fn choose(world: &mut World, question: &mut Option<Question>) -> Result<Choice, AllocError>
     requires sound { world.old.sound ≡ true }
-    requires unasked { question.old ≡ None }
     ensures choice { IfOk result (IsChoice (next_of world.old.script world.old.history) question.new) }
     ensures err { OnErr result (question.new ≡ None) }
     ensures unchanged { world.new ≡ world.old }
 {
+    *question = None;
     let stage = told::stage(world);
     if let Stage::Ended = stage {
         return Ok(Choice::Nothing);

@@ -3,4 +3,5 @@
 
 mod choices;
 
+pub use bench_views::{World, lent, report_lines, told, upcoming};
 pub use choices::{Choice, Question, choose};

@@ -19,7 +19,7 @@ use Rattle.bench_core.specs.declared.cores.Health.{Health}
 use Rattle.bench_core.specs.declared.cores.Health.TheVariants.{Good, Full, Broken}
 use Rattle.bench_history.specs.Cases as next
 use Rattle.bench_history.specs.Next.{Allows, IsNext, next_of, need_in}
-use Rattle.bench_world.specs.Worlds.{WorldValue, world_after}
+use Rattle.bench_choices.specs.Worlds.{WorldValue, world_after}
 use Rattle.bench_choices.specs.declared.choices.Question.{Question}
 use Rattle.bench_core.specs.declared.cores.Progress.{Progress}
 use Rattle.bench_core.specs.declared.cores.Progress.TheVariants as progress

@@ -1,2 +1,3 @@
 pub mod Faults
 pub mod Cores
+pub use Rattle.bench_choices.specs.Worlds

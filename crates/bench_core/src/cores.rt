@@ -20,16 +20,14 @@ ghost use Rattle.bench_history.specs.Next.{HasWord, next_of, made_in, declined_i
 ghost use Rattle.bench_history.specs.Cases as comes;
 ghost use Rattle.bench_history.specs.Laws.{IsSomething};
 ghost use Rattle.bench_core.specs.Cores.{DrawsOne, HasEntered, IsDrawing, IsDrawn, IsNextTurn, IsToldTurn, IsTurn, drawn_by, word_in, IsUnmade, core_after, failed_from, is_sound, turn_of, need_of, answer_in, turn_after, call_of, IsAsk, AsksSomething, AsksThere, last_line, last_text};
-ghost use Rattle.bench_world.specs.Worlds.{broken, made_who};
+ghost use Rattle.bench_choices.specs.Worlds.{broken, made_who};
 ghost use Rattle.bench_choices.specs.Choices.{IsChoice};
 ghost use Rattle.bench_core.specs.Cores.{Nothing, IsRequest};
 
 use crate::faults::CoreFault;
-use bench_choices::{Choice, Question, choose};
+use bench_choices::{Choice, Question, World, choose, lent, report_lines, told, upcoming};
 use bench_history::{Need, laws};
 use bench_script::Script;
-use bench_views::{lent, report_lines, told, upcoming};
-use bench_world::World;
 use rand_core::Rng;
 use std::alloc::{AllocError, Global};
 use std::marker::Model;

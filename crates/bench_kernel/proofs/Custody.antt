@@ -23,7 +23,7 @@ use Rattle.bench_history.specs.Sequences.{Beginning, all_begun, begun_of, leavin
 use Rattle.bench_history.specs.Cases.{Need}
 use Rattle.bench_history.specs.Next.{EachIsNext, next_of}
 use Rattle.bench_history.specs.Laws.{AreLeaving, HasBegun, HasGrown, IsLiving, IsLivingSequence, IsMadeBy, LivingLived, number_of}
-use Rattle.bench_world.specs.Worlds.{made_who}
+use Rattle.bench_core.specs.Worlds.{made_who}
 use Rattle.bench_kernel.specs.Kernels.{AreAllHeld, AreToldNext, HasEnded, WasMade, types_made}
 use Rattle.bench_kernel.specs.Laws.{LogLaws}
 use Rattle.bench_kernel.proofs.Numbers.{eq-apart}

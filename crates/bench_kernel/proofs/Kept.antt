@@ -27,7 +27,7 @@ use Rattle.bench_history.specs.Next as coming
 use Rattle.bench_history.specs.Cases.{Next, Answer}
 use Rattle.bench_history.specs.Next.{next_of, IsNext}
 use Rattle.bench_history.specs.Laws.{IsLiving, IsMachines, IsSomething, IsThere, NothingAfterOver}
-use Rattle.bench_world.specs.Worlds.{made_who}
+use Rattle.bench_core.specs.Worlds.{made_who}
 use Rattle.bench_core.specs.Cores.{CoreValue, Nothing, Needed, core_after}
 use Rattle.bench_core.specs.declared.cores.Health.TheVariants.{Good}
 use Rattle.object_seats.specs.Asked.{IsAsked}

@@ -22,7 +22,7 @@ use Rattle.bench_history.specs.declared.needs.Need as declared
 use Rattle.bench_history.specs.Cases.{Next, Exactly, Answer, Need, Grant, Nothing}
 use Rattle.bench_history.specs.Next.{Allows, EachIsNext, made_in, need_in, next_of}
 use Rattle.bench_history.specs.Laws.{IsMachines, number_of}
-use Rattle.bench_world.specs.Worlds.{made_who}
+use Rattle.bench_core.specs.Worlds.{made_who}
 use Rattle.bench_kernel.specs.Kernels.{WasMade, needed_type, types_made}
 use Rattle.bench_kernel.specs.Laws.{IsMadeNew, LogLaws, MadeAreNew, NobodyIsMadeTwice, OthersMakeNobody}
 use Rattle.bench_kernel.proofs.Custody.{HasCome, WasMade-same, all-numbered, has-come, types-same}

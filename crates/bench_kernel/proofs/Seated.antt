@@ -21,7 +21,7 @@ use Rattle.bench_history.specs.declared.needs.Need.{Need}
 use Rattle.bench_history.specs.Cases as next
 use Rattle.bench_history.specs.Next.{next_of}
 use Rattle.bench_history.specs.Laws.{HasGrown}
-use Rattle.bench_world.specs.Worlds.{made_who}
+use Rattle.bench_core.specs.Worlds.{made_who}
 use Rattle.bench_kernel.specs.Laws.{LogLaws}
 use Rattle.bench_kernel.specs.Kernels.{AreSeated}
 use Rattle.bench_kernel.specs.Seating.{IsFree, IsSeated}

@@ -18,7 +18,7 @@ use Rattle.bench_history.specs.Next.{next_of, declined_in, made_in}
 use Rattle.bench_history.specs.History.{nodes_of}
 use Rattle.bench_history.specs.Sequences.{begun_of}
 use Rattle.bench_history.specs.declared.needs.Need.{Need}
-use Rattle.bench_world.specs.Worlds.{made_who}
+use Rattle.bench_core.specs.Worlds.{made_who}
 use Rattle.bench_core.specs.Cores.{IsAskedNext, CoreValue, Standing, Nothing, Needed, Asked, core_after, need_of}
 use Rattle.bench_kernel.specs.Kernels.{AreSeated, KernelValue, IsKernel, open_need, wanted_in}
 use Rattle.bench_kernel.specs.Laws.{LogLaws}

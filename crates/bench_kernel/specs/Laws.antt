@@ -8,7 +8,7 @@ use Rattle.std.specs.Map.{keys_of}
 use Rattle.uvm_object.specs.Objects.{life_of, same_who}
 use Rattle.bench_script.specs.Scripts.{ScriptValue}
 use Rattle.bench_history.specs.Next.{EachIsNext, IsNext, made_in, need_in, next_of}
-use Rattle.bench_world.specs.Worlds.{made_who}
+use Rattle.bench_core.specs.Worlds.{made_who}
 use Rattle.bench_kernel.specs.Kernels.{needed_type, types_made}
 use Rattle.bench_history.specs.Laws.{NothingAfterOver, MachineEntriesAreSilent, NodesStay, NeedsAreWanted, MadeObjectsAreNew, NewNodesAreUnasked, NewSequencesAreUnasked, ComponentsAreNodes, LivingLived, LeaversLived}
 

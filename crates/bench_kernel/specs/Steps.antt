@@ -15,7 +15,7 @@ use Rattle.bench_history.specs.Laws.{IsSomething}
 use Rattle.bench_history.specs.declared.needs.Need as declared
 use Rattle.bench_history.specs.Cases.{Answer}
 use Rattle.bench_history.specs.Next.{next_of, need_in, IsNext, made_in}
-use Rattle.bench_world.specs.Worlds.{made_who}
+use Rattle.bench_core.specs.Worlds.{made_who}
 use Rattle.bench_core.specs.Cores.{Needed, Asked}
 use Rattle.bench_core.specs.declared.cores.Health.TheVariants.{Full, Broken}
 use Rattle.bench_core.specs.declared.faults.CoreFault.{CoreFault}

@@ -1,12 +1,11 @@
 //! Benches that are files, and what is looked at in a kernel that runs one.
 
 ghost use Rattle.std.specs.Prelude.{◌≡◌, [], false};
-ghost use Rattle.bench_core.specs.declared.cores.Health.TheVariants.{Good};
+ghost use Rattle.bench_run.specs.Health.TheVariants.{Good};
 
 use crate::endings::{Ended, ended};
 use crate::objects::{Idle, Mute, Spinner};
-use bench_core::CoreFault;
-use bench_kernel::Kernel;
+use bench_run::{CoreFault, Kernel};
 use bench_script::{Script, read_document, read_table};
 use scripted_objects::{Answers, Scripted, read_answers};
 use std::alloc::{AllocError, Global};

@@ -1,10 +1,9 @@
 //! How a run of a kernel ends, and what the kernel holds then.
 
 ghost use Rattle.std.specs.Prelude.{◌≡◌, [], false};
-ghost use Rattle.bench_core.specs.declared.cores.Health.TheVariants.{Good};
+ghost use Rattle.bench_run.specs.Health.TheVariants.{Good};
 
-use bench_kernel::Kernel;
-use bench_run::{Ending, RunFault, run_kernel};
+use bench_run::{Ending, Kernel, RunFault, run_kernel};
 use rand_pcg::Pcg32;
 use std::alloc::{AllocError, Global};
 use std::io;

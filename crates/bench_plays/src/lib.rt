@@ -5,6 +5,7 @@ mod benches;
 mod endings;
 mod objects;
 
+pub use bench_run::{Ending, RunFault};
 pub use benches::{Look, make_idle, make_mute, make_spinner, shows, shows_in_boxes, shows_with};
 pub use endings::Ended;
 pub use objects::{Idle, Mute, Spinner};

@@ -24,7 +24,7 @@ use Rattle.bench_history.specs.Laws.{NothingAfterOver}
 use Rattle.bench_history.specs.Limits.{log_limit}
 use Rattle.bench_kernel.specs.Kernels.{types_made}
 use Rattle.bench_kernel.specs.Laws.{NobodyIsMadeTwice}
-use Rattle.bench_core.specs.Cores.{word_in}
+use Rattle.bench_kernel.specs.Cores.{word_in}
 use Rattle.bench_run.specs.Words.{HasWordsOf, stream_after, words_drawn, log_words}
 use Rattle.bench_run.specs.Lives.{AreMade, HasLived, HaveLived, IsFilled, IsGiven, IsHonestBetween, IsUnknown, first_of}
 use Rattle.bench_run.specs.Laws.{AllowsOneAtMost, IsSpent, IsRunLog, RunsAreFunctions}

@@ -8,9 +8,9 @@ use Rattle.bench_script.specs.Scripts.{ScriptValue}
 use Rattle.bench_history.specs.Limits.{log_limit}
 use Rattle.bench_history.specs.History.{is_over}
 use Rattle.bench_history.specs.Next.{IsLegal}
-use Rattle.bench_core.specs.declared.cores.Health.{Health}
-use Rattle.bench_core.specs.declared.cores.Health.TheVariants.{Good}
-use Rattle.bench_core.specs.Cores.{CoreValue, is_sound, last_text}
+use Rattle.bench_kernel.specs.Health.{Health}
+use Rattle.bench_kernel.specs.Health.TheVariants.{Good}
+use Rattle.bench_kernel.specs.Cores.{CoreValue, is_sound, last_text}
 use Rattle.uvm_object.specs.Objects.{Says, View}
 use Rattle.uvm_acts.specs.declared.acts.Who.{Who}
 use Rattle.bench_kernel.specs.Kernels.{KernelValue}

@@ -25,7 +25,7 @@ use Rattle.bench_script.specs.Scripts.{ScriptValue}
 use Rattle.bench_history.specs.declared.needs.Need as declared
 use Rattle.bench_history.specs.Cases.{Next, Exactly, Answer, Need, Grant, Nothing}
 use Rattle.bench_history.specs.Next.{Allows, EachIsNext, declined_in, made_in, need_in, next_of}
-use Rattle.bench_core.specs.Cores.{CoreValue, core_after}
+use Rattle.bench_kernel.specs.Cores.{CoreValue, core_after}
 use Rattle.object_seats.specs.Asked.{IsAsked}
 use Rattle.bench_kernel.specs.Kernels.{KernelValue, WasMade, needed_type, open_need, types_made, wanted_in}
 use Rattle.bench_kernel.specs.Laws.{IsMadeNew, MadeAreNew, OthersMakeNobody}

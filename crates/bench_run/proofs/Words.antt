@@ -4,7 +4,7 @@ use Rattle.std.specs.Result.{IsErrAnd}
 use Rattle.std.specs.List.{cons_option}
 use Rattle.rand_core.specs.Stream.{Stream, next_u64}
 use Rattle.uvm_object.specs.declared.entries.Entry.{Entry}
-use Rattle.bench_core.specs.Cores.{CoreValue, IsDrawn, word_in}
+use Rattle.bench_kernel.specs.Cores.{CoreValue, IsDrawn, word_in}
 use Rattle.bench_kernel.specs.Steps.{IsSameLog}
 use Rattle.bench_run.specs.Running.{Grows}
 use Rattle.bench_run.specs.declared.endings.Ending.{Ending}

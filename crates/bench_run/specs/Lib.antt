@@ -7,3 +7,4 @@ pub mod Sinks
 pub mod Texts
 pub mod Laws
 pub mod Given
+pub use Rattle.bench_kernel.specs.Health

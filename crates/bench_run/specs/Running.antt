@@ -14,7 +14,7 @@ use Rattle.bench_history.specs.Next.{IsLegal, declined_in, next_of}
 use Rattle.bench_history.specs.Limits.{log_limit}
 use Rattle.bench_history.specs.History.{is_over}
 use Rattle.bench_history.specs.Reports.{report_commands}
-use Rattle.bench_core.specs.Cores.{CoreValue, core_after, last_text}
+use Rattle.bench_kernel.specs.Cores.{CoreValue, core_after, last_text}
 use Rattle.bench_kernel.specs.Kernels.{KernelValue}
 use Rattle.bench_run.specs.Words.{HasGiven, HasWordsOf, may_lose}
 use Rattle.bench_run.specs.Lives.{HaveLived}

@@ -3,7 +3,7 @@ use Rattle.std.specs.Prelude.{◌≡◌, ◌≤◌, ◌+◌, ℕ, zero, suc, Boo
 use Rattle.std.specs.List.{cons_option}
 use Rattle.rand_core.specs.Stream.{Stream, next_u64}
 use Rattle.uvm_object.specs.declared.entries.Entry.{Entry}
-use Rattle.bench_core.specs.Cores.{DrawsOne, word_in}
+use Rattle.bench_kernel.specs.Cores.{DrawsOne, word_in}
 use Rattle.bench_run.specs.declared.endings.Ending.{Ending}
 use Rattle.bench_run.specs.declared.faults.RunFault.{RunFault}
 use Rattle.bench_run.specs.declared.faults.RunFault.TheVariants.{Memory}

@@ -2,7 +2,7 @@
 
 use crate::ends::End;
 use bench_script::{Script, read_table};
-use bus_jobs::{Breakage, Verdict, read_file};
+use script_jobs::{Breakage, FileVerdict, read_file};
 use scripted_objects::{AnswerFault, Answers, read_answers};
 use std::alloc::Global;
 use std::fs::File;
@@ -15,7 +15,7 @@ pub(crate) fn bytes_of<R: Files + AllocGlobal>(rt: &R, file: &str) -> Result<Vec
     match File::open(rt, file) {
         Ok(mut opened) => match read_file(rt.alloc(), &mut opened) {
             Ok(bytes) => Ok(bytes),
-            Err(Verdict::Broken(Breakage::Memory)) => Err(End::Memory),
+            Err(FileVerdict::Broken(Breakage::Memory)) => Err(End::Memory),
             Err(_) => Err(End::Fault),
         },
         Err(error) if error.kind() == ErrorKind::OutOfMemory => Err(End::Memory),

@@ -59,17 +59,16 @@ impl<'a> Whims<Counted<'a>> for Supplies<'a> {
     }
 }
 
-/// Checks the bench in a file, as `check_bytes` does.
+/// Runs the bench in a file as it is; with an object of another type supplied first wherever one is needed (of the type `idle`, or where that
+/// is needed `loud`), which is turned away and changes nothing; and once for each call that it hears, to which the object gives no answer. Then
+/// the run breaks off for want of memory, with the log before that call, and each later step answers that it failed. Each object comes back
+/// and is dropped, once. The error says that it is no bench, or which check fails.
 pub fn check_file<R: Files + AllocGlobal>(rt: &R, file: &str) -> Result<Checked, End> {
     let bytes = bytes_of(rt, file)?;
     check_bytes(rt.alloc(), bytes.as_slice())
 }
 
-/// Runs a bench as it is; with an object of another type supplied first wherever one is needed (of the type `idle`, or where that is
-/// needed `loud`), which is turned away and changes nothing; and once for each call that it hears, to which the object gives no answer. Then
-/// the run breaks off for want of memory, with the log before that call, and each later step answers that it failed. Each object comes back
-/// and is dropped, once. The error says that it is no bench, or which check fails.
-pub fn check_bytes(alloc: Global, bytes: &[u8]) -> Result<Checked, End> {
+fn check_bytes(alloc: Global, bytes: &[u8]) -> Result<Checked, End> {
     let root = read_document(alloc, bytes)?;
     check_table(alloc, &root)
 }

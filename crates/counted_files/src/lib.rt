@@ -7,6 +7,6 @@ mod counted;
 mod ends;
 mod files;
 
-pub use checks::{Checked, check_bytes, check_file};
+pub use checks::{Checked, check_file};
 pub use ends::{End, tell};
 pub use files::run_counted;

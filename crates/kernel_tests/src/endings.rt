@@ -1,7 +1,6 @@
 //! How runs of kernels end, and what they hold then.
 
-use bench_plays::{Look, make_idle, make_spinner, shows_with};
-use bench_run::{Ending, RunFault};
+use bench_plays::{Ending, Look, RunFault, make_idle, make_spinner, shows_with};
 use std::alloc::Global;
 use uvm_object::Reason;
 

@@ -4,7 +4,7 @@
 mod commands;
 mod program;
 
-use bus_jobs::Breakage;
+use script_jobs::Breakage;
 use std::io::BufWriter;
 use std::process::ExitCode;
 

@@ -2,10 +2,9 @@
 
 use crate::commands::{Options, command, options_of};
 use bench_script::ScriptFault;
-use bus_jobs::{Breakage, read_file};
 use clap::error::ErrorKind;
 use clap::{ArgMatches, Error};
-use script_jobs::{Verdict, run_bench};
+use script_jobs::{Breakage, FileVerdict, Verdict, read_file, run_bench};
 use std::alloc::Global;
 use std::fs::File;
 use std::io::Write;
@@ -165,7 +164,7 @@ fn bytes_of<R: Files + AllocGlobal>(rt: &R, file: &str) -> Result<Vec<u8>, Break
     };
     match read_file(rt.alloc(), &mut file) {
         Ok(bytes) => Ok(bytes),
-        Err(bus_jobs::Verdict::Broken(breakage)) => Err(breakage),
+        Err(FileVerdict::Broken(breakage)) => Err(breakage),
         Err(_) => Err(Breakage::Unread),
     }
 }

@@ -7,6 +7,7 @@ mod objects;
 mod runs;
 mod verdicts;
 
+pub use bus_jobs::{Breakage, Verdict as FileVerdict, read_file};
 pub use objects::BenchObject;
 pub use runs::run_bench;
 pub use verdicts::{Refusal, Verdict};

@@ -2,7 +2,7 @@ use Rattle.std.specs.Io.KnownBytes.{Appends}
 use Rattle.std.proofs.Common.{◌≡◌, ◌<◌, ◌-◌, true, length}
 use Rattle.bench_history.specs.Limits.{log_limit}
 use Rattle.bench_history.specs.Next.{IsLegal}
-use Rattle.bench_core.specs.declared.cores.Health.TheVariants.{Good}
+use Rattle.bench_kernel.specs.Health.TheVariants.{Good}
 use Rattle.bench_run.specs.Lives.{AreKept, MayGive}
 use Rattle.bench_run.specs.Words.{AreDrawn}
 use Rattle.bench_run.specs.Running.{transcript}

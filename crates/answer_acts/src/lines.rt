@@ -1,7 +1,7 @@
 //! The lines of acts.
 
 ghost use Rattle.std.specs.Prelude.{◌≡◌, ◌++◌, IfOk, OnOk};
-ghost use Rattle.answer_lines.specs.Lines.{act_line, said_by, said_text};
+ghost use Rattle.answer_acts.specs.Lines.{act_line, said_by, said_text};
 
 use std::alloc::{AllocError, Global};
 use uvm_lines::act_text;

@@ -2,7 +2,7 @@
 
 ghost use Rattle.std.specs.Prelude.{◌≡◌, length, IfSome};
 ghost use Rattle.std.specs.List.{All};
-ghost use Rattle.answer_lines.specs.Sound.{HasSoundPlaces, IsItem, IsName, IsNumber, IsSigned, IsSound, IsWhat, IsWhich};
+ghost use Rattle.answer_acts.specs.Sound.{HasSoundPlaces, IsItem, IsName, IsNumber, IsSigned, IsSound, IsWhat, IsWhich};
 
 use uvm_glob::Name;
 use uvm_object::{Act, What};
@@ -152,9 +152,9 @@ fn report_is_sound(report: &Report)
     small_is_sound(&report.verbosity);
 }
 
-// The parts of an act are what their types say, where its globs and paths are: of these their own crate says so where they are
-// made.
-pub(crate) fn acts_are_sound(act: &Act)
+/// Says of an act that its parts are what their types say, where its globs and paths are: of these their own crate says so where they are
+/// made. Does nothing.
+pub fn acts_are_sound(act: &Act)
     ensures { HasSoundPlaces act.now → IsSound act.now }
 {
     match act {

@@ -24,10 +24,10 @@ use Rattle.uvm_acts.specs.declared.acts.What.TheVariants as what
 use Rattle.uvm_acts.specs.declared.acts.Act.{Act}
 use Rattle.uvm_acts.specs.declared.acts.Act.TheVariants as act
 use Rattle.uvm_lines.specs.Lines.{how_text, mode_text, kind_text, actions_text}
-use Rattle.answer_lines.specs.Sound.{HasPlainId, IsNumber, IsSound, IsWhat}
-use Rattle.answer_lines.proofs.Parts.{number_in, number-back, signed_in, signed-back, inner, inner-back, path_in, path-back, item_in, item-back, is_word, given_in, some-item-back, priority-back}
-use Rattle.answer_lines.proofs.Splits.{parts_at}
-use Rattle.answer_lines.proofs.WordsOf.{what_words, which_words, said_words, words_of}
+use Rattle.answer_acts.specs.Sound.{HasPlainId, IsNumber, IsSound, IsWhat}
+use Rattle.answer_acts.proofs.Parts.{number_in, number-back, signed_in, signed-back, inner, inner-back, path_in, path-back, item_in, item-back, is_word, given_in, some-item-back, priority-back}
+use Rattle.answer_acts.proofs.Splits.{parts_at}
+use Rattle.answer_acts.proofs.WordsOf.{what_words, which_words, said_words, words_of}
 
 -- WORDS OF A FEW
 

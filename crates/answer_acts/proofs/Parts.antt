@@ -19,8 +19,8 @@ use Rattle.uvm_glob.specs.Names.{is_name_byte, name_fault}
 use Rattle.uvm_glob.specs.Paths.{path_text, path_fault, names_of}
 use Rattle.uvm_tlm.specs.declared.items.Item.{Item}
 use Rattle.uvm_lines.specs.Lines.{item_text, some_item_text, priority_text}
-use Rattle.answer_lines.specs.Sound.{IsName, IsPath, IsGlob, IsNumber, IsSigned, IsItem}
-use Rattle.answer_lines.proofs.Splits.{lacks, AllLack, parts_at, parts-join, lacks-append, lacks-join, lacks-of}
+use Rattle.answer_acts.specs.Sound.{IsName, IsPath, IsGlob, IsNumber, IsSigned, IsItem}
+use Rattle.answer_acts.proofs.Splits.{lacks, AllLack, parts_at, parts-join, lacks-append, lacks-join, lacks-of}
 
 -- NUMBERS
 

@@ -22,10 +22,10 @@ use Rattle.uvm_acts.specs.declared.acts.What.TheVariants as what
 use Rattle.uvm_acts.specs.declared.acts.Act.{Act}
 use Rattle.uvm_acts.specs.declared.acts.Act.TheVariants as act
 use Rattle.uvm_lines.specs.Lines.{act_text, item_text, some_item_text, priority_text, id_text, actions_text, which_text, what_text, how_text, mode_text, kind_text}
-use Rattle.answer_lines.specs.Lines.{act_line, said_text}
-use Rattle.answer_lines.specs.Sound.{IsSound, IsWhich, IsWhat, IsName}
-use Rattle.answer_lines.proofs.Splits.{lacks, AllLack, parts_at, parts-one, parts-more, parts-join}
-use Rattle.answer_lines.proofs.Parts.{number-lacks, signed-lacks, name-lacks, brackets-lack, glob-lacks, path-lacks, item-lacks, some-item-lacks, priority-lacks}
+use Rattle.answer_acts.specs.Lines.{act_line, said_text}
+use Rattle.answer_acts.specs.Sound.{IsSound, IsWhich, IsWhat, IsName}
+use Rattle.answer_acts.proofs.Splits.{lacks, AllLack, parts_at, parts-one, parts-more, parts-join}
+use Rattle.answer_acts.proofs.Parts.{number-lacks, signed-lacks, name-lacks, brackets-lack, glob-lacks, path-lacks, item-lacks, some-item-lacks, priority-lacks}
 
 -- THE WORDS
 

@@ -1,0 +1,6 @@
+mod Inverse
+mod Parts
+mod Passing
+mod Splits
+mod Tells
+mod WordsOf

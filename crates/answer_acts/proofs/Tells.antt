@@ -1,0 +1,12 @@
+-- Two acts with one line are one.
+use Rattle.std.proofs.Common.{sym, ap, ◌∙◌}
+use Rattle.answer_acts.specs.Laws.{LinesTellActs}
+use Rattle.answer_acts.proofs.Inverse.{act_in, act-back}
+use Rattle.answer_acts.proofs.Splits.{parts_at}
+use Rattle.answer_acts.proofs.WordsOf.{line-parts}
+
+pub lines_tell_acts : LinesTellActs
+lines_tell_acts one other sound other_sound plain other_plain same =
+    sym (act-back other other_sound other_plain)
+    ∙ (ap act_in (sym (line-parts other other_sound) ∙ (ap (parts_at 32) (sym same) ∙ line-parts one sound))
+    ∙ act-back one sound plain)

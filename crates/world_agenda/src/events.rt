@@ -7,14 +7,13 @@ ghost use Rattle.bench_history.specs.Dues.{caused_at, is_of_one, event_in, calls
 ghost use Rattle.bench_history.specs.Owners.{Event, is_drain_of};
 ghost use Rattle.uvm_acts.specs.declared.acts.Act.TheVariants.{EndStep};
 ghost use Rattle.bench_history.specs.Refusals.{is_open_to};
-ghost use Rattle.uvm_acts.specs.HeldCalls.{is_of_numbers};
 ghost use Rattle.uvm_phase.specs.declared.agendas.Due.{Due};
 ghost use Rattle.world_agenda.specs.Tellings.{if_told, living_numbered, is_told};
 
 use bench_history::{Owner, Told};
 use std::alloc::AllocError;
 use std::hash::Hash;
-use uvm_object::{Call, HeldCall, Notice, Who};
+use uvm_object::{HeldCall, Notice, Who};
 use uvm_phase::{Agenda, Cause, Phase, laws as agendas};
 use uvm_sequences::Sequences;
 use uvm_tree::NodeId;
@@ -83,27 +82,26 @@ pub fn add_event<O: Copy + Eq + Hash + Drop, N: Drop>(
 }
 
 /// Adds a call of somebody, in a phase, that is due at a time, in ticks; in none it adds nothing. Its error is want of memory. It does not
-/// come where the agenda has room and the call has neither a name nor an item.
+/// come where the agenda has room.
 pub fn add_call(
     agenda: &mut Agenda<Owner, Notice>,
     phase: Option<Phase>,
     time: u64,
     cause: Cause,
     who: Who,
-    call: Call,
+    call: HeldCall,
 ) -> Result<(), AllocError>
     ensures dues { OnOk result ((caused : List Event) → agenda.old.dues ≡ in_order caused →
         agenda.new.dues ≡ in_order (event_in phase time cause (Owner.Object who) (Some call) ++ caused)) }
-    ensures memory { 0 < agenda.old.spare → is_of_numbers call ≡ true → IsOk result }
+    ensures memory { 0 < agenda.old.spare → IsOk result }
 {
-    let held = HeldCall::new(agenda.alloc(), &call)?;
     add_event(
         agenda,
         phase,
         time,
         cause,
         Owner::Object(who),
-        Notice::of_call(held),
+        Notice::of_call(call),
     )
 }
 
@@ -140,7 +138,8 @@ fn tell_if(
     if !tells {
         return Ok(());
     }
-    add_call(agenda, told.phase, time, cause, told.who, told.call)
+    let held = HeldCall::new(agenda.alloc(), &told.call)?;
+    add_call(agenda, told.phase, time, cause, told.who, held)
 }
 
 /// Answers whether somebody is told what is due: a component, or a sequence that lives.
@@ -166,7 +165,8 @@ pub fn tell_all(
 {
     for (number, told) in calls.iter().enumerate() {
         let cause = numbered(place, number)?;
-        add_call(agenda, told.phase, time, cause, told.who, told.call)?;
+        let held = HeldCall::new(agenda.alloc(), &told.call)?;
+        add_call(agenda, told.phase, time, cause, told.who, held)?;
     }
     Ok(())
 }

@@ -11,7 +11,7 @@ ghost use Rattle.world_entries.specs.Coming.{GoesOnWith, IsDueNext};
 
 use bench_history::laws;
 use std::alloc::AllocError;
-use uvm_object::{Call, Passage, Who};
+use uvm_object::{Call, HeldCall, Passage, Who};
 use uvm_sequencer::laws as sequencers;
 use uvm_sequences::SeqId;
 use uvm_tree::NodeId;
@@ -42,7 +42,8 @@ pub fn lock(
         id,
         home: sequencer,
     };
-    tell_to(services, who, phase, Call::Held, time, place)?;
+    let held = HeldCall::new(services.agenda.alloc(), &Call::Held)?;
+    tell_to(services, who, phase, held, time, place)?;
     let known = services.contest.known(sequencer);
     settle_at(
         &mut services.arbiters,
@@ -90,7 +91,8 @@ pub fn grant(
         home: sequencer,
     };
     let phase = phase_at(services.beginnings.as_slice(), id);
-    tell_to(services, who, phase, Call::Grant, time, place)?;
+    let held = HeldCall::new(services.agenda.alloc(), &Call::Grant)?;
+    tell_to(services, who, phase, held, time, place)?;
     services.reporting.newest = None;
     Ok(id)
 }

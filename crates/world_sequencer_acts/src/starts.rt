@@ -24,7 +24,7 @@ use bench_history::Need;
 use std::alloc::{AllocError, Global};
 use uvm_factory::{Factory, Kind, TypeId};
 use uvm_glob::{Name, Path, PathFault};
-use uvm_object::{Act, Call, Fatal, Who};
+use uvm_object::{Act, Call, Fatal, HeldCall, Who};
 use uvm_sequencer::laws as sequencers;
 use uvm_sequences::SeqId;
 use uvm_tree::{NodeId, NodeKind, Tree};
@@ -188,7 +188,10 @@ pub fn begin(services: &mut Services, act: &Act, home: &NodeId, place: u32) -> S
         unreachable!()
     };
     let time = services.time;
-    let Ok(()) = tell_to(services, who.copy(), phase, Call::PreStart, time, place) else {
+    let Ok(held) = HeldCall::new(services.agenda.alloc(), &Call::PreStart) else {
+        unreachable!()
+    };
+    let Ok(()) = tell_to(services, who.copy(), phase, held, time, place) else {
         unreachable!()
     };
     services.reporting.newest = None;

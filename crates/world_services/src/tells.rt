@@ -7,14 +7,13 @@ ghost use Rattle.uvm_phase.specs.Dues.{in_order};
 ghost use Rattle.bench_history.specs.Dues.{caused_at, drain_from, due_from, told_of};
 ghost use Rattle.bench_history.specs.Owners.{Event, is_drain_of};
 ghost use Rattle.uvm_acts.specs.declared.acts.Act.TheVariants.{Put, Take, Peek};
-ghost use Rattle.uvm_acts.specs.HeldCalls.{is_of_numbers};
 ghost use Rattle.uvm_phase.specs.declared.agendas.Due.{Due};
 ghost use Rattle.world_agenda.specs.Tellings.{living_numbered, is_told};
 
 use crate::services::Services;
 use bench_history::{Owner, Told};
 use std::alloc::AllocError;
-use uvm_object::{Call, Notice, Passage, Who};
+use uvm_object::{Call, HeldCall, Notice, Passage, Who};
 use uvm_objection::Due;
 use uvm_phase::Phase;
 use uvm_tlm::MoveKind;
@@ -59,7 +58,8 @@ pub fn tell_passed(services: &mut Services, place: u32, passage: &Passage) -> Re
     ensures rest { services.new ≡ record services.old { agenda = services.new.agenda } }
 {
     let (time, phase) = (services.time, Some(passage.phase));
-    tell_to(services, passage.who, phase, told_of(passage), time, place)
+    let held = HeldCall::new(services.agenda.alloc(), &told_of(passage))?;
+    tell_to(services, passage.who, phase, held, time, place)
 }
 
 fn told_of(passage: &Passage) -> Call
@@ -81,23 +81,24 @@ pub fn tell(services: &mut Services, call: Call, time: u64, place: u32) -> Resul
     ensures rest { services.new ≡ record services.old { agenda = services.new.agenda } }
 {
     let (performer, phase) = (services.answer.speaker, services.answer.phase);
-    tell_to(services, performer, phase, call, time, place)
+    let held = HeldCall::new(services.agenda.alloc(), &call)?;
+    tell_to(services, performer, phase, held, time, place)
 }
 
 /// Makes a call of somebody due at a time, in ticks, in a phase; of none it makes nothing due. The place of the entry is its cause. Its
-/// error is want of memory. It does not come where the agenda has room and the call has neither a name nor an item.
+/// error is want of memory. It does not come where the agenda has room.
 pub fn tell_to(
     services: &mut Services,
     who: Who,
     phase: Option<Phase>,
-    call: Call,
+    call: HeldCall,
     time: u64,
     place: u32,
 ) -> Result<(), AllocError>
     ensures dues { OnOk result ((caused : List Event) → services.old.agenda.dues ≡ in_order caused →
         services.new.agenda.dues ≡ in_order (due_from (Some call) who phase time (caused_at place) ++ caused)) }
     ensures rest { services.new ≡ record services.old { agenda = services.new.agenda } }
-    ensures memory { 0 < services.old.agenda.spare → is_of_numbers call ≡ true → IsOk result }
+    ensures memory { 0 < services.old.agenda.spare → IsOk result }
 {
     let agenda = &mut services.agenda;
     add_call(agenda, phase, time, caused_at(place), who, call)

@@ -21,7 +21,7 @@ loop-number-preserved c = λ caused is.
     let told = c.index-calls-number.result in
     let here : drop at calls ≡ told ∷ drop (suc at) calls = drop-cons calls at told c.loop-number-test.true ∙ ap (λ (t : Told). t ∷ drop (suc at) calls) (sym c.index-calls-number.is) in
     let event : List Event = event_in told.phase c.args.time (record { place = c.args.place; number = at }) (Object told.who) (Some told.call) in
-    (event ++ p.0, rw c.in_ok-cause.ensures at (c.in_ok-add_call.ensures.dues p.0 p.1), rw add-one (numbered-one c.args.time c.args.place at (drop at calls) (drop (suc at) calls) told p.0 _ here p.2))
+    (event ++ p.0, rw (c.in_ok-cause.ensures, c.in_ok-held.ensures.ok) at (c.in_ok-add_call.ensures.dues p.0 p.1), rw add-one (numbered-one c.args.time c.args.place at (drop at calls) (drop (suc at) calls) told p.0 _ here p.2))
 
 pub returns : goal.returns
 returns c = λ caused is.

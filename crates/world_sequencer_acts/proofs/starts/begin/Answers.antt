@@ -21,7 +21,7 @@ use Rattle.world_agenda.proofs.Told.{agenda-event}
 use Rattle.world_sequencer_acts.proofs.starts.begin.Goals as goal
 
 pub unreachable-requires-in_default-tell_to : goal.unreachable-requires-in_default-tell_to
-unreachable-requires-in_default-tell_to c = ok-not-err c.tell_to.result c.in_default-tell_to.field-0 (c.tell_to.ensures.memory c.requires.agenda_spare refl) c.in_default-tell_to.is
+unreachable-requires-in_default-tell_to c = ok-not-err c.tell_to.result c.in_default-tell_to.field-0 (c.tell_to.ensures.memory c.requires.agenda_spare) c.in_default-tell_to.is
 
 pub returns-clause-kept : goal.returns-clause-kept
 returns-clause-kept c =
@@ -39,7 +39,7 @@ returns-clause-kept c =
           let asked = rw m.tree at c.requires.home_is in
           let task = rw m.answer.phase at c.requires.task in
           let at : (start_by (nodes_of history) (sequences_of history) speaker deed).home ≡ home = ap (λ (x : Start). x.home) (start-of (nodes_of history) (sequences_of history) speaker deed home c.requires.starts asked) in
-          let dues = rw (c.copy.ensures, id, m.answer.phase, m.time, ← s.place_is) at (c.in-Ok-tell_to.ensures.dues (filter (is_open (heard_of history) (ended_of history) (finished_of history)) (caused_of script history)) m.agenda.are) in
+          let dues = rw (c.copy.ensures, id, m.answer.phase, m.time, ← s.place_is, c.in-Ok-new.ensures.ok) at (c.in-Ok-tell_to.ensures.dues (filter (is_open (heard_of history) (ended_of history) (finished_of history)) (caused_of script history)) m.agenda.are) in
           let unfinished = next-unfinished m.sequencing next home refl in
           let agenda : IsAgenda (caused_of script (Did speaker (Started next) deed ∷ history)) (heard_of history) (ended_of history) (finished_of history) (suc (length history)) c.tell_to.new.services.agenda.dues = rw at (agenda-event (Object (Sequence home next)) (Some PreStart) (now_of history) (act_phase history) (caused_of script history) (heard_of history) (ended_of history) (finished_of history) (length history) _ _ s.in_phase.unended unfinished m.agenda dues) in
           let events : AreEvents (λ phase. objections_of script phase history) (due_events script (Did speaker (Started next) deed ∷ history)) = rw at (events-told (λ phase. objections_of script phase history) (is_open (heard_of history) (ended_of history) (finished_of history)) (act_phase history) (now_of history) (caused_at (length history)) (Sequence home next) PreStart (caused_of script history) m.events) in

@@ -348,7 +348,7 @@ impl Model for Notice {
 }
 
 impl Notice {
-    /// No call.
+    /// Gives the notice of no call. Takes no memory.
     pub fn nothing() -> Notice
         ensures { result ≡ None }
     {
@@ -357,7 +357,7 @@ impl Notice {
         }
     }
 
-    /// A call. Takes no memory.
+    /// Gives the notice of a call. Takes no memory.
     pub fn of_call(call: HeldCall) -> Notice
         ensures { result ≡ Some call }
     {
@@ -366,7 +366,7 @@ impl Notice {
         }
     }
 
-    /// The call, if there is one.
+    /// Gives the call, if there is one. Takes no memory.
     pub fn call(&self) -> Option<Call>
         ensures { result ≡ self.now }
     {

@@ -137,7 +137,7 @@ impl Log {
         self.entries.len()
     }
 
-    /// The place of the next entry, from 0. For a log that is not full.
+    /// Gives the place of the next entry, from 0. The log must not be full.
     pub fn next_place(&self) -> u32
         requires { length self.now.entries < self.now.limit }
         ensures { result ≡ length self.now.entries }

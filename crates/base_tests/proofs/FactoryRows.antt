@@ -12,7 +12,7 @@ use Rattle.uvm_factory.specs.declared.faults.Unmade.TheVariants as unmade
 use Rattle.uvm_factory.specs.Faults.{Types, type_named, register_fault, override_fault, fault_text, unmade_text}
 use Rattle.uvm_factory.specs.Kept.{types_of, step_at, resolved}
 use Rattle.uvm_factory.specs.Steps.{made}
-use Rattle.uvm_factory.specs.Overrides.{type_step, made_type}
+use Rattle.uvm_factory.specs.Overrides.{type_step, replacing, made_type}
 
 -- the components A, B, C and D, and the sequence S
 abbrev letters : Types
@@ -42,11 +42,11 @@ abbrev made_for_a : List Override → List ℕ → Option ℕ
 made_for_a overrides text = made_type (reverse overrides) 5 text a
 
 first-matching-instance-override-prevails : made_for_a (Instance a b (codes "*") ∷ Instance a c (codes "uvm_test_top.x") ∷ []) (codes "uvm_test_top.x") ≡ Some b
-unfolding matches type_step made
+unfolding matches type_step made replacing
 first-matching-instance-override-prevails = refl
 
 instance-override-goes-before-a-type-override : made_for_a (Instance a b (codes "y") ∷ Instance a c (codes "*") ∷ Whole a d true ∷ []) (codes "x") ≡ Some c
-unfolding matches type_step made
+unfolding matches type_step made replacing
 instance-override-goes-before-a-type-override = refl
 
 -- A by B, B by C, and B by D below the test
@@ -54,31 +54,31 @@ abbrev again : List Override
 again = Whole a b false ∷ Whole b c false ∷ Instance b d (codes "uvm_test_top.*") ∷ []
 
 overriding-type-is-looked-up-again-at-the-same-path : made_for_a again (codes "uvm_test_top.x") ≡ Some d
-unfolding matches type_step made
+unfolding matches type_step made replacing
 overriding-type-is-looked-up-again-at-the-same-path = refl
 
 instance-override-does-not-reach-another-path : made_for_a again (codes "uvm_test_top") ≡ Some c
-unfolding matches type_step made
+unfolding matches type_step made replacing
 instance-override-does-not-reach-another-path = refl
 
 earlier-type-override-stays : made_for_a (Whole a b false ∷ Whole a c false ∷ []) (codes "uvm_test_top") ≡ Some b
-unfolding matches type_step made
+unfolding matches type_step made replacing
 earlier-type-override-stays = refl
 
 replacing-type-override-takes-its-place : made_for_a (Whole a b false ∷ Whole a c true ∷ []) (codes "uvm_test_top") ≡ Some c
-unfolding matches type_step made
+unfolding matches type_step made replacing
 replacing-type-override-takes-its-place = refl
 
 type-override-alone-holds : made_for_a (Whole a c false ∷ []) (codes "uvm_test_top") ≡ Some c
-unfolding matches type_step made
+unfolding matches type_step made replacing
 type-override-alone-holds = refl
 
 overrides-that-lead-back-are-a-loop : made_for_a (Whole a b false ∷ Whole b a false ∷ []) (codes "uvm_test_top") ≡ None
-unfolding matches type_step made
+unfolding matches type_step made replacing
 overrides-that-lead-back-are-a-loop = refl
 
 type-that-overrides-itself-is-made : made_for_a (Whole a a false ∷ []) (codes "uvm_test_top") ≡ Some a
-unfolding matches type_step made
+unfolding matches type_step made replacing
 type-that-overrides-itself-is-made = refl
 
 -- A by B, and by C below x
@@ -86,7 +86,7 @@ abbrev elsewhere : List Override
 elsewhere = Whole a b false ∷ Instance a c (codes "x.*") ∷ []
 
 instance-override-is-made-where-it-matches-alone : map (made_for_a elsewhere) (codes "x" ∷ codes "x.y" ∷ []) ≡ Some b ∷ Some c ∷ []
-unfolding matches type_step made
+unfolding matches type_step made replacing
 instance-override-is-made-where-it-matches-alone = refl
 
 -- the step of a type at a path after these

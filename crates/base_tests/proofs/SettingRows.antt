@@ -4,7 +4,7 @@ use Rattle.std.specs.Prelude.{codes, pos, ℤ, Bool, true, false, Option, revers
 use Rattle.uvm_glob.specs.Globs.{matches}
 use Rattle.uvm_config.specs.declared.faults.ConfigFault.TheVariants.{Full, Memory}
 use Rattle.uvm_config.specs.Choice.{precedence_of}
-use Rattle.uvm_config.specs.Answers.{Setting, strongest_answer, config_answer}
+use Rattle.uvm_config.specs.Answers.{Setting, strongest, strongest_answer, config_answer}
 use Rattle.uvm_config.specs.Faults.{fault_text}
 
 -- a value of the field `f`, set by a component at a depth, while phase build runs or at another time
@@ -19,7 +19,7 @@ abbrev answer : List Setting → List ℕ → Option ℤ
 answer settings field = config_answer (reverse settings) env field
 
 setter-nearest-to-the-top-prevails-while-build-runs : answer (set 1 true env 2 ∷ set 2 true env 3 ∷ []) (codes "f") ≡ Some (pos 2)
-unfolding matches precedence_of strongest_answer
+unfolding matches precedence_of strongest strongest_answer
 setter-nearest-to-the-top-prevails-while-build-runs = refl
 
 -- three settings of build
@@ -27,7 +27,7 @@ abbrev built : List Setting
 built = set 0 true (codes "*") 1 ∷ set 1 true env 2 ∷ set 2 true env 3 ∷ []
 
 top-prevails-while-build-runs : answer built (codes "f") ≡ Some (pos 1)
-unfolding matches precedence_of strongest_answer
+unfolding matches precedence_of strongest strongest_answer
 top-prevails-while-build-runs = refl
 
 -- the same and one that was set later
@@ -35,11 +35,11 @@ abbrev connected : List Setting
 connected = set 0 true (codes "*") 1 ∷ set 1 true env 2 ∷ set 2 true env 3 ∷ set 2 false env 4 ∷ []
 
 last-setting-prevails-after-build : answer connected (codes "f") ≡ Some (pos 4)
-unfolding matches precedence_of strongest_answer
+unfolding matches precedence_of strongest strongest_answer
 last-setting-prevails-after-build = refl
 
 field-that-was-not-set-has-no-answer : answer connected (codes "g") ≡ None
-unfolding matches precedence_of strongest_answer
+unfolding matches precedence_of strongest strongest_answer
 field-that-was-not-set-has-no-answer = refl
 
 full-is-told : fault_text Full ≡ codes "too many settings"

@@ -50,7 +50,7 @@ pub struct Question {
 
 /// Chooses what comes next after the log of a sound world. Where it is the answer of somebody, the question is that. The error is want of
 /// memory; the world stays as it is, and nothing is asked.
-#[tactic(auto, unfolding(bench_history::specs::Limits::has_runtime, bench_history::specs::Next::next_of))]
+#[tactic(auto, unfolding(bench_history::specs::Next::next_of))]
 pub fn choose(world: &mut World, question: &mut Option<Question>) -> Result<Choice, AllocError>
     requires sound { world.old.sound ≡ true }
     ensures choice { IfOk result (IsChoice (next_of world.old.script world.old.history) question.new) }

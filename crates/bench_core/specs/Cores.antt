@@ -188,9 +188,8 @@ call_of (Asked hearer call origin) = Some call
 
 -- the object that is needed
 abbrev pub need_of : Standing → Option Need
-need_of Nothing = None
 need_of (Needed need) = Some need
-need_of (Asked hearer call origin) = None
+need_of standing = None
 
 -- the entry of an answer to what was asked
 abbrev pub answer_in : Standing → List Act → Option Entry

@@ -16,7 +16,7 @@ ghost use Rattle.uvm_phase.specs.declared.phases.Phase.TheVariants.{Run};
 ghost use Rattle.bench_history.specs.Arbitration.{waiters_at};
 ghost use Rattle.bench_history.specs.Reports.{report_commands};
 ghost use Rattle.uvm_report.specs.Changes.{Gives};
-ghost use Rattle.bench_history.specs.Next.{HasWord, next_of, made_in, declined_in, IsLegal};
+ghost use Rattle.bench_history.specs.Next.{next_of, made_in, declined_in, IsLegal};
 ghost use Rattle.bench_history.specs.Cases as comes;
 ghost use Rattle.bench_history.specs.Laws.{IsSomething};
 ghost use Rattle.bench_core.specs.Cores.{DrawsOne, HasEntered, IsDrawing, IsDrawn, IsNextTurn, IsToldTurn, IsTurn, drawn_by, word_in, IsUnmade, core_after, failed_from, is_sound, turn_of, need_of, answer_in, turn_after, call_of, IsAsk, AsksSomething, AsksThere, last_line, last_text};
@@ -529,7 +529,7 @@ fn grant<R: Rng>(
 
 // A word, where one decides.
 fn draw<R: Rng>(words: &mut R, drawn: bool) -> Option<u64>
-    ensures word { HasWord drawn result }
+    ensures word { is_some result ≡ drawn }
     ensures words { IsDrawn R.stream result words.old words.new }
 {
     if drawn { Some(words.next_u64()) } else { None }

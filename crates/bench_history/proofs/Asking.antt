@@ -35,7 +35,7 @@ use Rattle.bench_history.specs.Laws.{IsComponent}
 use Rattle.bench_history.specs.declared.owners.Told.{Told}
 use Rattle.bench_history.specs.Dues.{written_to, told_in}
 use Rattle.bench_history.specs.Refusals.{is_open_to}
-use Rattle.bench_history.specs.Passing.{Request, Station, with_last, request_by, request_at, answered_at, is_put, is_no_put, puts_asked, takes_asked, puts_waiting, takes_waiting, is_waiting, station_of, asker_of, first_asker, passage_by, passage_for, passage_in, passing_at, next_passed}
+use Rattle.bench_history.specs.Passing.{Request, Station, with_last, request_by, request_at, answered_at, is_put, is_no_put, puts_asked, takes_asked, puts_waiting, takes_waiting, is_waiting, station_of, first_asker, passage_by, passage_in, passing_at, next_passed}
 
 -- what holds of each element holds of the first
 pub head-holds : {A : Type 0} (P : A → Type 0) (xs : List A) → All P xs → IfSome (slice_get xs 0) P
@@ -87,7 +87,7 @@ module _ {Wish : Type 0} (Q : Who → Phase → Type 0) where
       last-holds IsAskedBy asked (request_at before fifo performer kind wished) all (request-holds fifo performer (length before) wished (act_phase before) (gate_below before performer kind wished.0) holds)
 
   -- and each of those that wait is
-  askers-hold : (requests : List (Request Wish)) → All IsAskedBy requests → All (λ asker. Q asker.who asker.phase) (map asker_of requests)
+  askers-hold : (requests : List (Request Wish)) → All IsAskedBy requests → All (λ asker. Q asker.who asker.phase) (map (λ request. request.asker) requests)
   askers-hold [] all = All-nil _
   askers-hold (request ∷ requests) all = All-cons (λ asker. Q asker.who asker.phase) _ _ (All-head IsAskedBy request requests all) (askers-hold requests (All-tail IsAskedBy request requests all))
 
@@ -98,7 +98,7 @@ module _ (Q : Who → Phase → Type 0) where
   asker-holds kind station putters takers = head-holds (λ (asker : Asker). Q asker.who asker.phase) station.takers takers
 
   passage-holds : (station : Station) → All (λ asker. Q asker.who asker.phase) station.putters → All (λ asker. Q asker.who asker.phase) station.takers → IfSome (passage_in station) (λ passage. Q passage.who passage.phase)
-  passage-holds station putters takers = then-holds (passage_for station) (λ (passage : Passage). Q passage.who passage.phase) (next_move station.fifo) (λ move. mapped move (first_asker move.kind station) (asker-holds move.kind station putters takers))
+  passage-holds station putters takers = then-holds (λ move. option_map (passage_by move) (first_asker move.kind station)) (λ (passage : Passage). Q passage.who passage.phase) (next_move station.fifo) (λ move. mapped move (first_asker move.kind station) (asker-holds move.kind station putters takers))
     where
       mapped : (move : Move) (asker : Option Asker) → IfSome asker (λ asker. Q asker.who asker.phase) → IfSome (option_map (passage_by move) asker) (λ passage. Q passage.who passage.phase)
       mapped move None holds = tt

@@ -16,7 +16,7 @@ use Rattle.bench_history.specs.Refusals.{is_open_to}
 use Rattle.bench_script.specs.Scripts.{ScriptValue}
 use Rattle.bench_history.specs.declared.needs.Need as declared
 use Rattle.bench_history.specs.History.{left_of, rest_of, speaker_of, opening}
-use Rattle.bench_history.specs.Upshots.{Upshot, Needs, Does, Finds, Stores, Takes, Finishes, Refuses, unless_refused, open_upshot, upshot_of, Asks, asked_upshot}
+use Rattle.bench_history.specs.Upshots.{Upshot, Needs, ComesTo, unless_refused, open_upshot, upshot_of, asked_upshot}
 use Rattle.uvm_glob.specs.Faults.{fault_if}
 use Rattle.bench_history.specs.Cases.{Next, Exactly, Answer, Need, Nothing, by_upshot, by_act, Grant}
 use Rattle.bench_history.specs.Next.{next_of, Allows, IsAct, IsNext}
@@ -75,7 +75,7 @@ deed-next script history performer outcome act (Grant sequencer drawn chosen) is
 deed-next script history performer outcome act Nothing is allows = absurd allows
 
 -- an act that is not open to its performer is refused
-refused-next : (performer other : Who) (outcome : Outcome) (act deed : Act) (upshot : Upshot) → upshot ≡ Refuses NotOpen → Allows (by_upshot other deed upshot) (Did performer outcome act) → outcome ≡ Refused NotOpen
+refused-next : (performer other : Who) (outcome : Outcome) (act deed : Act) (upshot : Upshot) → upshot ≡ ComesTo (Refused NotOpen) → Allows (by_upshot other deed upshot) (Did performer outcome act) → outcome ≡ Refused NotOpen
 refused-next performer other outcome act deed upshot is allows = let e : Did performer outcome act ≡ Did other (Refused NotOpen) deed = subst (λ (u : Upshot). Allows (by_upshot other deed u) (Did performer outcome act)) is allows in cc
 
 pub is-act : (performer : Who) (outcome : Outcome) (act : Act) (next : Next) → Allows next (Did performer outcome act) → IsAct next
@@ -85,7 +85,7 @@ is-act performer outcome act (Need need made other deed) allows = tt
 is-act performer outcome act (Grant sequencer drawn chosen) allows = let e : Did performer outcome act ≡ Granted sequencer allows.0 = allows.3 in cc
 is-act performer outcome act Nothing allows = absurd allows
 
-closed-upshot : (script : ScriptValue) (history : List Entry) (performer : Who) (act : Act) → is_open_to act performer ≡ false → upshot_of script history performer act ≡ Refuses NotOpen
+closed-upshot : (script : ScriptValue) (history : List Entry) (performer : Who) (act : Act) → is_open_to act performer ≡ false → upshot_of script history performer act ≡ ComesTo (Refused NotOpen)
 closed-upshot script history performer act closed = rw closed refl
 
 pub closed-refused : (script : ScriptValue) (before : List Entry) (performer : Who) (outcome : Outcome) (act : Act) → IsDeed script before performer act → IsNext script before (Did performer outcome act) → is_open_to act performer ≡ false → outcome ≡ Refused NotOpen
@@ -128,7 +128,7 @@ starts-act script before performer id act Nothing is allows opens = absurd allow
 
 -- only the end of a step finishes a sequence
 abbrev IsUnfinished : Upshot → Type 0
-IsUnfinished Finishes = ⊥
+IsUnfinished (ComesTo Finished) = ⊥
 IsUnfinished upshot = Unit {0}
 
 unfinished-unless : (refusal : Option Fatal) (upshot : Upshot) → IsUnfinished upshot → IsUnfinished (unless_refused refusal upshot)
@@ -139,24 +139,18 @@ unfinished-asked : (how : How) (waits : Bool) → IsUnfinished (asked_upshot how
 unfinished-asked Try waits = tt
 unfinished-asked how waits = tt
 
-finishing-open : (script : ScriptValue) (history : List Entry) (performer : Who) (act : Act) → open_upshot script history performer act ≡ Finishes → act ≡ EndStep
+finishing-open : (script : ScriptValue) (history : List Entry) (performer : Who) (act : Act) → open_upshot script history performer act ≡ ComesTo Finished → act ≡ EndStep
 finishing-open script history performer EndStep e = refl
 finishing-open script history performer (Ask port how) e = absurd (subst IsUnfinished e (unfinished-unless _ _ (unfinished-asked how _)))
 finishing-open script history performer act e = absurd (subst IsUnfinished e (search unfinished-unless))
 
-finishing-of : (refusal : Option Fatal) (upshot : Upshot) → unless_refused refusal upshot ≡ Finishes → upshot ≡ Finishes
+finishing-of : (refusal : Option Fatal) (upshot : Upshot) → unless_refused refusal upshot ≡ ComesTo Finished → upshot ≡ ComesTo Finished
 finishing-of None upshot e = e
 finishing-of (Some fatal) upshot e = cc
 
-by-finishes : (performer : Who) (act : Act) (upshot : Upshot) → by_upshot performer act upshot ≡ Exactly (Did performer Finished act) → upshot ≡ Finishes
+by-finishes : (performer : Who) (act : Act) (upshot : Upshot) → by_upshot performer act upshot ≡ Exactly (Did performer Finished act) → upshot ≡ ComesTo Finished
 by-finishes performer act (Needs need made) e = cc
-by-finishes performer act Does e = cc
-by-finishes performer act (Finds value) e = cc
-by-finishes performer act (Stores stored) e = cc
-by-finishes performer act (Takes item) e = cc
-by-finishes performer act (Asks waits) e = cc
-by-finishes performer act Finishes e = refl
-by-finishes performer act (Refuses fatal) e = cc
+by-finishes performer act (ComesTo outcome) e = cc
 
 -- an act that finishes a sequence ends a step
 abbrev FinishesIn : Next → Type 0

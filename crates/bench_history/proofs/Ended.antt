@@ -3,7 +3,6 @@ use Rattle.std.proofs.Common.{◌≡◌, true, List, ◌∷◌, [], refl, ap, sy
 use Rattle.uvm_object.specs.declared.entries.Entry.{Entry}
 use Rattle.uvm_object.specs.declared.entries.Entry.TheVariants.{Begin, End, Over}
 use Rattle.bench_script.specs.Scripts.{ScriptValue}
-use Rattle.bench_history.specs.Limits.{has_runtime}
 use Rattle.bench_history.specs.declared.stages.Stage.TheVariants.{Ended}
 use Rattle.bench_history.specs.History.{stage_of, running, left_of, is_over, in_progress}
 use Rattle.bench_history.specs.Reports.{reason_of}
@@ -28,7 +27,7 @@ nothing-comes script history e =
     ∷ long_answer history (left_of script history)
     ∷ first_act script history (left_of script history)
     ∷ event_due (due_now script history)
-    ∷ phase_begin (phase_to_begin (has_runtime script) (stage_of history))
+    ∷ phase_begin (phase_to_begin script.runtime (stage_of history))
     ∷ phase_call history (in_progress (stage_of history))
     ∷ port_check history (running (stage_of history))
     ∷ phase_end script history (running (stage_of history))

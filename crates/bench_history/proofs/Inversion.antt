@@ -1,24 +1,28 @@
 -- Which case of the machine gives what comes next.
-use Rattle.std.proofs.Common.{◌≡◌, ℕ, Bool, true, false, List, [], ◌∷◌, length, nat_lt, Option, Some, None, option_map, refl, ap, subst, arith, ◌≤◌, ◌==◌, if◌then◌else◌, map, ◌||◌}
+use Rattle.std.proofs.Common.{◌≡◌, ℕ, Bool, true, false, List, [], ◌∷◌, length, nat_lt, Option, Some, None, option_map, refl, ap, subst, arith, ◌≤◌, ◌==◌, if◌then◌else◌, map, ◌||◌, is_some}
 use Rattle.std.proofs.lemmas.Bool.Decides.{nat_tests}
 use Rattle.uvm_phase.specs.declared.phases.Phase.{Phase}
 use Rattle.uvm_phase.specs.Phases.{is_runtime, same_phase}
+use Rattle.uvm_acts.specs.declared.acts.Who.{Who}
 use Rattle.uvm_acts.specs.declared.acts.Who.TheVariants as who
 use Rattle.uvm_acts.specs.declared.acts.Call.{Call}
 use Rattle.uvm_acts.specs.declared.acts.Call.TheVariants as call
 use Rattle.uvm_acts.specs.declared.acts.Act.{Act}
+use Rattle.uvm_acts.specs.declared.acts.Act.TheVariants.{Ask, EndStep}
+use Rattle.uvm_sequencer.specs.declared.drivers.How.{How}
+use Rattle.uvm_sequencer.specs.declared.drivers.How.TheVariants.{Try}
 use Rattle.uvm_object.specs.declared.fatals.Fatal.{Fatal}
 use Rattle.uvm_object.specs.declared.fatals.Fatal.TheVariants.{TooManyActs, Timeout, Stall}
 use Rattle.uvm_acts.specs.Acts.{node_of}
 use Rattle.uvm_object.specs.declared.entries.Outcome.{Outcome}
-use Rattle.uvm_object.specs.declared.entries.Outcome.TheVariants.{Done, Made, Started, Value, Stored, Taken, Waits, Finished, Refused}
+use Rattle.uvm_object.specs.declared.entries.Outcome.TheVariants.{Done, Made, Started, Finished}
 use Rattle.uvm_object.specs.declared.entries.Reason.{Reason}
 use Rattle.uvm_object.specs.declared.entries.Reason.TheVariants as reason
 use Rattle.uvm_object.specs.declared.entries.Passage.{Passage}
 use Rattle.uvm_object.specs.declared.entries.Entry.{Entry}
 use Rattle.uvm_object.specs.declared.entries.Entry.TheVariants.{Begin, End, Time, Heard, Did, Locked, Granted, Passed, Drained, Note, Over}
 use Rattle.bench_script.specs.Scripts.{ScriptValue}
-use Rattle.uvm_phase.specs.declared.phases.Phase.TheVariants.{Build, Run}
+use Rattle.uvm_phase.specs.declared.phases.Phase.TheVariants.{Build, Connect, Run}
 use Rattle.std.specs.List.{All, list_any}
 use Rattle.std.proofs.lemmas.List.Elements.{All-nil, All-cons, All-head, All-tail}
 use Rattle.uvm_glob.specs.Lists.{first_given}
@@ -26,16 +30,17 @@ use Rattle.bench_history.specs.declared.needs.Need as declared
 use Rattle.bench_history.specs.declared.stages.Stage.{Stage}
 use Rattle.bench_history.specs.declared.stages.Stage.TheVariants.{Before, During, After, Ended}
 use Rattle.bench_history.specs.Owners.{Event, who_of}
-use Rattle.bench_history.specs.Limits.{most_acts, has_runtime}
-use Rattle.bench_history.specs.History.{stage_of, now_of, running, next_call, left_of, rest_of, speaker_of, in_progress}
+use Rattle.bench_history.specs.Limits.{most_acts}
+use Rattle.bench_history.specs.History.{stage_of, now_of, running, is_of_phase, next_call, left_of, rest_of, speaker_of, in_progress}
 use Rattle.bench_history.specs.Reports.{reason_of}
 use Rattle.bench_history.specs.Objections.{is_kept}
 use Rattle.bench_history.specs.Dues.{first_due, due_at, due_now}
 use Rattle.bench_history.specs.Wires.{next_unsound}
 use Rattle.bench_history.specs.Passing.{next_passed}
-use Rattle.bench_history.specs.Upshots.{Upshot, Needs, Does, Finds, Stores, Takes, Asks, Finishes, Refuses, upshot_of}
+use Rattle.bench_history.specs.Sequences.{next_step}
+use Rattle.bench_history.specs.Upshots.{Upshot, Needs, ComesTo, unless_refused, asked_upshot, open_upshot, upshot_of}
 use Rattle.bench_history.specs.Arbitration.{next_locked, next_served}
-use Rattle.bench_history.specs.Cases.{Next, Exactly, Answer, Need, Grant, Nothing, end_reached, giving_up, chosen_at, locking, serving, passing, first_act, by_upshot, by_act, by_call, event_due, phase_call, in_connect, port_check, phase_end, time_passes, phase_begin, phase_to_begin, finish, origin_of, turn_in}
+use Rattle.bench_history.specs.Cases.{Next, Exactly, Answer, Need, Grant, Nothing, end_reached, giving_up, chosen_at, locking, serving, passing, first_act, by_upshot, by_act, by_call, event_due, phase_call, port_check, phase_end, time_passes, phase_begin, phase_to_begin, finish, origin_of, turn_in}
 use Rattle.bench_history.specs.Next.{first_next, next_of}
 use Rattle.bench_history.specs.Laws.{IsDue, IsDrainDue}
 
@@ -49,7 +54,7 @@ pub record IsPassing (script : ScriptValue) (history : List Entry) (time : ℕ) 
 -- the phase that was begun last is at its end: none begins, and no objection keeps it
 pub record IsEnding (script : ScriptValue) (history : List Entry) (phase : Phase) : Type 0 where
   pub runs : running (stage_of history) ≡ Some phase
-  pub last : phase_to_begin (has_runtime script) (stage_of history) ≡ None
+  pub last : phase_to_begin script.runtime (stage_of history) ≡ None
   pub quiet : is_kept script phase history ≡ false
 
 -- what the machine writes by itself, outside a phase's course: neither a mark, nor an answer, nor an act. Time passes to what is due, what
@@ -90,14 +95,14 @@ pub data Case (script : ScriptValue) (history : List Entry) (next : Next) : Type
   -- or that phase ends
   ByEnd : (phase : Phase) → IsEnding script history phase → next ≡ Exactly (End phase) → Case script history next
   -- or a phase begins
-  ByBegin : (phase : Phase) → phase_to_begin (has_runtime script) (stage_of history) ≡ Some phase → next ≡ Exactly (Begin phase) → Case script history next
+  ByBegin : (phase : Phase) → phase_to_begin script.runtime (stage_of history) ≡ Some phase → next ≡ Exactly (Begin phase) → Case script history next
 
 -- the cases from the calls of phases on
 abbrev turn_cases : ScriptValue → List Entry → List Phase → Option Phase → List (Option Next)
 turn_cases script history going phase = phase_call history going ∷ port_check history phase ∷ phase_end script history phase ∷ finish ∷ []
 
 abbrev phase_cases : ScriptValue → List Entry → List (Option Next)
-phase_cases script history = phase_begin (phase_to_begin (has_runtime script) (stage_of history)) ∷ turn_cases script history (in_progress (stage_of history)) (running (stage_of history))
+phase_cases script history = phase_begin (phase_to_begin script.runtime (stage_of history)) ∷ turn_cases script history (in_progress (stage_of history)) (running (stage_of history))
 
 -- and from the acts on
 abbrev act_cases : ScriptValue → List Entry → List (Option Next)
@@ -114,23 +119,23 @@ case-time script history next (Some event) is e = case-limit script history next
 
 -- where no port is unsound
 case-ended :
-    (script : ScriptValue) (history : List Entry) (next : Next) (phase : Phase) (kept : Bool) → (running (stage_of history) ≡ Some phase) × (phase_to_begin (has_runtime script) (stage_of history) ≡ None) → is_kept script phase history ≡ kept
+    (script : ScriptValue) (history : List Entry) (next : Next) (phase : Phase) (kept : Bool) → (running (stage_of history) ≡ Some phase) × (phase_to_begin script.runtime (stage_of history) ≡ None) → is_kept script phase history ≡ kept
     → next ≡ Exactly (if kept then time_passes script.time_limit (first_due script history) else End phase) → Case script history next
 case-ended script history next phase true runs is e = case-time script history next (first_due script history) refl e
 case-ended script history next phase false runs is e = ByEnd phase (record { runs = runs.0; last = runs.1; quiet = is }) e
 
 -- where each component had its call
 case-check :
-    (script : ScriptValue) (history : List Entry) (next : Next) (phase : Phase) (connects : Bool) (port : Option (ℕ × Fatal)) → (running (stage_of history) ≡ Some phase) × (phase_to_begin (has_runtime script) (stage_of history) ≡ None)
+    (script : ScriptValue) (history : List Entry) (next : Next) (phase : Phase) (connects : Bool) (port : Option (ℕ × Fatal)) → (running (stage_of history) ≡ Some phase) × (phase_to_begin script.runtime (stage_of history) ≡ None)
     → next ≡ first_next ((if connects then option_map (λ port. Exactly (Note port.1 port.0)) port else None) ∷ phase_end script history (Some phase) ∷ finish ∷ []) → Case script history next
 case-check script history next phase true (Some port) runs e = ByOwn (Note port.1 port.0) tt e
 case-check script history next phase true None runs e = case-ended script history next phase (is_kept script phase history) runs refl e
 case-check script history next phase false port runs e = case-ended script history next phase (is_kept script phase history) runs refl e
 
 case-running :
-    (script : ScriptValue) (history : List Entry) (next : Next) (phase : Option Phase) → running (stage_of history) ≡ phase → phase_to_begin (has_runtime script) (stage_of history) ≡ None
+    (script : ScriptValue) (history : List Entry) (next : Next) (phase : Option Phase) → running (stage_of history) ≡ phase → phase_to_begin script.runtime (stage_of history) ≡ None
     → next ≡ first_next (port_check history phase ∷ phase_end script history phase ∷ finish ∷ []) → Case script history next
-case-running script history next (Some phase) runs none e = case-check script history next phase (in_connect (Some phase)) (next_unsound history) (runs, none) e
+case-running script history next (Some phase) runs none e = case-check script history next phase (is_of_phase Connect (Some phase)) (next_unsound history) (runs, none) e
 case-running script history next None runs none e = ByOwn (Over reason.Finished) tt e
 
 -- where a phase in progress may have a call left
@@ -170,7 +175,7 @@ all-going (During phase) = going-two (is_runtime phase) phase
 all-going (After phase) = going-one (is_runtime phase)
 all-going Ended = All-nil _
 
-case-phase : (script : ScriptValue) (history : List Entry) (next : Next) (begins : Option Phase) → phase_to_begin (has_runtime script) (stage_of history) ≡ begins → next ≡ first_next (phase_begin begins ∷ turn_cases script history (in_progress (stage_of history)) (running (stage_of history))) → Case script history next
+case-phase : (script : ScriptValue) (history : List Entry) (next : Next) (begins : Option Phase) → phase_to_begin script.runtime (stage_of history) ≡ begins → next ≡ first_next (phase_begin begins ∷ turn_cases script history (in_progress (stage_of history)) (running (stage_of history))) → Case script history next
 case-phase script history next (Some phase) is e = ByBegin phase is e
 case-phase script history next None is e =
     case-turns script history next _ (in_progress (stage_of history)) (all-going (stage_of history)) e (case-running script history next (running (stage_of history)) refl is)
@@ -205,17 +210,37 @@ case-event script history next event None now is e =
 
 case-due : (script : ScriptValue) (history : List Entry) (next : Next) (due : Option Event) → due_now script history ≡ due → next ≡ first_next (event_due due ∷ phase_cases script history) → Case script history next
 case-due script history next (Some event) is e = case-event script history next event event.notice is refl e
-case-due script history next None is e = case-phase script history next (phase_to_begin (has_runtime script) (stage_of history)) refl e
+case-due script history next None is e = case-phase script history next (phase_to_begin script.runtime (stage_of history)) refl e
+
+-- what an act comes to at once makes no object
+abbrev IsPlainUpshot : Upshot → Type 0
+IsPlainUpshot (ComesTo outcome) = NotMade outcome
+IsPlainUpshot upshot = Unit {0}
+
+plain-unless : (refusal : Option Fatal) (upshot : Upshot) → IsPlainUpshot upshot → IsPlainUpshot (unless_refused refusal upshot)
+plain-unless None upshot plain = plain
+plain-unless (Some fatal) upshot plain = tt
+
+plain-asked : (how : How) (waits : Bool) → IsPlainUpshot (asked_upshot how waits)
+plain-asked Try waits = tt
+plain-asked how waits = tt
+
+plain-step : (more : Bool) → NotMade (if more then Done else Finished)
+plain-step true = tt
+plain-step false = tt
+
+plain-open : (script : ScriptValue) (history : List Entry) (performer : Who) (act : Act) → IsPlainUpshot (open_upshot script history performer act)
+plain-open script history performer EndStep = plain-step (is_some (next_step history performer))
+plain-open script history performer (Ask port how) = plain-unless _ _ (plain-asked how _)
+plain-open script history performer act = search plain-unless
+
+plain-upshot : (script : ScriptValue) (history : List Entry) (performer : Who) (act : Act) → IsPlainUpshot (upshot_of script history performer act)
+plain-upshot script history performer act = plain-unless _ _ (plain-open script history performer act)
 
 case-upshot : (script : ScriptValue) (history : List Entry) (next : Next) (act : Act) (upshot : Upshot) → left_of script history ≡ act ∷ rest_of (left_of script history) → upshot_of script history (speaker_of history) act ≡ upshot → next ≡ by_upshot (speaker_of history) act upshot → Case script history next
 case-upshot script history next act (Needs need made) left is e = ByNeed act need made left is e
-case-upshot script history next act Does left is e = ByDeed act Done left tt (ap (by_upshot (speaker_of history) act) is) e
-case-upshot script history next act (Finds value) left is e = ByDeed act (Value value) left tt (ap (by_upshot (speaker_of history) act) is) e
-case-upshot script history next act (Stores stored) left is e = ByDeed act (Stored stored) left tt (ap (by_upshot (speaker_of history) act) is) e
-case-upshot script history next act (Takes item) left is e = ByDeed act (Taken item) left tt (ap (by_upshot (speaker_of history) act) is) e
-case-upshot script history next act (Asks waits) left is e = ByDeed act (Waits waits) left tt (ap (by_upshot (speaker_of history) act) is) e
-case-upshot script history next act Finishes left is e = ByDeed act Finished left tt (ap (by_upshot (speaker_of history) act) is) e
-case-upshot script history next act (Refuses fatal) left is e = ByDeed act (Refused fatal) left tt (ap (by_upshot (speaker_of history) act) is) e
+case-upshot script history next act (ComesTo outcome) left is e =
+    ByDeed act outcome left (subst IsPlainUpshot is (plain-upshot script history (speaker_of history) act)) (ap (by_upshot (speaker_of history) act) is) e
 
 -- the note of an answer of too many acts
 abbrev noted : List Entry → Next

@@ -23,13 +23,13 @@ use Rattle.uvm_object.specs.declared.entries.Entry.TheVariants.{Begin, End, Did,
 use Rattle.bench_script.specs.Scripts.{ScriptValue}
 use Rattle.bench_history.specs.declared.stages.Stage.{Stage}
 use Rattle.bench_history.specs.declared.stages.Stage.TheVariants.{Before, During, After, Ended}
-use Rattle.bench_history.specs.Limits.{most_acts, has_runtime}
+use Rattle.bench_history.specs.Limits.{most_acts}
 use Rattle.bench_history.specs.History.{stage_of, running, nodes_of, left_of, speaker_of, ended_of, act_phase, in_progress}
 use Rattle.bench_history.specs.Reports.{reason_of}
 use Rattle.bench_history.specs.Sequences.{Beginning, begun_after, begun_of, finished_of, is_live}
 use Rattle.bench_history.specs.Passing.{next_passed}
 use Rattle.bench_history.specs.Arbitration.{next_locked, next_served}
-use Rattle.bench_history.specs.Upshots.{Upshot, Needs, Does, Finds, Stores, Takes, Finishes, Refuses, upshot_of, Asks}
+use Rattle.bench_history.specs.Upshots.{Upshot, Needs, ComesTo, upshot_of}
 use Rattle.bench_history.specs.Cases.{Next, Exactly, end_reached, giving_up, locking, serving, passing, long_answer, first_act, by_upshot, phase_to_begin}
 use Rattle.bench_history.specs.Next.{first_next, next_of, IsNext}
 use Rattle.bench_history.specs.Laws.{IsLiving, PhasesBeginBehind}
@@ -95,13 +95,7 @@ IsMarkNext next = ⊥
 
 no-mark : (performer : Who) (act : Act) (upshot : Upshot) → IsMarkNext (by_upshot performer act upshot) → ⊥
 no-mark performer act (Needs need made) is = is
-no-mark performer act Does is = is
-no-mark performer act (Finds value) is = is
-no-mark performer act (Stores stored) is = is
-no-mark performer act (Takes item) is = is
-no-mark performer act (Asks waits) is = is
-no-mark performer act Finishes is = is
-no-mark performer act (Refuses fatal) is = is
+no-mark performer act (ComesTo outcome) is = is
 
 -- from the acts on
 none-among : (script : ScriptValue) (history : List Entry) (left : List Act) (others : List (Option Next)) → IsMarkNext (first_next (long_answer history left ∷ first_act script history left ∷ others)) → left ≡ []
@@ -150,7 +144,7 @@ pub end-left : (script : ScriptValue) (history : List Entry) (phase : Phase) →
 end-left script history phase next = mark-left script history (subst IsMarkNext (sym (end-alone phase (next_of script history) next)) tt)
 
 -- a phase begins that may begin next
-begins-case : (script : ScriptValue) (history : List Entry) (phase : Phase) (next : Next) → next ≡ Exactly (Begin phase) → Case script history next → phase_to_begin (has_runtime script) (stage_of history) ≡ Some phase
+begins-case : (script : ScriptValue) (history : List Entry) (phase : Phase) (next : Next) → next ≡ Exactly (Begin phase) → Case script history next → phase_to_begin script.runtime (stage_of history) ≡ Some phase
 begins-case script history phase next is (AtEnd over e) = cc
 begins-case script history phase next is (ByOwn entry own e) = let same : entry ≡ Begin phase = cc in absurd (subst (IsOwn script history) same own)
 begins-case script history phase next is (ByNeed act need made left upshot e) = cc
@@ -158,7 +152,7 @@ begins-case script history phase next is (ByDeed act outcome left plain comes e)
 begins-case script history phase next is (ByDue event call now is_call e) = cc
 begins-case script history phase next is (ByTurn running node during turn e) = cc
 begins-case script history phase next is (ByEnd running runs e) = cc
-begins-case script history phase next is (ByBegin begins may e) = let same : begins ≡ phase = cc in subst (λ (p : Phase). phase_to_begin (has_runtime script) (stage_of history) ≡ Some p) same may
+begins-case script history phase next is (ByBegin begins may e) = let same : begins ≡ phase = cc in subst (λ (p : Phase). phase_to_begin script.runtime (stage_of history) ≡ Some p) same may
 begins-case script history phase next is (ByGrant sequencer drawn served e) = cc
 
 add-last : (a b : Bool) → a || false ≡ true → a || (b || false) ≡ true
@@ -215,7 +209,7 @@ begins-behind runtime (After PostShutdown) phase b = cc
 begins-behind runtime Ended phase b = cc
 
 pub phases_begin_behind : PhasesBeginBehind
-phases_begin_behind script history phase is = begins-behind (has_runtime script) (stage_of history) phase (begins-case script history phase (next_of script history) is (case-of script history))
+phases_begin_behind script history phase is = begins-behind script.runtime (stage_of history) phase (begins-case script history phase (next_of script history) is (case-of script history))
 
 -- and where one ends, but for that one
 split-last : (a b : Bool) → a || (b || false) ≡ true → (a || false ≡ true) ⊎ (b ≡ true)
@@ -255,7 +249,7 @@ any-more false c e = e
 
 -- so where one begins, those in progress go on
 pub begin-going : (script : ScriptValue) (before : List Entry) (other phase : Phase) → IsNext script before (Begin other) → list_any (same_phase phase) (in_progress (stage_of before)) ≡ true → list_any (same_phase phase) (in_progress (During other)) ≡ true
-begin-going script before other phase next goes = begin-keeps (has_runtime script) (stage_of before) other phase (begins-case script before other (next_of script before) (begin-alone other (next_of script before) next) (case-of script before)) goes
+begin-going script before other phase next goes = begin-keeps script.runtime (stage_of before) other phase (begins-case script before other (next_of script before) (begin-alone other (next_of script before) next) (case-of script before)) goes
 
 -- and where one ends, all but that one
 pub end-going : (script : ScriptValue) (before : List Entry) (other phase : Phase) → IsNext script before (End other) → list_any (same_phase phase) (in_progress (stage_of before)) ≡ true → (list_any (same_phase phase) (in_progress (After other)) ≡ true) ⊎ (same_phase phase other ≡ true)

@@ -20,9 +20,8 @@ use Rattle.bench_script.specs.Scripts.{ScriptValue}
 use Rattle.bench_history.specs.declared.needs.Need as declared
 use Rattle.bench_history.specs.History.{nodes_of, left_of, rest_of, speaker_of}
 use Rattle.bench_history.specs.Refusals.{Creation, Starting, type_asked, type_made, child_refusal, fatal_of, creation_refusal, starting_refusal, is_open_to}
-use Rattle.bench_history.specs.Sequences.{next_step, sequences_of}
-use Rattle.bench_history.specs.Upshots.{Upshot, Needs, unless_refused, needed_object, needed_sequence, creation_now, creation_upshot, starting_now, starting_upshot, step_upshot, open_upshot, upshot_of, asked_upshot}
-use Rattle.uvm_sequences.specs.declared.starts.SeqStep.{SeqStep}
+use Rattle.bench_history.specs.Sequences.{sequences_of}
+use Rattle.bench_history.specs.Upshots.{Upshot, Needs, unless_refused, needed_object, needed_sequence, creation_now, creation_upshot, starting_now, starting_upshot, open_upshot, upshot_of, asked_upshot}
 use Rattle.bench_history.specs.Cases.{Next, Need}
 use Rattle.bench_history.specs.Next.{next_of, need_in, IsAct}
 use Rattle.bench_history.specs.Laws.{IsMadeBy, IsWanted, NeedsAreWanted}
@@ -116,10 +115,6 @@ at-once-unless : (refusal : Option Fatal) (upshot : Upshot) → IsAtOnce upshot 
 at-once-unless None upshot at_once = at_once
 at-once-unless (Some fatal) upshot at_once = tt
 
-at-once-step : (step : Option SeqStep) → IsAtOnce (step_upshot step)
-at-once-step None = tt
-at-once-step (Some step) = tt
-
 at-once-asked : (how : How) (waits : Bool) → IsAtOnce (asked_upshot how waits)
 at-once-asked Try waits = tt
 at-once-asked how waits = tt
@@ -133,7 +128,7 @@ open-of (Some fatal) upshot need made e = cc
 making-of : (script : ScriptValue) (history : List Entry) (act : Act) (need : declared.Need) (made : Outcome) → open_upshot script history (speaker_of history) act ≡ Needs need made → IsMadeBy script history need made act
 making-of script history (Create asked name) need made e = creating-of script history asked name need made e
 making-of script history (Start asked name on priority) need made e = starting-of script history asked name on priority need made e
-making-of script history EndStep need made e = absurd (subst IsAtOnce e (at-once-step (next_step history (speaker_of history))))
+making-of script history EndStep need made e = cc
 making-of script history (Ask port how) need made e = absurd (subst IsAtOnce e (at-once-unless _ _ (at-once-asked how _)))
 making-of script history act need made e = absurd (subst IsAtOnce e (search at-once-unless))
 

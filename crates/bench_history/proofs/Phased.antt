@@ -9,7 +9,6 @@ use Rattle.uvm_phase.specs.Phases.{phase_number, same_phase}
 use Rattle.uvm_object.specs.declared.entries.Entry.{Entry}
 use Rattle.uvm_object.specs.declared.entries.Entry.TheVariants.{Begin, End, Over, Granted}
 use Rattle.bench_script.specs.Scripts.{ScriptValue}
-use Rattle.bench_history.specs.Limits.{has_runtime}
 use Rattle.bench_history.specs.declared.stages.Stage.{Stage}
 use Rattle.bench_history.specs.declared.stages.Stage.TheVariants.{Before, During, After, Ended}
 use Rattle.bench_history.specs.History.{ended_of, in_progress, running, stage_of}
@@ -63,7 +62,7 @@ begin-on runtime (During running) phase may ended = cc
 begin-on runtime (After last) phase may ended = cc
 begin-on runtime Ended phase may ended = cc
 
-begin-case : (script : ScriptValue) (history : List Entry) (phase : Phase) (next : Next) → next ≡ Exactly (Begin phase) → is_run_at (has_runtime script) (stage_of history) ≡ true → Case script history next → ((next_number (During phase) ≡ next_number (stage_of history)) × (is_run (has_runtime script) phase ≡ true)) × (stage_of history ≡ Ended → ⊥)
+begin-case : (script : ScriptValue) (history : List Entry) (phase : Phase) (next : Next) → next ≡ Exactly (Begin phase) → is_run_at script.runtime (stage_of history) ≡ true → Case script history next → ((next_number (During phase) ≡ next_number (stage_of history)) × (is_run script.runtime phase ≡ true)) × (stage_of history ≡ Ended → ⊥)
 begin-case script history phase next is c (AtEnd over e) = cc
 begin-case script history phase next is c (ByOwn entry own e) = let same : entry ≡ Begin phase = cc in absurd (subst (IsOwn script history) same own)
 begin-case script history phase next is c (ByNeed act need made left upshot e) = cc
@@ -71,11 +70,11 @@ begin-case script history phase next is c (ByDeed act outcome left plain comes e
 begin-case script history phase next is c (ByDue event call now is_call e) = cc
 begin-case script history phase next is c (ByTurn running node turn its e) = cc
 begin-case script history phase next is c (ByEnd running runs e) = cc
-begin-case script history phase next is c (ByBegin begins may e) = let same : begins ≡ phase = cc in rw (← same) (begin-number (has_runtime script) (stage_of history) begins c may, begin-on (has_runtime script) (stage_of history) begins may)
+begin-case script history phase next is c (ByBegin begins may e) = let same : begins ≡ phase = cc in rw (← same) (begin-number script.runtime (stage_of history) begins c may, begin-on script.runtime (stage_of history) begins may)
 begin-case script history phase next is c (ByGrant sequencer drawn served e) = cc
 
 -- a phase that ends is the one that was begun last
-pub end-case : (script : ScriptValue) (history : List Entry) (phase : Phase) (next : Next) → next ≡ Exactly (End phase) → Case script history next → (running (stage_of history) ≡ Some phase) × (phase_to_begin (has_runtime script) (stage_of history) ≡ None)
+pub end-case : (script : ScriptValue) (history : List Entry) (phase : Phase) (next : Next) → next ≡ Exactly (End phase) → Case script history next → (running (stage_of history) ≡ Some phase) × (phase_to_begin script.runtime (stage_of history) ≡ None)
 end-case script history phase next is (AtEnd over e) = cc
 end-case script history phase next is (ByOwn entry own e) = let same : entry ≡ End phase = cc in absurd (subst (IsOwn script history) same own)
 end-case script history phase next is (ByNeed act need made left upshot e) = cc
@@ -236,7 +235,7 @@ ends-run runtime (After PostShutdown) phase c runs = let same : Run ≡ phase = 
 ends-run runtime (After last) phase c runs = cc
 ends-run runtime Ended phase c runs = cc
 
-in-order-more : (script : ScriptValue) (before : List Entry) (entry : Entry) → IsNext script before entry → ArePhasesInOrder (has_runtime script) before → ArePhasesInOrder (has_runtime script) (entry ∷ before)
+in-order-more : (script : ScriptValue) (before : List Entry) (entry : Entry) → IsNext script before entry → ArePhasesInOrder script.runtime before → ArePhasesInOrder script.runtime (entry ∷ before)
 in-order-more script before (Begin phase) next order =
     let begins = begin-case script before phase (next_of script before) (begin-alone phase (next_of script before) next) order.run (case-of script before) in
     record { run = begins.0.1; are = λ on. rw begins.0.0 (order.are begins.1); before = rw begins.0.0 order.before }
@@ -244,8 +243,8 @@ in-order-more script before (End phase) next order =
     let runs = end-case script before phase (next_of script before) (end-alone phase (next_of script before) next) (case-of script before) in
     let low = ends-low (stage_of before) phase runs.0 in
     record {
-      run = ends-run (has_runtime script) (stage_of before) phase order.run runs.0;
-      are = λ going. ap (λ (ended : List Phase). phase ∷ ended) (order.are (ended-not (stage_of before) phase runs.0)) ∙ ends-next (has_runtime script) (stage_of before) phase order.run runs.0 runs.1;
+      run = ends-run script.runtime (stage_of before) phase order.run runs.0;
+      are = λ going. ap (λ (ended : List Phase). phase ∷ ended) (order.are (ended-not (stage_of before) phase runs.0)) ∙ ends-next script.runtime (stage_of before) phase order.run runs.0 runs.1;
       before = All-cons (λ other. end_number other < end_number phase + 1) phase (ended_of before) (omega arith) (All-weaker (λ other. end_number other < next_number (stage_of before)) (λ other. end_number other < end_number phase + 1) (λ other lt. omega (arith, lt, low)) (ended_of before) order.before);
     }
 in-order-more script before (Over reason) next order =
@@ -445,4 +444,4 @@ goes-on Ended phase going is = cc
 
 pub phases_in_progress_are_open : PhasesInProgressAreOpen
 phases_in_progress_are_open script history phase each going =
-    open-going (has_runtime script) (stage_of history) (ended_of history) phase going ((phases_go_in_order script history each).are (goes-on (stage_of history) phase going))
+    open-going script.runtime (stage_of history) (ended_of history) phase going ((phases_go_in_order script history each).are (goes-on (stage_of history) phase going))

@@ -26,7 +26,7 @@ use Rattle.bench_history.specs.declared.owners.Owner.{Owner}
 use Rattle.bench_history.specs.Sequences.{is_live, sequences_of}
 use Rattle.bench_history.specs.Arbitration.{ForGrab, ForItem, ForLock, Wanted, all_wanted, driver_state, granted_since, grants_at, locks_at, mode_at, request_priority, request_queue, sequence_on, sequencer_at, sequencer_with, wanted, with_wish}
 use Rattle.bench_history.specs.Refusals.{is_none_at_all, is_open_to, item_refusal, request_refusal}
-use Rattle.bench_history.specs.Upshots.{Does}
+use Rattle.bench_history.specs.Upshots.{ComesTo}
 use Rattle.bench_history.specs.Next.{IsNext, EachIsNext}
 use Rattle.bench_history.specs.LegalLogs.{ItemWaitsAreSingle}
 use Rattle.bench_history.proofs.Expected.{second-part}
@@ -174,7 +174,7 @@ module _ (keeps : OrderKeepsAll Owner (Option Call)) (excludes : LockExcludes) w
       let there = performer-living keeps excludes script before node id Done (Requests given) each next (λ opens. cc) in
       let mode = home-mode keeps excludes script before node id Done (Requests given) each next (λ opens. cc) in
       let none =
-      not-refused (who.Sequence node id) Done (Requests given) (fault_if (not (is_open_to (Requests given) (who.Sequence node id))) NotOpen) (request_refusal given (option_and_then (item_refusal id) (sequencer_at before node))) Does refl
+      not-refused (who.Sequence node id) Done (Requests given) (fault_if (not (is_open_to (Requests given) (who.Sequence node id))) NotOpen) (request_refusal given (option_and_then (item_refusal id) (sequencer_at before node))) (ComesTo Done) refl
       (upshot-next script before (who.Sequence node id) Done (Requests given) next) in
       let free = free-at before node id (mode_at before node) mode (request-none given (option_and_then (item_refusal id) (sequencer_at before node)) none) in
       none-open (is_live before) (grants_at before node) (locks_at before node) id (all_wanted before node) there.lives free

@@ -36,7 +36,7 @@ use Rattle.bench_history.specs.Wires.{closed_wiring}
 use Rattle.bench_history.specs.Ports.{port_below}
 use Rattle.bench_history.specs.Arbitration.{driver_state, if_arbitrated, leads_there, mode_at, sent_by, sequence_on, sequencer_at, sequencer_below, sequencer_with, asked_in, driver_asker, ends_ask}
 use Rattle.bench_history.specs.Refusals.{ask_refusal, done_refusal, driving_refusal, is_open_to, send_refusal}
-use Rattle.bench_history.specs.Upshots.{Does, asked_upshot, driven_at, has_candidate}
+use Rattle.bench_history.specs.Upshots.{ComesTo, asked_upshot, driven_at, has_candidate}
 use Rattle.bench_history.specs.Next.{next_of, IsNext, EachIsNext}
 use Rattle.bench_history.specs.Laws.{IsLiving, IsThere}
 use Rattle.bench_history.specs.LegalLogs.{IsTakenOut, OneItemOut, count_if, dones_at, ended_at, gets_at, hand_count, in_hand, is_get, keeps_item, sends_at, takes_out}
@@ -116,7 +116,7 @@ done-hand script before node performer port response next leads =
     let reached = leads-is node (sequencer_below before performer port) leads in
     let none =
     driving-none (act_phase before) (is_some (sequencer_below before performer port)) (option_and_then done_refusal (driven_at before performer port))
-    (not-refused performer Done (ItemDone port response) (fault_if (not (is_open_to (ItemDone port response) performer)) NotOpen) _ Does refl (upshot-next script before performer Done (ItemDone port response) next)) in
+    (not-refused performer Done (ItemDone port response) (fault_if (not (is_open_to (ItemDone port response) performer)) NotOpen) _ (ComesTo Done) refl (upshot-next script before performer Done (ItemDone port response) next)) in
     let here = rw reached at none in
     hand-at before node (mode_at before node) (reached-mode before performer port node reached) here
 
@@ -160,7 +160,7 @@ module _ (keeps : OrderKeepsAll Owner (Option Call)) (excludes : LockExcludes) w
   sends-granted : (script : ScriptValue) (before : List Entry) (node id : ℕ) (item : Item) → EachIsNext script before → IsNext script before (Did (who.Sequence node id) Done (Send item)) → IsSome (grant_of id (driver_state before node))
   sends-granted script before node id item each next =
       let none =
-      not-refused (who.Sequence node id) Done (Send item) (fault_if (not (is_open_to (Send item) (who.Sequence node id))) NotOpen) (option_and_then (send_refusal id) (sequencer_at before node)) Does refl
+      not-refused (who.Sequence node id) Done (Send item) (fault_if (not (is_open_to (Send item) (who.Sequence node id))) NotOpen) (option_and_then (send_refusal id) (sequencer_at before node)) (ComesTo Done) refl
       (upshot-next script before (who.Sequence node id) Done (Send item) next) in
       grant-at before node id (mode_at before node) (home-mode script before node id Done (Send item) each next (λ opens. cc)) none
 

@@ -21,7 +21,7 @@ use Rattle.bench_script.specs.Scripts.{ScriptValue}
 use Rattle.bench_history.specs.declared.needs.Need as declared
 use Rattle.bench_history.specs.History.{created_name, is_built, kind_of, nodes_of, nodes_after, speaker_of}
 use Rattle.bench_history.specs.Refusals.{addition_refusal, child_refusal, fatal_of, is_open_to}
-use Rattle.bench_history.specs.Upshots.{Upshot, Needs, Does, Finds, Stores, Takes, Asks, Finishes, Refuses, unless_refused, open_upshot, upshot_of}
+use Rattle.bench_history.specs.Upshots.{Upshot, Needs, ComesTo, unless_refused, open_upshot, upshot_of}
 use Rattle.bench_history.specs.Cases.{Next, Exactly, Answer, Need, Grant, Nothing, by_act, by_upshot}
 use Rattle.bench_history.specs.Next.{next_of, Allows, IsNext}
 use Rattle.bench_history.specs.Laws.{HasMade, IsCreated, IsMadeBy, NodesAreATree}
@@ -65,23 +65,17 @@ unfolding addition_refusal
 free-below built nodes parent name e = second-not (fault_if built CreatedAfterBuild) (child_refusal nodes parent name) e
 
 -- an act that is done is not refused
-does-of : (refusal : Option Fatal) (upshot : Upshot) → unless_refused refusal upshot ≡ Does → upshot ≡ Does
+does-of : (refusal : Option Fatal) (upshot : Upshot) → unless_refused refusal upshot ≡ ComesTo Done → upshot ≡ ComesTo Done
 does-of None upshot e = e
 does-of (Some fatal) upshot e = cc
 
-not-refused : (refusal : Option Fatal) → unless_refused refusal Does ≡ Does → refusal ≡ None
+not-refused : (refusal : Option Fatal) → unless_refused refusal (ComesTo Done) ≡ ComesTo Done → refusal ≡ None
 not-refused None e = refl
 not-refused (Some fatal) e = cc
 
-by-does : (performer : Who) (act : Act) (upshot : Upshot) → by_upshot performer act upshot ≡ Exactly (Did performer Done act) → upshot ≡ Does
+by-does : (performer : Who) (act : Act) (upshot : Upshot) → by_upshot performer act upshot ≡ Exactly (Did performer Done act) → upshot ≡ ComesTo Done
 by-does performer act (Needs need made) e = cc
-by-does performer act Does e = refl
-by-does performer act (Finds value) e = cc
-by-does performer act (Stores stored) e = cc
-by-does performer act (Takes item) e = cc
-by-does performer act (Asks waits) e = cc
-by-does performer act Finishes e = cc
-by-does performer act (Refuses fatal) e = cc
+by-does performer act (ComesTo outcome) e = cc
 
 -- so what is added is a child that is not refused
 abbrev AddsIn : List Entry → Next → Type 0

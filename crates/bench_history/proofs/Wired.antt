@@ -5,7 +5,6 @@ use Rattle.uvm_sequencer.specs.Laws.{LockExcludes}
 use Rattle.uvm_acts.specs.declared.acts.Call.{Call}
 use Rattle.std.proofs.lemmas.Bool.Decides.{nat_tests}
 use Rattle.bench_history.specs.Objections.{is_kept}
-use Rattle.bench_history.specs.Limits.{has_runtime}
 use Rattle.bench_history.proofs.Living.{Stands, Runs, HasEnded}
 use Rattle.bench_history.proofs.Called.{acting-stands}
 use Rattle.bench_history.specs.declared.owners.Owner.{Owner}
@@ -147,7 +146,7 @@ build-first runtime (After Connect) ended runs are = rw (are (λ e. cc)) refl
 build-first runtime stage ended runs are = cc
 
 pub connect_follows_build : ConnectFollowsBuild
-connect_follows_build script history each runs = built-ended history ∙ build-first (has_runtime script) (stage_of history) (ended_of history) runs (phases_go_in_order script history each).are
+connect_follows_build script history each runs = built-ended history ∙ build-first script.runtime (stage_of history) (ended_of history) runs (phases_go_in_order script history each).are
 
 -- so has connect
 past-ended : (history : List Entry) → is_past_connect history ≡ list_any (λ phase. ends_connect (End phase)) (ended_of history)
@@ -317,10 +316,10 @@ task-ended runtime Ended ended phase on task are has = absurd (on refl)
 task-stands : (script : ScriptValue) (history : List Entry) (phase : Phase) → EachIsNext script history → (stage_of history ≡ Ended → ⊥) → is_task phase ≡ true → Stands history phase → is_past_connect history ≡ true
 task-stands script history phase each on task (Runs runs) =
     let order = phases_go_in_order script history each in
-    past-ended history ∙ task-after (has_runtime script) (stage_of history) (ended_of history) phase task runs (order.are on)
+    past-ended history ∙ task-after script.runtime (stage_of history) (ended_of history) phase task runs (order.are on)
 task-stands script history phase each on task (HasEnded has) =
     let order = phases_go_in_order script history each in
-    past-ended history ∙ task-ended (has_runtime script) (stage_of history) (ended_of history) phase on task (order.are on) has
+    past-ended history ∙ task-ended script.runtime (stage_of history) (ended_of history) phase on task (order.are on) has
 
 -- so it has where an act belongs to one
 acting-task : (script : ScriptValue) (history : List Entry) (acting : Option Phase) → EachIsNext script history → (stage_of history ≡ Ended → ⊥) → in_task acting ≡ true → ((phase : Phase) → acting ≡ Some phase → Stands history phase) → is_past_connect history ≡ true

@@ -120,9 +120,8 @@ unlocks Done Unlock = true
 unlocks outcome act = false
 
 abbrev pub given_back : Bool → Option ℕ → List ℕ → List ℕ
-given_back false id held = held
-given_back true None held = held
 given_back true (Some id) held = released id held
+given_back gives id held = held
 
 abbrev pub locks_held : List Entry → ℕ → List ℕ
 locks_held [] node = []
@@ -171,9 +170,8 @@ driver_by before node performer (Some Leaves) driver = option_map_or (λ id. lef
 
 -- who drives it, and through which port of its own: who has asked last, and in which phase
 abbrev pub asker_by : List Entry → ℕ → Who → Option DriverMove → Option DriverPort → Option DriverPort
-asker_by before node performer None asker = asker
 asker_by before node performer (Some (Awaits port how)) asker = if leads_there node (sequencer_below before performer port) then Some (record { who = performer; name = port; phase = act_phase before }) else asker
-asker_by before node performer (Some move) asker = asker
+asker_by before node performer move asker = asker
 
 abbrev pub driver_asker : List Entry → ℕ → Option DriverPort
 driver_asker [] node = None
@@ -186,8 +184,7 @@ asked_in history node = option_and_then (λ asker. asker.phase) (driver_asker hi
 
 -- what was asked last ends with this phase
 abbrev pub ends_ask : Phase → Option DriverPort → Bool
-ends_ask phase None = true
-ends_ask phase (Some asker) = is_of_phase phase asker.phase
+ends_ask phase asker = option_map_or (λ asker. is_of_phase phase asker.phase) asker true
 
 -- where the driver of a sequencer stands: the last of these decides, a grant, or the end of a phase, with which what it asked ends, or the sequence that it
 -- may have been granted

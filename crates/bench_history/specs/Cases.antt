@@ -1,6 +1,6 @@
 -- The machine's cases: for each what comes next, if the case is given. Each takes for granted that those that stand above it in `next_of` were
 -- not.
-use Rattle.std.specs.Prelude.{ℕ, Bool, true, false, List, [], ◌∷◌, length, map, nat_lt, Option, Some, None, option_map, option_and_then, if◌then◌else◌}
+use Rattle.std.specs.Prelude.{ℕ, Bool, List, [], ◌∷◌, length, map, nat_lt, Option, Some, None, option_map, option_and_then, if◌then◌else◌}
 use Rattle.uvm_glob.specs.Lists.{first_given}
 use Rattle.uvm_phase.specs.declared.phases.Phase.{Phase}
 use Rattle.uvm_phase.specs.declared.phases.Phase.TheVariants.{Build, Connect, Run, PreReset, PostShutdown}
@@ -13,7 +13,6 @@ use Rattle.uvm_acts.specs.declared.acts.Call.TheVariants as call
 use Rattle.uvm_acts.specs.declared.acts.Act.{Act}
 use Rattle.uvm_object.specs.declared.fatals.Fatal.TheVariants.{TooManyActs, Timeout, Stall}
 use Rattle.uvm_object.specs.declared.entries.Outcome.{Outcome}
-use Rattle.uvm_object.specs.declared.entries.Outcome.TheVariants.{Done, Value, Stored, Taken, Waits, Finished, Refused}
 use Rattle.uvm_object.specs.declared.entries.Reason.{Reason}
 use Rattle.uvm_object.specs.declared.entries.Reason.TheVariants as reason
 use Rattle.uvm_object.specs.declared.entries.Origin.{Origin}
@@ -27,11 +26,11 @@ use Rattle.bench_history.specs.declared.stages.Stage.{Stage}
 use Rattle.bench_history.specs.declared.stages.Stage.TheVariants.{Before, During, After, Ended}
 use Rattle.bench_history.specs.Owners.{Event, who_of}
 use Rattle.bench_history.specs.Limits.{most_acts}
-use Rattle.bench_history.specs.History.{next_call, speaker_of}
+use Rattle.bench_history.specs.History.{is_of_phase, next_call, speaker_of}
 use Rattle.bench_history.specs.Objections.{is_kept}
 use Rattle.bench_history.specs.Dues.{first_due}
 use Rattle.bench_history.specs.Wires.{next_unsound}
-use Rattle.bench_history.specs.Upshots.{Upshot, Needs, Does, Finds, Stores, Takes, Asks, Finishes, Refuses, open_upshot, upshot_of}
+use Rattle.bench_history.specs.Upshots.{Upshot, Needs, ComesTo, open_upshot, upshot_of}
 use Rattle.bench_history.specs.Arbitration.{sequencer_at}
 use Rattle.bench_history.specs.Sequences.{sequences_of}
 use Rattle.uvm_sequencer.specs.Sequencers.{choice_at}
@@ -76,13 +75,7 @@ long_answer history left = if nat_lt most_acts (length left) then Some (Exactly 
 -- an act needs an object first, or has its entry at once, with what it came to
 abbrev pub by_upshot : Who → Act → Upshot → Next
 by_upshot performer act (Needs need made) = Need need made performer act
-by_upshot performer act Does = Exactly (Did performer Done act)
-by_upshot performer act (Finds value) = Exactly (Did performer (Value value) act)
-by_upshot performer act (Stores stored) = Exactly (Did performer (Stored stored) act)
-by_upshot performer act (Takes item) = Exactly (Did performer (Taken item) act)
-by_upshot performer act (Asks waits) = Exactly (Did performer (Waits waits) act)
-by_upshot performer act Finishes = Exactly (Did performer Finished act)
-by_upshot performer act (Refuses fatal) = Exactly (Did performer (Refused fatal) act)
+by_upshot performer act (ComesTo outcome) = Exactly (Did performer outcome act)
 
 abbrev pub by_act : ScriptValue → List Entry → Who → Act → Next
 by_act script history performer act = by_upshot performer act (upshot_of script history performer act)
@@ -117,12 +110,8 @@ abbrev pub phase_call : List Entry → List Phase → Option Next
 phase_call history phases = first_given (map (turn_in history) phases)
 
 -- in connect, once each component had its call, the next unsound port is reported
-abbrev pub in_connect : Option Phase → Bool
-in_connect (Some Connect) = true
-in_connect phase = false
-
 abbrev pub port_check : List Entry → Option Phase → Option Next
-port_check history phase = if in_connect phase then option_map (λ port. Exactly (Note port.1 port.0)) (next_unsound history) else None
+port_check history phase = if is_of_phase Connect phase then option_map (λ port. Exactly (Note port.1 port.0)) (next_unsound history) else None
 
 -- time passes to the first event that is due. Where none is, nothing can happen any more; or it is due beyond the time limit
 abbrev pub time_passes : ℕ → Option Event → Entry
@@ -131,8 +120,7 @@ time_passes limit (Some event) = if nat_lt limit event.time then Note Timeout 0 
 
 -- the phase that was begun last ends: each component had its call. In one that takes time, time passes while an objection keeps it
 abbrev pub phase_end : ScriptValue → List Entry → Option Phase → Option Next
-phase_end script history None = None
-phase_end script history (Some phase) = Some (Exactly (if is_kept script phase history then time_passes script.time_limit (first_due script history) else End phase))
+phase_end script history phase = option_map (λ phase. Exactly (if is_kept script phase history then time_passes script.time_limit (first_due script history) else End phase)) phase
 
 -- a phase begins: the first, or the one after that which has ended; with run begins the first of the run-time phases, if they are to run, and after the
 -- last of them run goes on

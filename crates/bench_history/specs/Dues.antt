@@ -2,6 +2,7 @@
 use Rattle.std.specs.Prelude.{ℕ, Bool, true, false, not, ◌+◌, suc, ◌&&◌, ◌==◌, List, [], ◌∷◌, ◌++◌, length, filter, slice_get, Option, Some, None, option_map, option_and_then, option_to_list, if◌then◌else◌}
 use Rattle.bench_script.specs.Scripts.{ScriptValue}
 use Rattle.std.specs.List.{filter_map, flat_map, list_any}
+use Rattle.std.specs.Option.{option_map_or}
 use Rattle.uvm_phase.specs.declared.phases.Phase.{Phase}
 use Rattle.uvm_phase.specs.declared.agendas.Cause.{Cause}
 use Rattle.uvm_phase.specs.declared.agendas.Due.{Due}
@@ -48,8 +49,7 @@ use Rattle.bench_history.specs.Arbitration.{driver_asker, driver_state, ends_ask
 
 -- an event is due in a phase
 abbrev pub event_in : {O N : Type 0} → Option Phase → ℕ → Cause → O → N → List (Due O N)
-event_in None time cause owner notice = []
-event_in (Some phase) time cause owner notice = record { time = time; cause = cause; phase = phase; owner = owner; notice = notice } ∷ []
+event_in phase time cause owner notice = option_to_list (option_map (λ phase. record { time = time; cause = cause; phase = phase; owner = owner; notice = notice }) phase)
 
 -- its cause is an entry at a place, which causes no other
 abbrev pub caused_at : ℕ → Cause
@@ -72,8 +72,7 @@ due_after time act = time
 
 -- it is due to the performer
 abbrev pub due_from : Option Call → Who → Option Phase → ℕ → Cause → List Event
-due_from None performer phase time cause = []
-due_from (Some call) performer phase time cause = event_in phase time cause (Object performer) (Some call)
+due_from call performer phase time cause = option_map_or (λ call. event_in phase time cause (Object performer) (Some call)) call []
 
 -- the calls that the entry of an act causes, which stands at a place
 abbrev pub calls_from : Outcome → Act → Who → Option Phase → ℕ → ℕ → List Event
@@ -101,8 +100,7 @@ abbrev pub told_finished : ℕ → Option Beginning → List Told
 told_finished id beginning = option_to_list (option_map (λ beginning. told_in beginning.phase beginning.starter (call.Finished beginning.start.name id)) beginning)
 
 abbrev pub finished_by : List Entry → Option ℕ → List Told
-finished_by before None = []
-finished_by before (Some id) = told_finished id (numbered (begun_of before) id)
+finished_by before id = option_map_or (λ id. told_finished id (numbered (begun_of before) id)) id []
 
 -- a driver is told of an item, or of none, in the phase in which it asked
 abbrev pub told_item : Option DriverPort → Option Item → List Told
@@ -122,8 +120,7 @@ abbrev pub told_done : (ℕ → Option Phase) → Option Item → ℕ → Option
 told_done phase response node id = option_to_list (option_map (λ id. told_in (phase id) (who.Sequence node id) (call.ItemDone response)) id)
 
 abbrev pub done_by : List Entry → Option ℕ → Option Item → List Told
-done_by before None response = []
-done_by before (Some node) response = told_done (phase_begun before) response node (hand_of (driver_state before node))
+done_by before node response = option_map_or (λ node. told_done (phase_begun before) response node (hand_of (driver_state before node))) node []
 
 -- where the grant of a `try` lapses, its driver is told that there is no item
 abbrev pub lapsed_by : List Entry → ℕ → Option ℕ → List Told
@@ -172,8 +169,7 @@ with_drains phase cause earlier nodes caused =
 
 -- an entry has changed it, if it is of a phase
 abbrev pub with_drains_of : ScriptValue → Option Phase → Entry → List Entry → List Event → List Event
-with_drains_of script None entry before caused = caused
-with_drains_of script (Some phase) entry before caused = with_drains phase (caused_at (length before)) (objections_of script phase before) (objections_of script phase (entry ∷ before)) caused
+with_drains_of script phase entry before caused = option_map_or (λ phase. with_drains phase (caused_at (length before)) (objections_of script phase before) (objections_of script phase (entry ∷ before)) caused) phase caused
 
 -- whether an act may have: a raise or a drop, and no other
 abbrev pub moves_drains : Outcome → Act → Bool
@@ -230,8 +226,7 @@ first_due script history = slice_get (in_order (due_events script history)) 0
 
 -- an event, if it is due at the present time
 abbrev pub due_at : ℕ → Option Event → Option Event
-due_at now None = None
-due_at now (Some event) = if event.time == now then Some event else None
+due_at now due = option_and_then (λ event. if event.time == now then Some event else None) due
 
 -- the first event, if it is due now
 unfoldable pub due_now : ScriptValue → List Entry → Option Event

@@ -62,13 +62,11 @@ in_progress stage = []
 
 -- what belongs to a phase, if to one, belongs to this one
 abbrev pub is_of_phase : Phase → Option Phase → Bool
-is_of_phase phase None = false
-is_of_phase phase (Some other) = same_phase other phase
+is_of_phase phase other = option_map_or (λ other. same_phase other phase) other false
 
 -- an act belongs to a phase that takes time
 abbrev pub in_task : Option Phase → Bool
-in_task None = false
-in_task (Some phase) = is_task phase
+in_task phase = option_map_or is_task phase false
 
 -- the phase to which a call belongs: one that was due to that of its origin, and a phase's call to this phase
 abbrev pub phase_heard : Call → Option Origin → Option Phase
@@ -184,8 +182,7 @@ speaker_of (entry ∷ before) = speaker_of before
 
 abbrev pub with_override : Option ℕ → Option ℕ → (ℕ → ℕ → Override) → List Override → List Override
 with_override (Some original) (Some new) make overrides = make original new ∷ overrides
-with_override (Some original) None make overrides = overrides
-with_override None new make overrides = overrides
+with_override original new make overrides = overrides
 
 abbrev pub overrides_after : Types → List Node → List Override → Who → Outcome → Act → List Override
 overrides_after types nodes overrides performer Done (OverrideType original new replace) =

@@ -31,7 +31,6 @@ use Rattle.bench_history.specs.declared.stages.Stage.TheVariants.{Before, During
 use Rattle.bench_history.specs.Owners.{Event, who_of}
 use Rattle.bench_history.specs.History.{act_phase, in_progress, in_task, is_of_phase, now_of, stage_of, running, nodes_of, components_of, created_name, left_of, head_of, rest_of, speaker_of, opening, is_built, is_over, next_call, ended_of}
 use Rattle.bench_history.specs.Dues.{first_due, due_now}
-use Rattle.bench_history.specs.Limits.{has_runtime}
 use Rattle.bench_history.specs.Wires.{is_past_connect}
 use Rattle.bench_history.specs.Arbitration.{asked_in, driver_asker, driver_state, mode_at, next_locked, next_served}
 use Rattle.bench_history.specs.Passing.{next_passed}
@@ -93,7 +92,7 @@ pub record ArePhasesInOrder (runtime : Bool) (history : List Entry) : Type 0 whe
   pub before : All (λ phase. end_number phase < next_number (stage_of history)) (ended_of history)
 
 abbrev pub PhasesGoInOrder : Type 0
-PhasesGoInOrder = (script : ScriptValue) (history : List Entry) → EachIsNext script history → ArePhasesInOrder (has_runtime script) history
+PhasesGoInOrder = (script : ScriptValue) (history : List Entry) → EachIsNext script history → ArePhasesInOrder script.runtime history
 
 -- none that is in progress has ended
 abbrev pub PhasesInProgressAreOpen : Type 0

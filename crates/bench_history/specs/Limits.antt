@@ -1,14 +1,10 @@
 -- How long a log and an answer may be.
-use Rattle.std.specs.Prelude.{◌^◌, ◌==◌, ℕ, Bool, if◌then◌else◌}
+use Rattle.std.specs.Prelude.{◌^◌, ◌==◌, ℕ, if◌then◌else◌}
 use Rattle.bench_script.specs.Scripts.{ScriptValue}
 
 -- the most entries of a log, by the version of the script
 unfoldable pub log_limit : ScriptValue → ℕ
 log_limit script = if script.version == 2 then 8000000 else 1000000
-
--- whether the run-time phases go beside run: what the script says by its key `runtime`
-unfoldable pub has_runtime : ScriptValue → Bool
-has_runtime script = script.runtime
 
 -- the most ticks of a wait and of a drain time
 abbrev pub most_ticks : ℕ

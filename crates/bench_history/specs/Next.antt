@@ -1,5 +1,5 @@
 -- What may come next in a log, and what a legal log is.
-use Rattle.std.specs.Prelude.{◌≡◌, ◌≤◌, ℕ, Bool, is_some, List, [], ◌∷◌, length, Option, Some, None, unwrap_or, ◌⊎◌}
+use Rattle.std.specs.Prelude.{◌≡◌, ◌≤◌, is_some, List, [], ◌∷◌, length, Option, Some, None, unwrap_or, ◌⊎◌}
 use Rattle.uvm_glob.specs.Lists.{first_given}
 use Rattle.uvm_acts.specs.declared.acts.Act.{Act}
 use Rattle.uvm_object.specs.declared.fatals.Fatal.TheVariants.{NoObject}
@@ -9,7 +9,7 @@ use Rattle.uvm_object.specs.declared.entries.Grant as entries
 use Rattle.uvm_object.specs.declared.entries.Entry.TheVariants.{Heard, Did, Granted}
 use Rattle.bench_script.specs.Scripts.{ScriptValue}
 use Rattle.bench_history.specs.declared.needs.Need as declared
-use Rattle.bench_history.specs.Limits.{has_runtime, log_limit}
+use Rattle.bench_history.specs.Limits.{log_limit}
 use Rattle.bench_history.specs.History.{in_progress, stage_of, running, left_of}
 use Rattle.bench_history.specs.Reports.{reason_of}
 use Rattle.bench_history.specs.Dues.{due_now}
@@ -32,16 +32,12 @@ next_of script history =
     ∷ long_answer history (left_of script history)
     ∷ first_act script history (left_of script history)
     ∷ event_due (due_now script history)
-    ∷ phase_begin (phase_to_begin (has_runtime script) (stage_of history))
+    ∷ phase_begin (phase_to_begin script.runtime (stage_of history))
     ∷ phase_call history (in_progress (stage_of history))
     ∷ port_check history (running (stage_of history))
     ∷ phase_end script history (running (stage_of history))
     ∷ finish
     ∷ [])
-
--- the word of a grant that is drawn
-abbrev pub HasWord : Bool → Option ℕ → Type 0
-HasWord drawn word = is_some word ≡ drawn
 
 -- whether an entry is what comes next. Three things are free: the acts of an answer, whether a needed object is made or declined, and the word of a grant
 -- for which one is drawn
@@ -49,7 +45,7 @@ abbrev pub Allows : Next → Entry → Type 0
 Allows (Exactly expected) entry = entry ≡ expected
 Allows (Answer hearer call cause) entry = (acts : List Act) × (entry ≡ Heard hearer cause call acts)
 Allows (Need need made performer act) entry = (entry ≡ Did performer made act) ⊎ (entry ≡ Did performer (Refused NoObject) act)
-Allows (Grant sequencer drawn chosen) entry = (grant : entries.Grant) × HasWord drawn grant.word × (chosen grant.word ≡ Some grant.id) × (entry ≡ Granted sequencer grant)
+Allows (Grant sequencer drawn chosen) entry = (grant : entries.Grant) × (is_some grant.word ≡ drawn) × (chosen grant.word ≡ Some grant.id) × (entry ≡ Granted sequencer grant)
 Allows Nothing entry = ⊥
 
 abbrev pub IsNext : ScriptValue → List Entry → Entry → Type 0

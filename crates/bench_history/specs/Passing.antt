@@ -1,6 +1,7 @@
 -- What goes through FIFOs (IEEE 1800.2-2020, Clause 12): what is in each, who waits at it, and what passes next.
 use Rattle.std.specs.Prelude.{ℕ, suc, Bool, true, false, not, ◌&&◌, ◌==◌, nat_eq, List, [], ◌∷◌, ◌++◌, length, map, filter, drop, slice_get, Option, Some, None, option_map, option_and_then, if◌then◌else◌}
 use Rattle.std.specs.List.{list_any}
+use Rattle.std.specs.Option.{option_map_or}
 use Rattle.uvm_glob.specs.Lists.{first_given}
 use Rattle.uvm_phase.specs.declared.phases.Phase.{Phase}
 use Rattle.uvm_phase.specs.Phases.{phase_number, same_phase}
@@ -52,15 +53,13 @@ take_in Done (Peek name) = Some (name, true)
 take_in outcome act = None
 
 abbrev pub leads_to : ℕ → Option Gate → Bool
-leads_to fifo None = false
-leads_to fifo (Some gate) = gate.fifo == fifo
+leads_to fifo gate = option_map_or (λ gate. gate.fifo == fifo) gate false
 
 -- the request that is made at a FIFO in a phase, where the port leads there
 abbrev pub request_by : {Wish : Type 0} → ℕ → Who → ℕ → List ℕ × Wish → Option Phase → Option Gate → Option (Request Wish)
 request_by fifo performer place wished (Some phase) (Some gate) =
     if gate.fifo == fifo then Some (record { asker = record { place = place; who = performer; port = wished.0; phase = phase }; port = gate.port; wish = wished.1 }) else None
-request_by fifo performer place wished (Some phase) None = None
-request_by fifo performer place wished None gate = None
+request_by fifo performer place wished phase gate = None
 
 abbrev pub request_at : {Wish : Type 0} → List Entry → ℕ → Who → PortKind → List ℕ × Wish → Option (Request Wish)
 request_at before fifo performer kind wished = request_by fifo performer (length before) wished (act_phase before) (gate_below before performer kind wished.0)
@@ -148,14 +147,11 @@ waiting_put request = record { owner = owner_of request; item = request.wish }
 abbrev pub waiting_take : Request Bool → WaitingTake
 waiting_take request = record { owner = owner_of request; peeks = request.wish }
 
-abbrev pub asker_of : {Wish : Type 0} → Request Wish → Asker
-asker_of request = request.asker
-
 abbrev pub station_with : ℕ → List Item → List (Request Item) → List (Request Bool) → Station
 station_with size items puts takes = record {
   fifo = record { size = size; items = items; puts = map waiting_put puts; takes = map waiting_take takes };
-  putters = map asker_of puts;
-  takers = map asker_of takes;
+  putters = map (λ request. request.asker) puts;
+  takers = map (λ request. request.asker) takes;
 }
 
 -- the FIFO at a node, if one is there
@@ -173,12 +169,9 @@ first_asker kind station = slice_get station.takers 0
 abbrev pub passage_by : Move → Asker → Passage
 passage_by move asker = record { kind = move.kind; who = asker.who; port = asker.port; item = move.item; request = asker.place; phase = asker.phase }
 
-abbrev pub passage_for : Station → Move → Option Passage
-passage_for station move = option_map (passage_by move) (first_asker move.kind station)
-
 -- what passes next at a FIFO
 abbrev pub passage_in : Station → Option Passage
-passage_in station = option_and_then (passage_for station) (next_move station.fifo)
+passage_in station = option_and_then (λ move. option_map (passage_by move) (first_asker move.kind station)) (next_move station.fifo)
 
 abbrev pub passing_at : List Entry → ℕ → Option (ℕ × Passage)
 passing_at history node = option_map (λ passage. (node, passage)) (option_and_then passage_in (station_at history node))
@@ -193,9 +186,7 @@ station_below history performer kind name = option_and_then (λ gate. station_at
 
 -- whether an item can be put there at once, and which can be taken
 abbrev pub puts_now : Option Station → Bool
-puts_now None = false
-puts_now (Some station) = can_put station.fifo
+puts_now station = option_map_or (λ station. can_put station.fifo) station false
 
 abbrev pub takes_now : Option Station → Option Item
-takes_now None = None
-takes_now (Some station) = if can_take station.fifo then slice_get station.fifo.items 0 else None
+takes_now station = option_and_then (λ station. if can_take station.fifo then slice_get station.fifo.items 0 else None) station

@@ -1,7 +1,8 @@
 -- Why acts are refused: for each sort of act the refusals in the order in which they are looked for. Before these an act is refused that is not open to
 -- its performer, and after them an object that nobody supplies (Next, `Allows`).
-use Rattle.std.specs.Prelude.{ℕ, Bool, true, false, not, ◌&&◌, ◌||◌, ◌==◌, List, [], ◌∷◌, ◌++◌, length, slice_get, Option, Some, None, option_map, option_and_then, is_none, is_some, nat_le, nat_lt}
+use Rattle.std.specs.Prelude.{ℕ, Bool, true, false, not, ◌&&◌, ◌||◌, ◌==◌, List, [], ◌∷◌, ◌++◌, length, slice_get, Option, Some, None, option_map, option_and_then, is_none, is_some, nat_le, nat_lt, if◌then◌else◌}
 use Rattle.std.specs.List.{list_any}
+use Rattle.std.specs.Option.{option_map_or}
 use Rattle.uvm_glob.specs.Faults.{fault_if}
 use Rattle.uvm_glob.specs.Lists.{first_given}
 use Rattle.uvm_glob.specs.Paths.{path_fault, path_text}
@@ -43,18 +44,13 @@ pub record Creation : Type 0 where
 abbrev pub created_path : Creation → List (List ℕ)
 created_path creation = path_at creation.nodes creation.parent ++ creation.name ∷ []
 
-abbrev pub component_from : ℕ → Option (List ℕ × Kind) → Option ℕ
-component_from type_id None = None
-component_from type_id (Some (name, Component)) = Some type_id
-component_from type_id (Some (name, Sequence)) = None
-
--- the number of the type of a name, if it is a component's
-abbrev pub component_named : Types → List ℕ → Option ℕ
-component_named types name = option_and_then (λ type_id. component_from type_id (slice_get types type_id)) (type_named types name)
+-- the number of the type of a name, if it is of a kind
+abbrev pub named_of_kind : Kind → Types → List ℕ → Option ℕ
+named_of_kind kind types name = option_and_then (λ type_id. if option_map_or (λ t. is_same_kind t.1 kind) (slice_get types type_id) false then Some type_id else None) (type_named types name)
 
 -- the type that is asked for, if it is a component's
 abbrev pub type_asked : Creation → Option ℕ
-type_asked creation = component_named creation.types creation.type_name
+type_asked creation = named_of_kind Component creation.types creation.type_name
 
 -- the type that the factory makes of it at that path; none where the overrides lead in a loop
 abbrev pub type_made : Creation → Option ℕ
@@ -93,22 +89,16 @@ pub record Starting : Type 0 where
   pub path : List (List ℕ)
   pub priority : Option ℕ
 
-abbrev pub sequence_from : ℕ → Option (List ℕ × Kind) → Option ℕ
-sequence_from type_id None = None
-sequence_from type_id (Some (name, Component)) = None
-sequence_from type_id (Some (name, Sequence)) = Some type_id
-
 -- the number of the type of a name, if it is a sequence's; and the type that the factory makes of it
 abbrev pub sequence_named : Types → List ℕ → Option ℕ
-sequence_named types name = option_and_then (λ type_id. sequence_from type_id (slice_get types type_id)) (type_named types name)
+sequence_named types name = named_of_kind Sequence types name
 
 abbrev pub sequence_made : Starting → Option ℕ
 sequence_made starting = option_and_then (made_type starting.overrides (length starting.types) (path_text starting.path)) (sequence_named starting.types starting.type_name)
 
 -- a priority of 0 is given
 abbrev pub is_none_at_all : Option ℕ → Bool
-is_none_at_all None = false
-is_none_at_all (Some priority) = priority == 0
+is_none_at_all given = option_map_or (λ priority. priority == 0) given false
 
 -- a sequence is started in a phase that takes time, with a priority of at least 1; the type has to be a sequence's; a sequencer has to be there; its path
 -- has to be within the limits of paths; the overrides must be no loop

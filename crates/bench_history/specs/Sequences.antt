@@ -31,8 +31,7 @@ sequence_in (who.Sequence home id) = Some id
 
 -- somebody is this sequence
 abbrev pub is_sequence : ℕ → Who → Bool
-is_sequence id (who.Node node) = false
-is_sequence id (who.Sequence home other) = other == id
+is_sequence id who = option_map_or (λ other. other == id) (sequence_in who) false
 
 -- a sequencer stands at a node
 abbrev pub is_sequencer : NodeKind → Bool
@@ -50,8 +49,7 @@ home_asked nodes (who.Sequence home id) (name ∷ on) = None
 
 -- the path by which the factory knows a sequence: that of its home, and the names from its root sequence down
 abbrev pub parent_names : List Start → Who → List (List ℕ)
-parent_names started (who.Node node) = []
-parent_names started (who.Sequence home id) = names_of started id
+parent_names started performer = option_map_or (names_of started) (sequence_in performer) []
 
 abbrev pub sequence_path : List Node → List Start → Who → List (List ℕ) → List ℕ → List (List ℕ)
 sequence_path nodes started performer on name = path_at nodes (unwrap_or (home_asked nodes performer on) 0) ++ parent_names started performer ++ name ∷ []
@@ -111,8 +109,7 @@ finished_of history = flat_map finished_in history
 
 -- its phase has ended
 abbrev pub is_over_phase : List Phase → Option Phase → Bool
-is_over_phase ended None = true
-is_over_phase ended (Some phase) = list_any (same_phase phase) ended
+is_over_phase ended phase = option_map_or (λ phase. list_any (same_phase phase) ended) phase true
 
 -- a sequence that was started in a phase lives until it finishes, or the phase ends
 abbrev pub lives : List Entry → ℕ → Beginning → Bool

@@ -1,9 +1,8 @@
 -- What an act comes to, after a log: the outcome of its entry, foreseen.
-use Rattle.std.specs.Prelude.{ℕ, ℤ, suc, Bool, false, not, nat_lt, List, length, Option, Some, None, is_some, option_and_then, unwrap_or}
+use Rattle.std.specs.Prelude.{ℕ, suc, Bool, false, not, nat_lt, List, length, Option, Some, None, is_some, option_and_then, unwrap_or, if◌then◌else◌}
 use Rattle.std.specs.Option.{option_map_or}
 use Rattle.uvm_glob.specs.Faults.{fault_if}
 use Rattle.uvm_glob.specs.Paths.{path_text}
-use Rattle.uvm_sequences.specs.declared.starts.SeqStep.{SeqStep}
 use Rattle.uvm_sequencer.specs.declared.drivers.How.{How}
 use Rattle.uvm_sequencer.specs.declared.drivers.How.TheVariants.{Try}
 use Rattle.uvm_sequences.specs.Sequences.{Start as Beginnings}
@@ -11,17 +10,16 @@ use Rattle.uvm_sequencer.specs.Sequencers.{SequencerValue, candidates_at}
 use Rattle.uvm_config.specs.Answers.{config_answer}
 use Rattle.uvm_factory.specs.declared.types.Kind.TheVariants.{Component, Sequence}
 use Rattle.uvm_tlm.specs.declared.ends.PortKind.TheVariants as through
-use Rattle.uvm_tlm.specs.declared.items.Item.{Item}
 use Rattle.uvm_tree.specs.Nodes.{path_at}
 use Rattle.uvm_objection.specs.Nodes.{source_of}
 use Rattle.uvm_acts.specs.Acts.{node_of}
 use Rattle.uvm_acts.specs.declared.acts.Who.{Who}
 use Rattle.uvm_acts.specs.declared.acts.Act.{Act}
-use Rattle.uvm_acts.specs.declared.acts.Act.TheVariants.{Create, Add, Set, Get, OverrideType, OverrideInst, Connect, Put, TryPut, Take, TryTake, Peek, Write, Ask, ItemDone, Start, Request, Lock, Grab, Unlock, Send, EndStep, Report, Verbosity, Actions, Severity, RaiseObjection, DropObjection, SetDrain, Wait}
+use Rattle.uvm_acts.specs.declared.acts.Act.TheVariants.{Create, Add, Set, Get, OverrideType, OverrideInst, Connect, Put, TryPut, Take, TryTake, Peek, Write, Ask, ItemDone, Start, Request, Lock, Grab, Unlock, Send, EndStep, RaiseObjection, DropObjection, SetDrain, Wait}
 use Rattle.uvm_object.specs.declared.fatals.Fatal.{Fatal}
 use Rattle.uvm_object.specs.declared.fatals.Fatal.TheVariants.{NotOpen}
 use Rattle.uvm_object.specs.declared.entries.Outcome.{Outcome}
-use Rattle.uvm_object.specs.declared.entries.Outcome.TheVariants.{Made, Started}
+use Rattle.uvm_object.specs.declared.entries.Outcome.TheVariants.{Done, Made, Started, Value, Stored, Taken, Waits, Finished, Refused}
 use Rattle.uvm_object.specs.declared.entries.Entry.{Entry}
 use Rattle.bench_script.specs.Scripts.{ScriptValue}
 use Rattle.bench_history.specs.declared.needs.Need.{Need}
@@ -35,22 +33,15 @@ use Rattle.bench_history.specs.Ports.{port_below, gate_below}
 use Rattle.bench_history.specs.Passing.{station_below, puts_now, takes_now}
 use Rattle.bench_history.specs.Refusals.{Creation, Starting, created_path, is_open_to, sequence_made, starting_refusal, type_made, creation_refusal, addition_refusal, setting_refusal, overriding_refusal, connection_refusal, passing_refusal, driving_refusal, ask_refusal, done_refusal, request_refusal, item_refusal, lock_refusal, unlock_refusal, send_refusal, raise_refusal, drop_refusal, drain_refusal, wait_refusal}
 
--- what an act comes to: an object is needed first, and with it the act comes to an outcome; or at once it is performed, or finds a value, or puts or
--- takes an item or does not, or ends the last step of a sequence, or is refused
+-- what an act comes to: an object is needed first, and with it the act comes to an outcome; or it comes to one at once
 pub data Upshot : Type 0 where
   Needs : (need : Need) → (made : Outcome) → Upshot
-  Does : Upshot
-  Finds : (value : Option ℤ) → Upshot
-  Stores : (stored : Bool) → Upshot
-  Takes : (item : Option Item) → Upshot
-  Asks : (waits : Bool) → Upshot
-  Finishes : Upshot
-  Refuses : (fatal : Fatal) → Upshot
+  ComesTo : (outcome : Outcome) → Upshot
 
 -- it is refused, or else it comes to this
 abbrev pub unless_refused : Option Fatal → Upshot → Upshot
 unless_refused None upshot = upshot
-unless_refused (Some fatal) upshot = Refuses fatal
+unless_refused (Some fatal) upshot = ComesTo (Refused fatal)
 
 -- the object that a creation needs, of the type that is made; where none is made the creation is refused
 abbrev pub needed_object : Creation → Need
@@ -83,15 +74,10 @@ starting_now script history performer type_name name on priority = record {
   priority = priority;
 }
 
--- a sequence ends one of its steps, or the last
-abbrev pub step_upshot : Option SeqStep → Upshot
-step_upshot None = Finishes
-step_upshot (Some step) = Does
-
 -- a driver waits, but for a `try` without a candidate, which is told
 abbrev pub asked_upshot : How → Bool → Upshot
-asked_upshot Try waits = Asks waits
-asked_upshot how waits = Does
+asked_upshot Try waits = ComesTo (Waits waits)
+asked_upshot how waits = ComesTo Done
 
 -- the sequencer that a driver reaches through a port, and that on which a sequence runs
 abbrev pub driven_at : List Entry → Who → List ℕ → Option SequencerValue
@@ -109,41 +95,38 @@ id_in performer = unwrap_or (sequence_in performer) 0
 -- what each act comes to, if it is open to its performer
 abbrev pub open_upshot : ScriptValue → List Entry → Who → Act → Upshot
 open_upshot script history performer (Create type_name name) = creation_upshot (creation_now script history performer type_name name)
-open_upshot script history performer (Add name what) = unless_refused (addition_refusal (is_built history) (nodes_of history) (node_of performer) name) Does
-open_upshot script history performer (Set glob field value) = unless_refused (setting_refusal (length (settings_of script history))) Does
-open_upshot script history performer (Get field) = Finds (config_answer (settings_of script history) (path_text (path_at (nodes_of history) (node_of performer))) field)
-open_upshot script history performer (OverrideType original new replace) = unless_refused (overriding_refusal script.types original new) Does
-open_upshot script history performer (OverrideInst original new glob) = unless_refused (overriding_refusal script.types original new) Does
+open_upshot script history performer (Add name what) = unless_refused (addition_refusal (is_built history) (nodes_of history) (node_of performer) name) (ComesTo Done)
+open_upshot script history performer (Set glob field value) = unless_refused (setting_refusal (length (settings_of script history))) (ComesTo Done)
+open_upshot script history performer (Get field) = ComesTo (Value (config_answer (settings_of script history) (path_text (path_at (nodes_of history) (node_of performer))) field))
+open_upshot script history performer (OverrideType original new replace) = unless_refused (overriding_refusal script.types original new) (ComesTo Done)
+open_upshot script history performer (OverrideInst original new glob) = unless_refused (overriding_refusal script.types original new) (ComesTo Done)
 open_upshot script history performer (Connect from to) =
-    unless_refused (connection_refusal (is_past_connect history) (end_below (nodes_of history) (wiring_of history) performer from) (end_below (nodes_of history) (wiring_of history) performer to)) Does
-open_upshot script history performer (Put name item) = unless_refused (passing_refusal (act_phase history) (is_some (gate_below history performer through.Put name))) Does
+    unless_refused (connection_refusal (is_past_connect history) (end_below (nodes_of history) (wiring_of history) performer from) (end_below (nodes_of history) (wiring_of history) performer to)) (ComesTo Done)
+open_upshot script history performer (Put name item) = unless_refused (passing_refusal (act_phase history) (is_some (gate_below history performer through.Put name))) (ComesTo Done)
 open_upshot script history performer (TryPut name item) =
-    unless_refused (passing_refusal (act_phase history) (is_some (gate_below history performer through.Put name))) (Stores (puts_now (station_below history performer through.Put name)))
-open_upshot script history performer (Take name) = unless_refused (passing_refusal (act_phase history) (is_some (gate_below history performer through.Get name))) Does
+    unless_refused (passing_refusal (act_phase history) (is_some (gate_below history performer through.Put name))) (ComesTo (Stored (puts_now (station_below history performer through.Put name))))
+open_upshot script history performer (Take name) = unless_refused (passing_refusal (act_phase history) (is_some (gate_below history performer through.Get name))) (ComesTo Done)
 open_upshot script history performer (TryTake name) =
-    unless_refused (passing_refusal (act_phase history) (is_some (gate_below history performer through.Get name))) (Takes (takes_now (station_below history performer through.Get name)))
-open_upshot script history performer (Peek name) = unless_refused (passing_refusal (act_phase history) (is_some (gate_below history performer through.Get name))) Does
-open_upshot script history performer (Write name item) = unless_refused (passing_refusal (act_phase history) (is_some (port_below history performer through.Analysis name))) Does
+    unless_refused (passing_refusal (act_phase history) (is_some (gate_below history performer through.Get name))) (ComesTo (Taken (takes_now (station_below history performer through.Get name))))
+open_upshot script history performer (Peek name) = unless_refused (passing_refusal (act_phase history) (is_some (gate_below history performer through.Get name))) (ComesTo Done)
+open_upshot script history performer (Write name item) = unless_refused (passing_refusal (act_phase history) (is_some (port_below history performer through.Analysis name))) (ComesTo Done)
 open_upshot script history performer (Ask port how) =
     unless_refused (driving_refusal (act_phase history) (is_some (sequencer_below history performer port)) (option_and_then ask_refusal (driven_at history performer port)))
     (asked_upshot how (has_candidate (sequences_of history) (driven_at history performer port)))
 open_upshot script history performer (ItemDone port response) =
-    unless_refused (driving_refusal (act_phase history) (is_some (sequencer_below history performer port)) (option_and_then done_refusal (driven_at history performer port))) Does
+    unless_refused (driving_refusal (act_phase history) (is_some (sequencer_below history performer port)) (option_and_then done_refusal (driven_at history performer port))) (ComesTo Done)
 open_upshot script history performer (Start type_name name on priority) = starting_upshot (length (sequences_of history)) (starting_now script history performer type_name name on priority)
-open_upshot script history performer (Request priority) = unless_refused (request_refusal priority (option_and_then (item_refusal (id_in performer)) (home_sequencer history performer))) Does
-open_upshot script history performer Lock = unless_refused (option_and_then (lock_refusal (id_in performer)) (home_sequencer history performer)) Does
-open_upshot script history performer Grab = unless_refused (option_and_then (lock_refusal (id_in performer)) (home_sequencer history performer)) Does
-open_upshot script history performer Unlock = unless_refused (option_and_then (unlock_refusal (id_in performer)) (home_sequencer history performer)) Does
-open_upshot script history performer (Send item) = unless_refused (option_and_then (send_refusal (id_in performer)) (home_sequencer history performer)) Does
-open_upshot script history performer EndStep = step_upshot (next_step history performer)
-open_upshot script history performer (Report report) = Does
-open_upshot script history performer (Verbosity which level) = Does
-open_upshot script history performer (Actions which actions) = Does
-open_upshot script history performer (Severity from id to) = Does
-open_upshot script history performer (RaiseObjection count) = unless_refused (raise_refusal (act_phase history)) Does
-open_upshot script history performer (DropObjection count) = unless_refused (drop_refusal (act_phase history) (source_of (node_of performer) (objection_now script history)) count) Does
-open_upshot script history performer (SetDrain ticks) = unless_refused (drain_refusal ticks) Does
-open_upshot script history performer (Wait ticks tag) = unless_refused (wait_refusal (act_phase history) ticks) Does
+open_upshot script history performer (Request priority) = unless_refused (request_refusal priority (option_and_then (item_refusal (id_in performer)) (home_sequencer history performer))) (ComesTo Done)
+open_upshot script history performer Lock = unless_refused (option_and_then (lock_refusal (id_in performer)) (home_sequencer history performer)) (ComesTo Done)
+open_upshot script history performer Grab = unless_refused (option_and_then (lock_refusal (id_in performer)) (home_sequencer history performer)) (ComesTo Done)
+open_upshot script history performer Unlock = unless_refused (option_and_then (unlock_refusal (id_in performer)) (home_sequencer history performer)) (ComesTo Done)
+open_upshot script history performer (Send item) = unless_refused (option_and_then (send_refusal (id_in performer)) (home_sequencer history performer)) (ComesTo Done)
+open_upshot script history performer EndStep = ComesTo (if is_some (next_step history performer) then Done else Finished)
+open_upshot script history performer (RaiseObjection count) = unless_refused (raise_refusal (act_phase history)) (ComesTo Done)
+open_upshot script history performer (DropObjection count) = unless_refused (drop_refusal (act_phase history) (source_of (node_of performer) (objection_now script history)) count) (ComesTo Done)
+open_upshot script history performer (SetDrain ticks) = unless_refused (drain_refusal ticks) (ComesTo Done)
+open_upshot script history performer (Wait ticks tag) = unless_refused (wait_refusal (act_phase history) ticks) (ComesTo Done)
+open_upshot script history performer act = ComesTo Done
 
 -- what each act comes to
 abbrev pub upshot_of : ScriptValue → List Entry → Who → Act → Upshot
@@ -151,5 +134,5 @@ upshot_of script history performer act = unless_refused (fault_if (not (is_open_
 
 -- why an act is refused, if it is
 abbrev pub refusal_in : Upshot → Option Fatal
-refusal_in (Refuses fatal) = Some fatal
+refusal_in (ComesTo (Refused fatal)) = Some fatal
 refusal_in upshot = None

@@ -33,13 +33,9 @@ end_of (what.Port kind) = end.Port kind
 end_of (what.Export kind) = end.Export kind
 end_of what.Imp = end.Imp
 
--- the node at a path, if there is one, and none beyond the limits of a path
-abbrev pub node_found : List Node → List (List ℕ) → Option ℕ
-node_found nodes path = if is_none (path_fault path) then number_at nodes path else None
-
--- the node at a path below somebody
+-- the node at a path below somebody, if there is one, and none beyond the limits of a path
 unfoldable pub node_below : List Node → Who → List (List ℕ) → Option ℕ
-node_below nodes performer path = node_found nodes (path_at nodes (node_of performer) ++ path)
+node_below nodes performer path = let whole = path_at nodes (node_of performer) ++ path in if is_none (path_fault whole) then number_at nodes whole else None
 
 -- what can be connected there
 abbrev pub end_below : List Node → WiringValue → Who → List (List ℕ) → Option End
@@ -47,8 +43,7 @@ end_below nodes wiring performer path = option_and_then (end_at wiring.ends) (no
 
 abbrev pub with_both : Option ℕ → Option ℕ → WiringValue → WiringValue
 with_both (Some from) (Some to) wiring = with_connection from to wiring
-with_both (Some from) None wiring = wiring
-with_both None to wiring = wiring
+with_both from to wiring = wiring
 
 abbrev pub wiring_after : List Node → WiringValue → Who → Outcome → Act → WiringValue
 wiring_after nodes wiring performer Done (act.Add name what) = with_end (length nodes) (end_of what) wiring

@@ -18,7 +18,7 @@ use Rattle.world_deeds.specs.declared.making.WaitingParts.{WaitingParts}
 use Rattle.uvm_phase.specs.declared.phases.Phase.{Phase}
 use Rattle.bench_history.specs.declared.stages.Stage.TheVariants.{Ended}
 use Rattle.bench_history.specs.History.{act_phase, in_progress, in_task, left_of, rest_of, speaker_of, stage_of}
-use Rattle.bench_history.specs.Upshots.{Upshot, Needs, Does, Finds, Stores, Takes, Asks, Finishes, Refuses, upshot_of}
+use Rattle.bench_history.specs.Upshots.{Upshot, Needs, ComesTo, upshot_of}
 use Rattle.bench_history.specs.Cases.{by_act, by_upshot}
 use Rattle.bench_history.specs.Laws.{DriversAreThere, IsSettled, PerformersAreThere, ActsAreInPhase}
 use Rattle.world_services.specs.Attempts.{TakesIn, IsPerformed, one_done}
@@ -76,13 +76,7 @@ entered {script = script} {log} comes entry p sound room next allowed is limit l
 -- what an act comes to is the entry of an act, or a need
 act-is : (performer : Who) (act : Act) (upshot : Upshot) → IsAct (by_upshot performer act upshot)
 act-is performer act (Needs need made) = tt
-act-is performer act Does = tt
-act-is performer act (Finds value) = tt
-act-is performer act (Stores stored) = tt
-act-is performer act (Takes item) = tt
-act-is performer act (Asks waits) = tt
-act-is performer act Finishes = tt
-act-is performer act (Refuses fatal) = tt
+act-is performer act (ComesTo outcome) = tt
 
 pub act-next : (script : ScriptValue) (history : List Entry) (act : Act) → next_of script history ≡ by_act script history (speaker_of history) act → IsAct (next_of script history)
 act-next script history act next = subst IsAct (sym next) (act-is (speaker_of history) act (upshot_of script history (speaker_of history) act))

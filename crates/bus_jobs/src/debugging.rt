@@ -13,7 +13,7 @@ use crate::verdicts::{Breakage, Verdict};
 use bench_run::Sink;
 use bench_script::{Probe, Script, ScriptFault};
 use std::alloc::{AllocError, Global};
-use uvm_factory::{Factory, TypeId, Unmade};
+use uvm_factory::{Factory, TypeId, Unmade, laws};
 
 /// Writes a line for each probe of the script in `bytes`: which type the factory makes there. The verdict is `Clean`
 /// where all were written, a loop of overrides included; `Refused` where the bytes are no script, with nothing written;
@@ -58,6 +58,8 @@ fn write_answers<S: Sink>(
     ensures err { IfErr result (BrokeOff (debug_lines script.now) (S.contents out.old) (S.contents out.new)) }
     ensures output { result ≡ Err Breakage.Output → S.refuses out.old }
 {
+    // The type that a step leads to is the one that takes the place.
+    laws::steps_replace();
     let probes = script.probes();
     for probe in probes {
         let Ok(line) = line_of(alloc, factory, probe) else {

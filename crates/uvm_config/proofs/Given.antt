@@ -6,11 +6,11 @@ use Rattle.std.proofs.lemmas.Bool.Decides.{nat_tests}
 use Rattle.std.proofs.lemmas.List.{reverse-append}
 use Rattle.uvm_config.specs.Choice.{gives_way, answer_after}
 use Rattle.uvm_glob.specs.Lists.{newest}
-use Rattle.uvm_config.specs.Answers.{Setting, answers_at, answering, is_greatest, greatest, answer_of, strongest_answer, NoneSetNoAnswer, AnswersAreGiven}
+use Rattle.uvm_config.specs.Answers.{Setting, answers_at, answering, is_greatest, greatest, answer_of, strongest, strongest_answer, NoneSetNoAnswer, AnswersAreGiven}
 
 -- no setting answers in an empty list
 pub answer-none : (text asked : List ℕ) → strongest_answer [] text asked ≡ None
-unfolding strongest_answer
+unfolding strongest strongest_answer
 answer-none text asked = refl
 
 -- a setting over which none is has a greater precedence than one over which some is
@@ -94,7 +94,7 @@ chosen false s before = refl
 
 -- the answer after one more setting
 pub answer-given : (s : Setting) (older : List Setting) (text asked : List ℕ) → strongest_answer (s ∷ older) text asked ≡ answer_after s.scope s.field s.precedence s.value text asked (strongest_answer older text asked)
-unfolding strongest_answer answer_after
+unfolding strongest strongest_answer answer_after
 answer-given s older text asked =
     ap (option_map answer_of) (winner_more s older text asked)
     ∙ chosen (answers_at text asked s && gives_way s.precedence (option_map answer_of (winner older text asked))) s (winner older text asked)

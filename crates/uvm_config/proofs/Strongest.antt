@@ -3,7 +3,7 @@ use Rattle.std.proofs.Common.{◌≡◌, ◌<◌, ◌≤◌, ℕ, Bool, true, fa
 use Rattle.std.proofs.lemmas.Bool.{cases_Bool, false≢true, leb-true, leb-false}
 use Rattle.std.proofs.lemmas.List.Elements.{All-nil, All-cons, All-head, All-tail, All-append}
 use Rattle.uvm_config.specs.Choice.{gives_way}
-use Rattle.uvm_config.specs.Answers.{Setting, answers_at, answer_of, strongest_answer, Prevails, AnswerIsStrongest, NoneWhereNoneAnswers}
+use Rattle.uvm_config.specs.Answers.{Setting, answers_at, answer_of, strongest, strongest_answer, Prevails, AnswerIsStrongest, NoneWhereNoneAnswers}
 use Rattle.uvm_config.proofs.Given.{winner, winner_more}
 
 -- none of the settings answers
@@ -88,7 +88,7 @@ module _ (text asked : List ℕ) where
       by false not said = silent s older not (winner older text asked) said
 
 pub answer_is_strongest : AnswerIsStrongest
-unfolding strongest_answer
+unfolding strongest strongest_answer
 answer_is_strongest settings text asked = by (winner settings text asked) (says text asked settings)
   where
     by : (found : Option Setting) → Says text asked settings found → IfSome (option_map answer_of found) (λ answer. (newer : List Setting) × (setting : Setting) × (older : List Setting) × (settings ≡ newer ++ setting ∷ older) × Prevails text asked newer setting older × (answer_of setting ≡ answer))
@@ -101,7 +101,7 @@ at_one P [] s older each = All-head P s older each
 at_one P (n ∷ newer) s older each = at_one P newer s older (All-tail P n (newer ++ s ∷ older) each)
 
 pub none_where_none_answers : NoneWhereNoneAnswers
-unfolding strongest_answer
+unfolding strongest strongest_answer
 none_where_none_answers settings text asked =
     (none (winner settings text asked) (says text asked settings), silence (winner settings text asked) (says text asked settings))
   where

@@ -33,17 +33,20 @@ is_greatest settings setting = list_all (λ other. nat_le other.precedence setti
 abbrev pub greatest : List Setting → List Setting
 greatest settings = filter (is_greatest settings) settings
 
--- what a setting answers
-abbrev pub answer_of : Setting → Answer
-answer_of setting = record { precedence = setting.precedence; value = setting.value }
-
 -- of the settings that answer those of greatest precedence, and of these the last that was set
-unfoldable pub strongest_answer : List Setting → List ℕ → List ℕ → Option Answer
-strongest_answer settings text asked = option_map answer_of (newest (greatest (answering settings text asked)))
+unfoldable pub strongest : List Setting → List ℕ → List ℕ → Option Setting
+strongest settings text asked = newest (greatest (answering settings text asked))
 
 -- its value
 abbrev pub config_answer : List Setting → List ℕ → List ℕ → Option ℤ
-config_answer settings text asked = option_map (λ answer. answer.value) (strongest_answer settings text asked)
+config_answer settings text asked = option_map (λ setting. setting.value) (strongest settings text asked)
+
+-- its precedence and its value
+abbrev pub answer_of : Setting → Answer
+answer_of setting = record { precedence = setting.precedence; value = setting.value }
+
+unfoldable pub strongest_answer : List Setting → List ℕ → List ℕ → Option Answer
+strongest_answer settings text asked = option_map answer_of (strongest settings text asked)
 
 -- where nothing is set nothing answers
 abbrev pub NoneSetNoAnswer : Type 0

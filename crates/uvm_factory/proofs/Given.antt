@@ -1,5 +1,5 @@
 -- What one more override does to the step of a type.
-use Rattle.std.proofs.Common.{◌≡◌, ℕ, ◌+◌, ◌<◌, Bool, true, false, not, List, [], ◌∷◌, ◌++◌, length, take, reverse, get_or, filter, Option, Some, None, ◌==◌, ◌&&◌, if◌then◌else◌, unwrap_or, refl, ap, ◌∙◌}
+use Rattle.std.proofs.Common.{◌≡◌, ℕ, ◌+◌, ◌<◌, Bool, true, false, not, List, [], ◌∷◌, ◌++◌, length, take, reverse, get_or, filter, Option, Some, None, option_map, option_and_then, ◌==◌, ◌&&◌, if◌then◌else◌, unwrap_or, refl, ap, ◌∙◌}
 use Rattle.std.specs.List.{filter_map, cons_option}
 use Rattle.std.specs.Option.{option_or}
 use Rattle.std.proofs.Math.Bool.{and-false}
@@ -8,11 +8,21 @@ use Rattle.uvm_glob.specs.Globs.{matches}
 use Rattle.uvm_factory.specs.declared.overrides.OverrideStep.TheVariants.{ByInstance, ByType}
 use Rattle.uvm_factory.specs.declared.overrides.Override.{Override}
 use Rattle.uvm_factory.specs.declared.overrides.Override.TheVariants.{Instance, Whole}
-use Rattle.uvm_factory.specs.Steps.{after_instance, after_type, after_override, is_by_instance, takes_effect}
+use Rattle.uvm_factory.specs.Steps.{next_type, after_instance, after_type, after_override, is_by_instance, takes_effect}
 use Rattle.uvm_glob.specs.Lists.{newest}
-use Rattle.uvm_factory.specs.Overrides.{oldest, in_force, step_from, instance_of, type_of, type_step, NoneGivenNoStep, StepsAreGiven, StepsAreGivenInOrder}
+use Rattle.uvm_factory.specs.Overrides.{oldest, in_force, step_from, instance_of, type_of, type_step, NoneGivenNoStep, StepsAreGiven, StepsAreGivenInOrder, StepsReplace, replacing}
 
 -- no override gives no step
+-- a step leads to the type that takes the place
+by-step : (by_instance : Option ℕ) (by_type : Option (ℕ × Bool)) (type_id : ℕ) → next_type type_id (step_from by_instance by_type) ≡ option_and_then (λ new. if new == type_id then None else Some new) (option_or by_instance (option_map (λ o. o.0) by_type))
+by-step (Some new) by_type type_id = refl
+by-step None (Some o) type_id = refl
+by-step None None type_id = refl
+
+pub steps_replace : StepsReplace
+unfolding type_step replacing
+steps_replace overrides text type_id = by-step (oldest (filter_map (instance_of type_id text) overrides)) (in_force (filter_map (type_of type_id) overrides)) type_id
+
 pub step-none : (type_id : ℕ) (text : List ℕ) → type_step [] type_id text ≡ None
 unfolding type_step
 step-none type_id text = refl

@@ -38,8 +38,7 @@ register_fault types type_name =
 abbrev pub is_same_kind : Kind → Kind → Bool
 is_same_kind Component Component = true
 is_same_kind Sequence Sequence = true
-is_same_kind Component Sequence = false
-is_same_kind Sequence Component = false
+is_same_kind a b = false
 
 -- why a type is not overridden by another
 abbrev pub fault_between : Option (List ℕ × Kind) → Option (List ℕ × Kind) → Option FactoryFault

@@ -1,5 +1,5 @@
 -- What a list of overrides makes of a type at a path, the newest override first.
-use Rattle.std.specs.Prelude.{◌≡◌, ◌+◌, ◌<◌, ℕ, Bool, List, [], ◌∷◌, length, take, reverse, slice_index_or, Option, Some, None, ◌==◌, ◌&&◌, filter, unwrap_or, if◌then◌else◌}
+use Rattle.std.specs.Prelude.{◌≡◌, ◌+◌, ◌<◌, ℕ, Bool, List, [], ◌∷◌, length, take, reverse, slice_index_or, Option, Some, None, ◌==◌, ◌&&◌, filter, unwrap_or, option_map, option_and_then, if◌then◌else◌}
 use Rattle.std.specs.List.{filter_map}
 use Rattle.std.specs.Option.{option_or}
 use Rattle.uvm_glob.specs.Globs.{matches}
@@ -29,6 +29,17 @@ type_of type_id (Whole original new replace) = if original == type_id then Some 
 abbrev pub in_force : List (ℕ × Bool) → Option (ℕ × Bool)
 in_force overrides = option_or (newest (filter (λ o. o.1) overrides)) (oldest overrides)
 
+-- the type that takes the place of a type at a path's text, if it is another: that of the oldest instance override that matches, else that of the type
+-- override in force
+unfoldable pub replacing : List Override → List ℕ → ℕ → Option ℕ
+replacing overrides text type_id =
+    option_and_then (λ new. if new == type_id then None else Some new)
+    (option_or (oldest (filter_map (instance_of type_id text) overrides)) (option_map (λ o. o.0) (in_force (filter_map (type_of type_id) overrides))))
+
+-- where the steps from a type end; a row of more steps than there are types is a loop
+abbrev pub made_type : List Override → ℕ → List ℕ → ℕ → Option ℕ
+made_type overrides types text type_id = made (replacing overrides text) types type_id
+
 -- an instance override comes before a type override
 abbrev pub step_from : Option ℕ → Option (ℕ × Bool) → Option OverrideStep
 step_from (Some new) by_type = Some (ByInstance new)
@@ -41,9 +52,9 @@ unfoldable pub type_step : List Override → ℕ → List ℕ → Option Overrid
 type_step overrides type_id text =
     step_from (oldest (filter_map (instance_of type_id text) overrides)) (in_force (filter_map (type_of type_id) overrides))
 
--- where the steps from a type end; a row of more steps than there are types is a loop
-abbrev pub made_type : List Override → ℕ → List ℕ → ℕ → Option ℕ
-made_type overrides types text type_id = made (λ from. next_type from (type_step overrides from text)) types type_id
+-- such a step leads to the type that takes the place of a type
+abbrev pub StepsReplace : Type 0
+StepsReplace = (overrides : List Override) (text : List ℕ) (type_id : ℕ) → next_type type_id (type_step overrides type_id text) ≡ replacing overrides text type_id
 
 -- where no override is given no type has a step
 abbrev pub NoneGivenNoStep : Type 0

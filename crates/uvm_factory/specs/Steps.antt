@@ -1,5 +1,6 @@
 -- What an override does to the step of a type, and where a row of steps ends (IEEE 1800.2-2020, Clause 8).
 use Rattle.std.specs.Prelude.{◌≡◌, ◌≤◌, ℕ, zero, suc, Bool, true, false, not, List, Option, Some, None, ◌==◌, ◌&&◌, if◌then◌else◌, option_and_then, MatchOption, IsSome}
+use Rattle.std.specs.Option.{option_map_or}
 use Rattle.uvm_glob.specs.Globs.{matches}
 use Rattle.uvm_factory.specs.declared.overrides.OverrideStep.{OverrideStep}
 use Rattle.uvm_factory.specs.declared.overrides.OverrideStep.TheVariants.{ByInstance, ByType}
@@ -48,18 +49,12 @@ type_in (ByType new) = new
 
 -- the same from a type, if it is another
 abbrev pub next_type : ℕ → Option OverrideStep → Option ℕ
-next_type type_id None = None
-next_type type_id (Some step) = if type_in step == type_id then None else Some (type_in step)
-
--- the end of a row that is here, or that goes on
-abbrev pub end_from : (ℕ → Option ℕ) → ℕ → Option ℕ → Option ℕ
-end_from rest type_id None = Some type_id
-end_from rest type_id (Some next) = rest next
+next_type type_id step = option_and_then (λ step. if type_in step == type_id then None else Some (type_in step)) step
 
 -- where the row from a type ends, if it has at most so many steps
 unfoldable pub made : (ℕ → Option ℕ) → ℕ → ℕ → Option ℕ
-made next zero type_id = end_from (λ _. None) type_id (next type_id)
-made next (suc left) type_id = end_from (made next left) type_id (next type_id)
+made next zero type_id = option_map_or (λ _. None) (next type_id) (Some type_id)
+made next (suc left) type_id = option_map_or (made next left) (next type_id) (Some type_id)
 
 -- the type of a row after so many steps
 abbrev pub type_after : (ℕ → Option ℕ) → ℕ → ℕ → Option ℕ

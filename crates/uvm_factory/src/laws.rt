@@ -1,12 +1,18 @@
 //! Laws of the definitions: what they say, in other words. The functions do nothing; their contracts are the laws.
 
 ghost use Rattle.uvm_factory.specs.Steps.{MadeIsEnd};
-ghost use Rattle.uvm_factory.specs.Overrides.{NoneGivenNoStep, StepsAreGiven, StepsAreGivenInOrder};
+ghost use Rattle.uvm_factory.specs.Overrides.{NoneGivenNoStep, StepsAreGiven, StepsAreGivenInOrder, StepsReplace};
 
 /// What is made is the end of the row of types, where it has no more steps than allowed, and a longer row makes nothing.
 #[tactic(auto, using(crate::proofs::Ends::made_is_end))]
 pub fn made_is_end()
     ensures { MadeIsEnd }
+{}
+
+/// A step leads to the type that takes the place of a type.
+#[tactic(auto, using(crate::proofs::Given::steps_replace))]
+pub fn steps_replace()
+    ensures { StepsReplace }
 {}
 
 /// Where no override is given no type has a step.

@@ -12,7 +12,7 @@ use Rattle.uvm_report.specs.declared.messages.Fate.TheVariants.{Issued}
 use Rattle.uvm_report.specs.Severities.{is_empty}
 use Rattle.uvm_report.specs.Counts.{Counts, no_counts, issued_number, with_id, with_report, Agree}
 use Rattle.uvm_report.specs.Fates.{Ruling, ruling_by, effective_verbosity, is_issued, counts_with, is_reached, fate_of}
-use Rattle.uvm_report.specs.Commands.{Command, is_issue, SetVerbosity, SetAction, SetSeverity, SetQuitLimit, Issue, which_from, level_in, actions_in, severity_in, given_level, given_actions, given_severity, given_ruling, quit_limit, IssuedReport, issued_reports, severity_count, quit_count, counts_in, report_counts}
+use Rattle.uvm_report.specs.Commands.{Command, is_issue, SetVerbosity, SetAction, SetSeverity, SetQuitLimit, Issue, which_from, level_in, actions_in, severity_in, chosen, given_ruling, quit_total, quit_limit, IssuedReport, issued_reports, severity_count, quit_count, counts_in, report_counts}
 use Rattle.uvm_report.specs.Observed.{Kept}
 use Rattle.uvm_report.specs.Changes.{ruling_at, severity_after, level_after, actions_after, limit_after, counts_after, Gives}
 use Rattle.uvm_report.specs.Laws.{NewGivesNothing, CommandsAreGiven, FatesAreGiven, CommandsAreCounted, ReachedLimitEndsRuns}
@@ -21,7 +21,7 @@ use Rattle.uvm_report.proofs.Counted.{number, all-with_id}
 use Rattle.uvm_report.proofs.Ids.{id_counts-cons}
 
 -- one more command in what is chosen
-severity-command : (command : Command) (older : List Command) (text : List ℕ) (severity : Severity) (id : List ℕ) → given_severity (command ∷ older) text severity id ≡ severity_after command text severity id (given_severity older text severity id)
+severity-command : (command : Command) (older : List Command) (text : List ℕ) (severity : Severity) (id : List ℕ) → chosen severity_in (command ∷ older) text severity id ≡ severity_after command text severity id (chosen severity_in older text severity id)
 severity-command (SetVerbosity scope which level) older text severity id = refl
 severity-command (SetAction scope which actions) older text severity id = refl
 severity-command (SetSeverity scope from changed to) older text severity id =
@@ -29,7 +29,7 @@ severity-command (SetSeverity scope from changed to) older text severity id =
 severity-command (SetQuitLimit limit) older text severity id = refl
 severity-command (Issue path report) older text severity id = refl
 
-level-command : (command : Command) (older : List Command) (text : List ℕ) (severity : Severity) (id : List ℕ) → given_level (command ∷ older) text severity id ≡ level_after command text severity id (given_level older text severity id)
+level-command : (command : Command) (older : List Command) (text : List ℕ) (severity : Severity) (id : List ℕ) → chosen level_in (command ∷ older) text severity id ≡ level_after command text severity id (chosen level_in older text severity id)
 level-command (SetVerbosity scope which level) older text severity id =
     choice-given (record { scope = scope; which = which; value = level }) (filter_map level_in older) text severity id
 level-command (SetAction scope which actions) older text severity id = refl
@@ -37,7 +37,7 @@ level-command (SetSeverity scope from changed to) older text severity id = refl
 level-command (SetQuitLimit limit) older text severity id = refl
 level-command (Issue path report) older text severity id = refl
 
-actions-command : (command : Command) (older : List Command) (text : List ℕ) (severity : Severity) (id : List ℕ) → given_actions (command ∷ older) text severity id ≡ actions_after command text severity id (given_actions older text severity id)
+actions-command : (command : Command) (older : List Command) (text : List ℕ) (severity : Severity) (id : List ℕ) → chosen actions_in (command ∷ older) text severity id ≡ actions_after command text severity id (chosen actions_in older text severity id)
 actions-command (SetVerbosity scope which level) older text severity id = refl
 actions-command (SetAction scope which actions) older text severity id =
     choice-given (record { scope = scope; which = which; value = actions }) (filter_map actions_in older) text severity id
@@ -137,6 +137,7 @@ commands_are_given command older old new gives after = record {
 }
 
 pub fates_are_given : FatesAreGiven
+unfolding report_counts quit_total
 fates_are_given kept commands gives path report =
     (λ i. fate_of report (ruling-given kept commands gives path report i) (is_reached (gives.limit i) (counts_with report (ruling-given kept commands gives path report i) (gives.counts i)).quit))
     ∙ ap (λ counts. fate_of report (given_ruling commands path report) (is_reached (quit_limit commands) counts.quit)) (sym (report_counts-issue path report commands))
@@ -207,11 +208,15 @@ fate-exit report ruling reached severity display exit at_limit is = elim (cases_
   ]
 ]
 
+-- one more report leaves the quit count no lower
+quit-grows : (commands : List Command) (path : List (List ℕ)) (report : Report) → (report_counts commands).quit ≤ (report_counts (Issue path report ∷ commands)).quit
+quit-grows commands path report =
+    rw (report_counts-issue path report commands) (counted_with report (given_ruling commands path report) (report_counts commands) (length (filter is_issue commands)) (counted commands).0 (counted commands).1).2
+
 pub reached_limit_ends_runs : ReachedLimitEndsRuns
+unfolding report_counts quit_total
 reached_limit_ends_runs commands path report severity display exit reached is =
-    let more : (report_counts commands).quit ≤ (report_counts (Issue path report ∷ commands)).quit =
-    rw (report_counts-issue path report commands) (counted_with report (given_ruling commands path report) (report_counts commands) (length (filter is_issue commands)) (counted commands).0 (counted commands).1).2 in
-    fate-exit report (given_ruling commands path report) (is_reached (quit_limit commands) (report_counts (Issue path report ∷ commands)).quit) severity display exit (still (quit_limit commands) (report_counts commands).quit (report_counts (Issue path report ∷ commands)).quit more reached) is
+    fate-exit report (given_ruling commands path report) (is_reached (quit_limit commands) (report_counts (Issue path report ∷ commands)).quit) severity display exit (still (quit_limit commands) (report_counts commands).quit (report_counts (Issue path report ∷ commands)).quit (quit-grows commands path report) reached) is
   where
     still : (limit quit later : ℕ) → quit ≤ later → is_reached limit quit ≡ true → is_reached limit later ≡ true
     still limit quit later more before = grind (arith, nat_tests)

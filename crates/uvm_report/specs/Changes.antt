@@ -8,7 +8,7 @@ use Rattle.uvm_report.specs.declared.messages.Fate.{Fate}
 use Rattle.uvm_report.specs.Choice.{Choice, after_setting}
 use Rattle.uvm_report.specs.Counts.{Counts, no_counts}
 use Rattle.uvm_report.specs.Fates.{Ruling, ruling_by, counts_with, is_reached, fate_of}
-use Rattle.uvm_report.specs.Commands.{Command, SetVerbosity, SetAction, SetSeverity, SetQuitLimit, Issue, which_from, given_level, given_actions, given_severity, quit_limit, report_counts}
+use Rattle.uvm_report.specs.Commands.{Command, SetVerbosity, SetAction, SetSeverity, SetQuitLimit, Issue, which_from, level_in, actions_in, severity_in, chosen, quit_limit, report_counts}
 use Rattle.uvm_report.specs.Observed.{Kept, severity_at, level_at, actions_at, limit_of, counts_of}
 
 -- what the settings say of a report at a path
@@ -67,8 +67,8 @@ pub record IsSame (old new : Kept) : Type 0 where
 
 -- what is given is what some commands come to
 pub record Gives (kept : Kept) (commands : List Command) : Type 0 where
-  pub severities : (path : List (List ℕ)) (severity : Severity) (id : List ℕ) → severity_at kept path severity id ≡ given_severity commands (path_text path) severity id
-  pub levels : (path : List (List ℕ)) (severity : Severity) (id : List ℕ) → level_at kept path severity id ≡ given_level commands (path_text path) severity id
-  pub actions : (path : List (List ℕ)) (severity : Severity) (id : List ℕ) → actions_at kept path severity id ≡ given_actions commands (path_text path) severity id
+  pub severities : (path : List (List ℕ)) (severity : Severity) (id : List ℕ) → severity_at kept path severity id ≡ chosen severity_in commands (path_text path) severity id
+  pub levels : (path : List (List ℕ)) (severity : Severity) (id : List ℕ) → level_at kept path severity id ≡ chosen level_in commands (path_text path) severity id
+  pub actions : (path : List (List ℕ)) (severity : Severity) (id : List ℕ) → actions_at kept path severity id ≡ chosen actions_in commands (path_text path) severity id
   pub limit : limit_of kept ≡ quit_limit commands
   pub counts : counts_of kept ≡ report_counts commands

@@ -47,15 +47,9 @@ abbrev pub limit_in : Command → Option ℕ
 limit_in (SetQuitLimit limit) = Some limit
 limit_in command = None
 
--- what is chosen at a path's text
-abbrev pub given_level : List Command → List ℕ → Lookup ℕ
-given_level commands text = choice_among (filter_map level_in commands) text
-
-abbrev pub given_actions : List Command → List ℕ → Lookup Actions
-given_actions commands text = choice_among (filter_map actions_in commands) text
-
-abbrev pub given_severity : List Command → List ℕ → Lookup Severity
-given_severity commands text = choice_among (filter_map severity_in commands) text
+-- what is chosen at a path's text among the settings of one sort
+abbrev pub chosen : {A : Type 0} → (Command → Option (Setting A)) → List Command → List ℕ → Lookup A
+chosen sort commands text = choice_among (filter_map sort commands) text
 
 -- the quit limit: the last that was set, else 0 for none
 abbrev pub quit_limit : List Command → ℕ
@@ -64,7 +58,7 @@ quit_limit commands = unwrap_or (newest (filter_map limit_in commands)) 0
 -- what the commands say of a report at a path
 abbrev pub given_ruling : List Command → List (List ℕ) → Report → Ruling
 given_ruling commands path report =
-    ruling_by (given_severity commands (path_text path)) (given_level commands (path_text path)) (given_actions commands (path_text path)) report
+    ruling_by (chosen severity_in commands (path_text path)) (chosen level_in commands (path_text path)) (chosen actions_in commands (path_text path)) report
 
 -- a report that was issued: its severity, its id, and whether it has action count
 pub record IssuedReport : Type 0 where
@@ -91,6 +85,9 @@ severity_count severity issued = length (filter (λ report. same_severity report
 
 abbrev pub quit_count : List IssuedReport → ℕ
 quit_count issued = length (filter (λ report. report.count) issued)
+
+unfoldable pub quit_total : List Command → ℕ
+quit_total commands = quit_count (issued_reports commands)
 
 -- some ids, the newest first: each of them once, in the order in which they first came
 abbrev pub distinct_ids : List (List ℕ) → List (List ℕ)
@@ -124,7 +121,7 @@ is_issue command = false
 -- what becomes of a report after some commands
 abbrev pub report_fate : List Command → List (List ℕ) → Report → Fate
 report_fate commands path report =
-    fate_of report (given_ruling commands path report) (is_reached (quit_limit commands) (report_counts (Issue path report ∷ commands)).quit)
+    fate_of report (given_ruling commands path report) (is_reached (quit_limit commands) (quit_total (Issue path report ∷ commands)))
 
 -- what became of the report of a command, if it issues one
 abbrev pub fate_in : List Command → Command → Option Fate

@@ -1,5 +1,6 @@
 -- What the settings say of a report, and what becomes of it.
 use Rattle.std.specs.Prelude.{ℕ, Bool, true, false, not, ◌&&◌, ◌||◌, ◌==◌, Option, Some, None, nat_le, nat_lt, if◌then◌else◌}
+use Rattle.std.specs.Option.{option_map_or}
 use Rattle.uvm_report.specs.declared.severities.Severity.{Severity}
 use Rattle.uvm_report.specs.declared.severities.Severity.TheVariants.{Info}
 use Rattle.uvm_report.specs.declared.severities.Actions.{Actions}
@@ -12,8 +13,7 @@ use Rattle.uvm_report.specs.Counts.{Counts, with_report}
 
 -- the value that was chosen, or the default
 abbrev pub chosen_or : {A : Type 0} → A → Option (Choice A) → A
-chosen_or default None = default
-chosen_or default (Some choice) = choice.value
+chosen_or default choice = option_map_or (λ choice. choice.value) choice default
 
 -- what the settings say of a report: its severity after changes, and the level and the actions for that severity
 pub record Ruling : Type 0 where

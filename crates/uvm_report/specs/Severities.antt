@@ -17,10 +17,9 @@ same_severity a b = severity_number a == severity_number b
 
 -- what is done with a report of a severity where no setting says otherwise
 abbrev pub default_actions : Severity → Actions
-default_actions Info = record { display = true; count = false; exit = false }
-default_actions Warning = record { display = true; count = false; exit = false }
 default_actions Error = record { display = true; count = true; exit = false }
 default_actions Fatal = record { display = true; count = false; exit = true }
+default_actions severity = record { display = true; count = false; exit = false }
 
 -- nothing is done
 abbrev pub is_empty : Actions → Bool

@@ -2,26 +2,22 @@
 use Rattle.std.specs.Prelude.{ℕ, Bool, true, false, ◌&&◌, ◌+◌, ◌%◌, nat_lt, nat_le, List, [], ◌∷◌, length, filter, sum_by, Option, Some, None, slice_get, if◌then◌else◌}
 use Rattle.std.specs.List.{list_all}
 use Rattle.uvm_sequencer.specs.declared.modes.Mode.{Mode}
-use Rattle.uvm_sequencer.specs.declared.modes.Mode.TheVariants.{Fifo, Weighted, Random, StrictFifo, StrictRandom}
+use Rattle.uvm_sequencer.specs.declared.modes.Mode.TheVariants.{Fifo, Weighted, StrictFifo, StrictRandom}
 use Rattle.uvm_sequencer.specs.declared.requests.Request.{Request}
 use Rattle.uvm_sequencer.specs.declared.drivers.How.{How}
 use Rattle.uvm_sequencer.specs.Queues.{priority_of}
 
 -- whether only the greatest priority counts
 abbrev pub is_strict : Mode → Bool
-is_strict Fifo = false
-is_strict Weighted = false
-is_strict Random = false
 is_strict StrictFifo = true
 is_strict StrictRandom = true
+is_strict mode = false
 
 -- whether a word decides
 abbrev pub is_random : Mode → Bool
 is_random Fifo = false
-is_random Weighted = true
-is_random Random = true
 is_random StrictFifo = false
-is_random StrictRandom = true
+is_random mode = true
 
 -- no request of a list has a greater priority
 abbrev pub is_greatest : List Request → Request → Bool
@@ -50,10 +46,7 @@ by_place requests word = slice_get requests (word % length requests)
 
 abbrev pub drawn : Mode → List Request → ℕ → Option Request
 drawn Weighted requests word = by_priority requests word
-drawn Fifo requests word = by_place requests word
-drawn Random requests word = by_place requests word
-drawn StrictFifo requests word = by_place requests word
-drawn StrictRandom requests word = by_place requests word
+drawn mode requests word = by_place requests word
 
 -- the one that is granted: without a word the first
 abbrev pub choice : Mode → List Request → Option ℕ → Option Request

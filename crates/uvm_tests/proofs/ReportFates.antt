@@ -9,7 +9,7 @@ use Rattle.uvm_report.specs.declared.settings.Which.TheVariants as which
 use Rattle.uvm_report.specs.declared.messages.Report.{Report}
 use Rattle.uvm_report.specs.declared.messages.Fate.{Fate}
 use Rattle.uvm_report.specs.declared.messages.Fate.TheVariants.{Dropped, Silent, Issued}
-use Rattle.uvm_report.specs.Commands.{Command, SetVerbosity, SetAction, SetSeverity, SetQuitLimit, Issue, quit_limit, report_counts, report_fate}
+use Rattle.uvm_report.specs.Commands.{Command, SetVerbosity, SetAction, SetSeverity, SetQuitLimit, Issue, quit_limit, quit_total, report_counts, report_fate}
 use Rattle.uvm_report.specs.Counts.{number_of, number_of_id}
 use Rattle.uvm_report.specs.Fates.{asks_exit, displayed_as, fate_of, ruling_by}
 use Rattle.uvm_report.specs.Lines.{id_line, limit_line, report_line, severity_line, summary_text}
@@ -49,82 +49,82 @@ by_class =
     ∷ []
 
 a-setting-of-a-severity-with-an-id-prevails : fate by_class (report Error e 0) ≡ displayed Error
-unfolding report_counts choice_among matches ruling_by fate_of
+unfolding report_counts quit_total choice_among matches ruling_by fate_of
 a-setting-of-a-severity-with-an-id-prevails = refl
 
 abbrev after_one : List Command
 after_one = issued by_class (report Error e 0)
 
 one-was-counted-after-one : (report_counts after_one).quit ≡ 1
-unfolding report_counts choice_among matches ruling_by
+unfolding report_counts quit_total choice_among matches ruling_by
 one-was-counted-after-one = refl
 
 a-setting-of-an-id-goes-before-the-default : fate after_one (report Warning e 0) ≡ Silent
-unfolding report_counts choice_among matches ruling_by fate_of
+unfolding report_counts quit_total choice_among matches ruling_by fate_of
 a-setting-of-an-id-goes-before-the-default = refl
 
 abbrev after_two : List Command
 after_two = issued after_one (report Warning e 0)
 
 one-was-counted-after-two : (report_counts after_two).quit ≡ 1
-unfolding report_counts choice_among matches ruling_by
+unfolding report_counts quit_total choice_among matches ruling_by
 one-was-counted-after-two = refl
 
 a-setting-of-a-severity-holds-for-other-ids : fate after_two (report Error f 0) ≡ displayed Error
-unfolding report_counts choice_among matches ruling_by fate_of
+unfolding report_counts quit_total choice_among matches ruling_by fate_of
 a-setting-of-a-severity-holds-for-other-ids = refl
 
 abbrev after_three : List Command
 after_three = issued after_two (report Error f 0)
 
 one-was-counted-after-three : (report_counts after_three).quit ≡ 1
-unfolding report_counts choice_among matches ruling_by
+unfolding report_counts quit_total choice_among matches ruling_by
 one-was-counted-after-three = refl
 
 an-info-above-the-level-is-dropped : fate after_three (report Info f 300) ≡ Dropped
-unfolding report_counts choice_among matches ruling_by fate_of
+unfolding report_counts quit_total choice_among matches ruling_by fate_of
 an-info-above-the-level-is-dropped = refl
 
 abbrev after_four : List Command
 after_four = issued after_three (report Info f 300)
 
 one-was-counted-after-four : (report_counts after_four).quit ≡ 1
-unfolding report_counts choice_among matches ruling_by
+unfolding report_counts quit_total choice_among matches ruling_by
 one-was-counted-after-four = refl
 
 an-info-at-the-level-is-displayed : fate after_four (report Info f 200) ≡ displayed Info
-unfolding report_counts choice_among matches ruling_by fate_of
+unfolding report_counts quit_total choice_among matches ruling_by fate_of
 an-info-at-the-level-is-displayed = refl
 
 abbrev after_five : List Command
 after_five = issued after_four (report Info f 200)
 
 one-was-counted-after-five : (report_counts after_five).quit ≡ 1
-unfolding report_counts choice_among matches ruling_by
+unfolding report_counts quit_total choice_among matches ruling_by
 one-was-counted-after-five = refl
 
 two-errors-issued : number_of (report_counts after_five) Error ≡ 2
-unfolding report_counts choice_among matches ruling_by
+unfolding report_counts quit_total choice_among matches ruling_by
 two-errors-issued = refl
 
 none-warnings-issued : number_of (report_counts after_five) Warning ≡ 0
-unfolding report_counts choice_among matches ruling_by
+unfolding report_counts quit_total choice_among matches ruling_by
 none-warnings-issued = refl
 
 one-info-issued : number_of (report_counts after_five) Info ≡ 1
-unfolding report_counts choice_among matches ruling_by
+unfolding report_counts quit_total choice_among matches ruling_by
 one-info-issued = refl
 
 one-of-the-id-e : number_of_id (report_counts after_five) e ≡ 1
-unfolding report_counts choice_among matches ruling_by
+unfolding report_counts quit_total choice_among matches ruling_by
 one-of-the-id-e = refl
 
 two-of-the-id-f : number_of_id (report_counts after_five) f ≡ 2
-unfolding report_counts choice_among matches ruling_by
+unfolding report_counts quit_total choice_among matches ruling_by
 two-of-the-id-f = refl
 
 a-severity-is-changed-for-an-id : fate (SetSeverity (codes "*") Error (Some f) Warning ∷ after_five) (report Error f 0) ≡ displayed Warning
-unfolding report_counts choice_among matches ruling_by fate_of
+unfolding report_counts quit_total choice_among matches ruling_by fate_of
 a-severity-is-changed-for-an-id = refl
 
 -- settings go by their class, and of one class the last prevails
@@ -146,27 +146,27 @@ abbrev info_at : List (List ℕ) → List ℕ → ℕ → Fate
 info_at path id verbosity = report_fate levels path (report Info id verbosity)
 
 of-a-severity-with-an-id-the-last-level-prevails : info_at (codes "a" ∷ []) (codes "X") 300 ≡ displayed Info
-unfolding report_counts choice_among matches ruling_by fate_of
+unfolding report_counts quit_total choice_among matches ruling_by fate_of
 of-a-severity-with-an-id-the-last-level-prevails = refl
 
 above-the-last-level-of-an-id-is-dropped : info_at (codes "a" ∷ []) (codes "X") 301 ≡ Dropped
-unfolding report_counts choice_among matches ruling_by fate_of
+unfolding report_counts quit_total choice_among matches ruling_by fate_of
 above-the-last-level-of-an-id-is-dropped = refl
 
 a-level-of-a-severity-goes-before-one-of-all : info_at (codes "a" ∷ []) (codes "Y") 50 ≡ displayed Info
-unfolding report_counts choice_among matches ruling_by fate_of
+unfolding report_counts quit_total choice_among matches ruling_by fate_of
 a-level-of-a-severity-goes-before-one-of-all = refl
 
 above-the-level-of-a-severity-is-dropped : info_at (codes "a" ∷ []) (codes "Y") 51 ≡ Dropped
-unfolding report_counts choice_among matches ruling_by fate_of
+unfolding report_counts quit_total choice_among matches ruling_by fate_of
 above-the-level-of-a-severity-is-dropped = refl
 
 the-last-level-of-a-severity-prevails-where-its-scope-matches : info_at env (codes "Y") 150 ≡ displayed Info
-unfolding report_counts choice_among matches ruling_by fate_of
+unfolding report_counts quit_total choice_among matches ruling_by fate_of
 the-last-level-of-a-severity-prevails-where-its-scope-matches = refl
 
 above-the-last-level-of-a-severity-is-dropped : info_at env (codes "Y") 151 ≡ Dropped
-unfolding report_counts choice_among matches ruling_by fate_of
+unfolding report_counts quit_total choice_among matches ruling_by fate_of
 above-the-last-level-of-a-severity-is-dropped = refl
 
 -- a severity is changed once
@@ -175,23 +175,23 @@ abbrev changes : List Command
 changes = SetSeverity (codes "*") Warning None Info ∷ SetSeverity (codes "*") Error None Warning ∷ SetSeverity (codes "*") Info None Error ∷ []
 
 an-info-keeps-its-verbosity-as-an-error : fate changes (report Info e 300) ≡ Dropped
-unfolding report_counts choice_among matches ruling_by fate_of
+unfolding report_counts quit_total choice_among matches ruling_by fate_of
 an-info-keeps-its-verbosity-as-an-error = refl
 
 an-info-is-an-error-where-it-is-displayed : fate changes (report Info e 200) ≡ displayed Error
-unfolding report_counts choice_among matches ruling_by fate_of
+unfolding report_counts quit_total choice_among matches ruling_by fate_of
 an-info-is-an-error-where-it-is-displayed = refl
 
 an-error-is-a-warning-and-no-info : fate changes (report Error e 300) ≡ displayed Warning
-unfolding report_counts choice_among matches ruling_by fate_of
+unfolding report_counts quit_total choice_among matches ruling_by fate_of
 an-error-is-a-warning-and-no-info = refl
 
 a-warning-has-no-verbosity-as-an-info : fate changes (report Warning e 300) ≡ displayed Info
-unfolding report_counts choice_among matches ruling_by fate_of
+unfolding report_counts quit_total choice_among matches ruling_by fate_of
 a-warning-has-no-verbosity-as-an-info = refl
 
 of-the-changed-reports-the-error-counts : (report_counts (issued (issued (issued (issued changes (report Info e 300)) (report Info e 200)) (report Error e 300)) (report Warning e 300))).quit ≡ 1
-unfolding report_counts choice_among matches ruling_by
+unfolding report_counts quit_total choice_among matches ruling_by
 of-the-changed-reports-the-error-counts = refl
 
 -- once the quit limit of 2 is reached, each report asks for the end
@@ -200,63 +200,63 @@ abbrev limited : List Command
 limited = SetQuitLimit 2 ∷ []
 
 an-info-before-the-limit-goes-on : fate limited (report Info e 200) ≡ Issued Info true false
-unfolding report_counts choice_among matches ruling_by fate_of
+unfolding report_counts quit_total choice_among matches ruling_by fate_of
 an-info-before-the-limit-goes-on = refl
 
 abbrev limited_1 : List Command
 limited_1 = issued limited (report Info e 200)
 
 the-first-error-goes-on : fate limited_1 (report Error e 0) ≡ Issued Error true false
-unfolding report_counts choice_among matches ruling_by fate_of
+unfolding report_counts quit_total choice_among matches ruling_by fate_of
 the-first-error-goes-on = refl
 
 abbrev limited_2 : List Command
 limited_2 = issued limited_1 (report Error e 0)
 
 a-warning-before-the-limit-goes-on : fate limited_2 (report Warning e 0) ≡ Issued Warning true false
-unfolding report_counts choice_among matches ruling_by fate_of
+unfolding report_counts quit_total choice_among matches ruling_by fate_of
 a-warning-before-the-limit-goes-on = refl
 
 abbrev limited_3 : List Command
 limited_3 = issued limited_2 (report Warning e 0)
 
 the-second-error-asks-for-the-end : fate limited_3 (report Error e 0) ≡ Issued Error true true
-unfolding report_counts choice_among matches ruling_by fate_of
+unfolding report_counts quit_total choice_among matches ruling_by fate_of
 the-second-error-asks-for-the-end = refl
 
 abbrev limited_4 : List Command
 limited_4 = issued limited_3 (report Error e 0)
 
 a-warning-after-the-limit-asks-for-the-end : fate limited_4 (report Warning e 0) ≡ Issued Warning true true
-unfolding report_counts choice_among matches ruling_by fate_of
+unfolding report_counts quit_total choice_among matches ruling_by fate_of
 a-warning-after-the-limit-asks-for-the-end = refl
 
 abbrev limited_5 : List Command
 limited_5 = issued limited_4 (report Warning e 0)
 
 an-info-after-the-limit-asks-for-the-end : fate limited_5 (report Info e 200) ≡ Issued Info true true
-unfolding report_counts choice_among matches ruling_by fate_of
+unfolding report_counts quit_total choice_among matches ruling_by fate_of
 an-info-after-the-limit-asks-for-the-end = refl
 
 abbrev limited_6 : List Command
 limited_6 = issued limited_5 (report Info e 200)
 
 a-dropped-report-after-the-limit-asks-for-nothing : fate limited_6 (report Info e 201) ≡ Dropped
-unfolding report_counts choice_among matches ruling_by fate_of
+unfolding report_counts quit_total choice_among matches ruling_by fate_of
 a-dropped-report-after-the-limit-asks-for-nothing = refl
 
 -- a fatal report asks for the end, and does not count toward the limit
 
 a-fatal-report-asks-for-the-end : fate [] (report Fatal (codes "FCTTYP") 500) ≡ Issued Fatal true true
-unfolding report_counts choice_among matches ruling_by fate_of
+unfolding report_counts quit_total choice_among matches ruling_by fate_of
 a-fatal-report-asks-for-the-end = refl
 
 a-fatal-report-does-not-count : (report_counts (issued [] (report Fatal (codes "FCTTYP") 500))).quit ≡ 0
-unfolding report_counts choice_among matches ruling_by
+unfolding report_counts quit_total choice_among matches ruling_by
 a-fatal-report-does-not-count = refl
 
 a-warning-is-displayed-by-default : fate [] (report Warning e 0) ≡ displayed Warning
-unfolding report_counts choice_among matches ruling_by fate_of
+unfolding report_counts quit_total choice_among matches ruling_by fate_of
 a-warning-is-displayed-by-default = refl
 
 -- a fate says what is shown, and whether the run goes on

@@ -56,8 +56,7 @@ can_take f = nat_lt 0 (length f.items) && (length f.takes == 0)
 -- the first take or peek that waits gets the first item
 abbrev pub first_take : List WaitingTake → List Item → Option Move
 first_take (take ∷ takes) (item ∷ items) = Some (record { kind = if take.peeks then Peek else Take; owner = take.owner; item = item })
-first_take (take ∷ takes) [] = None
-first_take [] items = None
+first_take takes items = None
 
 abbrev pub take_move : FifoValue → Option Move
 take_move f = first_take f.takes f.items

@@ -7,7 +7,7 @@ use Rattle.uvm_glob.specs.Faults.{fault_if}
 use Rattle.uvm_glob.specs.Lists.{first_given}
 use Rattle.uvm_tlm.specs.declared.ends.End.{End}
 use Rattle.uvm_tlm.specs.declared.ends.PortKind.{PortKind}
-use Rattle.uvm_tlm.specs.declared.ends.PortKind.TheVariants.{Put, Get, Analysis, Seq}
+use Rattle.uvm_tlm.specs.declared.ends.PortKind.TheVariants.{Put, Get, Seq}
 use Rattle.uvm_tlm.specs.declared.faults.WireFault.{WireFault}
 use Rattle.uvm_tlm.specs.declared.faults.WireFault.TheVariants.{KindDiffers, TooFew, TooMany, Unknown, Late}
 use Rattle.uvm_tlm.specs.declared.wirings.Connection.{Connection}
@@ -67,8 +67,7 @@ are_known from to = is_some from && is_some to
 -- whether a connection may go from what stands at a node to what stands at another
 abbrev pub may_connect : Option End → Option End → Bool
 may_connect (Some from) (Some to) = agrees from to
-may_connect (Some from) None = false
-may_connect None to = false
+may_connect from to = false
 
 -- why no connection goes from a node to another
 unfoldable pub connect_fault : WiringValue → ℕ → ℕ → Option WireFault
@@ -116,8 +115,7 @@ driven_by (Some Seq) (target ∷ []) = Some target
 driven_by kind targets = None
 
 abbrev pub is_some_of : ℕ → Option ℕ → Bool
-is_some_of n None = false
-is_some_of n (Some m) = m == n
+is_some_of n m = option_map_or (λ m. m == n) m false
 
 -- the first port in path order that drives a sequencer
 unfoldable pub driver_in : List (ℕ × End) → List Connection → List ℕ → ℕ → Option ℕ
@@ -140,8 +138,7 @@ abbrev pub port_fault : Option PortKind → List ℕ → (ℕ → Option ℕ) �
 port_fault (Some Put) targets driver port = count_fault targets
 port_fault (Some Get) targets driver port = count_fault targets
 port_fault (Some Seq) targets driver port = seq_fault targets driver port
-port_fault (Some Analysis) targets driver port = None
-port_fault None targets driver port = None
+port_fault kind targets driver port = None
 
 abbrev pub fault_in : List (ℕ × End) → List Connection → List ℕ → ℕ → Option WireFault
 fault_in ends connections order port = port_fault (kind_at ends port) (targets_in ends connections order port) (driver_in ends connections order) port

@@ -1,5 +1,5 @@
 -- The node at a path.
-use Rattle.std.proofs.Common.{◌≡◌, ◌<◌, ◌≢◌, ℕ, zero, suc, Bool, true, false, List, [], ◌∷◌, ◌++◌, length, get_or, Option, Some, None, IfSome, IfNone, is_some, refl, ap, ◌∙◌, sym, inl, inr, arith, append_assoc, take, drop, take-append-drop, ◌+◌, ◌||◌, ◌==◌, nat_eq}
+use Rattle.std.proofs.Common.{◌≡◌, ◌<◌, ◌≢◌, ℕ, zero, suc, Bool, true, false, List, [], ◌∷◌, ◌++◌, length, get_or, Option, Some, None, IfSome, IfNone, is_some, refl, ap, ◌∙◌, sym, inl, inr, arith, append_assoc, take, drop, take-append-drop, ◌+◌, ◌&&◌, ◌||◌, ◌==◌, nat_eq}
 use Rattle.std.proofs.lemmas.Bool.{eqb-true}
 use Rattle.std.proofs.lemmas.List.{append-nil, length_push, same_from_push, take_more}
 use Rattle.std.proofs.lemmas.Option.{slice_get_within}
@@ -8,7 +8,7 @@ use Rattle.std.proofs.lemmas.Slice.Eq.{bytes_eq-Decides, slice_eq-Decides}
 use Rattle.std.specs.List.{list_any}
 use Rattle.std.specs.Cmp.Lexicographic.{pointwise}
 use Rattle.std.specs.Option.{option_map_or}
-use Rattle.uvm_tree.specs.Nodes.{Node, AreNodes, is_child, is_named, is_path, node_at, number_at, path_at, top, under_at}
+use Rattle.uvm_tree.specs.Nodes.{Node, AreNodes, is_child, is_path, node_at, number_at, path_at, top, under_at}
 use Rattle.uvm_tree.specs.Families.{Place}
 use Rattle.uvm_tree.proofs.Below.{some_place, top-path}
 use Rattle.uvm_tree.proofs.Firsts.{first-at, none-at}
@@ -28,7 +28,7 @@ pub read_path : (nodes : List Node) (k : ℕ) (d : Node) → k < length nodes �
 read_path nodes k d inside = ap (λ (o : Option Node). option_map_or (λ (node : Node). node.path) o []) (read nodes k d inside)
 
 -- the child whose name is taken
-child-is : (parent : ℕ) (name : List ℕ) (u : Option Place) → is_named parent name u ≡ true → u ≡ Some (parent, name)
+child-is : (parent : ℕ) (name : List ℕ) (u : Option Place) → option_map_or (λ under. under.0 == parent && pointwise nat_eq under.1 name) u false ≡ true → u ≡ Some (parent, name)
 child-is parent name None e = cc
 child-is parent name (Some u) e =
     let both = both-true (u.0 == parent) (pointwise nat_eq u.1 name) e in

@@ -1,10 +1,11 @@
 -- One more node.
-use Rattle.std.proofs.Common.{◌≡◌, ◌<◌, ◌≤◌, ℕ, zero, suc, ◌+◌, Bool, true, false, ◌||◌, List, [], ◌∷◌, ◌++◌, Option, Some, None, IsSome, Result, Ok, Err, OnOk, OnErr, is_none, length, refl, subst, ap, ◌∙◌, sym, inl, inr, arith, eq-eqb, option_and_then, ◌⊎◌}
+use Rattle.std.proofs.Common.{◌≡◌, ◌<◌, ◌≤◌, ℕ, zero, suc, ◌+◌, Bool, true, false, ◌&&◌, ◌||◌, ◌==◌, nat_eq, List, [], ◌∷◌, ◌++◌, Option, Some, None, IsSome, Result, Ok, Err, OnOk, OnErr, is_none, length, refl, subst, ap, ◌∙◌, sym, inl, inr, arith, eq-eqb, option_and_then, ◌⊎◌}
 use borrow.Author.Tests.{ltb-false}
 use Rattle.std.proofs.lemmas.Bool.{cases_lt}
 use Rattle.std.proofs.lemmas.Cmp.{nat_list_eq_equiv}
 use Rattle.std.proofs.lemmas.List.{length_push, same_from_push}
 use Rattle.std.proofs.lemmas.Option.{slice_get_within}
+use Rattle.std.specs.Cmp.Lexicographic.{pointwise}
 use Rattle.std.specs.List.{list_any}
 use Rattle.std.specs.Option.{option_map_or}
 use Rattle.uvm_glob.specs.Lists.{first_given}
@@ -12,7 +13,7 @@ use Rattle.uvm_glob.specs.Faults.{fault_if}
 use Rattle.uvm_tree.specs.declared.faults.TreeFault.{TreeFault}
 use Rattle.uvm_tree.specs.declared.faults.TreeFault.TheVariants.{NoParent, NameTaken, TooDeep, Full}
 use Rattle.uvm_tree.specs.declared.nodes.NodeKind.{NodeKind}
-use Rattle.uvm_tree.specs.Nodes.{Node, AreNodes, AreSiblingsApart, NodesGrow, add_fault, child, is_child, is_named, most_nodes, node_at, path_at, top, under_at}
+use Rattle.uvm_tree.specs.Nodes.{Node, AreNodes, AreSiblingsApart, NodesGrow, add_fault, child, is_child, most_nodes, node_at, path_at, top, under_at}
 
 -- the nodes before one more are what they were
 before : (nodes : List Node) (x : Node) (id : ℕ) → id < length nodes → node_at (nodes ++ x ∷ []) id ≡ node_at nodes id
@@ -29,6 +30,10 @@ pub within : (nodes : List Node) (id : ℕ) (under : ℕ × List ℕ) → under_
 within [] id under e = cc
 within (x ∷ xs) zero under e = omega arith
 within (x ∷ xs) (suc id) under e = let h = within xs id under e in omega arith
+
+-- a place is that of the child of a name
+abbrev is_named : ℕ → List ℕ → Option (ℕ × List ℕ) → Bool
+is_named parent name place = option_map_or (λ under. under.0 == parent && pointwise nat_eq under.1 name) place false
 
 -- a node that stands somewhere is the child of its name there
 itself : (under : ℕ × List ℕ) → is_named under.0 under.1 (Some under) ≡ true

@@ -72,12 +72,8 @@ abbrev pub AreSiblingsApart : Type 0
 AreSiblingsApart = (nodes : List Node) → AreNodes nodes → (m n : ℕ) → ForSome (under_at nodes m) (λ under. under_at nodes n ≡ Some under → m ≡ n)
 
 -- the node is the child of a name
-abbrev pub is_named : ℕ → List ℕ → Option (ℕ × List ℕ) → Bool
-is_named parent name None = false
-is_named parent name (Some under) = under.0 == parent && pointwise nat_eq under.1 name
-
 abbrev pub is_child : ℕ → List ℕ → Node → Bool
-is_child parent name node = is_named parent name node.under
+is_child parent name node = option_map_or (λ under. under.0 == parent && pointwise nat_eq under.1 name) node.under false
 
 -- the node that a name and a kind make under a parent
 abbrev pub child : List Node → ℕ → List ℕ → NodeKind → Node

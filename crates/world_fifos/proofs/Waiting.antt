@@ -11,7 +11,7 @@ use Rattle.uvm_phase.specs.declared.phases.Phase.{Phase}
 use Rattle.uvm_phase.specs.Phases.{phase_number, same_phase}
 use Rattle.uvm_tlm.specs.declared.items.Item.{Item}
 use Rattle.bench_history.specs.declared.askers.Asker.{Asker}
-use Rattle.bench_history.specs.Passing.{Request, asker_of, is_waiting, station_with, waiting_put, waiting_take}
+use Rattle.bench_history.specs.Passing.{Request, is_waiting, station_with, waiting_put, waiting_take}
 use Rattle.world_fifos.specs.Passings.{AreAsked}
 use Rattle.world_fifos.specs.Stations.{with_putter, with_taker, without_waits}
 use Rattle.world_agenda.proofs.Lists.{filter-twice, one-heard, one-ended, map-filter, filter-all}
@@ -91,12 +91,12 @@ module _ {Wish : Type 0} where
 pub station-put :
     (size : ℕ) (items : List Item) (puts : List (Request Item)) (takes : List (Request Bool)) (request : Request Item)
     → with_putter request.asker request.port request.wish (station_with size items puts takes) ≡ station_with size items (puts ++ request ∷ []) takes
-station-put size items puts takes request = rw (map-append waiting_put puts (request ∷ []), map-append asker_of puts (request ∷ [])) refl
+station-put size items puts takes request = rw (map-append waiting_put puts (request ∷ []), map-append (λ request. request.asker) puts (request ∷ [])) refl
 
 pub station-take :
     (size : ℕ) (items : List Item) (puts : List (Request Item)) (takes : List (Request Bool)) (request : Request Bool)
     → with_taker request.asker request.port request.wish (station_with size items puts takes) ≡ station_with size items puts (takes ++ request ∷ [])
-station-take size items puts takes request = rw (map-append waiting_take takes (request ∷ []), map-append asker_of takes (request ∷ [])) refl
+station-take size items puts takes request = rw (map-append waiting_take takes (request ∷ []), map-append (λ request. request.asker) takes (request ∷ [])) refl
 
 -- at which the waits of a phase end
 pub station-ended :
@@ -106,8 +106,8 @@ station-ended phase size items puts takes =
     rw (
       map-filter waiting_put (λ put. not (put.owner.phase == phase_number phase)) puts,
       map-filter waiting_take (λ take. not (take.owner.phase == phase_number phase)) takes,
-      map-filter asker_of (λ asker. not (same_phase asker.phase phase)) puts,
-      map-filter asker_of (λ asker. not (same_phase asker.phase phase)) takes,
+      map-filter (λ request. request.asker) (λ asker. not (same_phase asker.phase phase)) puts,
+      map-filter (λ request. request.asker) (λ asker. not (same_phase asker.phase phase)) takes,
     ) refl
 
 -- an item behind those that are there

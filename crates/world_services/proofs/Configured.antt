@@ -1,7 +1,7 @@
 -- One more setting.
-use Rattle.std.proofs.Common.{◌≡◌, ℕ, ◌+◌, List, [], ◌∷◌, option_map, ap, sym, ◌∙◌, arith, None}
+use Rattle.std.proofs.Common.{◌≡◌, ℕ, ◌+◌, List, [], ◌∷◌, Option, Some, None, option_map, refl, ap, sym, ◌∙◌, arith}
 use Rattle.uvm_glob.specs.Paths.{path_text}
-use Rattle.uvm_config.specs.Answers.{Setting, config_answer, AnswersAreGiven, NoneSetNoAnswer}
+use Rattle.uvm_config.specs.Answers.{Setting, strongest, strongest_answer, answer_of, config_answer, AnswersAreGiven, NoneSetNoAnswer}
 use Rattle.uvm_config.specs.Choice.{answer_after}
 use Rattle.uvm_config.specs.Observed.{Kept, answer_at, value_at, accepted}
 use Rattle.world_services.specs.Services.{IsSettings}
@@ -24,6 +24,12 @@ settings-more {given} setting answers steps more s = record {
 pub settings-none : {kept : Kept} → NoneSetNoAnswer → ((path : List (List ℕ)) (asked : List ℕ) → answer_at kept path asked ≡ None) → accepted kept ≡ 0 → IsSettings [] kept
 settings-none nothing none count = record { answers = λ path asked. none path asked ∙ sym (nothing (path_text path) asked); count = count }
 
+-- the value of what a setting answers is the setting's
+answer-value : (found : Option Setting) → option_map (λ answer. answer.value) (option_map answer_of found) ≡ option_map (λ setting. setting.value) found
+answer-value None = refl
+answer-value (Some setting) = refl
+
 -- the value that is found
 pub value-found : {given : List Setting} {kept : Kept} (path : List (List ℕ)) (asked : List ℕ) → IsSettings given kept → value_at kept path asked ≡ config_answer given (path_text path) asked
-value-found path asked s = ap (option_map (λ answer. answer.value)) (s.answers path asked)
+unfolding strongest_answer
+value-found {given} path asked s = ap (option_map (λ answer. answer.value)) (s.answers path asked) ∙ answer-value (strongest given (path_text path) asked)

@@ -2,6 +2,7 @@
 
 ghost use Rattle.std.specs.Prelude.{◌≡◌, ◌<◌, ◌∷◌, ◌++◌, [], List, None, Some, IfOk, IfErr, IfSome, length, option_map};
 ghost use Rattle.uvm_factory.specs.declared.overrides.Override.{Override};
+ghost use Rattle.uvm_factory.specs.declared.types.Kind.TheVariants.{Component};
 ghost use Rattle.uvm_factory.specs.Faults.{Types, type_named};
 ghost use Rattle.uvm_factory.specs.Observed.{types_of};
 ghost use Rattle.uvm_factory.specs.Overrides.{made_type};
@@ -10,13 +11,13 @@ ghost use Rattle.uvm_tree.specs.Nodes.{path_at};
 ghost use Rattle.uvm_object.specs.declared.entries.Outcome.TheVariants.{Made};
 ghost use Rattle.bench_history.specs.History.{type_name_or};
 ghost use Rattle.bench_history.specs.Upshots.{Needs, creation_upshot};
-ghost use Rattle.bench_history.specs.Refusals.{component_named, child_refusal, creation_refusal};
+ghost use Rattle.bench_history.specs.Refusals.{named_of_kind, child_refusal, creation_refusal};
 ghost use Rattle.world_services.specs.Services.{IsFactory};
 ghost use Rattle.world_services.specs.Creations.{IsUncreated, creation_in};
 
 use crate::services::Services;
 use bench_history::Need;
-use uvm_factory::{Factory, Kind, TypeId};
+use uvm_factory::{Factory, Kind, TypeId, laws};
 use uvm_glob::{Name, Path};
 use uvm_object::{Fatal, Who};
 use uvm_tree::{NodeId, Tree, TreeFault};
@@ -69,7 +70,7 @@ pub fn what_is_created(
 
 // The type of a name, if it is a component's.
 fn component_named(factory: &Factory, name: &Name) -> Option<TypeId>
-    ensures named { result ≡ component_named (types_of factory.now) name.now }
+    ensures named { result ≡ named_of_kind Component (types_of factory.now) name.now }
     ensures known { IfSome result (λ type_id. type_named (types_of factory.now) name.now ≡ Some type_id) }
     ensures within { IfSome result (λ type_id. type_id < length (types_of factory.now)) }
 {
@@ -108,6 +109,8 @@ pub fn made_name(factory: &Factory, type_id: TypeId, asked: &Name, path: &Path) 
     ensures { (types : Types) (overrides : List Override) → IsFactory types overrides factory.now → type_named types asked.now ≡ Some type_id → type_id < length types →
         option_map (λ made. type_name_or types made asked.now) (made_type overrides (length types) (path_text path.now) type_id) ≡ result }
 {
+    // The type that a step leads to is the one that takes the place.
+    laws::steps_replace();
     let made = factory.resolve(type_id, path).ok()?;
     match factory.name_of(made) {
         Some(name) => Some(*name),

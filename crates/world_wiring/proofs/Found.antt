@@ -4,12 +4,16 @@ use Rattle.uvm_glob.specs.Paths.{path_fault}
 use Rattle.uvm_tree.specs.Nodes.{Node, number_at, path_at}
 use Rattle.uvm_acts.specs.declared.acts.Who.{Who}
 use Rattle.uvm_acts.specs.Acts.{node_of}
-use Rattle.bench_history.specs.Wires.{node_below, node_found}
+use Rattle.bench_history.specs.Wires.{node_below}
 
 -- where nothing is found, a test of the path changes nothing
 neither : (found : Option ℕ) (b : Bool) → found ≡ (if b then found else found)
 neither found true = refl
 neither found false = refl
+
+-- a node at a path within the limits of a path
+abbrev node_found : List Node → List (List ℕ) → Option ℕ
+node_found nodes path = if is_none (path_fault path) then number_at nodes path else None
 
 -- a node that is found at a path without a fault is found within the limits of a path
 found-within : (nodes : List Node) (path : List (List ℕ)) (found : Option ℕ) → found ≡ number_at nodes path → OnSome found (path_fault path ≡ None) → found ≡ node_found nodes path

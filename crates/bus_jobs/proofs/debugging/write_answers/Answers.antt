@@ -16,7 +16,7 @@ pub loop-probe-preserved : goal.loop-probe-preserved
 loop-probe-preserved g c =
     let within : c.loop-probe.probe-index < length c.args.script.now.probes = rw (← c.probes-probes.ensures.probes) c.loop-probe-test.true in
     let at : c.probe-item.result ≡ get_or c.args.script.now.probes c.loop-probe.probe-index c.probe-item.result = rw (← c.probes-probes.ensures.probes) c.probe-item.is in
-    let line : c.as_slice.result.now ≡ probe_line c.args.script.now c.probe-item.result = c.as_slice.ensures.value ∙ c.in-Ok.ensures ∙ line-factory c.args.script.now c.args.factory.now c.probe-item.result c.requires in
+    let line : c.as_slice.result.now ≡ probe_line c.args.script.now c.probe-item.result = c.as_slice.ensures.value ∙ c.in-Ok.ensures ∙ line-factory c.args.script.now c.args.factory.now c.probe-item.result c.steps_replace.ensures c.requires in
     record {
       wrote = rw (lines-more c.args.script.now c.loop-probe.probe-index c.probe-item.result within at, ← line)
           (Appends-trans (g.S.Sink.contents c.args.out.now) (g.S.Sink.contents c.loop-probe.out) (g.S.Sink.contents c.put.new.self) _ _ c.loop-probe.invariant.wrote c.in-Ok-put.ensures.bytes);

@@ -65,12 +65,14 @@ impl Drop for Log {
 }
 
 impl Model for Log {
-    ghost use Rattle.std.specs.Prelude.{◌-◌, reverse, vec_len, vec_capacity};
+    ghost use Rattle.std.specs.Prelude.{◌-◌, ◌^◌, ◌<◌, ◌≤◌, reverse, vec_len, vec_capacity};
     ghost use Rattle.uvm_object.specs.Logs.{LogValue};
 
     ghost Value = { LogValue };
 
     ghost view = { λ l. record { entries = reverse l.entries.items; limit = l.limit; spare = vec_capacity l.entries - vec_len l.entries } };
+
+    ghost invariant = { λ l. (vec_len l.entries ≤ l.limit) × (l.limit < 2 ^ 32) };
 }
 
 impl Log {
@@ -137,16 +139,11 @@ impl Log {
         self.entries.len()
     }
 
-    /// Gives the place of the next entry, from 0. The log must not be full.
+    /// Gives the place of the next entry, from 0.
     pub fn next_place(&self) -> u32
-        requires { length self.now.entries < self.now.limit }
         ensures { result ≡ length self.now.entries }
     {
-        let place = self.entries.len();
-        if place >= self.limit as usize {
-            unreachable!()
-        }
-        place as u32
+        self.entries.len() as u32
     }
 
     /// Whether there is none.

@@ -23,11 +23,6 @@ make-who-requires c =
     let performs = c.performers_are_there.ensures c.self.inside.script before act c.self.invariant.1.legal.each (subst IsAct (sym w.next) tt) ready.left in
     rw (c.get.ensures, c.act.ensures) (makeable c.in-Some.parts m ready w.need w.made same performs w.makes).can
 
-pub next_place-place-requires : goal.next_place-place-requires
-next_place-place-requires c =
-    let ready = c.self.invariant.1.ready c.in-Some.parts (sym c.take_parts.ensures.value ∙ c.in-Some.is) in
-    rw c.self.invariant.1.limit ready.room
-
 pub enter-requires-clause-room : goal.enter-requires-clause-room
 enter-requires-clause-room c =
     let ready = c.self.invariant.1.ready c.in-Some.parts (sym c.take_parts.ensures.value ∙ c.in-Some.is) in

@@ -139,7 +139,7 @@ impl Log {
         self.entries.len()
     }
 
-    /// Gives the place of the next entry, from 0.
+    /// Gives the place of the next entry, from 0: how many there are. A full log takes no next one.
     pub fn next_place(&self) -> u32
         ensures { result ≡ length self.now.entries }
     {

@@ -2,3 +2,7 @@ mod MatchingRows
 mod TextFaultRows
 mod FactoryRows
 mod SettingRows
+mod OrderRows
+mod PhaseRows
+mod ObjectionRows
+mod TreeRows

@@ -2,7 +2,7 @@ use Rattle.std.proofs.Common.{rules, ◌≡◌, ◌∙◌, ap}
 use Rattle.uvm_objection.specs.Nodes.{raised}
 use Rattle.uvm_objection.specs.Totals.{total}
 use Rattle.uvm_objection.specs.Laws.{places, PlacesStay}
-use Rattle.base_tests.proofs.objections.Bench.raise.Goals as goal
+use Rattle.tree_tests.proofs.objections.Bench.raise.Goals as goal
 
 pub invariant_of-self : goal.invariant_of-self
 invariant_of-self g c =

@@ -6,7 +6,7 @@ use Rattle.uvm_objection.specs.Nodes.{due_of}
 use Rattle.uvm_objection.specs.declared.objections.Due.{Due}
 use Rattle.uvm_objection.specs.Totals.{drains_begun}
 use Rattle.uvm_objection.specs.Laws.{IsHeldUntilDue}
-use Rattle.base_tests.proofs.objections.Bench.drop_and_drain.Goals as goal
+use Rattle.tree_tests.proofs.objections.Bench.drop_and_drain.Goals as goal
 
 pub drained-requires-clause-limit : goal.drained-requires-clause-limit
 drained-requires-clause-limit g c =

@@ -1,0 +1,4 @@
+mod OrderRows
+mod PhaseRows
+mod ObjectionRows
+mod TreeRows

@@ -16,7 +16,7 @@ use Rattle.uvm_acts.specs.declared.acts.Act.{Act}
 use Rattle.uvm_acts.specs.declared.acts.Act.TheVariants as act
 use Rattle.uvm_object.specs.Fatals.{fatal_report}
 use Rattle.uvm_object.specs.declared.fatals.Fatal.TheVariants as fatal
-use Rattle.uvm_sources.specs.Sources.{shown_path, source_text}
+use Rattle.uvm_object.specs.Sources.{shown_path, source_text}
 use Rattle.uvm_object.specs.declared.entries.Outcome.{Outcome}
 use Rattle.uvm_object.specs.declared.entries.Outcome.TheVariants.{Done, Refused}
 use Rattle.uvm_object.specs.declared.entries.Reason.{Reason}

@@ -3,8 +3,10 @@
 ghost use Rattle.std.specs.Prelude.{◌≡◌, [], false};
 ghost use Rattle.bench_run.specs.Health.TheVariants.{Good};
 
+use crate::counts::{Count, begins, write_counts};
 use crate::endings::{Ended, ended};
 use crate::objects::{Idle, Mute, Spinner};
+use crate::runs::{write_break, write_run};
 use bench_run::{CoreFault, Kernel};
 use bench_script::{Script, read_document, read_table};
 use scripted_objects::{Answers, Scripted, read_answers};
@@ -13,7 +15,6 @@ use toml::Table;
 use uvm_glob::Name;
 use uvm_object::UvmObject;
 use watched_runs::end;
-use written_runs::{Count, begins, write_break, write_counts, write_run};
 
 /// A kernel that has not begun, and what is looked at in it.
 #[derive(Clone, Copy)]

@@ -2,11 +2,13 @@
 #![tactic(auto)]
 
 mod benches;
+mod counts;
 mod endings;
 mod objects;
+mod runs;
 
 pub use bench_run::{Ending, RunFault};
 pub use benches::{Look, make_idle, make_mute, make_spinner, shows, shows_in_boxes, shows_with};
+pub use counts::Count;
 pub use endings::Ended;
 pub use objects::{Idle, Mute, Spinner};
-pub use written_runs::Count;

@@ -6,7 +6,7 @@ ghost use Rattle.uvm_report.specs.Lines.{report_line};
 ghost use Rattle.uvm_tree.specs.Nodes.{path_at};
 ghost use Rattle.uvm_acts.specs.Acts.{node_of};
 ghost use Rattle.uvm_object.specs.Fatals.{fatal_report};
-ghost use Rattle.uvm_sources.specs.Sources.{shown_path, source_text};
+ghost use Rattle.uvm_object.specs.Sources.{shown_path, source_text};
 ghost use Rattle.bench_history.specs.History.{nodes_of, now_of};
 ghost use Rattle.bench_history.specs.Reports.{deed_command, line_under, newest_fate, report_text};
 ghost use Rattle.bench_history.specs.Sequences.{sequences_of};

@@ -19,7 +19,7 @@ struct Greeter;
 
 impl Answers for Greeter {
     ghost use Rattle.std.specs.Prelude.{◌≡◌, ◌≢◌, [], ◌∷◌, codes};
-    ghost use Rattle.uvm_relations.specs.Relations.{Run, Info, reporting, Phase, Wake, DropObjection, RaiseObjection, Wait};
+    ghost use Rattle.uvm_object.specs.Relations.{Run, Info, reporting, Phase, Wake, DropObjection, RaiseObjection, Wait};
 
     // What it answers in run, when it wakes, and to any other call.
     ghost says = { λ _ _ call acts _.

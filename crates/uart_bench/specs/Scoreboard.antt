@@ -1,6 +1,6 @@
 -- What the scoreboard says: it keeps the bytes that were sent, and reports an ERROR for each that is seen otherwise.
 use Rattle.std.specs.Prelude.{◌≡◌, ◌≢◌, ℕ, ◌+◌, pos, List, [], ◌∷◌, ◌++◌, length, Option, Some, None, slice_get, slice_index_or, codes, if◌then◌else◌, bytes_eq, unsigned_abs, ⊤}
-use Rattle.uvm_relations.specs.Relations.{Build, Check, Error, Item, View, Call, Phase, Written, Imp, Act, Add, reporting}
+use Rattle.uvm_object.specs.Relations.{Build, Check, Error, Item, View, Call, Phase, Written, Imp, Act, Add, reporting}
 
 -- the byte of an item
 abbrev pub byte_of : Item → ℕ

@@ -34,7 +34,7 @@ use Rattle.uvm_object.specs.declared.entries.Reason.TheVariants.{Finished, Exit,
 use Rattle.uvm_object.specs.declared.entries.Entry.{Entry}
 use Rattle.uvm_object.specs.declared.entries.Entry.TheVariants.{Begin, End, Time, Heard, Did, Locked, Granted, Passed, Drained, Note, Over}
 use Rattle.uvm_object.specs.Fatals.{id_of}
-use Rattle.uvm_sources.specs.Sources.{sequence_text, shown_path}
+use Rattle.uvm_object.specs.Sources.{sequence_text, shown_path}
 
 -- somebody in the lines of entries, where a sequence has its number behind it
 abbrev pub who_text : List Node → List Start → Who → List ℕ

@@ -12,9 +12,8 @@ use crate::sequence_lines::{push_finished, push_granted, push_locked, push_next_
 use itoa::Buffer;
 use std::alloc::{AllocError, Global};
 use uvm_glob::Name;
-use uvm_object::{Call, Entry, Outcome, Passage, Reason, Who};
+use uvm_object::{Call, Entry, Outcome, Passage, Reason, Who, push_node};
 use uvm_sequences::Sequences;
-use uvm_sources::push_node;
 use uvm_tlm::Item;
 use uvm_tree::{NodeId, Tree};
 

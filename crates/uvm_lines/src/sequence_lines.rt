@@ -11,10 +11,9 @@ use crate::item_lines::{push_item, push_named, push_some_item};
 use crate::lines::{push_ticks, push_two};
 use std::alloc::AllocError;
 use uvm_glob::{Name, Path};
-use uvm_object::{Act, Grant, Who};
+use uvm_object::{Act, Grant, Who, push_node, push_sequence};
 use uvm_sequencer::{How, Mode};
 use uvm_sequences::{SeqId, Sequences};
-use uvm_sources::{push_node, push_sequence};
 use uvm_tlm::Item;
 use uvm_tree::{NodeId, Tree};
 

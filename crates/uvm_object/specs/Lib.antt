@@ -4,3 +4,5 @@ pub mod Objects
 pub mod Origins
 pub mod Outcomes
 pub mod Passages
+pub mod Relations
+pub mod Sources

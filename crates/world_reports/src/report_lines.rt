@@ -5,14 +5,13 @@ ghost use Rattle.uvm_report.specs.Lines.{report_line};
 ghost use Rattle.uvm_tree.specs.Nodes.{path_at};
 ghost use Rattle.uvm_acts.specs.Acts.{node_of};
 ghost use Rattle.uvm_object.specs.Fatals.{fatal_report};
-ghost use Rattle.uvm_sources.specs.Sources.{shown_path, source_text};
+ghost use Rattle.uvm_object.specs.Sources.{shown_path, source_text};
 ghost use Rattle.bench_history.specs.Reports.{deed_command, line_under};
 
 use std::alloc::{AllocError, Global};
-use uvm_object::{Act, Fatal, Outcome, Who};
+use uvm_object::{Act, Fatal, Outcome, Who, shown_path, source_of};
 use uvm_report::{Report, Severity};
 use uvm_sequences::Sequences;
-use uvm_sources::{shown_path, source_of};
 use uvm_tree::{NodeId, Tree};
 
 /// What the line of a report shows of a world beside the report: the severity under which it is displayed, the present time in ticks, and

@@ -8,11 +8,10 @@ use uvm_glob::{Glob, Name, Path};
 use uvm_lines::line_of;
 use uvm_object::{
     Act, Acts, Call, Deed, Entry, Fatal, Grant, LoggedOutcome, LoggedPassage, Passage, Reason,
-    What, Who,
+    What, Who, shown_path, source_of,
 };
 use uvm_phase::Phase;
 use uvm_sequences::{SeqId, Sequences};
-use uvm_sources::{shown_path, source_of};
 use uvm_tlm::MoveKind;
 use uvm_tree::{NodeId, NodeKind, Tree};
 

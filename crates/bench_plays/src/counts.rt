@@ -20,7 +20,7 @@ pub enum Count {
 }
 
 /// Runs to the end, and writes what is counted at a path each time that it changes.
-pub fn write_counts<O: UvmObject, F: Fn(&Name) -> Result<Option<O>, AllocError>>(
+pub(crate) fn write_counts<O: UvmObject, F: Fn(&Name) -> Result<Option<O>, AllocError>>(
     alloc: Global,
     kernel: &mut Kernel<O>,
     count: Count,
@@ -90,7 +90,7 @@ fn digit_of(count: u64) -> &'static [u8] {
 }
 
 /// Whether the test is needed, and needed again, and then made and begun to build.
-pub fn begins<O: UvmObject, F: Fn(&Name) -> Result<Option<O>, AllocError>>(
+pub(crate) fn begins<O: UvmObject, F: Fn(&Name) -> Result<Option<O>, AllocError>>(
     alloc: Global,
     kernel: &mut Kernel<O>,
     make: &F,

@@ -12,7 +12,7 @@ use uvm_tree::NodeId;
 
 /// Writes a run until it is over, or abandoned where the object at the path `until` is needed, and what is given back then. Where the object at
 /// the path `declined` is needed one of another type is supplied first.
-pub fn write_run<O: UvmObject, F: Fn(&Name) -> Result<Option<O>, AllocError>>(
+pub(crate) fn write_run<O: UvmObject, F: Fn(&Name) -> Result<Option<O>, AllocError>>(
     kernel: &mut Kernel<O>,
     declined: &[u8],
     until: &[u8],
@@ -242,7 +242,7 @@ fn write_path(core: &Core, node: NodeId, text: &mut Vec<u8>) -> Option<bool> {
 }
 
 /// Writes the fault that breaks a run, the number of its entries and the newest, and what is given back then.
-pub fn write_break<O: UvmObject, F: Fn(&Name) -> Result<Option<O>, AllocError>>(
+pub(crate) fn write_break<O: UvmObject, F: Fn(&Name) -> Result<Option<O>, AllocError>>(
     kernel: &mut Kernel<O>,
     make: &F,
     text: &mut Vec<u8>,

@@ -3,11 +3,11 @@
 ghost use Rattle.std.specs.Prelude.{◌≡◌, ◌∷◌, ◌++◌, IfOk, OnOk};
 ghost use Rattle.uvm_glob.specs.Paths.{path_text};
 ghost use Rattle.uvm_tree.specs.Nodes.{path_at};
-ghost use Rattle.uvm_sources.specs.Sources.{sequence_text, shown_path, source_text};
+ghost use Rattle.uvm_object.specs.Sources.{sequence_text, shown_path, source_text};
 
 use std::alloc::{AllocError, Global};
+use uvm_acts::Who;
 use uvm_glob::Name;
-use uvm_object::Who;
 use uvm_sequences::{SeqId, Sequences};
 use uvm_tree::{NodeId, Tree};
 

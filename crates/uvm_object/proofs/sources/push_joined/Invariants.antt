@@ -1,7 +1,7 @@
 use Rattle.std.proofs.Common.{◌≡◌, ◌++◌, drop}
 use Rattle.std.specs.List.{flat_map}
-use Rattle.uvm_sources.proofs.Joined.{behind_dot}
-use Rattle.uvm_sources.proofs.sources.push_joined.Given as goal
+use Rattle.uvm_object.proofs.Joined.{behind_dot}
+use Rattle.uvm_object.proofs.sources.push_joined.Given as goal
 
 -- the names that are left come behind those that are written
 abbrev pub invariant-loop-name : goal.invariant-loop-name

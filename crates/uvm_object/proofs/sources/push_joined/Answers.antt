@@ -1,7 +1,7 @@
 use Rattle.std.proofs.Common.{◌≡◌, ◌++◌, ◌≤◌, length, drop, arith}
 use Rattle.std.specs.List.{flat_map}
-use Rattle.uvm_sources.proofs.Joined.{behind_dot, ends}
-use Rattle.uvm_sources.proofs.sources.push_joined.Goals as goal
+use Rattle.uvm_object.proofs.Joined.{behind_dot, ends}
+use Rattle.uvm_object.proofs.sources.push_joined.Goals as goal
 
 pub returns : goal.returns
 returns c =

@@ -7,14 +7,13 @@ use crate::counts::{Count, begins, write_counts};
 use crate::endings::{Ended, ended};
 use crate::objects::{Idle, Mute, Spinner};
 use crate::runs::{write_break, write_run};
-use bench_run::{CoreFault, Kernel};
+use bench_run::{CoreFault, Kernel, end_kernel};
 use bench_script::{Script, read_document, read_table};
 use scripted_objects::{Answers, Scripted, read_answers};
 use std::alloc::{AllocError, Global};
 use toml::Table;
 use uvm_glob::Name;
 use uvm_object::UvmObject;
-use watched_runs::end;
 
 /// A kernel that has not begun, and what is looked at in it.
 #[derive(Clone, Copy)]
@@ -126,7 +125,7 @@ fn kernel_shows<O: UvmObject, F: Fn(&Name) -> Result<Option<O>, AllocError>>(
     match Kernel::new(alloc, script) {
         Ok(mut kernel) => {
             let right = is_right(alloc, &mut kernel, scene, make);
-            end(kernel);
+            end_kernel(kernel);
             right
         }
         Err(fault) => fault == CoreFault::NoTest && matches!(scene.look, Look::Nothing),

@@ -1,7 +1,7 @@
 //! What a machine tells while it runs.
 
 use crate::runs::{push, supply};
-use bench_kernel::{Core, Kernel, Step};
+use bench_run::{Core, Kernel, Step};
 use rand_pcg::Pcg32;
 use std::alloc::{AllocError, Global};
 use uvm_factory::Kind;

@@ -7,7 +7,7 @@ mod endings;
 mod objects;
 mod runs;
 
-pub use bench_run::{Ending, RunFault};
+pub use bench_run::{Ending, RunFault, Sink, run_script};
 pub use benches::{Look, make_idle, make_mute, make_spinner, shows, shows_in_boxes, shows_with};
 pub use counts::Count;
 pub use endings::Ended;

@@ -1,9 +1,9 @@
 //! Runs of kernels, written as text.
 
 ghost use Rattle.std.specs.Prelude.{◌≡◌, true, IfSome};
-ghost use Rattle.bench_kernel.specs.Kernels.{is_done};
+ghost use Rattle.bench_run.specs.Kernels.{is_done};
 
-use bench_kernel::{Core, CoreFault, Kernel, Misfit, Step, Unfit};
+use bench_run::{Core, CoreFault, Kernel, Misfit, Step, Unfit};
 use rand_pcg::Pcg32;
 use std::alloc::{AllocError, Global};
 use uvm_glob::Name;

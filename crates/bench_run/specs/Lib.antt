@@ -8,3 +8,4 @@ pub mod Texts
 pub mod Laws
 pub mod Given
 pub use Rattle.bench_kernel.specs.Health
+pub use Rattle.bench_kernel.specs.Kernels

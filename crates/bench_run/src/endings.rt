@@ -1,10 +1,12 @@
-//! How a run is over.
+//! How a run is over, and the end of a kernel.
 
 ghost use Rattle.std.specs.Prelude.{◌≡◌};
 ghost use Rattle.bench_run.specs.Endings.{exit_status, is_clean};
 
 use crate::faults::RunFault;
-use uvm_object::Reason;
+use crate::running::give_all_back;
+use bench_kernel::Kernel;
+use uvm_object::{Reason, UvmObject};
 
 /// How a run is over.
 #[derive(Clone, Copy, PartialEq, Eq)]
@@ -37,4 +39,12 @@ pub fn exit_status(ended: &Result<Ending, RunFault>) -> u8
         Err(RunFault::NoTest) => 2,
         Err(_) => 3,
     }
+}
+
+/// Ends a kernel, whatever became of its run: it is abandoned, each object that it holds is given back and dropped, and the kernel is dropped.
+/// Takes no memory.
+pub fn end_kernel<O: UvmObject>(mut kernel: Kernel<O>) {
+    kernel.abandon();
+    give_all_back(&mut kernel);
+    kernel.finish();
 }

@@ -18,8 +18,8 @@ pub mod laws;
 mod running;
 mod sinks;
 
-pub use bench_kernel::{CoreFault, Kernel};
-pub use endings::{Ending, exit_status};
+pub use bench_kernel::{Core, CoreFault, Kernel, Misfit, Step, Unfit};
+pub use endings::{Ending, end_kernel, exit_status};
 pub use faults::RunFault;
 pub use running::{run_kernel, run_script};
 pub use sinks::Sink;

@@ -329,7 +329,7 @@ fn reports_of<O: UvmObject>(kernel: &Kernel<O>) -> &Reports
 }
 
 // Gives back each object that is held.
-fn give_all_back<O: UvmObject>(kernel: &mut Kernel<O>)
+pub(crate) fn give_all_back<O: UvmObject>(kernel: &mut Kernel<O>)
     requires { is_done kernel.old ≡ true }
     ensures { kernel.new ≡ record kernel.old { held = [] } }
 {

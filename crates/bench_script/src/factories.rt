@@ -13,21 +13,20 @@ use std::alloc::{AllocError, Global};
 use uvm_factory::{Factory, FactoryFault, Kind, Override, laws};
 use uvm_glob::Name;
 
-impl Script {
-    /// The factory with the types and the overrides of the script (IEEE 1800.2-2020, Clause 8). The error is want of memory.
-    pub fn factory(&self, alloc: Global) -> Result<Factory, AllocError>
-        ensures { IfOk result (IsFactoryOf self.now) }
-    {
-        laws::none_given_no_step();
-        laws::steps_are_given_in_order();
-        let mut factory = Factory::new(alloc);
-        register_all(&mut factory, self.types())?;
-        let overrides = self.overrides();
-        for given in overrides {
-            apply(&mut factory, given)?;
-        }
-        Ok(factory)
+/// Makes the factory with the types and the overrides of a script (IEEE 1800.2-2020, Clause 8). The error is want of memory. (It is no method:
+/// each library that keeps a script would be written out with all that a factory keeps.)
+pub fn factory_of(alloc: Global, script: &Script) -> Result<Factory, AllocError>
+    ensures { IfOk result (IsFactoryOf script.now) }
+{
+    laws::none_given_no_step();
+    laws::steps_are_given_in_order();
+    let mut factory = Factory::new(alloc);
+    register_all(&mut factory, script.types())?;
+    let overrides = script.overrides();
+    for given in overrides {
+        apply(&mut factory, given)?;
     }
+    Ok(factory)
 }
 
 // Registers types that can be registered one after another.

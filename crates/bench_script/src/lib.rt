@@ -7,6 +7,7 @@ mod heads;
 mod reading;
 mod scripts;
 
+pub use factories::factory_of;
 pub use reading::{read, read_document, read_table};
 pub use script_tables::{ActionSetting, Probe, Setting, SeverityChange, VerbositySetting};
 pub use script_values::ScriptFault;

@@ -2,8 +2,7 @@
 
 ghost use Rattle.std.specs.Prelude.{◌≡◌, IfSome, IsSome};
 
-use bench_plays::{Idle, make_idle};
-use bench_run::{Ending, run_script};
+use bench_plays::{Ending, Idle, make_idle, run_script};
 use bench_script::Script;
 use rand_pcg::Pcg32;
 use std::alloc::{AllocError, Global};

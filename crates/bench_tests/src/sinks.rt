@@ -3,8 +3,7 @@
 ghost use Rattle.std.specs.Prelude.{◌≡◌, ◌≢◌, Err, IsSome};
 
 use crate::runs::script;
-use bench_plays::make_idle;
-use bench_run::{Ending, RunFault, Sink, run_script};
+use bench_plays::{Ending, RunFault, Sink, make_idle, run_script};
 use bench_script::Script;
 use rand_pcg::Pcg32;
 use std::alloc::Global;

@@ -1,12 +1,11 @@
 //! A world before its first entry.
 
 ghost use Rattle.std.specs.Prelude.{◌≡◌, true, IfSome, IsSome};
-ghost use Rattle.bench_world.specs.Worlds.{IsMaking};
+ghost use Rattle.bench_views.specs.Worlds.{IsMaking};
 
 use bench_history::{Owner, Stage};
 use bench_script::{Script, read};
-use bench_views::{lent, refusals, told, upcoming};
-use bench_world::World;
+use bench_views::{World, lent, refusals, told, upcoming};
 use std::alloc::Global;
 use std::mem::size_of;
 use uvm_glob::Name;

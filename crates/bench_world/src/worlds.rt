@@ -9,7 +9,7 @@ ghost use Rattle.bench_history.specs.Sequences.{leaving_of};
 ghost use Rattle.bench_world.specs.Worlds.{WorldValue};
 
 use bench_history::limits::log_limit;
-use bench_script::Script;
+use bench_script::{Script, factory_of};
 use std::alloc::{AllocError, Global};
 use std::marker::Model;
 use uvm_object::{Deed, Log, Who};
@@ -68,7 +68,7 @@ impl World {
         requires { IsSome script.test }
         ensures { IfOk result (λ world. world ≡ record { script = script; history = []; sound = true; waiting = None }) }
     {
-        let factory = script.factory(alloc)?;
+        let factory = factory_of(alloc, &script)?;
         let creation = Deed::new(alloc, opening(&script, &factory))?;
         let services = Services::given(alloc, &script, factory)?;
         Ok(World::before(alloc, script, creation, services))

@@ -11,7 +11,7 @@ ghost use Rattle.bench_history.specs.History.{type_name_or};
 
 use crate::verdicts::{Breakage, Verdict};
 use bench_run::Sink;
-use bench_script::{Probe, Script, ScriptFault};
+use bench_script::{Probe, Script, ScriptFault, factory_of};
 use std::alloc::{AllocError, Global};
 use uvm_factory::{Factory, TypeId, Unmade, laws};
 
@@ -40,7 +40,7 @@ fn answer<S: Sink>(alloc: Global, script: &Script, out: &mut S) -> Result<(), Br
     ensures err { IfErr result (BrokeOff (debug_lines script.now) (S.contents out.old) (S.contents out.new)) }
     ensures output { result ≡ Err Breakage.Output → S.refuses out.old }
 {
-    match script.factory(alloc) {
+    match factory_of(alloc, script) {
         Ok(factory) => write_answers(alloc, &factory, script, out),
         Err(_) => Err(Breakage::Memory),
     }

@@ -15,7 +15,7 @@ use std::rt::Files;
 use toml::Table;
 use uvm_glob::Name;
 use uvm_object::Object;
-use watched_runs::{Counts, Ticket, end};
+use watched_runs::{Counts, Ticket};
 
 /// Runs a file as `script_bench run --trace` does, over objects that are counted, writes the transcript as it goes, and tells how the run
 /// ended, whatever ended it, once each object is given back and dropped. It answers the exit status, as `tell` does.
@@ -81,7 +81,7 @@ fn run_script<O: Write>(
     match Kernel::new(alloc, script) {
         Ok(mut kernel) => {
             let ended = run_kernel(alloc, &mut kernel, &mut words, true, &make, out);
-            end(kernel);
+            kernel.finish();
             match ended {
                 Ok(_) => Ok(()),
                 Err(RunFault::Memory) => Err(End::Memory),

@@ -1,5 +1,6 @@
 -- What each call keeps of a wiring.
 use Rattle.std.proofs.Common.{◌≡◌, ℕ, Bool, true, false, ◌&&◌, ◌||◌, cond, eqb, inl, inr, nat_eq, not, List, [], ◌∷◌, ◌++◌, map, reverse, Option, Some, None, is_some, option_map, refl, sym, ap, subst, ◌∙◌}
+use Rattle.std.specs.HashMap.{keys as keys_in}
 use Rattle.std.specs.List.{AllByRecursion}
 use Rattle.std.specs.Option.{ForSome}
 use Rattle.std.proofs.lemmas.Bool.{and_parts, eqb-true, false≢true, or_cases, or_right}
@@ -104,41 +105,41 @@ abbrev seen : List (ℕ × End) → List Connection → Option (List ℕ) → Wi
 seen ends connections order = record { ends = ends; connections = connections_among (is_connected connections) (map (λ e. e.0) ends); order = order }
 
 -- with one more node
-pub seen-more : (w new : Inside) (node : ℕ) (end : End) → reverse new.ends.entries ≡ (node, end) ∷ reverse w.ends.entries → new.connections.keys ≡ w.connections.keys → option_map (λ closed. closed.order.keys) new.closed ≡ option_map (λ closed. closed.order.keys) w.closed
-    → end_at (reverse w.ends.entries) node ≡ None → AreBetween (is_connected w.connections.keys) (nodes_of w) → value_of new ≡ with_end node end (value_of w)
+pub seen-more : (w new : Inside) (node : ℕ) (end : End) → reverse new.ends.entries ≡ (node, end) ∷ reverse w.ends.entries → new.connections.items ≡ w.connections.items → option_map (λ closed. keys_in closed.order) new.closed ≡ option_map (λ closed. keys_in closed.order) w.closed
+    → end_at (reverse w.ends.entries) node ≡ None → AreBetween (is_connected w.connections.items) (nodes_of w) → value_of new ≡ with_end node end (value_of w)
 seen-more w new node end turned keys order unknown between =
-    let more = among-more (is_connected w.connections.keys) node (nodes_of w) between (sym (added-there (reverse w.ends.entries) node) ∙ ap is_some unknown) in
+    let more = among-more (is_connected w.connections.items) node (nodes_of w) between (sym (added-there (reverse w.ends.entries) node) ∙ ap is_some unknown) in
     (λ j. seen (turned j) (keys j) (order j))
-    ∙ ap (λ (cs : List Connection). record { ends = (node, end) ∷ reverse w.ends.entries; connections = cs; order = option_map (λ closed. closed.order.keys) w.closed }) more
+    ∙ ap (λ (cs : List Connection). record { ends = (node, end) ∷ reverse w.ends.entries; connections = cs; order = option_map (λ closed. keys_in closed.order) w.closed }) more
 
 -- some connections with one more, which may be among them already
 abbrev pub IsConnectedMore : List Connection → ℕ → ℕ → List Connection → Type 0
 IsConnectedMore old from to new = (a b : ℕ) → is_connected new a b ≡ ((eqb a from && eqb b to) || is_connected old a b)
 
 -- with one more connection
-pub seen-connected : (w : Inside) (connections : List Connection) (from to : ℕ) → IsConnectedMore w.connections.keys from to connections → AreBetween (is_connected w.connections.keys) (nodes_of w)
-    → seen (reverse w.ends.entries) connections (option_map (λ closed. closed.order.keys) w.closed) ≡ with_connection from to (value_of w)
+pub seen-connected : (w : Inside) (connections : List Connection) (from to : ℕ) → IsConnectedMore w.connections.items from to connections → AreBetween (is_connected w.connections.items) (nodes_of w)
+    → seen (reverse w.ends.entries) connections (option_map (λ closed. keys_in closed.order) w.closed) ≡ with_connection from to (value_of w)
 seen-connected w connections from to more between =
     let same = among-same (is_connected connections) (λ a b. (eqb a from && eqb b to) || is_connected (connections_of w) a b) (nodes_of w)
-    (λ a b. more a b ∙ ap (λ c. (eqb a from && eqb b to) || c) (sym (listed (is_connected w.connections.keys) (nodes_of w) between a b))) in
-    ap (λ (cs : List Connection). record { ends = reverse w.ends.entries; connections = cs; order = option_map (λ closed. closed.order.keys) w.closed }) same
+    (λ a b. more a b ∙ ap (λ c. (eqb a from && eqb b to) || c) (sym (listed (is_connected w.connections.items) (nodes_of w) between a b))) in
+    ap (λ (cs : List Connection). record { ends = reverse w.ends.entries; connections = cs; order = option_map (λ closed. keys_in closed.order) w.closed }) same
 
 -- which changes nothing where it is there
-pub seen-again : (w : Inside) (connections : List Connection) (from to : ℕ) → IsConnectedMore w.connections.keys from to connections → AreBetween (is_connected w.connections.keys) (nodes_of w) → is_connected (connections_of w) from to ≡ true
-    → seen (reverse w.ends.entries) connections (option_map (λ closed. closed.order.keys) w.closed) ≡ value_of w
+pub seen-again : (w : Inside) (connections : List Connection) (from to : ℕ) → IsConnectedMore w.connections.items from to connections → AreBetween (is_connected w.connections.items) (nodes_of w) → is_connected (connections_of w) from to ≡ true
+    → seen (reverse w.ends.entries) connections (option_map (λ closed. keys_in closed.order) w.closed) ≡ value_of w
 seen-again w connections from to more between there =
-    let known : is_connected w.connections.keys from to ≡ true = sym (listed (is_connected w.connections.keys) (nodes_of w) between from to) ∙ there in
-    let same = among-same (is_connected connections) (is_connected w.connections.keys) (nodes_of w)
+    let known : is_connected w.connections.items from to ≡ true = sym (listed (is_connected w.connections.items) (nodes_of w) between from to) ∙ there in
+    let same = among-same (is_connected connections) (is_connected w.connections.items) (nodes_of w)
     (λ a b. more a b
-    ∙ same_answer ((eqb a from && eqb b to) || is_connected w.connections.keys a b) (is_connected w.connections.keys a b)
-    (λ h. elim (or_cases (eqb a from && eqb b to) (is_connected w.connections.keys a b) h) [
+    ∙ same_answer ((eqb a from && eqb b to) || is_connected w.connections.items a b) (is_connected w.connections.items a b)
+    (λ h. elim (or_cases (eqb a from && eqb b to) (is_connected w.connections.items a b) h) [
       | inl this ↦
           let at = and_parts (eqb a from) (eqb b to) this in
-          ap (λ n. is_connected w.connections.keys n b) (eqb-true a from at.0) ∙ ap (is_connected w.connections.keys from) (eqb-true b to at.1) ∙ known
+          ap (λ n. is_connected w.connections.items n b) (eqb-true a from at.0) ∙ ap (is_connected w.connections.items from) (eqb-true b to at.1) ∙ known
       | inr earlier ↦ earlier
     ])
-    (λ h. or_right (eqb a from && eqb b to) (is_connected w.connections.keys a b) h)) in
-    ap (λ (cs : List Connection). record { ends = reverse w.ends.entries; connections = cs; order = option_map (λ closed. closed.order.keys) w.closed }) same
+    (λ h. or_right (eqb a from && eqb b to) (is_connected w.connections.items a b) h)) in
+    ap (λ (cs : List Connection). record { ends = reverse w.ends.entries; connections = cs; order = option_map (λ closed. keys_in closed.order) w.closed }) same
 
 -- which goes between nodes
 pub between-more : (ends : List (ℕ × End)) (old new : List Connection) (from to : ℕ) → IsConnectedMore old from to new → may_connect (end_at ends from) (end_at ends to) ≡ true → AreBetween (is_connected old) (map (λ e. e.0) ends)

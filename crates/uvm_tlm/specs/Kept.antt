@@ -1,6 +1,6 @@
 -- What a wiring keeps.
 use Rattle.std.specs.Prelude.{◌≡◌, ℕ, true, nat_eq, List, map, reverse}
-use Rattle.std.specs.HashMap.{get}
+use Rattle.std.specs.HashMap.{get, keys}
 use Rattle.std.specs.Option.{ForSome, option_map}
 use Rattle.uvm_tlm.specs.declared.wirings.Connection.{Connection}
 use Rattle.uvm_tlm.specs.declared.wirings.Wiring.TheInside.{Inside}
@@ -13,16 +13,16 @@ abbrev pub nodes_of : Inside → List ℕ
 nodes_of w = map (λ e. e.0) (reverse w.ends.entries)
 
 abbrev pub connections_of : Inside → List Connection
-connections_of w = connections_among (is_connected w.connections.keys) (nodes_of w)
+connections_of w = connections_among (is_connected w.connections.items) (nodes_of w)
 
 -- what a wiring is seen as
 abbrev pub value_of : Inside → WiringValue
-value_of w = record { ends = reverse w.ends.entries; connections = connections_of w; order = option_map (λ closed. closed.order.keys) w.closed }
+value_of w = record { ends = reverse w.ends.entries; connections = connections_of w; order = option_map (λ closed. keys closed.order) w.closed }
 
 -- connections go between its nodes, what stands at each node is found, and what was found at the close is the targets of each node and the driver of each sequencer
 pub record IsWired (w : Inside) : Type 0 where
   pub is_wiring : IsWiring (value_of w)
-  pub among : (from to : ℕ) → is_connected w.connections.keys from to ≡ true → (has (nodes_of w) from ≡ true) × (has (nodes_of w) to ≡ true)
+  pub among : (from to : ℕ) → is_connected w.connections.items from to ≡ true → (has (nodes_of w) from ≡ true) × (has (nodes_of w) to ≡ true)
   pub ends_found : (n : ℕ) → get nat_eq w.ends n ≡ end_at (reverse w.ends.entries) n
-  pub targets_found : ForSome w.closed (λ closed. (n : ℕ) → list_of closed.targets n ≡ targets_in (reverse w.ends.entries) (connections_of w) closed.order.keys n)
-  pub drivers_found : ForSome w.closed (λ closed. (n : ℕ) → get nat_eq closed.drivers n ≡ driver_in (reverse w.ends.entries) (connections_of w) closed.order.keys n)
+  pub targets_found : ForSome w.closed (λ closed. (n : ℕ) → list_of closed.targets n ≡ targets_in (reverse w.ends.entries) (connections_of w) (keys closed.order) n)
+  pub drivers_found : ForSome w.closed (λ closed. (n : ℕ) → get nat_eq closed.drivers n ≡ driver_in (reverse w.ends.entries) (connections_of w) (keys closed.order) n)

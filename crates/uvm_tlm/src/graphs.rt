@@ -3,6 +3,7 @@
 ghost use Rattle.std.specs.Prelude.{◌≡◌, ℕ, ◌++◌, ◌∷◌, [], nat_eq, reverse, IfOk, OnOk, if◌then◌else◌};
 ghost use Rattle.std.specs.HashMap.{get};
 ghost use Rattle.std.specs.List.{IsDistinct};
+ghost use Rattle.indexmap.specs.IndexMap.{keys};
 ghost use Rattle.indexmap.specs.IndexSet.{insert_all};
 ghost use Rattle.uvm_tlm.specs.NodeLists.{list_of};
 ghost use Rattle.uvm_tlm.specs.Graphs.{has, is_connected};
@@ -145,14 +146,16 @@ fn starts(alloc: Global, connections: &[Connection]) -> Result<NodeLists, AllocE
     Ok(starts)
 }
 
-// The set of some nodes, in their order.
-pub(crate) fn set_of(alloc: Global, nodes: &[NodeId]) -> Result<IndexSet<NodeId>, AllocError>
+// The places of some nodes, in their order.
+pub(crate) fn places_of(alloc: Global, nodes: &[NodeId]) -> Result<IndexMap<NodeId, ()>, AllocError>
     requires { IsDistinct nat_eq nodes.now }
-    ensures { IfOk result (λ set. set.keys ≡ nodes.now) }
+    ensures { IfOk result (λ places. keys places ≡ nodes.now) }
 {
-    let mut set = IndexSet::new(alloc);
-    insert_all(&mut set, nodes)?;
-    Ok(set)
+    let mut places = IndexMap::new(alloc);
+    for node in nodes {
+        places.insert(*node, ())?;
+    }
+    Ok(places)
 }
 
 // Puts some nodes behind the others of a set, each once.

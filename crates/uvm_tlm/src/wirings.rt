@@ -2,6 +2,7 @@
 
 ghost use Rattle.std.specs.Prelude.{◌≡◌, ℕ, ◌∷◌, ◌++◌, ◌==◌, ◌&&◌, ◌||◌, [], nat_eq, unwrap_or, Some, None, IsTrue, OnOk, OnErr, IfErr, if◌then◌else◌};
 ghost use Rattle.std.specs.HashMap.{get};
+ghost use Rattle.indexmap.specs.IndexMap.{keys};
 ghost use Rattle.std.specs.List.{after_first};
 ghost use Rattle.uvm_tlm.specs.NodeLists.{list_of};
 ghost use Rattle.uvm_tlm.specs.Faults.{refusal};
@@ -9,9 +10,9 @@ ghost use Rattle.uvm_tlm.specs.Wirings.{new_wiring, end_at, with_end, with_conne
 
 use crate::ends::{End, PortKind};
 use crate::faults::WireFault;
-use crate::graphs::{Graph, set_of};
+use crate::graphs::{Graph, places_of};
 use crate::node_lists::NodeLists;
-use indexmap::{IndexMap, IndexSet};
+use indexmap::IndexMap;
 use std::alloc::{AllocError, Global};
 use std::collections::HashMap;
 use std::marker::Model;
@@ -34,7 +35,8 @@ pub struct Connection {
 /// once the wiring is closed.
 pub struct Wiring {
     ends: IndexMap<NodeId, End>,
-    connections: IndexSet<Connection>,
+    // One that is made again stands here again: what is seen of two nodes is whether there is one.
+    connections: Vec<Connection>,
     closed: Option<Closed>,
 }
 
@@ -52,8 +54,9 @@ impl Drop for Wiring {
 // What is found when the wiring is closed.
 #[derive(Drop)]
 struct Closed {
-    // Each node with its place. Contracts say by it what was found.
-    order: IndexSet<NodeId>,
+    // Each node with its place. Contracts say by it what was found. (A map to nothing, since a set of the same library would be written
+    // out with each crate that keeps a wiring.)
+    order: IndexMap<NodeId, ()>,
     targets: NodeLists,
     // The first port that drives each sequencer.
     drivers: HashMap<NodeId, NodeId>,
@@ -77,7 +80,7 @@ impl Wiring {
     {
         Wiring {
             ends: IndexMap::new(alloc),
-            connections: IndexSet::new(alloc),
+            connections: Vec::new(alloc),
             closed: None,
         }
     }
@@ -173,7 +176,7 @@ impl Wiring {
         let graph = Graph::new(alloc, &self.ends, self.connections.as_slice())?;
         let targets = graph.targets(alloc, order)?;
         let drivers = graph.drivers(alloc, order, &targets)?;
-        let order = set_of(alloc, order)?;
+        let order = places_of(alloc, order)?;
         self.closed = Some(Closed {
             order,
             targets,
@@ -212,7 +215,7 @@ impl Wiring {
         ensures { result.now ≡ unwrap_or self.now.order [] }
     {
         match &self.closed {
-            Some(closed) => closed.order.as_slice(),
+            Some(closed) => closed.order.keys().as_slice(),
             None => &[],
         }
     }
@@ -286,10 +289,10 @@ impl Wiring {
 impl Closed {
     // The nodes behind one in path order.
     fn behind(&self, node: NodeId) -> &[NodeId]
-        ensures { result.now ≡ after_first (nat_eq node) self.now.order.keys }
+        ensures { result.now ≡ after_first (nat_eq node) (keys self.now.order) }
     {
         match self.order.get_index_of(&node) {
-            Some(place) => &self.order.as_slice()[place + 1..],
+            Some(place) => &self.order.keys().as_slice()[place + 1..],
             None => &[],
         }
     }
@@ -350,14 +353,14 @@ fn add_end(ends: &mut IndexMap<NodeId, End>, node: NodeId, end: End) -> Result<(
     Ok(())
 }
 
-// Adds a connection, unless it is there.
+// Adds a connection behind the others.
 fn add_connection(
-    connections: &mut IndexSet<Connection>,
+    connections: &mut Vec<Connection>,
     connection: Connection,
 ) -> Result<(), AllocError>
-    ensures added { OnOk result ((from to : ℕ) → is_connected connections.new.keys from to ≡ (((from == connection.from) && (to == connection.to)) || is_connected connections.old.keys from to)) }
-    ensures unchanged { OnErr result (connections.new.keys ≡ connections.old.keys) }
+    ensures added { OnOk result ((from to : ℕ) → is_connected connections.new.items from to ≡ (((from == connection.from) && (to == connection.to)) || is_connected connections.old.items from to)) }
+    ensures unchanged { OnErr result (connections.new.items ≡ connections.old.items) }
 {
-    connections.insert(connection)?;
+    connections.push(connection)?;
     Ok(())
 }

@@ -3,13 +3,11 @@
 #![tactic(auto)]
 
 mod counts;
-mod endings;
 mod flaws;
 mod records;
 mod runs;
 
 pub use counts::{Counts, Ticket};
-pub use endings::end;
 pub use flaws::Flaw;
 pub use records::Record;
 pub use runs::{Part, Play, Whims, run_script};

@@ -2,7 +2,7 @@
 
 use crate::flaws::Flaw;
 use crate::runs::Part;
-use bench_kernel::Core;
+use bench_run::Core;
 use std::alloc::Global;
 use uvm_object::{Entry, Log, Object, Outcome, Who};
 

@@ -1,10 +1,9 @@
 //! The run of a bench that is watched.
 
 use crate::counts::{Counts, Ticket};
-use crate::endings::end;
 use crate::flaws::Flaw;
 use crate::records::Record;
-use bench_kernel::{Core, CoreFault, Kernel, Misfit, Step, Unfit};
+use bench_run::{Core, CoreFault, Kernel, Misfit, Step, Unfit, end_kernel};
 use bench_script::Script;
 use rand_core::SeedableRng;
 use rand_pcg::Pcg64;
@@ -110,7 +109,7 @@ pub fn run_script<P: Part, W: Whims<P>>(
     match Kernel::<Object<P>>::new(alloc, script) {
         Ok(mut kernel) => {
             let played = run_kernel(alloc, &mut kernel, play);
-            end(kernel);
+            end_kernel(kernel);
             played?;
             if !play.record.are_back(play.counts.made()) {
                 return Err(Flaw::NotBack);

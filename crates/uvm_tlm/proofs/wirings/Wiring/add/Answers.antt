@@ -1,5 +1,6 @@
 use Rattle.std.proofs.Common.{◌≡◌, ◌∷◌, nat_eq, reverse, Some, None, is_some, option_map, cond, refl, ap, sym, subst, ◌∙◌}
 use Rattle.std.proofs.lemmas.Bool.{or_right}
+use Rattle.std.specs.HashMap.{keys}
 use Rattle.uvm_tlm.specs.Graphs.{has}
 use Rattle.uvm_tlm.specs.Kept.{nodes_of, value_of}
 use Rattle.uvm_tlm.specs.Wirings.{IsWiring, end_at, with_end}
@@ -11,11 +12,11 @@ invariant_of-self-2 c =
     let inside = c.self.inside in
     let turned : reverse c.add_end.new.ends.entries ≡ (c.args.node, c.args.end) ∷ reverse inside.ends.entries =
     ap reverse c.in_ok-add_end.ensures.added ∙ reverse-push inside.ends.entries (c.args.node, c.args.end) in
-    let unclosed : inside.closed ≡ None = nothing_found (λ found. found.order.keys) inside.closed (ap (λ v. is_some v.order) c.self.view_is ∙ sym c.is_closed.ensures ∙ c.if-is_closed.false) in
+    let unclosed : inside.closed ≡ None = nothing_found (λ found. keys found.order) inside.closed (ap (λ v. is_some v.order) c.self.view_is ∙ sym c.is_closed.ensures ∙ c.if-is_closed.false) in
     let unknown : end_at (reverse inside.ends.entries) c.args.node ≡ None = ap (λ v. end_at v.ends c.args.node) c.self.view_is ∙ c.requires in
     let grown = seen-more inside (record inside { ends = c.add_end.new.ends }) c.args.node c.args.end turned refl refl unknown c.self.invariant.among in
     record {
-      is_wiring = subst IsWiring (sym grown) (added (value_of inside) c.args.node c.args.end (ap (option_map (λ found. found.order.keys)) unclosed) unknown c.self.invariant.is_wiring);
+      is_wiring = subst IsWiring (sym grown) (added (value_of inside) c.args.node c.args.end (ap (option_map (λ found. keys found.order)) unclosed) unknown c.self.invariant.is_wiring);
       among = λ from to h.
           let there = c.self.invariant.among from to h in
           rw turned (or_right _ (has (nodes_of inside) from) there.0, or_right _ (has (nodes_of inside) to) there.1);

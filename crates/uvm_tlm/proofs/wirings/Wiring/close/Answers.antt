@@ -1,5 +1,5 @@
 use Rattle.std.proofs.Common.{◌≡◌, ℕ, nat_eq, reverse, ap, sym, subst, ◌∙◌}
-use Rattle.std.specs.HashMap.{get}
+use Rattle.std.specs.HashMap.{get, keys}
 use Rattle.uvm_tlm.specs.Kept.{connections_of, nodes_of, value_of}
 use Rattle.uvm_tlm.specs.NodeLists.{list_of}
 use Rattle.uvm_tlm.specs.Wirings.{IsPathOrder, driver_in, is_connected, targets_in}
@@ -10,19 +10,19 @@ use Rattle.uvm_tlm.proofs.wirings.Wiring.close.Goals as goal
 pub invariant_of-self : goal.invariant_of-self
 invariant_of-self c =
     let inside = c.self.inside in
-    let order : c.in_ok-order.order.keys ≡ c.args.order.now = c.in_ok-order.ensures in
-    let whole : IsPathOrder c.in_ok-order.order.keys (value_of inside).ends =
-    subst (λ v. IsPathOrder c.in_ok-order.order.keys v.ends) (sym c.self.view_is) (subst (λ l. IsPathOrder l c.args.self.now.ends) (sym order) c.requires) in
-    let graph : c.in_ok-graph.graph ≡ record { ends = reverse inside.ends.entries; connections = inside.connections.keys } =
-    c.in_ok-graph.ensures ∙ ap (λ l. record { ends = reverse inside.ends.entries; connections = l }) c.as_slice.ensures.keys in
-    let same : (from to : ℕ) → is_connected inside.connections.keys from to ≡ is_connected (connections_of inside) from to =
-    λ from to. sym (listed (is_connected inside.connections.keys) (nodes_of inside) c.self.invariant.among from to) in
+    let order : keys c.in_ok-order.order ≡ c.args.order.now = c.in_ok-order.ensures in
+    let whole : IsPathOrder (keys c.in_ok-order.order) (value_of inside).ends =
+    subst (λ v. IsPathOrder (keys c.in_ok-order.order) v.ends) (sym c.self.view_is) (subst (λ l. IsPathOrder l c.args.self.now.ends) (sym order) c.requires) in
+    let graph : c.in_ok-graph.graph ≡ record { ends = reverse inside.ends.entries; connections = inside.connections.items } =
+    c.in_ok-graph.ensures ∙ ap (λ l. record { ends = reverse inside.ends.entries; connections = l }) c.as_slice.ensures.value in
+    let same : (from to : ℕ) → is_connected inside.connections.items from to ≡ is_connected (connections_of inside) from to =
+    λ from to. sym (listed (is_connected inside.connections.items) (nodes_of inside) c.self.invariant.among from to) in
     record {
-      is_wiring = closed (value_of inside) c.in_ok-order.order.keys whole c.self.invariant.is_wiring;
+      is_wiring = closed (value_of inside) (keys c.in_ok-order.order) whole c.self.invariant.is_wiring;
       among = c.self.invariant.among;
       ends_found = c.self.invariant.ends_found;
-      targets_found = for_some (λ found. (n : ℕ) → list_of found.targets n ≡ targets_in (reverse inside.ends.entries) (connections_of inside) found.order.keys n) _
-          (λ n. c.in_ok-targets.ensures n ∙ ap (λ g. targets_in g.ends g.connections c.args.order.now n) graph ∙ targets-same inside.connections.keys (connections_of inside) same (reverse inside.ends.entries) c.args.order.now n ∙ ap (λ l. targets_in (reverse inside.ends.entries) (connections_of inside) l n) (sym order));
-      drivers_found = for_some (λ found. (n : ℕ) → get nat_eq found.drivers n ≡ driver_in (reverse inside.ends.entries) (connections_of inside) found.order.keys n) _
-          (λ n. c.in_ok-drivers.ensures n ∙ ap (λ g. driver_in g.ends g.connections c.args.order.now n) graph ∙ driver-same inside.connections.keys (connections_of inside) same (reverse inside.ends.entries) c.args.order.now n ∙ ap (λ l. driver_in (reverse inside.ends.entries) (connections_of inside) l n) (sym order));
+      targets_found = for_some (λ found. (n : ℕ) → list_of found.targets n ≡ targets_in (reverse inside.ends.entries) (connections_of inside) (keys found.order) n) _
+          (λ n. c.in_ok-targets.ensures n ∙ ap (λ g. targets_in g.ends g.connections c.args.order.now n) graph ∙ targets-same inside.connections.items (connections_of inside) same (reverse inside.ends.entries) c.args.order.now n ∙ ap (λ l. targets_in (reverse inside.ends.entries) (connections_of inside) l n) (sym order));
+      drivers_found = for_some (λ found. (n : ℕ) → get nat_eq found.drivers n ≡ driver_in (reverse inside.ends.entries) (connections_of inside) (keys found.order) n) _
+          (λ n. c.in_ok-drivers.ensures n ∙ ap (λ g. driver_in g.ends g.connections c.args.order.now n) graph ∙ driver-same inside.connections.items (connections_of inside) same (reverse inside.ends.entries) c.args.order.now n ∙ ap (λ l. driver_in (reverse inside.ends.entries) (connections_of inside) l n) (sym order));
     }

@@ -2,7 +2,7 @@ use Rattle.std.proofs.Common.{◌∙◌, take, reverse, sym, ap}
 use Rattle.uvm_glob.specs.Paths.{path_text}
 use Rattle.uvm_factory.specs.Steps.{after_override}
 use Rattle.uvm_factory.specs.Overrides.{type_step}
-use Rattle.bench_script.proofs.scripts.Script.factory.Goals as goal
+use Rattle.bench_script.proofs.factories.factory_of.Goals as goal
 
 -- no override was given
 pub loop-given-init : goal.loop-given-init

@@ -3,8 +3,6 @@
 #![tactic(auto)]
 
 mod program;
-#[cfg(test)]
-mod program_tests;
 
 use bus_jobs::{Breakage, Verdict, tell};
 use std::io::BufWriter;

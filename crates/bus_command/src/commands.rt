@@ -1,6 +1,6 @@
 //! The command line.
 ghost use Rattle.std.specs.Prelude.{◌≡◌, ◌⊎◌, ℕ, List, Some, Err, IfOk, IfErr, IsErrAnd, MatchResult, OnOk, OnErr, codes, map, option_map, [], ◌∷◌, false, true};
-ghost use Rattle.clap.specs.Words.{app_of, fault_of, first_of, found_of, new_app, rows_of, rule_of, subcommand_rows_of, takes};
+ghost use Rattle.clap.specs.Words.{app_of, fault_of, first_of, found_of, new_app, rows_of, rule_of, subcommand_rows_of, takes, with_rule, with_subcommand};
 ghost use Rattle.clap.specs.Takes.{is_given};
 ghost use Rattle.clap.specs.declared.builder.command.Command.TheViews.{out-Command};
 ghost use Rattle.clap.specs.declared.error.kind.ErrorKind.TheVariants.{DisplayHelp, DisplayVersion};
@@ -146,8 +146,14 @@ fn command<'a>(alloc: Global) -> Result<Command<'a>, AllocError>
     ensures { IfOk result (λ c. app_of c ≡ bus_bench_app) }
 {
     let debug = debug_command(alloc)?;
-    let run = run_command(alloc)?;
-    top_command(alloc).subcommand(debug)?.subcommand(run)
+    with_run(alloc, top_command(alloc).subcommand(debug)?)
+}
+
+// A command with the subcommand `run` behind its others.
+fn with_run<'a>(alloc: Global, top: Command<'a>) -> Result<Command<'a>, AllocError>
+    ensures { IfOk result (λ c. app_of c ≡ with_subcommand (app_of top.entry) run_app.top) }
+{
+    top.subcommand(run_command(alloc)?)
 }
 
 // `bus_bench` without its subcommands.
@@ -174,11 +180,19 @@ fn run_command<'a>(alloc: Global) -> Result<Command<'a>, AllocError>
     ensures app { IfOk result (λ c. app_of c ≡ run_app) }
     ensures local { IfOk result (λ c. (out-Command c).has_globals ≡ false) }
 {
-    described(alloc, "run", ABOUT_RUN)
-        .arg(trace_arg(alloc))?
-        .arg(seed_arg(alloc))?
+    run_options(alloc)?
         .arg(test_arg(alloc))?
         .arg(file_arg(alloc))
+}
+
+// `run [--trace] [--seed N]`.
+fn run_options<'a>(alloc: Global) -> Result<Command<'a>, AllocError>
+    ensures app { IfOk result (λ c. app_of c ≡ with_rule (with_rule (new_app (codes "run")) trace_rule) seed_rule) }
+    ensures local { IfOk result (λ c. (out-Command c).has_globals ≡ false) }
+{
+    described(alloc, "run", ABOUT_RUN)
+        .arg(trace_arg(alloc))?
+        .arg(seed_arg(alloc))
 }
 
 // A command whose help says what it is for, and has the example.

@@ -15,40 +15,53 @@ const ABOUT_CHECKED: &str =
 
 /// Makes the command line: `random [--trace] FIRST COUNT`, `counted FILE` or `checked FILE`.
 pub(crate) fn command<'a>(alloc: Global) -> Result<Command<'a>, AllocError> {
-    let random = random_command(alloc)?;
-    let counted = file_command(alloc, "counted", ABOUT_COUNTED)?;
-    let checked = file_command(alloc, "checked", ABOUT_CHECKED)?;
+    let top = with_random(alloc, top_command(alloc))?;
+    let top = with_file(alloc, top, "counted", ABOUT_COUNTED)?;
+    with_file(alloc, top, "checked", ABOUT_CHECKED)
+}
+
+// `hostile_bench` without its subcommands.
+fn top_command<'a>(alloc: Global) -> Command<'a> {
     Command::new(alloc, "hostile_bench")
         .about(ABOUT)
         .version("1.0.0")
         .subcommand_required(true)
-        .subcommand(random)?
-        .subcommand(counted)?
-        .subcommand(checked)
+}
+
+// A command with the subcommand `random` behind its others.
+fn with_random<'a>(alloc: Global, top: Command<'a>) -> Result<Command<'a>, AllocError> {
+    top.subcommand(random_command(alloc)?)
+}
+
+// A command with a subcommand that takes a file behind its others.
+fn with_file<'a>(
+    alloc: Global,
+    top: Command<'a>,
+    name: &'a str,
+    about: &'a str,
+) -> Result<Command<'a>, AllocError> {
+    top.subcommand(file_command(alloc, name, about)?)
 }
 
 fn random_command<'a>(alloc: Global) -> Result<Command<'a>, AllocError> {
-    let trace = Arg::new(alloc, "trace")
-        .long("trace")
-        .help("Prints each script, and the transcript of its run")
-        .action(ArgAction::SetTrue);
     Command::new(alloc, "random")
         .about(ABOUT_RANDOM)
-        .arg(trace)?
-        .arg(
-            number(alloc, "first")
-                .value_name("FIRST")
-                .help("The first seed"),
-        )?
-        .arg(
-            number(alloc, "count")
-                .value_name("COUNT")
-                .help("How many seeds"),
-        )
+        .arg(trace_arg(alloc))?
+        .arg(number_arg(alloc, "first", "FIRST", "The first seed"))?
+        .arg(number_arg(alloc, "count", "COUNT", "How many seeds"))
 }
 
-fn number<'a>(alloc: Global, id: &'a str) -> Arg<'a> {
+fn trace_arg<'a>(alloc: Global) -> Arg<'a> {
+    Arg::new(alloc, "trace")
+        .long("trace")
+        .help("Prints each script, and the transcript of its run")
+        .action(ArgAction::SetTrue)
+}
+
+fn number_arg<'a>(alloc: Global, id: &'a str, value: &'a str, help: &'a str) -> Arg<'a> {
     Arg::new(alloc, id)
+        .value_name(value)
+        .help(help)
         .required(true)
         .value_parser(value_parser!(u64))
 }

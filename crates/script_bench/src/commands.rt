@@ -22,23 +22,33 @@ pub struct Options {
 /// Makes the command line: `run [--trace] [--seed N] [--test NAME] FILE..`.
 pub fn command<'a>(alloc: Global) -> Result<Command<'a>, AllocError> {
     let run = run_command(alloc)?;
+    top_command(alloc).subcommand(run)
+}
+
+// `script_bench` without its subcommand.
+fn top_command<'a>(alloc: Global) -> Command<'a> {
     Command::new(alloc, "script_bench")
         .about(ABOUT)
         .after_help(EXAMPLE)
         .version("1.0.0")
         .propagate_version(true)
         .subcommand_required(true)
-        .subcommand(run)
 }
 
+// `run [--trace] [--seed N] [--test NAME] FILE..`.
 fn run_command<'a>(alloc: Global) -> Result<Command<'a>, AllocError> {
+    run_options(alloc)?
+        .arg(test_arg(alloc))?
+        .arg(files_arg(alloc))
+}
+
+// `run [--trace] [--seed N]`.
+fn run_options<'a>(alloc: Global) -> Result<Command<'a>, AllocError> {
     Command::new(alloc, "run")
         .about(ABOUT_RUN)
         .after_help(EXAMPLE)
         .arg(trace_arg(alloc))?
-        .arg(seed_arg(alloc))?
-        .arg(test_arg(alloc))?
-        .arg(files_arg(alloc))
+        .arg(seed_arg(alloc))
 }
 
 fn trace_arg<'a>(alloc: Global) -> Arg<'a> {

@@ -107,7 +107,7 @@ fn test_of(run: &ArgMatches<'_>) -> Result<Option<Name>, PathFault> {
     }
 }
 
-// Runs some files one after another. Where there are several, a line before the text of each names it, and one behind says its status.
+// Runs some files: one as it is, several one after another.
 fn run_files<R: Files + AllocGlobal, O: Write, E: Write>(
     rt: &R,
     files: &[&str],
@@ -116,24 +116,47 @@ fn run_files<R: Files + AllocGlobal, O: Write, E: Write>(
     out: &mut O,
     err: &mut E,
 ) -> u8 {
-    if let [file] = files {
-        return run_file(rt, file, options, test, out, err);
+    match files {
+        [file] => run_file(rt, file, options, test, out, err),
+        _ => run_several(rt, files, options, test, out, err),
     }
+}
+
+// Runs several files one after another, and answers the greatest status.
+fn run_several<R: Files + AllocGlobal, O: Write, E: Write>(
+    rt: &R,
+    files: &[&str],
+    options: &Options,
+    test: Option<&Name>,
+    out: &mut O,
+    err: &mut E,
+) -> u8 {
     let mut greatest = 0;
     for file in files {
-        if writeln!(out, "== {file}").is_err() {
+        let Ok(status) = run_named(rt, file, options, test, out, err) else {
             return broken(Breakage::Output, err);
-        }
-        let status = run_file(rt, file, options, test, out, err);
+        };
         greatest = greatest.max(status);
-        if writeln!(out, "status {status}").is_err() {
-            return broken(Breakage::Output, err);
-        }
     }
     if out.flush().is_err() {
         return broken(Breakage::Output, err);
     }
     greatest
+}
+
+// Runs a file. A line before its text names it, and one behind says its status.
+fn run_named<R: Files + AllocGlobal, O: Write, E: Write>(
+    rt: &R,
+    file: &str,
+    options: &Options,
+    test: Option<&Name>,
+    out: &mut O,
+    err: &mut E,
+) -> io::Result<u8> {
+    writeln!(out, "== {file}")?;
+    let status = run_file(rt, file, options, test, out, err);
+    writeln!(out, "status {status}")?;
+    Ok(status)
 }
 
 fn run_file<R: Files + AllocGlobal, O: Write, E: Write>(

@@ -12,10 +12,7 @@ use script_values::values::{number, path, text};
 use std::alloc::{AllocError, Global};
 use toml::{Table, Value};
 use uvm_glob::Path;
-use uvm_phase::Phase;
-
-/// The greatest drain time in ticks.
-const MAX_TICKS: u64 = 1_000_000_000_000_000;
+use uvm_phase::{MAX_TICKS, Phase};
 
 /// The drain time of the node at a path, in a phase that takes time.
 #[derive(Drop)]

@@ -13,6 +13,9 @@ use std::collections::VecDeque;
 use std::hash::Hash;
 use std::marker::Model;
 
+/// The most ticks of a wait and of a drain time.
+pub const MAX_TICKS: u64 = 1_000_000_000_000_000;
+
 /// What caused a call.
 #[derive(Clone, Copy, PartialEq, Eq)]
 pub struct Cause {

@@ -6,5 +6,5 @@ pub mod laws;
 mod owners;
 mod phases;
 
-pub use agendas::{Agenda, Cause, Due};
+pub use agendas::{Agenda, Cause, Due, MAX_TICKS};
 pub use phases::{Phase, Schedule};

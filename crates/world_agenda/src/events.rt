@@ -40,9 +40,6 @@ pub fn cancel(agenda: &mut Agenda<Owner, Notice>, performer: Who)
     agenda.cancel(&Owner::Object(performer));
 }
 
-/// The most ticks of a wait and of a drain time.
-pub const MAX_TICKS: u64 = 1_000_000_000_000_000;
-
 /// Answers the cause of the one call that the entry at a place of the log makes due.
 pub fn caused_at(place: u32) -> Cause
     ensures { result ≡ caused_at place }

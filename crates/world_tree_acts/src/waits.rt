@@ -8,8 +8,7 @@ ghost use Rattle.world_services.specs.Attempts.{CanPerform, IsAttempt};
 
 use std::alloc::{AllocError, Global};
 use uvm_object::{Call, Fatal};
-use uvm_phase::Phase;
-use world_agenda::events::MAX_TICKS;
+use uvm_phase::{MAX_TICKS, Phase};
 use world_agenda::stages::in_task;
 use world_services::attempts::{Attempt, done, refused};
 use world_services::services::Services;

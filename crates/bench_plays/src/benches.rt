@@ -7,7 +7,7 @@ use crate::counts::{Count, begins, write_counts};
 use crate::endings::{Ended, ended};
 use crate::objects::{Idle, Mute, Spinner};
 use crate::runs::{write_break, write_run};
-use bench_run::{CoreFault, Kernel, end_kernel};
+use bench_run::{CoreFault, Kernel, empty_kernel};
 use bench_script::{Script, read_document, read_table};
 use scripted_objects::{Answers, Scripted, read_answers};
 use std::alloc::{AllocError, Global};
@@ -125,7 +125,8 @@ fn kernel_shows<O: UvmObject, F: Fn(&Name) -> Result<Option<O>, AllocError>>(
     match Kernel::new(alloc, script) {
         Ok(mut kernel) => {
             let right = is_right(alloc, &mut kernel, scene, make);
-            end_kernel(kernel);
+            empty_kernel(&mut kernel);
+            kernel.finish();
             right
         }
         Err(fault) => fault == CoreFault::NoTest && matches!(scene.look, Look::Nothing),

@@ -1,10 +1,10 @@
-//! How a run is over, and the end of a kernel.
+//! How a run is over, and a kernel that is given up.
 
-ghost use Rattle.std.specs.Prelude.{◌≡◌};
+ghost use Rattle.std.specs.Prelude.{◌≡◌, [], true};
+ghost use Rattle.bench_kernel.specs.Kernels.{abandoned, is_done};
 ghost use Rattle.bench_run.specs.Endings.{exit_status, is_clean};
 
 use crate::faults::RunFault;
-use crate::running::give_all_back;
 use bench_kernel::Kernel;
 use uvm_object::{Reason, UvmObject};
 
@@ -41,10 +41,19 @@ pub fn exit_status(ended: &Result<Ending, RunFault>) -> u8
     }
 }
 
-/// Ends a kernel, whatever became of its run: it is abandoned, each object that it holds is given back and dropped, and the kernel is dropped.
-/// Takes no memory.
-pub fn end_kernel<O: UvmObject>(mut kernel: Kernel<O>) {
+/// Empties a kernel, whatever became of its run: it is abandoned, and each object that it holds is given back and dropped. `Kernel::finish` may
+/// end it then. Takes no memory.
+pub fn empty_kernel<O: UvmObject>(kernel: &mut Kernel<O>)
+    ensures { kernel.new ≡ record (abandoned kernel.old) { held = [] } }
+{
     kernel.abandon();
-    give_all_back(&mut kernel);
-    kernel.finish();
+    give_all_back(kernel);
+}
+
+// Gives back each object that is held.
+fn give_all_back<O: UvmObject>(kernel: &mut Kernel<O>)
+    requires { is_done kernel.old ≡ true }
+    ensures { kernel.new ≡ record kernel.old { held = [] } }
+{
+    while let Some((_, _)) = kernel.give_back() {}
 }

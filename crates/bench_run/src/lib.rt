@@ -19,7 +19,7 @@ mod running;
 mod sinks;
 
 pub use bench_kernel::{Core, CoreFault, Kernel, Misfit, Step, Unfit};
-pub use endings::{Ending, end_kernel, exit_status};
+pub use endings::{Ending, empty_kernel, exit_status};
 pub use faults::RunFault;
 pub use running::{run_kernel, run_script};
 pub use sinks::Sink;

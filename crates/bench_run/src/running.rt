@@ -8,7 +8,7 @@ ghost use Rattle.bench_history.specs.Next.{IsLegal, need_in, next_of};
 ghost use Rattle.bench_kernel.specs.Health.TheVariants.{Good};
 ghost use Rattle.bench_history.specs.History.{is_over};
 ghost use Rattle.bench_kernel.specs.Cores.{IsDrawn, is_sound, last_text, word_in};
-ghost use Rattle.bench_kernel.specs.Kernels.{is_done, open_need, wanted_in};
+ghost use Rattle.bench_kernel.specs.Kernels.{open_need, wanted_in};
 ghost use Rattle.bench_kernel.specs.Steps.{IsSameLog, IsSupplied};
 ghost use Rattle.bench_history.specs.Reports.{report_commands};
 ghost use Rattle.uvm_report.specs.Commands.{quit_limit};
@@ -20,7 +20,7 @@ ghost use Rattle.bench_run.specs.Sinks.{TookMore};
 ghost use Rattle.bench_run.specs.Texts.{TookTexts};
 ghost use Rattle.bench_run.specs.Running.{Grows, HasTold, IsEnding, IsDeclined, IsHalted, IsRun, IsUnwritten, LeavesRun, log_counts, summary_of};
 
-use crate::endings::Ending;
+use crate::endings::{Ending, empty_kernel};
 use crate::faults::RunFault;
 use crate::sinks::Sink;
 use bench_history::laws;
@@ -105,8 +105,7 @@ pub fn run_kernel<O: UvmObject, R: Rng, F: Fn(&Name) -> Result<Option<O>, AllocE
 {
     let mut text = Vec::new(alloc);
     let ended = run_to_end(kernel, words, trace, make, &mut text, out);
-    kernel.abandon();
-    give_all_back(kernel);
+    empty_kernel(kernel);
     ended
 }
 
@@ -326,12 +325,4 @@ fn reports_of<O: UvmObject>(kernel: &Kernel<O>) -> &Reports
         Some(reports) => reports,
         None => unreachable!(),
     }
-}
-
-// Gives back each object that is held.
-pub(crate) fn give_all_back<O: UvmObject>(kernel: &mut Kernel<O>)
-    requires { is_done kernel.old ≡ true }
-    ensures { kernel.new ≡ record kernel.old { held = [] } }
-{
-    while let Some((_, _)) = kernel.give_back() {}
 }

@@ -58,9 +58,9 @@ fn trace_arg<'a>(alloc: Global) -> Arg<'a> {
         .action(ArgAction::SetTrue)
 }
 
-fn number_arg<'a>(alloc: Global, id: &'a str, value: &'a str, help: &'a str) -> Arg<'a> {
+fn number_arg<'a>(alloc: Global, id: &'a str, value_name: &'a str, help: &'a str) -> Arg<'a> {
     Arg::new(alloc, id)
-        .value_name(value)
+        .value_name(value_name)
         .help(help)
         .required(true)
         .value_parser(value_parser!(u64))

@@ -141,9 +141,9 @@ impl Wiring {
         self.add(node, End::Sequencer)
     }
 
-    /// Connects a node to another; to do so again changes nothing. The first of these that holds is the fault: `Late` where
-    /// the wiring is closed; `Unknown` where nothing was added at one of the nodes; `KindDiffers` where no connection goes from
-    /// the one to the other; `Memory` where memory is refused. A fault connects nothing.
+    /// Connects a node to another; to do so again changes nothing that shows, and takes memory again. The first of these that holds is the
+    /// fault: `Late` where the wiring is closed; `Unknown` where nothing was added at one of the nodes; `KindDiffers` where no connection
+    /// goes from the one to the other; `Memory` where memory is refused. A fault connects nothing.
     #[tactic(auto, unfolding(crate::specs::Wirings::connect_fault))]
     pub fn connect(&mut self, from: NodeId, to: NodeId) -> Result<(), WireFault>
         ensures ok { OnOk result (connect_fault self.old from to ≡ None) }

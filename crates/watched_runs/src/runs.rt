@@ -3,7 +3,7 @@
 use crate::counts::{Counts, Ticket};
 use crate::flaws::Flaw;
 use crate::records::Record;
-use bench_run::{Core, CoreFault, Kernel, Misfit, Step, Unfit, end_kernel};
+use bench_run::{Core, CoreFault, Kernel, Misfit, Step, Unfit, empty_kernel};
 use bench_script::Script;
 use rand_core::SeedableRng;
 use rand_pcg::Pcg64;
@@ -109,7 +109,8 @@ pub fn run_script<P: Part, W: Whims<P>>(
     match Kernel::<Object<P>>::new(alloc, script) {
         Ok(mut kernel) => {
             let played = run_kernel(alloc, &mut kernel, play);
-            end_kernel(kernel);
+            empty_kernel(&mut kernel);
+            kernel.finish();
             played?;
             if !play.record.are_back(play.counts.made()) {
                 return Err(Flaw::NotBack);

@@ -1,7 +1,7 @@
 use Rattle.std.proofs.Common.{◌≡◌, Bool, true, false, ◌||◌, if◌then◌else◌, refl}
 use Rattle.bench_history.specs.History.{is_over}
 use Rattle.bench_kernel.specs.Kernels.{KernelValue, abandoned, is_done}
-use Rattle.bench_run.proofs.endings.end_kernel.Goals as goal
+use Rattle.bench_run.proofs.endings.empty_kernel.Goals as goal
 
 or-true : (failed : Bool) → (failed || true) ≡ true
 or-true true = refl
@@ -15,4 +15,4 @@ abandoned-done kernel = by-end (is_over kernel.core.history) refl where
   by-end false is = refl
 
 pub give_all_back-requires : goal.give_all_back-requires
-give_all_back-requires g c = rw c.abandon.ensures (abandoned-done c.args.kernel)
+give_all_back-requires g c = rw c.abandon.ensures (abandoned-done c.args.kernel.now)

@@ -1,6 +1,6 @@
 use Rattle.std.proofs.Common.{◌≡◌, true, length}
 use Rattle.bench_kernel.specs.Kernels.{is_done}
-use Rattle.bench_run.proofs.running.give_all_back.Given as goal
+use Rattle.bench_run.proofs.endings.give_all_back.Given as goal
 
 -- objects may be given back all the while, and nothing else changes
 abbrev pub invariant-loop : goal.invariant-loop

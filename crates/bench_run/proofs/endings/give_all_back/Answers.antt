@@ -1,6 +1,6 @@
 use Rattle.std.proofs.Common.{◌∷◌, arith}
 use Rattle.std.proofs.lemmas.List.Sorted.{length_permutation}
-use Rattle.bench_run.proofs.running.give_all_back.Goals as goal
+use Rattle.bench_run.proofs.endings.give_all_back.Goals as goal
 
 -- one less is held
 pub loop-smaller-in-Some : goal.loop-smaller-in-Some

@@ -1,11 +1,12 @@
-"""A machine of another make: it runs the files of `script_bench`, and was written from the requirements, without a look at the kernel's code.
+"""A second implementation, independent of the kernel: it runs the files of `script_bench`, and was written from the requirements alone.
 
-usage: tools/second_machine [--trace] [--seed N] [--test NAME] [--rows] FILE..
+usage: python3 tools/second_machine [--trace] [--seed N] [--test NAME] [--rows] FILE..
 
-The stored run of script_bench is its text (tools/rows). It knows the run-time phases (IEEE 1800.2-2020, Clause 9) and version 2 of scripts too, which
-the kernel does not have yet. --rows takes the keys decline, seed and trace beside those of a script as well, with trace on by default.
+Its text is the stored run of script_bench (tools/rows). --rows accepts the keys decline, seed and trace in addition to those of a script, turns
+the trace on by default, and accepts types without objects.
 """
 
+import os
 import re
 import sys
 from collections import deque
@@ -13,7 +14,7 @@ from collections import deque
 from words import Fault, M64, is_name, script_fault
 from scripts import Script, judged, read_tree
 from answers import read_answers
-from bus import Maker
+from bus import Maker, judge_objects
 from machine import Machine
 
 
@@ -60,17 +61,22 @@ def read_file(name):
         with open(name, "rb") as file:
             return file.read()
     except OSError:
-        raise Fault("cannot read the file", 3) from None
+        raise Fault(unread(name), 3) from None
+
+
+def unread(name):
+    """Why a file was not read."""
+    return "is a directory" if os.path.isdir(name) else "cannot read the file" if os.path.exists(name) else "no such file"
 
 
 def run_file(name, options, write):
-    """Runs one file and answers its status; what it has wrong goes to standard error."""
+    """Runs one file and returns its status; reports what is wrong with it on standard error."""
     try:
         machine = prepare(read_file(name), options, write)
         return machine.run()
     except Fault as fault:
         sys.stdout.flush()
-        print(f"script_bench: {fault.line}", file=sys.stderr)
+        print(f"script_bench: {name}: {fault.line}", file=sys.stderr)
         return fault.status
 
 
@@ -83,6 +89,8 @@ def prepare(data, options, write):
     if script.test is None:
         raise script_fault("Missing")
     answers = read_answers(tree.get("answers", {}), script.types)
+    if not options.rows:
+        judge_objects(script.types, answers)
     seed, trace, declined = options.seed, options.trace, ()
     if options.rows:
         declined, trace = tree.get("decline", ()), tree.get("trace", True)

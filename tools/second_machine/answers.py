@@ -324,10 +324,10 @@ def read_rule(place, key, value):
     elif isinstance(value, list) and all(map(is_texts, value)):
         lists, every = value, False
     else:
-        raise Fault(f"{place}: no list of acts")
+        raise Fault(f"{place}: expected an array of action strings")
     is_call, has_item = judge_key(key)
     if not is_call:
-        raise Fault(f"{place}: no call")
+        raise Fault(f"{place}: not a call")
     return Rule(key, [[read_reply(place, text, has_item) for text in texts] for texts in lists], every)
 
 
@@ -335,26 +335,26 @@ def read_reply(place, text, has_item):
     try:
         act = read_act(text)
     except NoAct:
-        raise Fault(f"{place}: no act: {text}") from None
+        raise Fault(f"{place}: not an action: {text}") from None
     if takes_star(act) and not has_item:
-        raise Fault(f"{place}: no item to pass on: {text}")
+        raise Fault(f"{place}: '*' needs a call that carries an item: {text}")
     return act
 
 
 def read_answers(tree, types):
     if not isinstance(tree, dict):
-        raise Fault("answers: no table")
+        raise Fault("answers: not a table")
     answers = {}
     for name in sorted(tree):
         if not is_name(name):
-            raise Fault(f"answers.{name}: no name")
+            raise Fault(f"answers.{name}: not a name")
         if not isinstance(tree[name], dict):
-            raise Fault(f"answers.{name}: no list of acts")
+            raise Fault(f"answers.{name}: not a table")
         rules = [read_rule(f'answers.{name}."{key}"', key, tree[name][key]) for key in sorted(tree[name])]
         answers[name] = sorted(rules, key=lambda rule: (-len(rule.key), rule.start is not None))
     for name in answers:
         if name not in types:
-            raise Fault(f"answers.{name}: no type of the script")
+            raise Fault(f"answers.{name}: not declared in 'type'")
     return answers
 
 

@@ -1,6 +1,6 @@
 """The objects of the bus bench. A call `next_item p i` is answered by the method `next_item`."""
 
-from words import read_path
+from words import Fault, read_path
 from answers import MODES, Scripted
 
 
@@ -262,8 +262,15 @@ BUS_TYPES = {
 }
 
 
+def judge_objects(types, answers):
+    """Refuses a script with a type that has neither answers nor an object of the bus bench."""
+    for name in types:
+        if name not in answers and name not in BUS_TYPES:
+            raise Fault(f"type {name} has no [answers.{name}] and is not built in")
+
+
 class Maker:
-    """Makes the objects of a file: data where the type has answers, else the bus bench's, else idle ones."""
+    """Makes the objects of a file: from the answers of the type if it has any, otherwise that of the bus bench, otherwise an idle one."""
 
     def __init__(self, answers, declined):
         self.answers = answers

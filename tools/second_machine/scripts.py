@@ -2,7 +2,7 @@
 
 import tomllib
 
-from words import I64, RUNTIME, U16, is_glob, is_name, read_path, script_fault
+from words import Fault, I64, RUNTIME, U16, is_glob, is_name, read_path, script_fault
 
 
 SEVERITIES = ("INFO", "WARNING", "ERROR", "FATAL")
@@ -119,7 +119,8 @@ class Script:
             judged(self.types[row["orig"]] == self.types[row["new"]], None, "WrongKind")
 
     def judge_test(self):
-        judged(self.test in self.types, None, "UnknownType")
+        if self.test not in self.types:
+            raise Fault(f"test {self.test} is not declared in 'type' ({script_fault('UnknownType').line})")
         judged(self.types[self.test] == "component", None, "WrongKind")
 
     ARRAYS = {

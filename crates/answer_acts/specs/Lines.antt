@@ -5,10 +5,11 @@ use Rattle.uvm_lines.specs.Lines.{act_text}
 use Rattle.uvm_acts.specs.declared.acts.Act.{Act}
 use Rattle.uvm_acts.specs.declared.acts.Act.TheVariants as act
 
--- what a report says, behind its id: its verbosity and its text, where they are not 0 and empty
+-- a text after a blank; nothing if the text is empty
 abbrev pub text_behind : List ℕ → List ℕ
 text_behind text = if length text == 0 then [] else 32 ∷ text
 
+-- what follows the id of a report: its verbosity and its text; nothing if these are 0 and empty
 abbrev pub said_text : ℕ → List ℕ → List ℕ
 said_text verbosity text = if (verbosity == 0) && (length text == 0) then [] else 32 ∷ decimal verbosity ++ text_behind text
 

@@ -7,7 +7,7 @@ use Rattle.answer_acts.specs.Sound.{IsName}
 use Rattle.answer_acts.specs.declared.relays.Relay.{Relay}
 use Rattle.answer_acts.specs.declared.relays.Relay.TheVariants as relay
 
--- an act that passes on the item of a call: what stands before the item, and the act with an item
+-- the text that precedes the item, in an action that passes on the item of a call
 abbrev pub relay_stem : Relay → List ℕ
 relay_stem (relay.Put port) = codes "put " ++ port
 relay_stem (relay.TryPut port) = codes "try_put " ++ port
@@ -15,6 +15,7 @@ relay_stem (relay.Write port) = codes "write " ++ port
 relay_stem (relay.ItemDone port) = codes "item_done " ++ port
 relay_stem relay.Send = codes "send"
 
+-- the action that passes on this item
 abbrev pub relayed : Relay → Item → Act
 relayed (relay.Put port) item = act.Put port item
 relayed (relay.TryPut port) item = act.TryPut port item

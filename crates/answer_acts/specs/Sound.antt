@@ -13,20 +13,23 @@ use Rattle.uvm_acts.specs.declared.acts.What.TheVariants as what
 use Rattle.uvm_acts.specs.declared.acts.Act.{Act}
 use Rattle.uvm_acts.specs.declared.acts.Act.TheVariants as act
 
--- a text that is a name, the names of a path, and a text that is a glob
+-- a text that is a name
 abbrev pub IsName : List ℕ → Type 0
 IsName text = name_fault text ≡ None
 
+-- a list of names that is a path
 abbrev pub IsPath : List (List ℕ) → Type 0
 IsPath names = path_fault names ≡ None
 
+-- a text in which each byte may be in a glob
 abbrev pub IsGlob : List ℕ → Type 0
 IsGlob text = list_all is_glob_byte text ≡ true
 
--- a number of at most 64 bits, and one with a sign
+-- a number of at most 64 bits
 abbrev pub IsNumber : ℕ → Type 0
 IsNumber number = number < 2 ^ 64
 
+-- a signed integer of 64 bits
 abbrev pub IsSigned : ℤ → Type 0
 IsSigned value = mag value < 2 ^ 63
 
@@ -34,15 +37,18 @@ IsSigned value = mag value < 2 ^ 63
 abbrev pub IsItem : Item → Type 0
 IsItem item = (length item.0 ≡ 4) × All IsSigned item.0
 
+-- what a component adds: the size of a FIFO is a number of at most 64 bits
 abbrev pub IsWhat : What → Type 0
 IsWhat (what.Fifo size) = IsNumber size
 IsWhat other = Unit {0}
 
+-- the reports that a setting is for: an id is a name
 abbrev pub IsWhich : Which → Type 0
 IsWhich (which.Id id) = IsName id
 IsWhich (which.Both severity id) = IsName id
 IsWhich other = Unit {0}
 
+-- the names, paths, globs, numbers and items in an action are valid
 abbrev pub IsSound : Act → Type 0
 IsSound (act.Create type_name name) = IsName type_name × IsName name
 IsSound (act.Add name what) = IsName name × IsWhat what

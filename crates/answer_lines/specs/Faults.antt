@@ -3,7 +3,8 @@ use Rattle.std.specs.Prelude.{ℕ, List, codes}
 use Rattle.answer_lines.specs.declared.faults.LineFault.{LineFault}
 use Rattle.answer_lines.specs.declared.faults.LineFault.TheVariants.{NoCall, NoAct, Memory}
 
+-- the text of each fault
 abbrev pub fault_text : LineFault → List ℕ
-fault_text NoCall = codes "no call"
-fault_text NoAct = codes "no act"
+fault_text NoCall = codes "not a call"
+fault_text NoAct = codes "not an action"
 fault_text Memory = codes "memory"

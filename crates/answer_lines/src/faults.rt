@@ -4,14 +4,14 @@ use std::alloc::{AllocError, AllocFailed};
 use std::error::Error;
 use std::fmt;
 
-/// Why a text is no key or no act of an answer.
+/// Why a text is neither a key nor an action of an answer.
 #[derive(Clone, Copy, Debug, PartialEq, Eq)]
 pub enum LineFault {
-    /// It is no call, as the transcript writes it, nor the first words of one with a `*` behind them.
+    /// It is neither a call as the transcript writes it, nor the first words of one followed by `*`.
     NoCall,
-    /// It is no act, or not as the transcript writes it.
+    /// It is not an action, or is spelled otherwise than the transcript spells it.
     NoAct,
-    /// Memory was refused.
+    /// Memory ran out.
     Memory,
 }
 
@@ -23,8 +23,8 @@ impl fmt::Display for LineFault {
 
     fn fmt<W: fmt::Write>(&self, f: &mut fmt::Formatter<W>) -> fmt::Result {
         f.write_str(match self {
-            LineFault::NoCall => "no call",
-            LineFault::NoAct => "no act",
+            LineFault::NoCall => "not a call",
+            LineFault::NoAct => "not an action",
             LineFault::Memory => "memory",
         })
     }

@@ -47,11 +47,12 @@ pub record CoreValue : Type 0 where
   pub health : Health
   pub leaving : List Who
 
--- it goes on; and what it keeps is what the log says, as long as memory was not refused
+-- it goes on: it has not failed
 abbrev pub is_good : Health → Bool
 is_good Good = true
 is_good health = false
 
+-- no allocation failed, so what it keeps agrees with the log
 abbrev pub is_sound : Health → Bool
 is_sound Broken = false
 is_sound health = true
@@ -140,11 +141,12 @@ turn_after progress.Over standing = turn.TheVariants.Over
 turn_after progress.Moved standing = turn.TheVariants.Moved
 turn_after progress.Asked standing = unwrap_or (turn_of standing) turn.TheVariants.Over
 
--- the word that is drawn by a turn: that of the grant that it enters, where one decides whose it is
+-- the random number of the newest entry, if that is a grant that one decided
 abbrev pub word_in : List Entry → Option ℕ
 word_in (Granted sequencer grant ∷ before) = grant.word
 word_in history = None
 
+-- the random number that a turn consumes: that of the grant that it enters, if one decided it
 abbrev pub drawn_by : List Entry → turn.Turn → Option ℕ
 drawn_by history turn.TheVariants.Moved = word_in history
 drawn_by history result = None
@@ -154,6 +156,7 @@ abbrev pub IsDrawn : {Words : Type 0} → (Words → Stream) → Option ℕ → 
 IsDrawn stream None old new = new ≡ old
 IsDrawn stream (Some word) old new = (word, stream new) ≡ next_u64 (stream old)
 
+-- at most one random number is consumed
 abbrev pub DrawsOne : {Words : Type 0} → (Words → Stream) → Words → Words → Type 0
 DrawsOne stream old new = (word : Option ℕ) × IsDrawn stream word old new
 

@@ -35,16 +35,18 @@ use Rattle.bench_history.specs.Ports.{port_below}
 use Rattle.bench_history.specs.Sequences.{is_live, parent_priority, sequences_of}
 use Rattle.bench_history.specs.Wires.{closed_wiring}
 
--- the mode with which each sequencer was added
+-- the node and the mode of a sequencer that an action adds
 abbrev pub mode_in : List Node → Outcome → Act → Option (ℕ × Mode)
 mode_in nodes Done (Add name (what.Sequencer mode)) = Some (length nodes, mode)
 mode_in nodes outcome act = None
 
+-- the node and the mode of each sequencer that was added, the newest first
 abbrev pub modes_of : List Entry → List (ℕ × Mode)
 modes_of [] = []
 modes_of (Did performer outcome act ∷ before) = option_to_list (mode_in (nodes_of before) outcome act) ++ modes_of before
 modes_of (entry ∷ before) = modes_of before
 
+-- the mode of the sequencer at a node, if there is one
 abbrev pub mode_at : List Entry → ℕ → Option Mode
 mode_at history node = option_map (λ found. found.1) (find (λ found. found.0 == node) (modes_of history))
 
@@ -54,6 +56,7 @@ pub data Wish : Type 0 where
   ForLock : Wish
   ForGrab : Wish
 
+-- what a sequence asks of its sequencer by an action that is done, if anything
 abbrev pub wish_in : Outcome → Act → Option Wish
 wish_in Done (Requests given) = Some (ForItem given)
 wish_in Done Lock = Some ForLock
@@ -70,6 +73,7 @@ pub record Wanted : Type 0 where
   pub request : Request
   pub place : ℕ
 
+-- a request, made at this place in the log
 abbrev pub wanted : ℕ → Request → Wanted
 wanted place request = record { request = request; place = place }
 
@@ -85,44 +89,51 @@ with_wish started place (Some (ForItem given)) (Some id) asked = asked ++ wanted
 with_wish started place (Some ForLock) (Some id) asked = asked ++ wanted place (lock_request id) ∷ []
 with_wish started place (Some ForGrab) (Some id) asked = wanted place (lock_request id) ∷ asked
 
+-- all requests that were ever made at a sequencer, in the order of its queue
 abbrev pub all_wanted : List Entry → ℕ → List Wanted
 all_wanted [] node = []
 all_wanted (Did performer outcome act ∷ before) node = with_wish (sequences_of before) (length before) (wish_in outcome act) (sequence_on node performer) (all_wanted before node)
 all_wanted (entry ∷ before) node = all_wanted before node
 
--- which sequences were granted an item there, and a lock, each at which place
+-- which sequences were granted an item there, each at which place
 abbrev pub grants_at : List Entry → ℕ → List (ℕ × ℕ)
 grants_at [] node = []
 grants_at (Granted other grant ∷ before) node = if other == node then (grant.id, length before) ∷ grants_at before node else grants_at before node
 grants_at (entry ∷ before) node = grants_at before node
 
+-- which sequences were granted a lock there, each at which place
 abbrev pub locks_at : List Entry → ℕ → List (ℕ × ℕ)
 locks_at [] node = []
 locks_at (Locked other id ∷ before) node = if other == node then (id, length before) ∷ locks_at before node else locks_at before node
 locks_at (entry ∷ before) node = locks_at before node
 
--- what is wanted waits: its sequence lives, and was not granted it since it asked
+-- the sequence of a request was granted something after the place at which it asked
 abbrev pub granted_since : List (ℕ × ℕ) → Wanted → Bool
 granted_since grants w = list_any (λ grant. (grant.0 == w.request.seq) && nat_lt w.place grant.1) grants
 
+-- a request waits: its sequence is active, and was not granted it since it asked
 abbrev pub waits_by : (ℕ → Bool) → List (ℕ × ℕ) → List (ℕ × ℕ) → Wanted → Bool
 waits_by live grants locks w = live w.request.seq && not (granted_since (if is_item w.request then grants else locks) w)
 
+-- a request at a sequencer still waits at the end of a log
 abbrev pub still_waits : List Entry → ℕ → Wanted → Bool
 still_waits history node = waits_by (is_live history) (grants_at history node) (locks_at history node)
 
+-- the requests that wait at a sequencer, in the order of its queue
 abbrev pub request_queue : List Entry → ℕ → List Request
 request_queue history node = map (λ w. w.request) (filter (still_waits history node) (all_wanted history node))
 
--- the locks that were granted and not given back, in the order of granting; a sequence gives back the last of its own
+-- an action gives a lock back
 abbrev pub unlocks : Outcome → Act → Bool
 unlocks Done Unlock = true
 unlocks outcome act = false
 
+-- the locks that are held after an action: without the last one of a sequence that gives a lock back
 abbrev pub given_back : Bool → Option ℕ → List ℕ → List ℕ
 given_back true (Some id) held = released id held
 given_back gives id held = held
 
+-- the locks that were granted and not given back, in the order of granting; a sequence gives back the last of its own
 abbrev pub locks_held : List Entry → ℕ → List ℕ
 locks_held [] node = []
 locks_held (Locked other id ∷ before) node = if other == node then locks_held before node ++ id ∷ [] else locks_held before node
@@ -133,10 +144,11 @@ locks_held (entry ∷ before) node = locks_held before node
 abbrev pub holders : List Entry → ℕ → List ℕ
 holders history node = filter (is_live history) (locks_held history node)
 
--- the sequencer that is reached through a seq port: a sound one has one target
+-- a node, if a sequencer was added there
 abbrev pub if_arbitrated : List Entry → ℕ → Option ℕ
 if_arbitrated history node = option_map (λ mode. node) (mode_at history node)
 
+-- the sequencer that a performer reaches through its seq port of a name, if the port is correctly connected
 unfoldable pub sequencer_below : List Entry → Who → List ℕ → Option ℕ
 sequencer_below history performer name = option_and_then (λ port. option_and_then (if_arbitrated history) (slice_get (targets_of (closed_wiring history) port) 0)) (port_below history performer Seq name)
 
@@ -147,6 +159,7 @@ pub data DriverMove : Type 0 where
   Sends : DriverMove
   Leaves : DriverMove
 
+-- what an action means for a driver, if anything
 abbrev pub driver_move : Outcome → Act → Option DriverMove
 driver_move Done (Ask port how) = Some (Awaits port how)
 driver_move (Waits true) (Ask port how) = Some (Awaits port how)
@@ -155,12 +168,15 @@ driver_move Done (Send item) = Some Sends
 driver_move Finished act = Some Leaves
 driver_move outcome act = None
 
+-- a sequencer is reached, and it is the one at this node
 abbrev pub leads_there : ℕ → Option ℕ → Bool
 leads_there node reached = option_map_or (λ other. other == node) reached false
 
+-- the state of a driver after a sequence has sent its item; unchanged if that sequence has no grant
 abbrev pub sent_by : Driver → ℕ → Driver
 sent_by driver id = option_map_or (sent id) (grant_of id driver) driver
 
+-- the state of the driver of a sequencer after an action, by what the action means for it
 abbrev pub driver_by : List Entry → ℕ → Who → Option DriverMove → Driver → Driver
 driver_by before node performer None driver = driver
 driver_by before node performer (Some (Awaits port how)) driver = if leads_there node (sequencer_below before performer port) then Waiting how else driver
@@ -168,11 +184,12 @@ driver_by before node performer (Some (IsDone port)) driver = if leads_there nod
 driver_by before node performer (Some Sends) driver = option_map_or (sent_by driver) (sequence_on node performer) driver
 driver_by before node performer (Some Leaves) driver = option_map_or (λ id. left_by (grant_of id driver) driver) (sequence_on node performer) driver
 
--- who drives it, and through which port of its own: who has asked last, and in which phase
+-- who drives a sequencer after an action: its performer, if it waits there for an item; otherwise as before
 abbrev pub asker_by : List Entry → ℕ → Who → Option DriverMove → Option DriverPort → Option DriverPort
 asker_by before node performer (Some (Awaits port how)) asker = if leads_there node (sequencer_below before performer port) then Some (record { who = performer; name = port; phase = act_phase before }) else asker
 asker_by before node performer move asker = asker
 
+-- who drives a sequencer, through which port, and in which phase it asked: the performer that asked last
 abbrev pub driver_asker : List Entry → ℕ → Option DriverPort
 driver_asker [] node = None
 driver_asker (Did performer outcome act ∷ before) node = asker_by before node performer (driver_move outcome act) (driver_asker before node)
@@ -199,26 +216,30 @@ driver_state (entry ∷ before) node = driver_state before node
 abbrev pub sequencer_with : List Entry → ℕ → Mode → SequencerValue
 sequencer_with history node mode = record { mode = mode; port = None; driver = driver_state history node; queue = request_queue history node; holders = holders history node }
 
+-- the sequencer at a node, if there is one, as the log says
 abbrev pub sequencer_at : List Entry → ℕ → Option SequencerValue
 sequencer_at history node = option_map (sequencer_with history node) (mode_at history node)
 
--- of the sequencers in path order the first with a lock that leads, and whose that is
+-- a sequencer at which a lock can be granted, and the sequence that gets it
 abbrev pub locking_at : List Entry → ℕ → Option (ℕ × ℕ)
 locking_at history node = option_map (λ id. (node, id)) (option_and_then (lock_at (sequences_of history)) (sequencer_at history node))
 
+-- the first sequencer in path order at which a lock can be granted, and the sequence that gets it
 unfoldable pub next_locked : List Entry → Option (ℕ × ℕ)
 next_locked history = first_given (map (locking_at history) (path_order (nodes_of history)))
 
--- and the first whose driver waits and that has a candidate; whether a word is drawn
+-- a sequencer whose driver waits and that has a candidate, and whether a random number decides
 abbrev pub serving_at : List Entry → ℕ → Option (ℕ × Bool)
 serving_at history node = option_map (λ drawn. (node, drawn)) (option_and_then (ready_at (sequences_of history)) (sequencer_at history node))
 
+-- the first sequencer in path order whose driver waits and that has a candidate, and whether a random number decides
 unfoldable pub next_served : List Entry → Option (ℕ × Bool)
 next_served history = first_given (map (serving_at history) (path_order (nodes_of history)))
 
--- how many wait at a sequencer, and at a node: at the FIFO or at the sequencer that stands there
+-- how many requests wait at a sequencer
 abbrev pub requests_at : List Entry → ℕ → ℕ
 requests_at history node = option_map_or (λ s. length s.queue) (sequencer_at history node) 0
 
+-- how many requests wait at a node: at its FIFO or at its sequencer; 0 if it is neither
 abbrev pub waiters_at : List Entry → ℕ → ℕ
 waiters_at history node = option_map_or (λ station. waiting_count station.fifo) (station_at history node) (requests_at history node)

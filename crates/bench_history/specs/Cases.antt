@@ -49,7 +49,7 @@ abbrev pub end_reached : Stage → Option Next
 end_reached Ended = Some Nothing
 end_reached stage = None
 
--- the run is given up: the test was refused, or a report asked for exit, and nothing but its end comes
+-- the run is given up: a note ends it, the test was refused, or a report asked for exit; only its end comes
 abbrev pub giving_up : Option Reason → Option Next
 giving_up why = option_map (λ why. Exactly (Over why)) why
 
@@ -57,10 +57,11 @@ giving_up why = option_map (λ why. Exactly (Over why)) why
 abbrev pub locking : Option (ℕ × ℕ) → Option Next
 locking led = option_map (λ led. Exactly (Locked led.0 led.1)) led
 
--- a driver that waits is served
+-- the sequence to which a sequencer grants an item, by the random number if one decides
 abbrev pub chosen_at : List Entry → ℕ → Option ℕ → Option ℕ
 chosen_at history node word = option_and_then (λ s. choice_at (sequences_of history) s word) (sequencer_at history node)
 
+-- a driver that waits is served: its sequencer grants an item
 abbrev pub serving : List Entry → Option (ℕ × Bool) → Option Next
 serving history served = option_map (λ served. Grant served.0 served.1 (chosen_at history served.0)) served
 
@@ -77,6 +78,7 @@ abbrev pub by_upshot : Who → Act → Upshot → Next
 by_upshot performer act (Needs need made) = Need need made performer act
 by_upshot performer act (ComesTo outcome) = Exactly (Did performer outcome act)
 
+-- an action of a performer needs an object first, or has its entry, by `upshot_of`
 abbrev pub by_act : ScriptValue → List Entry → Who → Act → Next
 by_act script history performer act = by_upshot performer act (upshot_of script history performer act)
 
@@ -106,6 +108,7 @@ event_due due = option_map (λ event. by_call event.owner event.notice (origin_o
 abbrev pub turn_in : List Entry → Phase → Option Next
 turn_in history phase = option_map (λ node. Answer (who.Node node) (call.Phase phase) None) (next_call phase history)
 
+-- the next call of the first of these phases in which a component still lacks its call
 abbrev pub phase_call : List Entry → List Phase → Option Next
 phase_call history phases = first_given (map (turn_in history) phases)
 
@@ -131,6 +134,7 @@ phase_to_begin runtime (After PostShutdown) = None
 phase_to_begin runtime (After phase) = phase_after phase
 phase_to_begin runtime stage = None
 
+-- the phase to begin, if there is one, begins
 abbrev pub phase_begin : Option Phase → Option Next
 phase_begin phase = option_map (λ phase. Exactly (Begin phase)) phase
 

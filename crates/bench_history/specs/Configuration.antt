@@ -27,6 +27,7 @@ abbrev pub is_building : Stage → Bool
 is_building (During Build) = true
 is_building stage = false
 
+-- the settings after an action: with one more, the newest, if it is a `Set` that is done
 abbrev pub settings_after : Bool → List (List ℕ) → List Setting → Outcome → Act → List Setting
 settings_after building path settings Done (Set glob field value) =
     record { scope = dotted (path_text path) glob; field = field; precedence = precedence_of building (length path); value = value } ∷ settings

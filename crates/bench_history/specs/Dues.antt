@@ -92,6 +92,7 @@ step_call PreStart = call.PreStart
 step_call Body = call.Body
 step_call PostStart = call.PostStart
 
+-- the call to a sequence for a step, if there is one
 abbrev pub told_step : Option Phase → Who → Option SeqStep → List Told
 told_step phase performer step = option_to_list (option_map (λ step. told_in phase performer (step_call step)) step)
 
@@ -99,6 +100,7 @@ told_step phase performer step = option_to_list (option_map (λ step. told_in ph
 abbrev pub told_finished : ℕ → Option Beginning → List Told
 told_finished id beginning = option_to_list (option_map (λ beginning. told_in beginning.phase beginning.starter (call.Finished beginning.start.name id)) beginning)
 
+-- the call `Finished` to the starter of a sequence, if there is such a sequence
 abbrev pub finished_by : List Entry → Option ℕ → List Told
 finished_by before id = option_map_or (λ id. told_finished id (numbered (begun_of before) id)) id []
 
@@ -112,6 +114,7 @@ told_sent phase performer asker item None = []
 told_sent phase performer asker item (Some ByGet) = told_item asker (Some item) ++ told_in phase performer (call.ItemDone None) ∷ []
 told_sent phase performer asker item (Some how) = told_item asker (Some item)
 
+-- the calls that an item causes when a sequence sends it, by how the driver asked
 abbrev pub sent_by : List Entry → Who → ℕ → Option ℕ → Item → List Told
 sent_by before performer node id item = told_sent (act_phase before) performer (driver_asker before node) item (option_and_then (λ id. grant_of id (driver_state before node)) id)
 
@@ -119,6 +122,7 @@ sent_by before performer node id item = told_sent (act_phase before) performer (
 abbrev pub told_done : (ℕ → Option Phase) → Option Item → ℕ → Option ℕ → List Told
 told_done phase response node id = option_to_list (option_map (λ id. told_in (phase id) (who.Sequence node id) (call.ItemDone response)) id)
 
+-- the call `ItemDone` to the sequence whose item the driver of a sequencer holds, if there is one
 abbrev pub done_by : List Entry → Option ℕ → Option Item → List Told
 done_by before node response = option_map_or (λ node. told_done (phase_begun before) response node (hand_of (driver_state before node))) node []
 
@@ -143,6 +147,7 @@ abbrev pub lapsed_at : Phase → List Entry → ℕ → List Told
 lapsed_at phase before node =
     if loses_try (ends_ask phase (driver_asker before node)) (is_live (End phase ∷ before)) (driver_state before node) then told_item (driver_asker before node) None else []
 
+-- at the end of a phase, the calls of `lapsed_at` for all sequencers, in path order
 abbrev pub lapsed_with : Phase → List Entry → List Told
 lapsed_with phase before = flat_map (lapsed_at phase before) (path_order (nodes_of before))
 
@@ -199,6 +204,7 @@ abbrev pub caused_of : ScriptValue → List Entry → List Event
 caused_of script [] = []
 caused_of script (entry ∷ before) = with_events_from script entry before (caused_of script before)
 
+-- the cause of the call that an entry answers, if the call has an origin
 abbrev pub heard_in : Entry → List Cause
 heard_in (Heard hearer (Some origin) call acts) = origin.cause ∷ []
 heard_in entry = []

@@ -94,6 +94,7 @@ kind_of (what.Port port) = kind.Port
 kind_of (what.Export port) = kind.Export
 kind_of what.Imp = kind.Imp
 
+-- the nodes of the tree after an action: with one more, if it created or added something
 abbrev pub nodes_after : List Node → Who → Outcome → Act → List Node
 nodes_after nodes performer (Made type_name) act = nodes ++ child nodes (node_of performer) (created_name act) kind.Component ∷ []
 nodes_after nodes performer Done (Add name what) = nodes ++ child nodes (node_of performer) name (kind_of what) ∷ []
@@ -105,6 +106,7 @@ nodes_of [] = top ∷ []
 nodes_of (Did performer outcome act ∷ before) = nodes_after (nodes_of before) performer outcome act
 nodes_of (entry ∷ before) = nodes_of before
 
+-- the nodes that hold an object after an action: with this one, if the action created an object
 abbrev pub components_after : ℕ → List ℕ → Outcome → List ℕ
 components_after node components (Made type_name) = components ++ node ∷ []
 components_after node components outcome = components
@@ -131,6 +133,7 @@ called_of phase (Begin other ∷ before) = if same_sort other phase then [] else
 called_of phase (Heard hearer None call acts ∷ before) = if calls_sort phase call then node_of hearer ∷ called_of phase before else called_of phase before
 called_of phase (entry ∷ before) = called_of phase before
 
+-- a node is among those that had the call
 abbrev pub had_call : List ℕ → ℕ → Bool
 had_call called node = list_any (λ other. other == node) called
 
@@ -152,7 +155,7 @@ type_name_or types type_id other = option_map_or (λ t. t.0) (slice_get types ty
 abbrev pub opening : ScriptValue → Act
 opening script = Create (option_map_or (λ test. type_name_or script.types test []) script.test []) (codes "uvm_test_top")
 
--- all acts but the first, and the first
+-- all actions except the first
 abbrev pub rest_of : List Act → List Act
 rest_of [] = []
 rest_of (act ∷ acts) = acts
@@ -170,6 +173,7 @@ left_of script (Did performer outcome act ∷ before) = left_after outcome (left
 left_of script (Note fatal node ∷ before) = []
 left_of script (entry ∷ before) = left_of script before
 
+-- the first action, if there is one
 abbrev pub head_of : List Act → Option Act
 head_of [] = None
 head_of (act ∷ acts) = Some act
@@ -180,10 +184,12 @@ speaker_of [] = who.Node 0
 speaker_of (Heard hearer cause call acts ∷ before) = hearer
 speaker_of (entry ∷ before) = speaker_of before
 
+-- the overrides with one more, the newest, if both types are known
 abbrev pub with_override : Option ℕ → Option ℕ → (ℕ → ℕ → Override) → List Override → List Override
 with_override (Some original) (Some new) make overrides = make original new ∷ overrides
 with_override original new make overrides = overrides
 
+-- the overrides after an action: with one more, the newest, if it is an override that is done
 abbrev pub overrides_after : Types → List Node → List Override → Who → Outcome → Act → List Override
 overrides_after types nodes overrides performer Done (OverrideType original new replace) =
     with_override (type_named types original) (type_named types new) (λ o n. Whole o n replace) overrides
@@ -197,6 +203,7 @@ overrides_of script [] = reverse script.overrides
 overrides_of script (Did performer outcome act ∷ before) = overrides_after script.types (nodes_of before) (overrides_of script before) performer outcome act
 overrides_of script (entry ∷ before) = overrides_of script before
 
+-- an entry ends build
 abbrev pub ends_build : Entry → Bool
 ends_build (End Build) = true
 ends_build entry = false
@@ -211,6 +218,7 @@ is_over [] = false
 is_over (Over reason ∷ before) = true
 is_over (entry ∷ before) = false
 
+-- the phase that an entry ends, if it ends one
 abbrev pub ended_in : Entry → List Phase
 ended_in (End phase) = phase ∷ []
 ended_in entry = []

@@ -41,10 +41,11 @@ use Rattle.bench_history.specs.Upshots.{starting_now}
 use Rattle.bench_history.specs.Cases.{Next, Exactly, Answer, Need, Grant, Nothing, by_act, chosen_at, origin_of}
 use Rattle.bench_history.specs.Next.{next_of, need_in, IsAct, IsNext, EachIsNext}
 
--- the phases in the order in which they end, run behind the run-time phases; and where a phase stands there
+-- the phases in the order in which they end, run behind the run-time phases
 abbrev pub ending_order : List Phase
 ending_order = Build ∷ Connect ∷ EndOfElaboration ∷ StartOfSimulation ∷ runtime_phases ++ Run ∷ Extract ∷ Check ∷ Report ∷ Final ∷ []
 
+-- the place of a phase in that order, from 0
 abbrev pub end_number : Phase → ℕ
 end_number Build = 0
 end_number Connect = 1
@@ -80,6 +81,7 @@ next_number Ended = length ending_order
 abbrev pub is_run : Bool → Phase → Bool
 is_run runtime phase = not (is_runtime phase) || runtime
 
+-- the phase of this stage, if it has one, is run
 abbrev pub is_run_at : Bool → Stage → Bool
 is_run_at runtime (During phase) = is_run runtime phase
 is_run_at runtime (After phase) = is_run runtime phase
@@ -91,6 +93,7 @@ pub record ArePhasesInOrder (runtime : Bool) (history : List Entry) : Type 0 whe
   pub are : (stage_of history ≡ Ended → ⊥) → ended_of history ≡ reverse (filter (is_run runtime) (take (next_number (stage_of history)) ending_order))
   pub before : All (λ phase. end_number phase < next_number (stage_of history)) (ended_of history)
 
+-- law: phases go in their order (`ArePhasesInOrder`)
 abbrev pub PhasesGoInOrder : Type 0
 PhasesGoInOrder = (script : ScriptValue) (history : List Entry) → EachIsNext script history → ArePhasesInOrder script.runtime history
 
@@ -106,16 +109,18 @@ HasNotEnded ended phase = IfSome phase (λ one. list_any (same_phase one) ended 
 abbrev pub is_going : Option Phase → List Phase → Bool
 is_going phase going = list_any (λ one. is_of_phase one phase) going
 
--- where an act is next, its phase is in progress, and so has not ended, and that of a sequence is the phase in which it was started
+-- if the performer is a sequence, the next action belongs to the phase in which the sequence was started
 abbrev pub IsInPhase : List Entry → Who → Type 0
 IsInPhase history (who.Node node) = Unit {0}
 IsInPhase history (who.Sequence home id) = phase_begun history id ≡ act_phase history
 
+-- the phase of the next action, if any, is active and has not ended; a sequence acts in the phase in which it was started
 pub record AreActsInPhase (script : ScriptValue) (history : List Entry) (act : Act) : Type 0 where
   pub going : (phase : Phase) → act_phase history ≡ Some phase → list_any (same_phase phase) (in_progress (stage_of history)) ≡ true
   pub unended : HasNotEnded (ended_of history) (act_phase history)
   pub own : (act ≡ opening script) ⊎ IsInPhase history (speaker_of history)
 
+-- law: if an action is next, it is in its phase (`AreActsInPhase`)
 abbrev pub ActsAreInPhase : Type 0
 ActsAreInPhase = (script : ScriptValue) (history : List Entry) (act : Act) → EachIsNext script history → IsAct (next_of script history) → left_of script history ≡ act ∷ rest_of (left_of script history) → AreActsInPhase script history act
 
@@ -154,7 +159,7 @@ PerformersAreThere = (script : ScriptValue) (history : List Entry) (act : Act) �
 abbrev pub ComponentsAreNodes : Type 0
 ComponentsAreNodes = (script : ScriptValue) (history : List Entry) → EachIsNext script history → All (λ node. node < length (nodes_of history)) (components_of history)
 
--- besides the top
+-- a node other than the top that is of kind component
 abbrev pub IsComponentNode : List Node → ℕ → Type 0
 IsComponentNode nodes node = (0 < node) × (node < length nodes) × (option_map (λ node. node.kind) (node_at nodes node) ≡ Some Component)
 
@@ -163,10 +168,11 @@ pub record AreComponentNodes (nodes : List Node) (components : List ℕ) : Type 
   pub each : All (IsComponentNode nodes) components
   pub whole : (node : ℕ) → IsComponentNode nodes node → Contains components node
 
+-- law: the components of a log are its nodes of kind component other than the top
 abbrev pub ComponentsByKind : Type 0
 ComponentsByKind = (history : List Entry) → AreComponentNodes (nodes_of history) (components_of history)
 
--- and so is each sequencer on which a sequence was started
+-- law: each sequencer on which a sequence was started is a node of the tree
 abbrev pub HomesAreNodes : Type 0
 HomesAreNodes = (script : ScriptValue) (history : List Entry) → EachIsNext script history → All (λ beginning. beginning.start.home < length (nodes_of history)) (begun_of history)
 
@@ -192,13 +198,15 @@ pub record HasTurn (history : List Entry) (hearer : Who) (call : Call) : Type 0 
   pub going : list_any (same_phase phase) (in_progress (stage_of history)) ≡ true
   pub next : next_call phase history ≡ Some (node_of hearer)
 
+-- law: a call without an origin goes to the next component of an active phase (`HasTurn`)
 abbrev pub CallsGoInTurn : Type 0
 CallsGoInTurn = (script : ScriptValue) (history : List Entry) (hearer : Who) (call : Call) → next_of script history ≡ Answer hearer call None → HasTurn history hearer call
 
--- a call with an origin happens so, and the end of a drain
+-- law: a call with an origin is the event that is due first, at its time
 abbrev pub DueCallsGoInOrder : Type 0
 DueCallsGoInOrder = (script : ScriptValue) (history : List Entry) (hearer : Who) (call : Call) (origin : Origin) → next_of script history ≡ Answer hearer call (Some origin) → IsDue script history hearer (Some call) origin
 
+-- law: a drain that ends is the event that is due first, at its time
 abbrev pub DrainsGoInOrder : Type 0
 DrainsGoInOrder = (script : ScriptValue) (history : List Entry) (node : ℕ) (origin : Origin) → next_of script history ≡ Exactly (Drained node origin) → IsDrainDue script history node origin
 
@@ -214,21 +222,24 @@ PassagesAreInPhase = (script : ScriptValue) (history : List Entry) (fifo : ℕ) 
 abbrev pub WaitersAreComponents : Type 0
 WaitersAreComponents = (script : ScriptValue) (history : List Entry) (fifo : ℕ) (passage : Passage) → EachIsNext script history → next_of script history ≡ Exactly (Passed fifo passage) → IsComponent (components_of history) passage.who
 
--- a lock that is granted is the one that leads first, and goes to a sequence that lives, and runs on that sequencer
+-- law: a lock that is granted is the first that can be granted (`next_locked`)
 abbrev pub LocksGoInOrder : Type 0
 LocksGoInOrder = (script : ScriptValue) (history : List Entry) (node id : ℕ) → next_of script history ≡ Exactly (Locked node id) → next_locked history ≡ Some (node, id)
 
+-- law: a lock is granted to an active sequence that runs on that sequencer
 abbrev pub LockersAreThere : Type 0
 LockersAreThere = (script : ScriptValue) (history : List Entry) (node id : ℕ) → EachIsNext script history → next_of script history ≡ Exactly (Locked node id) → IsLiving history id node
 
--- and so does an item
+-- a sequencer is the next to serve its driver (`next_served`), and `chosen_at` gives the sequence that it grants
 pub record IsServing (history : List Entry) (node : ℕ) (drawn : Bool) (chosen : Option ℕ → Option ℕ) : Type 0 where
   pub served : next_served history ≡ Some (node, drawn)
   pub chosen_is : chosen ≡ chosen_at history node
 
+-- law: an item is granted at the first sequencer in path order that can serve its driver (`IsServing`)
 abbrev pub GrantsGoInOrder : Type 0
 GrantsGoInOrder = (script : ScriptValue) (history : List Entry) (node : ℕ) (drawn : Bool) (chosen : Option ℕ → Option ℕ) → next_of script history ≡ Grant node drawn chosen → IsServing history node drawn chosen
 
+-- law: an item is granted to an active sequence that runs on that sequencer
 abbrev pub ChosenAreThere : Type 0
 ChosenAreThere = (script : ScriptValue) (history : List Entry) (node id : ℕ) (drawn : Bool) (chosen : Option ℕ → Option ℕ) (word : Option ℕ) → EachIsNext script history → next_of script history ≡ Grant node drawn chosen → chosen word ≡ Some id → IsLiving history id node
 
@@ -254,6 +265,7 @@ pub record AreAsking (history : List Entry) : Type 0 where
   pub drivers : (node : ℕ) → IfSome (driver_asker history node) (λ driver. IsComponent (components_of history) driver.who)
   pub going : (node : ℕ) → is_idle (driver_state history node) ≡ false → is_going (asked_in history node) (in_progress (stage_of history)) ≡ true
 
+-- law: until the run ends, drivers are components, and each that is not idle asked in an active phase
 abbrev pub AsksAreInPhase : Type 0
 AsksAreInPhase = (script : ScriptValue) (history : List Entry) → EachIsNext script history → (stage_of history ≡ Ended → ⊥) → AreAsking history
 
@@ -273,6 +285,7 @@ pub record IsFirstAct (script : ScriptValue) (history : List Entry) (act : Act) 
   pub left : left_of script history ≡ act ∷ rest_of (left_of script history)
   pub next : next_of script history ≡ by_act script history (speaker_of history) act
 
+-- law: if an action is next, it is the first that is left, and nothing can be granted or transferred
 abbrev pub ActsGoInOrder : Type 0
 ActsGoInOrder = (script : ScriptValue) (history : List Entry) → IsAct (next_of script history) → (act : Act) × IsFirstAct script history act
 
@@ -300,6 +313,7 @@ pub record IsBegun (script : ScriptValue) (history : List Entry) (id : ℕ) (act
   pub number : id ≡ suc (length (sequences_of history))
   pub may : starting_refusal (starting_now script history (speaker_of history) asked name on priority) ≡ None
 
+-- an action makes the needed object: it creates the component, or starts the sequence
 abbrev pub IsMadeBy : ScriptValue → List Entry → declared.Need → Outcome → Act → Type 0
 IsMadeBy script history need (Made type_name) act = IsCreated history need type_name act
 IsMadeBy script history need (Started id) act = IsBegun script history id act
@@ -313,10 +327,11 @@ pub record IsWanted (script : ScriptValue) (history : List Entry) (act : Act) : 
   pub settled : IsSettled history
   pub makes : IsMadeBy script history need made act
 
+-- law: if an object is needed, the first action that is left makes it (`IsWanted`)
 abbrev pub NeedsAreWanted : Type 0
 NeedsAreWanted = (script : ScriptValue) (history : List Entry) → IsSome (need_in (next_of script history)) → (act : Act) × (left_of script history ≡ act ∷ rest_of (left_of script history)) × IsWanted script history act
 
--- connect is at its end: nothing passes, no act is left, no event is due now, and each component had its call
+-- connect runs
 abbrev pub runs_connect : Stage → Bool
 runs_connect (During Connect) = true
 runs_connect stage = false
@@ -327,9 +342,11 @@ is_connect_last (During Connect) = true
 is_connect_last Ended = true
 is_connect_last stage = false
 
+-- nothing can be granted or transferred, no action is left, no event is due now, and each component had its call of connect
 abbrev pub has_nothing_left : ScriptValue → List Entry → Bool
 has_nothing_left script history = is_none (next_locked history) && is_none (next_served history) && is_none (next_passed history) && is_none (head_of (left_of script history)) && is_none (due_now script history) && is_none (next_call Connect history)
 
+-- connect is at its end: it runs, and has nothing left
 abbrev pub is_at_check : ScriptValue → List Entry → Bool
 is_at_check script history = runs_connect (stage_of history) && has_nothing_left script history
 
@@ -342,6 +359,7 @@ pub record IsWired (script : ScriptValue) (history : List Entry) : Type 0 where
 pub record StaysWired (script : ScriptValue) (history : List Entry) (entry : Entry) : Type 0 where
   pub stays : IsWired script history → IsWired script (entry ∷ history)
 
+-- law: once nothing is added or connected any more, no next entry changes this (`StaysWired`)
 abbrev pub WiringStays : Type 0
 WiringStays = (script : ScriptValue) (history : List Entry) (entry : Entry) → IsNext script history entry → StaysWired script history entry
 
@@ -355,7 +373,7 @@ is_in_connect stage = false
 abbrev pub ConnectFollowsBuild : Type 0
 ConnectFollowsBuild = (script : ScriptValue) (history : List Entry) → EachIsNext script history → is_in_connect (stage_of history) ≡ true → is_built history ≡ true
 
--- a phase that takes time comes after connect
+-- law: until the run is over, an action of a phase that takes time comes after connect
 abbrev pub TasksFollowConnect : Type 0
 TasksFollowConnect = (script : ScriptValue) (history : List Entry) → EachIsNext script history → (stage_of history ≡ Ended → ⊥) → in_task (act_phase history) ≡ true → is_past_connect history ≡ true
 
@@ -382,6 +400,7 @@ pub record IsMachines (history : List Entry) (entry : Entry) : Type 0 where
   pub keeps : components_of (entry ∷ history) ≡ components_of history
   pub starts_none : begun_of (entry ∷ history) ≡ begun_of history
 
+-- law: if one entry alone may come next, it answers no call, makes no component and starts no sequence
 abbrev pub MachineEntriesAreSilent : Type 0
 MachineEntriesAreSilent = (script : ScriptValue) (history : List Entry) (entry : Entry) → next_of script history ≡ Exactly entry → IsMachines history entry
 
@@ -406,18 +425,21 @@ pub record HasBegun (history : List Entry) (id : ℕ) (performer : Who) (act : A
   pub all : all_begun (begun_of (entry ∷ history)) ≡ all_begun (begun_of history) ++ who.Sequence (start_by (nodes_of history) (sequences_of history) performer act).home id ∷ []
   pub number : id ≡ suc (length (begun_of history))
 
+-- what an object that is made adds to a log: a component (`HasGrown`) or a sequence (`HasBegun`)
 abbrev pub HasMade : List Entry → declared.Need → Outcome → Who → Act → Type 0
 HasMade history need (Made type_name) performer act = HasGrown history need.path (Did performer (Made type_name) act)
 HasMade history need (Started id) performer act = HasBegun history id performer act (Did performer (Started id) act)
 HasMade history need outcome performer act = ⊥
 
+-- law: an object that is made is a new component or a new sequence (`HasMade`)
 abbrev pub MadeObjectsAreNew : Type 0
 MadeObjectsAreNew = (script : ScriptValue) (history : List Entry) (need : declared.Need) (made : Outcome) (performer : Who) (act : Act) → next_of script history ≡ Need need made performer act → HasMade history need made performer act
 
--- behind the nodes of the tree, and behind the sequences that were started, nobody was asked
+-- law: no component with a number beyond the nodes of the tree was called
 abbrev pub NewNodesAreUnasked : Type 0
 NewNodesAreUnasked = (script : ScriptValue) (history : List Entry) (node : ℕ) → EachIsNext script history → length (nodes_of history) ≤ node → life_of (who.Node node) history ≡ []
 
+-- law: no sequence with a number beyond the sequences that were started was called
 abbrev pub NewSequencesAreUnasked : Type 0
 NewSequencesAreUnasked = (script : ScriptValue) (history : List Entry) (id home : ℕ) → EachIsNext script history → length (begun_of history) < id → life_of (who.Sequence home id) history ≡ []
 
@@ -434,6 +456,7 @@ abbrev pub IsLivingSequence : List Entry → Who → Type 0
 IsLivingSequence history (who.Node node) = ⊥
 IsLivingSequence history (who.Sequence home id) = IsLiving history id home
 
+-- the number of a sequence; 0 for a component
 abbrev pub number_of : Who → ℕ
 number_of (who.Node node) = 0
 number_of (who.Sequence home id) = id
@@ -450,6 +473,7 @@ pub record AreLeaving (before : List Entry) (entry : Entry) : Type 0 where
   pub all : (id home : ℕ) → IsLiving before id home → (IsLiving (entry ∷ before) id home → ⊥) → Contains (leaving_of (entry ∷ before)) (who.Sequence home id)
   pub rising : AreRising (leaving_of (entry ∷ before))
 
+-- law: the sequences that an entry ends are exactly those that are active before it and not after it (`AreLeaving`)
 abbrev pub LeaversLived : Type 0
 LeaversLived = (script : ScriptValue) (before : List Entry) (entry : Entry) → EachIsNext script before → IsNext script before entry → AreLeaving before entry
 

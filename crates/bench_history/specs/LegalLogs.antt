@@ -280,6 +280,7 @@ dones_at (entry ∷ before) node = dones_at before node
 abbrev pub hand_count : Driver → ℕ
 hand_count driver = option_map_or (λ id. 1) (hand_of driver) 0
 
+-- how many items the driver of a sequencer holds at the end of a log: one or none
 abbrev pub in_hand : List Entry → ℕ → ℕ
 in_hand history node = hand_count (driver_state history node)
 

@@ -17,6 +17,7 @@ use Rattle.bench_history.specs.Passing.{next_passed}
 use Rattle.bench_history.specs.Cases.{Next, Exactly, Answer, Need, Grant, Nothing, end_reached, giving_up, locking, serving, passing, long_answer, first_act, event_due, phase_call, port_check, phase_end, phase_begin, phase_to_begin, finish}
 use Rattle.bench_history.specs.Arbitration.{next_locked, next_served}
 
+-- the first of these cases that applies, otherwise `Nothing`
 abbrev pub first_next : List (Option Next) → Next
 first_next cases = unwrap_or (first_given cases) Nothing
 
@@ -48,6 +49,7 @@ Allows (Need need made performer act) entry = (entry ≡ Did performer made act)
 Allows (Grant sequencer drawn chosen) entry = (grant : entries.Grant) × (is_some grant.word ≡ drawn) × (chosen grant.word ≡ Some grant.id) × (entry ≡ Granted sequencer grant)
 Allows Nothing entry = ⊥
 
+-- an entry may come next after a log
 abbrev pub IsNext : ScriptValue → List Entry → Entry → Type 0
 IsNext script history entry = Allows (next_of script history) entry
 
@@ -72,11 +74,12 @@ abbrev pub need_in : Next → Option declared.Need
 need_in (Need need made performer act) = Some need
 need_in next = None
 
--- the entry where it is made, and where it is declined
+-- the entry if the needed object is made
 abbrev pub made_in : Next → Option Entry
 made_in (Need need made performer act) = Some (Did performer made act)
 made_in next = None
 
+-- the entry if the needed object is declined
 abbrev pub declined_in : Next → Option Entry
 declined_in (Need need made performer act) = Some (Did performer (Refused NoObject) act)
 declined_in next = None

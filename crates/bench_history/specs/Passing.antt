@@ -42,16 +42,18 @@ pub record Request (Wish : Type 0) : Type 0 where
   pub port : ℕ
   pub wish : Wish
 
--- the name of the port that an act asks through for a put, and its item; for a take or a peek, whether it is a peek
+-- the name of the port through which an action asks for a put, and the item
 abbrev pub put_in : Outcome → Act → Option (List ℕ × Item)
 put_in Done (Put name item) = Some (name, item)
 put_in outcome act = None
 
+-- the name of the port through which an action asks for a take or a peek, and whether it is a peek
 abbrev pub take_in : Outcome → Act → Option (List ℕ × Bool)
 take_in Done (Take name) = Some (name, false)
 take_in Done (Peek name) = Some (name, true)
 take_in outcome act = None
 
+-- a port is given, and it leads to this FIFO
 abbrev pub leads_to : ℕ → Option Gate → Bool
 leads_to fifo gate = option_map_or (λ gate. gate.fifo == fifo) gate false
 
@@ -61,6 +63,7 @@ request_by fifo performer place wished (Some phase) (Some gate) =
     if gate.fifo == fifo then Some (record { asker = record { place = place; who = performer; port = wished.0; phase = phase }; port = gate.port; wish = wished.1 }) else None
 request_by fifo performer place wished phase gate = None
 
+-- the request that the next action makes at a FIFO, if its port leads there
 abbrev pub request_at : {Wish : Type 0} → List Entry → ℕ → Who → PortKind → List ℕ × Wish → Option (Request Wish)
 request_at before fifo performer kind wished = request_by fifo performer (length before) wished (act_phase before) (gate_below before performer kind wished.0)
 
@@ -76,14 +79,17 @@ takes_asked [] fifo = []
 takes_asked (Did performer outcome act ∷ before) fifo = with_last (takes_asked before fifo) (option_and_then (request_at before fifo performer through.Get) (take_in outcome act))
 takes_asked (entry ∷ before) fifo = takes_asked before fifo
 
+-- a move is a put
 abbrev pub is_put : MoveKind → Bool
 is_put move.Put = true
 is_put kind = false
 
+-- a move is a take
 abbrev pub is_take : MoveKind → Bool
 is_take move.Take = true
 is_take kind = false
 
+-- a move is a take or a peek
 abbrev pub is_no_put : MoveKind → Bool
 is_no_put kind = not (is_put kind)
 
@@ -97,9 +103,11 @@ answered_at sort (entry ∷ before) fifo = answered_at sort before fifo
 abbrev pub is_waiting : {Wish : Type 0} → List ℕ → List Phase → Request Wish → Bool
 is_waiting answered ended request = not (list_any (nat_eq request.asker.place) answered) && not (list_any (same_phase request.asker.phase) ended)
 
+-- the puts that wait at a FIFO, the earliest first
 abbrev pub puts_waiting : List Entry → ℕ → List (Request Item)
 puts_waiting history fifo = filter (is_waiting (answered_at is_put history fifo) (ended_of history)) (puts_asked history fifo)
 
+-- the takes and peeks that wait at a FIFO, the earliest first
 abbrev pub takes_waiting : List Entry → ℕ → List (Request Bool)
 takes_waiting history fifo = filter (is_waiting (answered_at is_no_put history fifo) (ended_of history)) (takes_asked history fifo)
 
@@ -138,15 +146,19 @@ pub record Station : Type 0 where
   pub putters : List Asker
   pub takers : List Asker
 
+-- whose request it is, as a FIFO keeps it: the node of the port and the number of the phase
 abbrev pub owner_of : {Wish : Type 0} → Request Wish → Owner
 owner_of request = record { node = request.port; phase = phase_number request.asker.phase }
 
+-- a put that waits, as a FIFO keeps it
 abbrev pub waiting_put : Request Item → WaitingPut
 waiting_put request = record { owner = owner_of request; item = request.wish }
 
+-- a take or a peek that waits, as a FIFO keeps it
 abbrev pub waiting_take : Request Bool → WaitingTake
 waiting_take request = record { owner = owner_of request; peeks = request.wish }
 
+-- a FIFO of a size with these items, and with these requests that wait at it
 abbrev pub station_with : ℕ → List Item → List (Request Item) → List (Request Bool) → Station
 station_with size items puts takes = record {
   fifo = record { size = size; items = items; puts = map waiting_put puts; takes = map waiting_take takes };
@@ -154,10 +166,11 @@ station_with size items puts takes = record {
   takers = map (λ request. request.asker) takes;
 }
 
--- the FIFO at a node, if one is there
+-- the FIFO of a size at a node
 abbrev pub station_of : List Entry → ℕ → ℕ → Station
 station_of history node size = station_with size (fifo_items history node) (puts_waiting history node) (takes_waiting history node)
 
+-- the FIFO at a node, if there is one, as the log says
 abbrev pub station_at : List Entry → ℕ → Option Station
 station_at history node = option_map (station_of history node) (fifo_size (wiring_of history) node)
 
@@ -166,6 +179,7 @@ abbrev pub first_asker : MoveKind → Station → Option Asker
 first_asker move.Put station = slice_get station.putters 0
 first_asker kind station = slice_get station.takers 0
 
+-- a move at a FIFO as a transfer, with the data of the request that it answers
 abbrev pub passage_by : Move → Asker → Passage
 passage_by move asker = record { kind = move.kind; who = asker.who; port = asker.port; item = move.item; request = asker.place; phase = asker.phase }
 
@@ -173,6 +187,7 @@ passage_by move asker = record { kind = move.kind; who = asker.who; port = asker
 abbrev pub passage_in : Station → Option Passage
 passage_in station = option_and_then (λ move. option_map (passage_by move) (first_asker move.kind station)) (next_move station.fifo)
 
+-- the next transfer at the FIFO of a node, with the node
 abbrev pub passing_at : List Entry → ℕ → Option (ℕ × Passage)
 passing_at history node = option_map (λ passage. (node, passage)) (option_and_then passage_in (station_at history node))
 
@@ -184,9 +199,10 @@ next_passed history = first_given (map (passing_at history) (path_order (nodes_o
 abbrev pub station_below : List Entry → Who → PortKind → List ℕ → Option Station
 station_below history performer kind name = option_and_then (λ gate. station_at history gate.fifo) (gate_below history performer kind name)
 
--- whether an item can be put there at once, and which can be taken
+-- whether an item can be put there immediately
 abbrev pub puts_now : Option Station → Bool
 puts_now station = option_map_or (λ station. can_put station.fifo) station false
 
+-- the item that can be taken there immediately, if there is one
 abbrev pub takes_now : Option Station → Option Item
 takes_now station = option_and_then (λ station. if can_take station.fifo then slice_get station.fifo.items 0 else None) station

@@ -18,13 +18,16 @@ abbrev pub size_of : End → Option ℕ
 size_of (Fifo size) = Some size
 size_of end = None
 
+-- the size of the FIFO at a node, if there is one
 abbrev pub fifo_size : WiringValue → ℕ → Option ℕ
 fifo_size wiring node = option_and_then size_of (end_at wiring.ends node)
 
+-- an end is an imp
 abbrev pub is_imp : End → Bool
 is_imp Imp = true
 is_imp end = false
 
+-- an imp is at this node
 abbrev pub is_imp_at : WiringValue → ℕ → Bool
 is_imp_at wiring node = option_map_or is_imp (end_at wiring.ends node) false
 
@@ -32,6 +35,7 @@ is_imp_at wiring node = option_map_or is_imp (end_at wiring.ends node) false
 abbrev pub is_sound_port : WiringValue → PortKind → ℕ → Bool
 is_sound_port wiring kind node = option_map_or (same_kind kind) (kind_at wiring.ends node) false && is_none (wire_fault wiring node)
 
+-- a node, if it is a correctly connected port of a kind
 abbrev pub if_sound : WiringValue → PortKind → ℕ → Option ℕ
 if_sound wiring kind node = if is_sound_port wiring kind node then Some node else None
 
@@ -39,6 +43,7 @@ if_sound wiring kind node = if is_sound_port wiring kind node then Some node els
 unfoldable pub port_below : List Entry → Who → PortKind → List ℕ → Option ℕ
 port_below history performer kind name = option_and_then (if_sound (closed_wiring history) kind) (node_below (nodes_of history) performer (name ∷ []))
 
+-- a node, if a FIFO is there
 abbrev pub if_fifo : WiringValue → ℕ → Option ℕ
 if_fifo wiring node = option_map (λ size. node) (fifo_size wiring node)
 
@@ -46,6 +51,7 @@ if_fifo wiring node = option_map (λ size. node) (fifo_size wiring node)
 abbrev pub gate_at : WiringValue → ℕ → Option Gate
 gate_at wiring port = option_map (λ fifo. record { port = port; fifo = fifo }) (option_and_then (if_fifo wiring) (slice_get (targets_of wiring port) 0))
 
+-- the port of a performer with this name, and the FIFO that is reached through it
 unfoldable pub gate_below : List Entry → Who → PortKind → List ℕ → Option Gate
 gate_below history performer kind name = option_and_then (gate_at (closed_wiring history)) (port_below history performer kind name)
 
@@ -53,9 +59,10 @@ gate_below history performer kind name = option_and_then (gate_at (closed_wiring
 abbrev pub outlets_below : List Entry → Who → List ℕ → List ℕ
 outlets_below history performer name = option_map_or (targets_of (closed_wiring history)) (port_below history performer Analysis name) []
 
--- the FIFOs among it, and the imps
+-- the FIFOs that are reached through an analysis port, in path order
 unfoldable pub fifos_below : List Entry → Who → List ℕ → List ℕ
 fifos_below history performer name = filter (λ node. is_some (fifo_size (closed_wiring history) node)) (outlets_below history performer name)
 
+-- the imps that are reached through an analysis port, in path order
 unfoldable pub imps_below : List Entry → Who → List ℕ → List ℕ
 imps_below history performer name = filter (is_imp_at (closed_wiring history)) (outlets_below history performer name)

@@ -56,6 +56,7 @@ type_asked creation = named_of_kind Component creation.types creation.type_name
 abbrev pub type_made : Creation → Option ℕ
 type_made creation = option_and_then (made_type creation.overrides (length creation.types) (path_text (created_path creation))) (type_asked creation)
 
+-- the fatal report for a fault of the tree, if there is a fault
 abbrev pub fatal_of : Option TreeFault → Option Fatal
 fatal_of None = None
 fatal_of (Some NameTaken) = Some ChildTaken
@@ -89,10 +90,11 @@ pub record Starting : Type 0 where
   pub path : List (List ℕ)
   pub priority : Option ℕ
 
--- the number of the type of a name, if it is a sequence's; and the type that the factory makes of it
+-- the number of the type with this name, if it is a sequence type
 abbrev pub sequence_named : Types → List ℕ → Option ℕ
 sequence_named types name = named_of_kind Sequence types name
 
+-- the type that the factory makes for a start; none if its type is not a sequence type, or the overrides form a loop
 abbrev pub sequence_made : Starting → Option ℕ
 sequence_made starting = option_and_then (made_type starting.overrides (length starting.types) (path_text starting.path)) (sequence_named starting.types starting.type_name)
 
@@ -117,9 +119,11 @@ starting_refusal starting =
 unfoldable pub setting_refusal : ℕ → Option Fatal
 setting_refusal count = fault_if (nat_le most_settings count) TooManySettings
 
+-- the kind of the type with this name, if there is one
 abbrev pub kind_named : Types → List ℕ → Option Kind
 kind_named types name = option_and_then (λ type_id. option_map (λ t. t.1) (slice_get types type_id)) (type_named types name)
 
+-- both kinds are known, and they are the same
 abbrev pub are_of_one_kind : Option Kind → Option Kind → Bool
 are_of_one_kind (Some original) (Some new) = is_same_kind original new
 are_of_one_kind original new = false
@@ -141,10 +145,11 @@ connection_refusal connected from to =
 unfoldable pub passing_refusal : Option Phase → Bool → Option Fatal
 passing_refusal phase is_there = first_given (fault_if (not (in_task phase)) OutsideTask ∷ fault_if (not is_there) NoPort ∷ [])
 
--- a driver asks again only where it is idle, and is done where it has an item in hand
+-- a driver asks only if it is idle
 abbrev pub ask_refusal : SequencerValue → Option Fatal
 ask_refusal s = fault_if (not (is_idle s.driver)) AskedTwice
 
+-- a driver completes an item only if it holds one
 abbrev pub done_refusal : SequencerValue → Option Fatal
 done_refusal s = fault_if (is_none (hand_of s.driver)) NothingOut
 
@@ -160,13 +165,15 @@ item_refusal id s = fault_if (list_any (is_item_of id) s.queue || is_some (grant
 unfoldable pub request_refusal : Option ℕ → Option Fatal → Option Fatal
 request_refusal given refusal = first_given (fault_if (is_none_at_all given) OutOfRange ∷ refusal ∷ [])
 
--- it asks for a lock where it waits for none, and gives one back where it holds one; it sends where it was granted and has not sent
+-- a sequence asks for a lock only if it waits for none
 abbrev pub lock_refusal : ℕ → SequencerValue → Option Fatal
 lock_refusal id s = fault_if (list_any (is_lock_of id) s.queue) AskedTwice
 
+-- a sequence gives a lock back only if it holds one
 abbrev pub unlock_refusal : ℕ → SequencerValue → Option Fatal
 unlock_refusal id s = fault_if (not (is_held id s.holders)) NotHeld
 
+-- a sequence sends only if it was granted and has not sent
 abbrev pub send_refusal : ℕ → SequencerValue → Option Fatal
 send_refusal id s = fault_if (is_none (grant_of id s.driver)) NotGranted
 
@@ -186,11 +193,12 @@ drain_refusal ticks = fault_if (nat_lt most_ticks ticks) OutOfRange
 unfoldable pub wait_refusal : Option Phase → ℕ → Option Fatal
 wait_refusal phase ticks = first_given (fault_if (nat_lt 0 ticks && not (in_task phase)) OutsideTask ∷ fault_if (nat_lt most_ticks ticks) OutOfRange ∷ [])
 
--- an act is open to a component, to a sequence, or to both
+-- the performer is a component, not a sequence
 abbrev pub is_component : Who → Bool
 is_component (who.Node node) = true
 is_component (who.Sequence home id) = false
 
+-- an action is open to its performer: to components, to sequences, or to both
 abbrev pub is_open_to : Act → Who → Bool
 is_open_to (Create type_name name) performer = is_component performer
 is_open_to (Add name what) performer = is_component performer

@@ -30,16 +30,19 @@ use Rattle.bench_script.specs.Scripts.{ScriptValue}
 use Rattle.bench_history.specs.History.{now_of, nodes_of}
 use Rattle.bench_history.specs.Sequences.{sequences_of}
 
--- what a script asks
+-- what a verbosity setting of a script asks of the report server
 abbrev pub verbosity_command : VerbositySetting → Command
 verbosity_command given = SetVerbosity given.scope given.which given.level
 
+-- what an action setting of a script asks of the report server
 abbrev pub action_command : ActionSetting → Command
 action_command given = SetAction given.scope given.which given.actions
 
+-- what a severity change of a script asks of the report server
 abbrev pub severity_command : SeverityChange → Command
 severity_command given = SetSeverity given.scope given.from given.id given.to
 
+-- all that a script asks, the newest first: severity changes, action settings, verbosities, and last the quit limit
 abbrev pub script_commands : ScriptValue → List Command
 script_commands script =
     reverse (map severity_command script.severities) ++ (reverse (map action_command script.actions) ++ (reverse (map verbosity_command script.verbosities) ++ SetQuitLimit script.quit_limit ∷ []))
@@ -52,12 +55,13 @@ act_command path (act.Actions which actions) = Some (SetAction (path_text path) 
 act_command path (act.Severity from id to) = Some (SetSeverity (path_text path) from id to)
 act_command path other = None
 
--- an act that is refused, and a note, have a fatal report
+-- what an action asks of the report server, by its outcome: if it was refused, its fatal report
 abbrev pub deed_command : List (List ℕ) → Outcome → Act → Option Command
 deed_command path Done act = act_command path act
 deed_command path (Refused fatal) act = Some (Issue path (fatal_report fatal))
 deed_command path outcome act = None
 
+-- what an entry asks of the report server: an action, or a note, which issues its fatal report
 abbrev pub command_in : List Node → Entry → Option Command
 command_in nodes (Did performer outcome act) = deed_command (path_at nodes (node_of performer)) outcome act
 command_in nodes (Note fatal node) = Some (Issue (path_at nodes node) (fatal_report fatal))

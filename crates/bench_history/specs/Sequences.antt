@@ -38,6 +38,7 @@ abbrev pub is_sequencer : NodeKind → Bool
 is_sequencer kind.Sequencer = true
 is_sequencer other = false
 
+-- a node, if a sequencer is there
 abbrev pub if_sequencer : List Node → ℕ → Option ℕ
 if_sequencer nodes node = if option_map_or (λ n. is_sequencer n.kind) (node_at nodes node) false then Some node else None
 
@@ -47,17 +48,19 @@ home_asked nodes (who.Node node) on = option_and_then (if_sequencer nodes) (node
 home_asked nodes (who.Sequence home id) [] = Some home
 home_asked nodes (who.Sequence home id) (name ∷ on) = None
 
--- the path by which the factory knows a sequence: that of its home, and the names from its root sequence down
+-- if a sequence performs, the names from its root sequence down to itself; otherwise none
 abbrev pub parent_names : List Start → Who → List (List ℕ)
 parent_names started performer = option_map_or (names_of started) (sequence_in performer) []
 
+-- the path by which the factory knows a sequence: that of its home, and the names from its root sequence down
 abbrev pub sequence_path : List Node → List Start → Who → List (List ℕ) → List ℕ → List (List ℕ)
 sequence_path nodes started performer on name = path_at nodes (unwrap_or (home_asked nodes performer on) 0) ++ parent_names started performer ++ name ∷ []
 
--- the priority of a sequence that is started: the one that is given, else its parent's, else the usual one
+-- the priority of the parent, or the usual one if there is no parent
 abbrev pub parent_priority : List Start → Option ℕ → ℕ
 parent_priority started parent = option_map_or (λ start. start.priority) (option_and_then (numbered started) parent) usual_priority
 
+-- the priority of a sequence that is started: the one that is given, otherwise its parent's, otherwise the usual one
 abbrev pub start_priority : List Start → Option ℕ → Option ℕ → ℕ
 start_priority started parent given = unwrap_or given (parent_priority started parent)
 
@@ -73,9 +76,11 @@ pub record Beginning : Type 0 where
   pub starter : Who
   pub phase : Option Phase
 
+-- the starts of these sequences: the home, parent, name and priority of each
 abbrev pub starts_in : List Beginning → List Start
 starts_in beginnings = map (λ beginning. beginning.start) beginnings
 
+-- the sequences that were started after an action: with one more, the newest, if it started one
 abbrev pub begun_after : List Node → Option Phase → List Beginning → Who → Outcome → Act → List Beginning
 begun_after nodes phase begun performer (Started id) act = record { start = start_by nodes (starts_in begun) performer act; starter = performer; phase = phase } ∷ begun
 begun_after nodes phase begun performer outcome act = begun
@@ -90,6 +95,7 @@ begun_of (entry ∷ before) = begun_of before
 abbrev pub phase_begun : List Entry → ℕ → Option Phase
 phase_begun history id = option_and_then (λ beginning. beginning.phase) (numbered (begun_of history) id)
 
+-- the starts of all sequences that were started, the newest first
 abbrev pub sequences_of : List Entry → List Start
 sequences_of history = starts_in (begun_of history)
 
@@ -115,16 +121,19 @@ is_over_phase ended phase = option_map_or (λ phase. list_any (same_phase phase)
 abbrev pub lives : List Entry → ℕ → Beginning → Bool
 lives history id beginning = not (list_any (same_who (who.Sequence beginning.start.home id)) (finished_of history)) && not (is_over_phase (ended_of history) beginning.phase)
 
+-- a sequence is active: it was started, it has not finished, and its phase has not ended
 unfoldable pub is_live : List Entry → ℕ → Bool
 is_live history id = option_map_or (lives history id) (numbered (begun_of history) id) false
 
--- the step at which it is then: it goes through three, and ends each by an act
+-- the three steps of a sequence, in their order
 abbrev pub all_steps : List SeqStep
 all_steps = PreStart ∷ Body ∷ PostStart ∷ []
 
+-- the step that a sequence has reached, by how many steps it has ended
 abbrev pub step_in : List Entry → ℕ → Option SeqStep
 step_in history id = slice_get all_steps (count_by (ends_step id) history)
 
+-- the step of a sequence that is active
 unfoldable pub step_of : List Entry → ℕ → Option SeqStep
 step_of history id = if is_live history id then step_in history id else None
 
@@ -142,12 +151,12 @@ abbrev pub is_living : List Entry → Who → Bool
 is_living history (who.Node node) = false
 is_living history (who.Sequence home id) = is_live history id
 
--- the sequences that the newest entry has ended: one finishes alone, and at the end of a phase those end that lived and live no longer, in the order of
--- their starts
+-- the sequence that an action ends: its performer, if the outcome is `Finished`
 abbrev pub leaving_after : Who → Outcome → List Who
 leaving_after performer Finished = performer ∷ []
 leaving_after performer outcome = []
 
+-- the sequences that the newest entry has ended: the one that finished, or those that end with a phase, in order of their starts
 abbrev pub leaving_of : List Entry → List Who
 leaving_of [] = []
 leaving_of (Did performer outcome act ∷ before) = leaving_after performer outcome

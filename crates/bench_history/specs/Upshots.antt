@@ -47,6 +47,7 @@ unless_refused (Some fatal) upshot = ComesTo (Refused fatal)
 abbrev pub needed_object : Creation → Need
 needed_object creation = record { kind = Component; type_name = option_map_or (λ made. type_name_or creation.types made creation.type_name) (type_made creation) creation.type_name; path = created_path creation }
 
+-- the result of a creation: it is refused, or needs an object of the type that is made
 abbrev pub creation_upshot : Creation → Upshot
 creation_upshot creation = unless_refused (creation_refusal creation) (Needs (needed_object creation) (Made (needed_object creation).type_name))
 
@@ -55,10 +56,11 @@ abbrev pub creation_now : ScriptValue → List Entry → Who → List ℕ → Li
 creation_now script history performer type_name name =
     record { built = is_built history; types = script.types; overrides = overrides_of script history; nodes = nodes_of history; parent = node_of performer; type_name = type_name; name = name }
 
--- the sequence that a start needs, of the type that is made; and its number
+-- the sequence that a start needs, of the type that is made
 abbrev pub needed_sequence : Starting → Need
 needed_sequence starting = record { kind = Sequence; type_name = option_map_or (λ made. type_name_or starting.types made starting.type_name) (sequence_made starting) starting.type_name; path = starting.path }
 
+-- the result of a start: it is refused, or needs a sequence, which gets the next number
 abbrev pub starting_upshot : ℕ → Starting → Upshot
 starting_upshot count starting = unless_refused (starting_refusal starting) (Needs (needed_sequence starting) (Started (suc count)))
 
@@ -79,16 +81,19 @@ abbrev pub asked_upshot : How → Bool → Upshot
 asked_upshot Try waits = ComesTo (Waits waits)
 asked_upshot how waits = ComesTo Done
 
--- the sequencer that a driver reaches through a port, and that on which a sequence runs
+-- the sequencer that a driver reaches through a port
 abbrev pub driven_at : List Entry → Who → List ℕ → Option SequencerValue
 driven_at history performer port = option_and_then (sequencer_at history) (sequencer_below history performer port)
 
+-- the sequencer on which a sequence runs
 abbrev pub home_sequencer : List Entry → Who → Option SequencerValue
 home_sequencer history performer = sequencer_at history (node_of performer)
 
+-- a sequencer has a request for an item that can be granted
 abbrev pub has_candidate : List Beginnings → Option SequencerValue → Bool
 has_candidate started sequencer = option_map_or (λ s. nat_lt 0 (length (candidates_at started s))) sequencer false
 
+-- the number of the performer, if it is a sequence; otherwise 0
 abbrev pub id_in : Who → ℕ
 id_in performer = unwrap_or (sequence_in performer) 0
 

@@ -41,10 +41,12 @@ node_below nodes performer path = let whole = path_at nodes (node_of performer) 
 abbrev pub end_below : List Node → WiringValue → Who → List (List ℕ) → Option End
 end_below nodes wiring performer path = option_and_then (end_at wiring.ends) (node_below nodes performer path)
 
+-- the wiring with one more connection, if both nodes exist
 abbrev pub with_both : Option ℕ → Option ℕ → WiringValue → WiringValue
 with_both (Some from) (Some to) wiring = with_connection from to wiring
 with_both from to wiring = wiring
 
+-- the wiring after an action: with what it adds or connects, if it is done
 abbrev pub wiring_after : List Node → WiringValue → Who → Outcome → Act → WiringValue
 wiring_after nodes wiring performer Done (act.Add name what) = with_end (length nodes) (end_of what) wiring
 wiring_after nodes wiring performer Done (act.Connect from to) = with_both (node_below nodes performer from) (node_below nodes performer to) wiring
@@ -56,6 +58,7 @@ wiring_of [] = new_wiring
 wiring_of (Did performer outcome act ∷ before) = wiring_after (nodes_of before) (wiring_of before) performer outcome act
 wiring_of (entry ∷ before) = wiring_of before
 
+-- an entry ends connect
 abbrev pub ends_connect : Entry → Bool
 ends_connect (ended Connect) = true
 ends_connect entry = false

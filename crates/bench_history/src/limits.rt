@@ -1,4 +1,4 @@
-//! How long a log may be.
+//! The limit of a log.
 
 ghost use Rattle.std.specs.Prelude.{◌≡◌};
 ghost use Rattle.bench_history.specs.Limits.{log_limit};
@@ -9,7 +9,7 @@ const ENTRIES_OF_VERSION_1: u32 = 1_000_000;
 
 const ENTRIES_OF_VERSION_2: u32 = 8_000_000;
 
-/// Answers how many entries the log of a script may have: 1,000,000 in version 1 of scripts, and 8,000,000 in version 2. Takes no memory.
+/// Returns the most entries of the log of a script: 1,000,000 in version 1 of scripts, 8,000,000 in version 2. Takes no memory.
 #[tactic(auto, unfolding(crate::specs::Limits::log_limit))]
 pub fn log_limit(script: &Script) -> u32
     ensures { result ≡ log_limit script.now }

@@ -53,13 +53,13 @@ abandoned kernel = if is_over kernel.core.history then kernel else record kernel
 abbrev pub needed_type : ScriptValue → List Entry → List ℕ
 needed_type script history = option_map_or (λ need. need.type_name) (need_in (next_of script history)) []
 
--- whose objects were made, each with the name of its type: for a component the log says it, and for a sequence it is that of the object that was
--- needed then
+-- who was made after an action: one more, if it created a component or started a sequence
 abbrev pub types_after : List ℕ → List Entry → List (Who × List ℕ) → Who → Outcome → Act → List (Who × List ℕ)
 types_after needed before types performer (Made type_name) act = (Node (length (nodes_of before)), type_name) ∷ types
 types_after needed before types performer (Started id) act = (Sequence (start_by (nodes_of before) (sequences_of before) performer act).home id, needed) ∷ types
 types_after needed before types performer outcome act = types
 
+-- who was made, each with the name of its type: by the log for a component, by the object needed then for a sequence
 abbrev pub types_made : ScriptValue → List Entry → List (Who × List ℕ)
 types_made script [] = []
 types_made script (Did performer outcome act ∷ before) = types_after (needed_type script before) before (types_made script before) performer outcome act
@@ -70,6 +70,7 @@ module _ {O : Type 0} (view : O → View) (says : O → Says) where
   abbrev pub LiveHonestly : List (Who × O) → Option Who → List Entry → Type 0
   LiveHonestly held unknown history = All (λ seat. unknown ≢ Some seat.0 → IsHonestNow (says seat.1) (view seat.1) (life_of seat.0 history)) held
 
+  -- each object of a kernel conforms to the log (`LiveHonestly`)
   abbrev pub AreHonest : KernelValue O → Type 0
   AreHonest kernel = LiveHonestly kernel.held kernel.unknown kernel.core.history
 

@@ -12,6 +12,7 @@ use Rattle.bench_core.specs.Worlds.{made_who}
 use Rattle.bench_kernel.specs.Kernels.{needed_type, types_made}
 use Rattle.bench_history.specs.Laws.{NothingAfterOver, MachineEntriesAreSilent, NodesStay, NeedsAreWanted, MadeObjectsAreNew, NewNodesAreUnasked, NewSequencesAreUnasked, ComponentsAreNodes, LivingLived, LeaversLived}
 
+-- the laws of legal logs on which the custody of objects rests
 pub record LogLaws : Type 0 where
   pub over : NothingAfterOver
   pub silent : MachineEntriesAreSilent
@@ -29,6 +30,7 @@ pub record IsMadeNew (script : ScriptValue) (history : List Entry) (entry : Entr
   pub types : types_made script (entry ∷ history) ≡ (who, needed_type script history) ∷ types_made script history
   pub unasked : life_of who history ≡ []
 
+-- law: a component or sequence that is made is new, and was not called yet (`IsMadeNew`)
 abbrev pub MadeAreNew : Type 0
 MadeAreNew =
     (script : ScriptValue) (history : List Entry) (entry : Entry) (who : Who) → EachIsNext script history → made_in (next_of script history) ≡ Some entry

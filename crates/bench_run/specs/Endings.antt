@@ -6,6 +6,7 @@ use Rattle.bench_run.specs.declared.endings.Ending.{Ending}
 use Rattle.bench_run.specs.declared.faults.RunFault.{RunFault}
 use Rattle.bench_run.specs.declared.faults.RunFault.TheVariants.{NoTest}
 
+-- the run ended because all phases were run
 abbrev pub is_finished : Reason → Bool
 is_finished Finished = true
 is_finished reason = false

@@ -35,6 +35,7 @@ module _ {O : Type 0} (view : O → View) (name : O → List ℕ) (says : O → 
   lived-as script history who lived =
       record { type_name = lived.type_name; made = lived.made; object = lived.object; given = given-as lived.type_name lived.object lived.given; last = lived.last; honest = lived.honest }
 
+  -- a run with objects that `Gives` allows is a run with objects that `Others` allows
   pub run-as : (words left : Stream) (script : ScriptValue) (trace : Bool) (old new : Option (List ℕ)) (result : Result Ending RunFault) → IsRun view name says Gives words left script trace old new result → IsRun view name says Others words left script trace old new result
   run-as words left script trace old new result run =
       record {

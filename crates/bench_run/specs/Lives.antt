@@ -54,6 +54,7 @@ module _ {O : Type 0} (view : O → View) (name : O → List ℕ) (says : O → 
       ((entry ≡ Did performer made act) × (object : O) × IsGiven need.type_name object) ⊎ ((entry ≡ Did performer (Refused NoObject) act) × IsUnknown need.type_name)
   IsFilled comes entry = Unit {0}
 
+  -- `IsFilled` holds at each entry of a log
   abbrev pub AreFilled : ScriptValue → List Entry → Type 0
   AreFilled script [] = Unit {0}
   AreFilled script (entry ∷ before) = IsFilled (next_of script before) entry × AreFilled script before

@@ -27,10 +27,11 @@ abbrev pub transcript : Bool → ScriptValue → List Entry → List ℕ
 transcript trace script [] = []
 transcript trace script (entry ∷ before) = transcript trace script before ++ last_text trace script (entry ∷ before)
 
--- the counts of its reports, and the summary of them
+-- the counts of the reports of a log
 abbrev pub log_counts : ScriptValue → List Entry → Counts
 log_counts script history = report_counts (report_commands script history)
 
+-- the summary of the reports of a log
 abbrev pub summary_of : ScriptValue → List Entry → List ℕ
 summary_of script history = summary_text (quit_limit (report_commands script history)) (log_counts script history)
 
@@ -73,9 +74,9 @@ abbrev pub LeavesRun : ScriptValue → Bool → List Entry → Option (List ℕ)
 LeavesRun script trace history old new (Ok ending) = RanTo ending script trace history old new
 LeavesRun script trace history old new (Err fault) = BrokeOffRun fault script trace history old new
 
--- the same where the log is gone: it is legal, its words are those of a generator, which has given no others but what may be lost, and its
--- objects those that are given for the names of their types
 module _ {O : Type 0} (view : O → View) (name : O → List ℕ) (says : O → Says) (Gives : List ℕ → Option O → Type 0) where
+  -- the same where the log is gone: it is legal, its words are those of a generator, which has given no others but what may be lost, and its
+  -- objects those that are given for the names of their types
   pub record IsRun (stream left : Stream) (script : ScriptValue) (trace : Bool) (old new : Option (List ℕ)) (result : Result Ending RunFault) : Type 0 where
     pub history : List Entry
     pub legal : IsLegal script history

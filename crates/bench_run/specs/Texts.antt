@@ -55,6 +55,7 @@ took-none : (count : Option ℕ) → TookMore 0 count count
 took-none None = tt
 took-none (Some before) = sym (add-zero before)
 
+-- a sink that took no texts took those of the empty log
 pub took-nothing : (script : ScriptValue) (count : Option ℕ) → TookSome script count count
 took-nothing script count = record { history = []; legal = record { each = tt; few = no-entry script }; room = λ going. some-room script; took = took-none count }
 

@@ -1,4 +1,4 @@
-//! The run of a script: the kernel goes on step by step, and what it needs is made.
+//! Runs a script: performs the steps of a kernel, and makes the objects that it needs.
 
 ghost use Rattle.std.specs.Prelude.{◌≡◌, ◌≢◌, ◌⊎◌, [], None, Err, OnErr, OnOk, IfOk, IfErr, IsSome, Some, true, false, if◌then◌else◌, MatchBool};
 ghost use Rattle.std.specs.Io.KnownBytes.{Appends};
@@ -32,18 +32,20 @@ use uvm_glob::Name;
 use uvm_object::{Entry, Reason, UvmObject};
 use uvm_report::{Reports, Severity};
 
-/// Runs a script to its end, with the words of a generator, over the objects that `make` makes: it is called for each object
-/// that is needed, with the name of its type, and answers none for a type that it does not have. Such an object is declined,
-/// and so is one of another type than its name is asked for. As each entry of the log is made, its line is written where `trace`
-/// asks for it, and the line of its report where that is displayed. Each object is given back and dropped: a sequence's once the
-/// sequence has ended, and all others at the end, whatever that is.
+/// Runs a script to its end, on the random numbers of `words`, and returns how the run ended. For each object that is needed, it calls
+/// `make` with the name of the type. The object is declined if `make` returns `None`, or an object of another type. After each entry of
+/// the log, the entry's line is written if `trace` is on, and the line of its report if that is displayed. After the last entry, the
+/// summary of the reports is written. Each object is given back and dropped: that of a sequence once the sequence has ended, all others
+/// at the end, also after an error.
 ///
-/// Once the run is over the summary of its reports is written. Answers how it is over. The error is `LogFull` where the log has
-/// 1,000,000 entries and is not over, `Memory` where memory was refused, also to `make`, and `Output` where the sink refused a text, as a
-/// writer does that fails, after which nothing is said of what was written. A script without a test is refused before all else, as
-/// `NoTest`.
+/// The sink receives one text for each entry, which is empty if there is nothing to write, and then the summary.
 ///
-/// The sink takes a text for each entry, an empty one where there is nothing to write, and then the summary.
+/// Errors: `NoTest` if the script has no test, before anything else. Then, as they occur: `LogFull` if the log has as many entries as it
+/// may have and the run has not ended; `Output` if the sink refuses a text, as a writer does that fails; `Memory` if memory runs out,
+/// also in `make` or in an object. A log may have 1,000,000 entries in version 1 of scripts, and 8,000,000 in version 2.
+///
+/// After `NoTest` nothing was written. After `LogFull` the text of the whole log was written; after `Memory`, the text of the log, or all
+/// but that of its newest entry. After `Output` nothing is known of what was written.
 pub fn run_script<
     O: UvmObject,
     R: Rng,
@@ -72,15 +74,17 @@ pub fn run_script<
         Err(_) => return Err(RunFault::Memory),
     };
     let ended = run_kernel(alloc, &mut kernel, words, trace, &make, out);
-    // Whose text was written.
+    // For the proof: the text that was written is that of this log, which is legal.
     let _log = kernel.log();
     kernel.finish();
     ended
 }
 
-/// Runs a kernel that has not begun, and was not abandoned, as `run_script` runs a script, and gives each object back. The kernel then
-/// still tells its log, which is that of the run, and, where the run is over, its reports. No word is drawn beyond those of the log,
-/// but for one at most where memory is refused.
+/// Runs a kernel as `run_script` runs a script, and gives each object back. Requires that the log of the kernel is empty, and that it has
+/// not failed and was not abandoned. The kernel then still returns its log, which is that of the run, and its reports if the run has
+/// ended. No random number is consumed beyond those in the log, except at most one if memory runs out.
+///
+/// Errors: those of `run_script`, except `NoTest`.
 pub fn run_kernel<O: UvmObject, R: Rng, F: Fn(&Name) -> Result<Option<O>, AllocError>, S: Sink>(
     alloc: Global,
     kernel: &mut Kernel<O>,
@@ -109,8 +113,8 @@ pub fn run_kernel<O: UvmObject, R: Rng, F: Fn(&Name) -> Result<Option<O>, AllocE
     ended
 }
 
-// Makes entries until the run is over, writes the summary, and answers how it is over. Each text is built in `text`, which is kept over the
-// run.
+// Makes entries until the run has ended, writes the summary, and returns how the run ended. Each text is built in `text`, so that its
+// memory is used again.
 fn run_to_end<O: UvmObject, R: Rng, F: Fn(&Name) -> Result<Option<O>, AllocError>, S: Sink>(
     kernel: &mut Kernel<O>,
     words: &mut R,
@@ -132,7 +136,7 @@ fn run_to_end<O: UvmObject, R: Rng, F: Fn(&Name) -> Result<Option<O>, AllocError
     ensures objects { HaveLived O.view O.name O.says (MayGive F.Fn make.now) kernel.new.core.script kernel.new.core.history }
     ensures script { kernel.new.core.script ≡ kernel.old.core.script }
 {
-    // Before the first entry nobody is held.
+    // For the proof: before the first entry the kernel holds no object.
     let _held = kernel.live();
     while make_entry(kernel, words, make)? {
         write_last(kernel, trace, text, out)?;
@@ -141,7 +145,8 @@ fn run_to_end<O: UvmObject, R: Rng, F: Fn(&Name) -> Result<Option<O>, AllocError
     Ok(ending_of(kernel))
 }
 
-// Makes the next entry, or answers that the run is over. Drops the objects of the sequences that have ended before.
+// Makes the next entry and returns true, or returns false if the run has ended. Before that, it drops the objects of the sequences that
+// have ended. Errors: `LogFull`; `Memory`. An error adds no entry.
 fn make_entry<O: UvmObject, R: Rng, F: Fn(&Name) -> Result<Option<O>, AllocError>>(
     kernel: &mut Kernel<O>,
     words: &mut R,
@@ -156,11 +161,11 @@ fn make_entry<O: UvmObject, R: Rng, F: Fn(&Name) -> Result<Option<O>, AllocError
     ensures lost { IfErr result (λ fault. HasLost R.stream fault words.old words.new) }
     ensures objects { OnOk result (AreKept O.view O.name O.says (MayGive F.Fn make.now) kernel.old → AreKept O.view O.name O.says (MayGive F.Fn make.now) kernel.new) }
 {
-    // Where something comes the run is not over.
+    // For the proof: if an entry or an object is next, the run has not ended.
     laws::nothing_after_over();
     custody::others_make_nobody();
     loop {
-        // Nobody is held twice.
+        // For the proof: no component or sequence has two objects.
         let _held = kernel.live();
         match kernel.step(words) {
             Ok(Step::Back { .. }) => (),
@@ -176,7 +181,7 @@ fn make_entry<O: UvmObject, R: Rng, F: Fn(&Name) -> Result<Option<O>, AllocError
     }
 }
 
-// How the run is over.
+// Returns how the run ended.
 fn ending_of<O: UvmObject>(kernel: &Kernel<O>) -> Ending
     requires over { is_over kernel.now.core.history ≡ true }
     requires sound { is_sound kernel.now.core.health ≡ true }
@@ -190,7 +195,7 @@ fn ending_of<O: UvmObject>(kernel: &Kernel<O>) -> Ending
     }
 }
 
-// Why the run is over.
+// Returns why the run ended.
 fn why_over<O: UvmObject>(kernel: &Kernel<O>) -> Reason
     requires { is_over kernel.now.core.history ≡ true }
     ensures { newest kernel.now.core.history ≡ Some (Over result) }
@@ -201,7 +206,8 @@ fn why_over<O: UvmObject>(kernel: &Kernel<O>) -> Reason
     }
 }
 
-// Supplies the object that is needed, or declines where there is none of its type. (Not inlined, so that no entry has room for objects.)
+// Supplies the object that is needed, or declines it if `make` returns none of its type. Errors: out of memory, which leaves the kernel
+// unchanged. It is not inlined, so that `make_entry` does not reserve stack for an object at each entry.
 #[inline(never)]
 fn fill<O: UvmObject, F: Fn(&Name) -> Result<Option<O>, AllocError>>(
     kernel: &mut Kernel<O>,
@@ -232,7 +238,7 @@ fn fill<O: UvmObject, F: Fn(&Name) -> Result<Option<O>, AllocError>>(
     }
 }
 
-// Supplies the object, or declines where it is of another type than the one that is needed.
+// Supplies the object, or declines it if it is not of the type that is needed. Errors: out of memory, which leaves the kernel unchanged.
 fn supply<O: UvmObject>(kernel: &mut Kernel<O>, object: O) -> Result<(), RunFault>
     requires { IsSome (open_need kernel.old) }
     ensures ok { OnOk result (Grows kernel.old.core kernel.new.core) }
@@ -256,7 +262,7 @@ fn supply<O: UvmObject>(kernel: &mut Kernel<O>, object: O) -> Result<(), RunFaul
     }
 }
 
-// Writes the text of the newest entry, which is built in `text`.
+// Writes the text of the newest entry, which it builds in `text`. Errors: `Memory`, after which nothing was written; `Output`.
 fn write_last<O: UvmObject, S: Sink>(
     kernel: &Kernel<O>,
     trace: bool,
@@ -272,7 +278,7 @@ fn write_last<O: UvmObject, S: Sink>(
     ensures steady { S.refuses out.new → S.refuses out.old }
     ensures lost { result ≡ Err RunFault.Memory → last_text trace kernel.now.core.script kernel.now.core.history ≢ [] }
 {
-    // It belongs to a legal log.
+    // For the proof: the entry is the last of a legal log.
     let _log = kernel.log();
     text.clear();
     if kernel.core().last_text(trace, text).is_err() {
@@ -281,7 +287,7 @@ fn write_last<O: UvmObject, S: Sink>(
     write_text(text.as_slice(), out)
 }
 
-// Writes the summary of the reports, which is built in `text`.
+// Writes the summary of the reports, which it builds in `text`. Errors: `Memory`, after which nothing was written; `Output`.
 fn write_summary<O: UvmObject, S: Sink>(
     kernel: &Kernel<O>,
     text: &mut Vec<u8>,
@@ -315,7 +321,7 @@ fn write_text<S: Sink>(text: &[u8], out: &mut S) -> Result<(), RunFault>
     }
 }
 
-// The report server of a kernel to which no memory was refused.
+// Returns the report server of a kernel that has not run out of memory.
 fn reports_of<O: UvmObject>(kernel: &Kernel<O>) -> &Reports
     requires { is_sound kernel.now.core.health ≡ true }
     ensures limit { limit_of result.now ≡ quit_limit (report_commands kernel.now.core.script kernel.now.core.history) }

@@ -24,6 +24,7 @@ abbrev pub known_version : ℤ → Result ℕ ScriptFault
 known_version (pos n) = if n == 1 then Ok 1 else if n == 2 then Ok 2 else Err Version
 known_version (negsuc n) = Err Version
 
+-- the version that a value gives, 1 or 2; otherwise a fault
 abbrev pub version_in : Data → Result ℕ ScriptFault
 version_in value = and_then (integer_in value) known_version
 

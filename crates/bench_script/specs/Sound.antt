@@ -13,6 +13,7 @@ abbrev pub IsComponentAt : Types → Option ℕ → Type 0
 IsComponentAt types None = Unit {0}
 IsComponentAt types (Some place) = option_map (λ t. t.1) (slice_get types place) ≡ Some Component
 
+-- what holds of every script: its test is a component, its limits are kept, and its rows are valid
 pub record IsSound (script : ScriptValue) : Type 0 where
   pub test : IsComponentAt script.types script.test
   pub time_limit : script.time_limit ≤ most_time

@@ -78,6 +78,7 @@ asked_in name rows =
     else if bytes_eq name (codes "run") then option_map (run_in rows) (first_of (codes "file") rows)
     else None
 
+-- the job that a subcommand and its arguments ask for, if there is one
 abbrev pub job_named : Option (Text × List Row) → Option Asked
 job_named = option_and_then (λ p. asked_in p.0 p.1)
 

@@ -1,4 +1,4 @@
-//! The command line.
+//! Reads the command line.
 ghost use Rattle.std.specs.Prelude.{◌≡◌, ◌⊎◌, ℕ, List, Some, Err, IfOk, IfErr, IsErrAnd, MatchResult, OnOk, OnErr, codes, map, option_map, [], ◌∷◌, false, true};
 ghost use Rattle.clap.specs.Words.{app_of, fault_of, first_of, found_of, new_app, rows_of, rule_of, subcommand_rows_of, takes, with_rule, with_subcommand};
 ghost use Rattle.clap.specs.Takes.{is_given};
@@ -10,46 +10,47 @@ ghost use Rattle.bus_command.specs.Commands.{AsksFor, AsksForHelp, AsksForVersio
 ghost use Rattle.bus_command.specs.Faults.{IsJobFaultOf, IsHelp, IsVersion};
 
 use crate::jobs::{Job, JobFault, fault_by};
-use crate::texts::{ABOUT, ABOUT_DEBUG, ABOUT_RUN, EXAMPLE, LONG_ABOUT, VERSION};
+use crate::texts::{
+    ABOUT, ABOUT_DEBUG, ABOUT_RUN, EXAMPLE_DEBUG, EXAMPLE_RUN, LONG_ABOUT, STATUSES, VERSION,
+};
 use clap::{Arg, ArgAction, ArgMatches, Command, value_parser};
 use std::alloc::{AllocError, Global};
 use std::convert::AsStr;
 use uvm_glob::Name;
 
-/// Reads the words of the command line, of which the first is the program's name.
+/// Returns the job that the arguments of the command line ask for. The first argument is the program's name.
 ///
-/// The error is `Help` or `Version` where the words ask for that, `Refused` where they are none that
-/// the program takes, `BadName` where they are, and what they give as the test is no name, and
-/// `Memory` where an allocation was refused.
+/// Errors: `Help` or `Version` if the arguments ask for that; `Refused` if the program does not accept them; `BadName` if it accepts them
+/// and the value of `--test` is not a name; `Memory` if memory runs out, at any point.
 pub fn job<'a, S: AsStr>(alloc: Global, words: &'a [S]) -> Result<Job<'a>, JobFault>
-    // A job is what clap's meaning of the command line makes of the words, which have no fault.
+    // The job is the one that clap's specification reads from the arguments (`named_job`), which then have no fault (`fault_of`).
     ensures named { IfOk result (λ job. named_job (map S.text words.now) ≡ Some (words_of job)) }
     ensures faultless { OnOk result (fault_of bus_bench_app (map S.text words.now) ≡ []) }
 
-    // Help, the version and a refusal have a kind that clap's meaning gives the words, and words that
-    // it takes have none. What asks for help or for the version is no refusal.
+    // `Help`, `Version` and `Refused` have a kind that clap's specification gives the arguments (`fault_of`). Arguments that it accepts
+    // (`takes`) lead to none of the three. The kind of `Refused` is neither that of help nor that of the version.
     ensures refused { IfErr result (IsJobFaultOf (fault_of bus_bench_app (map S.text words.now))) }
     ensures taken { takes bus_bench_app (map S.text words.now) ≡ true
         → OnErr result ((result ≡ Err JobFault.BadName) ⊎ (result ≡ Err JobFault.Memory)) }
 
-    // Where that is all that this meaning gives the words, help or the version is what they get.
+    // If help, or the version, is the only kind that it gives the arguments, that is the result, unless memory runs out.
     ensures help { fault_of bus_bench_app (map S.text words.now) ≡ DisplayHelp ∷ []
         → IsErrAnd result IsHelp }
     ensures version { fault_of bus_bench_app (map S.text words.now) ≡ DisplayVersion ∷ []
         → IsErrAnd result IsVersion }
 
-    // `--help` or `-h` right behind the program's name, or behind that of `debug` or `run`, asks for
-    // help, and `--version` or `-V` there for the version, whatever follows.
+    // `--help` or `-h` directly after the program's name, or after `debug` or `run`, asks for help, whatever follows. `--version` or `-V`
+    // there asks for the version.
     ensures plain_help { AsksForHelp (map S.text words.now) → IsErrAnd result IsHelp }
     ensures plain_version { AsksForVersion (map S.text words.now) → IsErrAnd result IsVersion }
 
-    // `BadName` comes only where what is given as the test is no name, and then there is no job.
+    // `BadName` is returned only if the value of `--test` is not a name. In that case no job is returned.
     ensures bad_name { result ≡ Err JobFault.BadName
         → has_bad_name (named_job (map S.text words.now)) ≡ true }
     ensures good_name { OnOk result (has_bad_name (named_job (map S.text words.now)) ≡ false) }
 
-    // `PROGRAM debug FILE` and `PROGRAM run FILE` are taken, unless FILE begins with `-`. The run is
-    // not traced, has the seed 1 and the script's own test.
+    // `PROGRAM debug FILE` and `PROGRAM run FILE` are accepted, unless FILE begins with `-`. The run then has no trace, the seed 1 and
+    // the script's own test. The only error is `Memory`.
     ensures plain { (file : List ℕ) → AsksFor (codes "debug") (map S.text words.now) file
         → MatchResult result (IsDebugOf file) (λ fault. fault ≡ JobFault.Memory) }
     ensures plain_run { (file : List ℕ) → AsksFor (codes "run") (map S.text words.now) file
@@ -61,7 +62,7 @@ pub fn job<'a, S: AsStr>(alloc: Global, words: &'a [S]) -> Result<Job<'a>, JobFa
     }
 }
 
-// The job that the matches name.
+// Returns the job that the matches name. Errors: `BadName`.
 fn job_of<'a>(matches: &ArgMatches<'a>) -> Result<Job<'a>, JobFault>
     requires { NamesJob (subcommand_rows_of matches.now) }
     ensures named { IfOk result (λ job. job_named (subcommand_rows_of matches.now) ≡ Some (words_of job)) }
@@ -78,7 +79,7 @@ fn job_of<'a>(matches: &ArgMatches<'a>) -> Result<Job<'a>, JobFault>
     }
 }
 
-// The job that the matches of `run` name, unless what they give as the test is no name.
+// Returns the job that the matches of `run` name. Errors: `BadName` if the value of `--test` is not a name.
 fn run_job<'a>(matches: &ArgMatches<'a>) -> Result<Job<'a>, JobFault>
     requires file { HasFile (rows_of (found_of matches.now)) }
     requires trace { ReadsTrace (rows_of (found_of matches.now)) }
@@ -98,7 +99,7 @@ fn run_job<'a>(matches: &ArgMatches<'a>) -> Result<Job<'a>, JobFault>
     })
 }
 
-// The file.
+// Returns the value of FILE.
 fn file_of<'a>(matches: &ArgMatches<'a>) -> &'a str
     requires { HasFile (rows_of (found_of matches.now)) }
     ensures { first_of (codes "file") (rows_of (found_of matches.now)) ≡ Some result.now }
@@ -109,7 +110,7 @@ fn file_of<'a>(matches: &ArgMatches<'a>) -> &'a str
     file
 }
 
-// Whether the run is to be traced.
+// Returns whether `--trace` is given.
 fn is_traced(matches: &ArgMatches<'_>) -> bool
     requires { ReadsTrace (rows_of (found_of matches.now)) }
     ensures { result ≡ is_given (codes "trace") (rows_of (found_of matches.now)) }
@@ -117,7 +118,7 @@ fn is_traced(matches: &ArgMatches<'_>) -> bool
     matches.get_flag("trace")
 }
 
-// The seed that is given, or 1.
+// Returns the value of `--seed`, 1 if it is omitted.
 fn seed_of(matches: &ArgMatches<'_>) -> u64
     requires { ReadsSeed (rows_of (found_of matches.now)) }
     ensures { result ≡ seed_in (rows_of (found_of matches.now)) }
@@ -125,7 +126,7 @@ fn seed_of(matches: &ArgMatches<'_>) -> u64
     matches.get_one("seed").unwrap_or(1)
 }
 
-// The test's name, where one is given.
+// Returns the name of the test, if one is given. Errors: `BadName` if it is not a name.
 fn test_named(text: Option<&str>) -> Result<Option<Name>, JobFault>
     ensures name { IfOk result (λ test. test ≡ option_map (λ t. t.now) text.entry) }
     ensures good { OnOk result (is_bad_test (option_map (λ t. t.now) text.entry) ≡ false) }
@@ -141,7 +142,7 @@ fn test_named(text: Option<&str>) -> Result<Option<Name>, JobFault>
     }
 }
 
-// The whole command line.
+// Returns the whole command line. Errors: out of memory.
 fn command<'a>(alloc: Global) -> Result<Command<'a>, AllocError>
     ensures { IfOk result (λ c. app_of c ≡ bus_bench_app) }
 {
@@ -149,7 +150,7 @@ fn command<'a>(alloc: Global) -> Result<Command<'a>, AllocError>
     with_run(alloc, top_command(alloc).subcommand(debug)?)
 }
 
-// A command with the subcommand `run` behind its others.
+// Adds the subcommand `run` after the other subcommands of a command. Errors: out of memory.
 fn with_run<'a>(alloc: Global, top: Command<'a>) -> Result<Command<'a>, AllocError>
     ensures { IfOk result (λ c. app_of c ≡ with_subcommand (app_of top.entry) run_app.top) }
 {
@@ -160,7 +161,7 @@ fn with_run<'a>(alloc: Global, top: Command<'a>) -> Result<Command<'a>, AllocErr
 fn top_command<'a>(alloc: Global) -> Command<'a>
     ensures { app_of result ≡ top_app }
 {
-    described(alloc, "bus_bench", ABOUT)
+    described(alloc, "bus_bench", ABOUT, STATUSES)
         .long_about(LONG_ABOUT)
         .version(VERSION)
         .propagate_version(true)
@@ -172,7 +173,7 @@ fn debug_command<'a>(alloc: Global) -> Result<Command<'a>, AllocError>
     ensures app { IfOk result (λ c. app_of c ≡ debug_app) }
     ensures local { IfOk result (λ c. (out-Command c).has_globals ≡ false) }
 {
-    described(alloc, "debug", ABOUT_DEBUG).arg(file_arg(alloc))
+    described(alloc, "debug", ABOUT_DEBUG, EXAMPLE_DEBUG).arg(file_arg(alloc))
 }
 
 // `run [--trace] [--seed N] [--test NAME] FILE`.
@@ -190,19 +191,19 @@ fn run_options<'a>(alloc: Global) -> Result<Command<'a>, AllocError>
     ensures app { IfOk result (λ c. app_of c ≡ with_rule (with_rule (new_app (codes "run")) trace_rule) seed_rule) }
     ensures local { IfOk result (λ c. (out-Command c).has_globals ≡ false) }
 {
-    described(alloc, "run", ABOUT_RUN)
+    described(alloc, "run", ABOUT_RUN, EXAMPLE_RUN)
         .arg(trace_arg(alloc))?
         .arg(seed_arg(alloc))
 }
 
-// A command whose help says what it is for, and has the example.
-fn described<'a>(alloc: Global, name: &'a str, purpose: &'a str) -> Command<'a>
+// Returns a command whose help begins with its purpose, and ends with some text.
+fn described<'a>(alloc: Global, name: &'a str, purpose: &'a str, end: &'a str) -> Command<'a>
     ensures app { app_of result ≡ new_app name.entry.now }
     ensures local { (out-Command result).has_globals ≡ false }
     ensures purpose { (out-Command result).about ≡ Some purpose.entry }
-    ensures example { option_map (λ text. text.now) (out-Command result).after_help ≡ Some EXAMPLE.now }
+    ensures end { (out-Command result).after_help ≡ Some end.entry }
 {
-    Command::new(alloc, name).about(purpose).after_help(EXAMPLE)
+    Command::new(alloc, name).about(purpose).after_help(end)
 }
 
 // `FILE`.
@@ -212,7 +213,7 @@ fn file_arg<'a>(alloc: Global) -> Arg<'a>
 {
     Arg::new(alloc, "file")
         .value_name("FILE")
-        .help("The script, in TOML")
+        .help("The script, a TOML document")
         .required(true)
 }
 
@@ -223,7 +224,7 @@ fn trace_arg<'a>(alloc: Global) -> Arg<'a>
 {
     Arg::new(alloc, "trace")
         .long("trace")
-        .help("Prints each entry of the log")
+        .help("Prints every entry of the log: phases, calls, actions, grants, time")
         .action(ArgAction::SetTrue)
 }
 
@@ -235,7 +236,7 @@ fn seed_arg<'a>(alloc: Global) -> Arg<'a>
     Arg::new(alloc, "seed")
         .long("seed")
         .value_name("N")
-        .help("The seed of the random numbers, 1 unless it is given")
+        .help("The seed of the random numbers, 0 to 2^64-1 (1 if omitted)")
         .value_parser(value_parser!(u64))
 }
 
@@ -244,8 +245,7 @@ fn test_arg<'a>(alloc: Global) -> Arg<'a>
     ensures rule { rule_of result ≡ test_rule }
     ensures local { result.global ≡ false }
 {
-    Arg::new(alloc, "test")
-        .long("test")
-        .value_name("NAME")
-        .help("The test, in place of the script's own")
+    Arg::new(alloc, "test").long("test").value_name("NAME").help(
+        "Runs this test instead of the script's own, like +UVM_TESTNAME",
+    )
 }

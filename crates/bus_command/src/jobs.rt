@@ -1,4 +1,4 @@
-//! What the words of the command line ask for.
+//! What the arguments of the command line ask for.
 ghost use Rattle.std.specs.Prelude.{◌≡◌, IfOk};
 ghost use Rattle.bus_command.specs.Faults.{IsFaultBy};
 ghost use Rattle.bus_command.specs.declared.jobs.JobFault.TheVariants.{Memory};
@@ -7,15 +7,15 @@ use clap::error::ErrorKind;
 use std::alloc::{AllocError, Global};
 use uvm_glob::Name;
 
-/// What the words of the command line ask for.
+/// What the arguments of the command line ask for.
 #[derive(Clone, Copy)]
 pub enum Job<'a> {
-    /// `debug FILE`: read the script in `file`, and print the answers.
+    /// `debug FILE`: prints which type the factory makes at each probe of the script in `file`.
     Debug {
         file: &'a str,
     },
-    /// `run FILE`: run the script in `file`. With `trace` each entry of the log is printed, `seed`
-    /// seeds the random numbers, and `test` stands for the script's own test.
+    /// `run FILE`: runs the script in `file`. `trace` says whether each entry of the log is printed. `seed` is the seed of the random
+    /// numbers. `test` replaces the script's own test if it is given.
     Run {
         trace: bool,
         seed: u64,
@@ -24,18 +24,18 @@ pub enum Job<'a> {
     },
 }
 
-/// Why the words of the command line name no job.
+/// Why the arguments of the command line name no job.
 #[derive(Drop)]
 pub enum JobFault {
-    /// The words ask for help, which is this text.
+    /// The arguments ask for help, which is this text.
     Help(String),
-    /// The words ask for the version, which this text tells.
+    /// The arguments ask for the version, which this text gives.
     Version(String),
-    /// The words are none that the program takes. The error's `Display` is the text for the user.
+    /// The program does not accept the arguments. The error's `Display` is the text for the user.
     Refused(clap::Error),
-    /// What was given as the test is no name.
+    /// The value of `--test` is not a name.
     BadName,
-    /// An allocation was refused.
+    /// Out of memory.
     Memory,
 }
 
@@ -47,7 +47,7 @@ impl From<AllocError> for JobFault {
     }
 }
 
-// The fault that an error of clap comes to.
+// Returns the fault for an error of clap. Errors: out of memory.
 pub(crate) fn fault_by(alloc: Global, error: clap::Error) -> Result<JobFault, AllocError>
     ensures { IfOk result (IsFaultBy error) }
 {

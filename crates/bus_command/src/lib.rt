@@ -1,4 +1,4 @@
-//! The command line of `bus_bench`: the job that its words ask for.
+//! The command line of `bus_bench`: the job that its arguments ask for.
 #![tactic(auto)]
 
 mod commands;

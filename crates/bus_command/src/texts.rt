@@ -1,19 +1,17 @@
 //! The texts of help.
 
 // The version of the program.
-pub(crate) const VERSION: &str = "0.1.0";
+pub(crate) const VERSION: &str = "1.0.0";
 
 // What the program is for.
-pub(crate) const ABOUT: &str = "Runs testbenches in the manner of UVM, from scripts";
+pub(crate) const ABOUT: &str = "Runs UVM-style testbenches from scripts";
 
-// The same at length.
-pub(crate) const LONG_ABOUT: &str =
-    "Runs testbenches in the manner of UVM (IEEE 1800.2-2020), from scripts.
+// Its purpose, at length.
+pub(crate) const LONG_ABOUT: &str = "Runs UVM-style testbenches (IEEE 1800.2-2020) from scripts.
 
-A script is a TOML document that names the types of a testbench and its test, and may override
-types, configure fields and say what becomes of reports: docs/SCRIPT.md has its keys. `run` builds
-the testbench, takes it through its phases and prints what it reports. `debug` prints which types
-its factory makes.";
+A script is a TOML document. It declares the types of a testbench and names its test; it may
+override types, set fields and decide how reports are handled. The objects are those of a memory
+bus, which are built in.";
 
 // What `debug` is for.
 pub(crate) const ABOUT_DEBUG: &str =
@@ -22,8 +20,27 @@ pub(crate) const ABOUT_DEBUG: &str =
 // What `run` is for.
 pub(crate) const ABOUT_RUN: &str = "Runs the testbench of a script and prints its reports";
 
-// A script, and what the commands make of it.
-pub(crate) const EXAMPLE: &str = "Example, with this script as loud.toml:
+// The exit statuses, and where to read on.
+pub(crate) const STATUSES: &str = "Exit status:
+  0  clean
+  1  an ERROR or a FATAL was counted, or the run did not finish
+  2  the script or the command line was refused
+  3  out of memory, log full, output failed, or the file was not read
+
+Keys of a script and built-in types: docs/REFERENCE.md";
+
+// A run of the memory bus.
+pub(crate) const EXAMPLE_RUN: &str = "Example, in crates/bus_bench:
+
+$ bus_bench run data/bus.toml
+UVM_INFO @ 2: uvm_test_top.env.agent.mon [MON] write 0 10
+UVM_INFO @ 4: uvm_test_top.env.agent.mon [MON] read 0 10
+UVM_INFO @ 4: uvm_test_top.env.sb [SB] 2 seen 0 bad
+
+and then the summary of the reports.";
+
+// A script with a probe, and the line that `debug` prints.
+pub(crate) const EXAMPLE_DEBUG: &str = "Example, with this script as loud.toml:
 
   version = 1
   test = \"loud\"
@@ -37,7 +54,4 @@ pub(crate) const EXAMPLE: &str = "Example, with this script as loud.toml:
   path = \"uvm_test_top\"
 
 $ bus_bench debug loud.toml
-loud @ uvm_test_top -> loud
-$ bus_bench run loud.toml
-UVM_ERROR @ 0: uvm_test_top [E] one
-..";
+loud @ uvm_test_top -> loud";

@@ -29,13 +29,15 @@ answer_line types probe made = type_name_or types probe.type_id [] ++ codes " @ 
 abbrev pub made_for : ScriptValue → Probe → Option ℕ
 made_for script probe = made_type (reverse script.overrides) (length script.types) (path_text probe.path) probe.type_id
 
--- a line for each probe
+-- the line of a probe
 abbrev pub probe_line : ScriptValue → Probe → List ℕ
 probe_line script probe = answer_line script.types probe (made_for script probe)
 
+-- what `debug` writes of a script: one line for each probe, in order
 unfoldable pub debug_lines : ScriptValue → List (List ℕ)
 debug_lines script = map (probe_line script) script.probes
 
+-- the lines of `debug`, as one text
 abbrev pub debug_text : ScriptValue → List ℕ
 debug_text script = concat (debug_lines script)
 

@@ -8,20 +8,19 @@ use crate::verdicts::{Breakage, Verdict};
 use std::alloc::Global;
 use std::io;
 
-/// The most bytes that `read_file` gives: one more than a script may have.
+/// The greatest number of bytes that `read_file` returns: one more than a script may have.
 pub const MOST_BYTES: usize = 1_048_577;
 
-// The most calls of `read` for one file.
+// The greatest number of reads of one file.
 const MOST_READS: u32 = 2_097_152;
 
-// The most bytes of one call.
+// The greatest number of bytes of one read.
 const PIECE: usize = 8192;
 
-/// Reads to the end, or until there are `MOST_BYTES` bytes. A read that a signal interrupts is made
-/// again.
+/// Returns the bytes that a source has left, up to `MOST_BYTES` bytes. A read that a signal interrupts is repeated.
 ///
-/// The error is `Broken(Unread)` where a read fails, or where 2,097,152 calls of `read` come to no
-/// end, and `Broken(Memory)` where an allocation is refused.
+/// Errors: `Broken(Unread)` if a read fails, or if 2,097,152 reads do not reach the end; `Broken(Memory)` if memory runs out. After an
+/// error the bytes that were read are lost.
 pub fn read_file<S: Source>(alloc: Global, reader: &mut S) -> Result<Vec<u8>, Verdict>
     ensures bound { IfOk result (λ bytes. vec_len bytes ≤ MOST_BYTES) }
     ensures bytes { IfOk result (λ bytes. IfSome (S.remaining reader.old)
@@ -46,7 +45,8 @@ pub fn read_file<S: Source>(alloc: Global, reader: &mut S) -> Result<Vec<u8>, Ve
     Err(Verdict::Broken(Breakage::Unread))
 }
 
-// One read into `piece`, whose bytes go to the end of `bytes`. It answers whether the end was met.
+// Reads once into `piece`, appends what was read to `bytes`, and returns whether the end was reached. A read that a signal interrupts
+// appends nothing. Errors: `Broken(Unread)` if the read fails; `Broken(Memory)`.
 fn read_piece<S: Source>(
     reader: &mut S,
     piece: &mut [u8],

@@ -32,12 +32,14 @@ mode_of (Some (pos number)) =
 abbrev pub agent_parts : Mode → List Act
 agent_parts mode = Add (codes "sqr") (Sequencer mode) ∷ Create (codes "bus_driver") (codes "drv") ∷ Create (codes "bus_monitor") (codes "mon") ∷ []
 
+-- what an agent answers to a call: it gets the field `arb`, with its value adds its parts, and in connect connects them
 abbrev pub bus_agent_acts : Call → List Act
 bus_agent_acts (Phase phase.Build) = Get (codes "arb") ∷ []
 bus_agent_acts (Config field value) = agent_parts (mode_of value)
 bus_agent_acts (Phase phase.Connect) = connecting (codes "drv.sqp") (codes "sqr") ∷ connecting (codes "drv.ap") (codes "mon.bus") ∷ []
 bus_agent_acts call = []
 
+-- the relation of an agent: it gives these answers, and its view stays the same
 abbrev pub BusAgentSays : View → Call → List Act → View → Type 0
 BusAgentSays before call acts after = (acts ≡ bus_agent_acts call) × (after ≡ before)
 

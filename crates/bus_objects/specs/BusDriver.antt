@@ -11,10 +11,12 @@ use Rattle.bus_objects.specs.Driver.{driver_acts, put_act}
 abbrev pub bus_driver_view : BusDriver → View
 bus_driver_view bus_driver = []
 
+-- what a driver answers to a call: it puts each item that comes
 abbrev pub bus_driver_acts : Call → List Act
 bus_driver_acts (NextItem port (Some item)) = put_act item ∷ []
 bus_driver_acts call = driver_acts call
 
+-- the relation of a driver: it gives these answers, and its view stays the same
 abbrev pub BusDriverSays : View → Call → List Act → View → Type 0
 BusDriverSays before call acts after = (acts ≡ bus_driver_acts call) × (after ≡ before)
 

@@ -34,11 +34,13 @@ connections =
     ∷ connecting (codes "agent.mon.ap") (codes "sb.seen")
     ∷ []
 
+-- what an environment answers to a call: in build it adds its parts, and in connect it connects them
 abbrev pub bus_env_acts : Call → List Act
 bus_env_acts (Phase phase.Build) = parts
 bus_env_acts (Phase phase.Connect) = connections
 bus_env_acts call = []
 
+-- the relation of an environment: it gives these answers, and its view stays the same
 abbrev pub BusEnvSays : View → Call → List Act → View → Type 0
 BusEnvSays before call acts after = (acts ≡ bus_env_acts call) × (after ≡ before)
 

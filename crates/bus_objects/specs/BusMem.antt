@@ -7,9 +7,11 @@ use Rattle.bus_objects.specs.declared.bus_mem.BusMem.{BusMem}
 use Rattle.bus_objects.specs.declared.memory.Reading.TheVariants.{Exact}
 use Rattle.bus_objects.specs.Memory.{MemorySays, memory_view, new_memory}
 
+-- it shows its memory
 abbrev pub bus_mem_view : BusMem → View
 bus_mem_view bus_mem = memory_view bus_mem.memory
 
+-- the relation of a memory whose reads give the stored word
 abbrev pub BusMemSays : View → Call → List Act → View → Type 0
 BusMemSays = MemorySays Exact
 

@@ -7,9 +7,11 @@ use Rattle.bus_objects.specs.declared.bus_mem_bad.BusMemBad.{BusMemBad}
 use Rattle.bus_objects.specs.declared.memory.Reading.TheVariants.{Flipped}
 use Rattle.bus_objects.specs.Memory.{MemorySays, memory_view, new_memory}
 
+-- it shows its memory
 abbrev pub bus_mem_bad_view : BusMemBad → View
 bus_mem_bad_view bus_mem_bad = memory_view bus_mem_bad.memory
 
+-- the relation of a memory whose reads give the stored word with its lowest bit flipped
 abbrev pub BusMemBadSays : View → Call → List Act → View → Type 0
 BusMemBadSays = MemorySays Flipped
 

@@ -25,11 +25,13 @@ report_act item = Report (record { severity = Info; id = codes "MON"; text = tra
 abbrev pub write_act : Item → Act
 write_act item = Write (codes "ap") item
 
+-- what a monitor answers to a call: it reports each item that is written to it, and writes it on
 abbrev pub bus_monitor_acts : Call → List Act
 bus_monitor_acts (Phase Build) = Add (codes "bus") Imp ∷ Add (codes "ap") (Port Analysis) ∷ []
 bus_monitor_acts (Written imp item) = report_act item ∷ write_act item ∷ []
 bus_monitor_acts call = []
 
+-- the relation of a monitor: it gives these answers, and its view stays the same
 abbrev pub BusMonitorSays : View → Call → List Act → View → Type 0
 BusMonitorSays before call acts after = (acts ≡ bus_monitor_acts call) × (after ≡ before)
 

@@ -30,6 +30,7 @@ unfoldable pub score_of : View → Score
 score_of (seen ∷ bad ∷ words) = record { seen = seen; bad = bad; words = words_of words }
 score_of view = new_score
 
+-- it shows its score
 abbrev pub bus_scoreboard_view : BusScoreboard → View
 bus_scoreboard_view bus_scoreboard = score_view bus_scoreboard.score
 
@@ -43,6 +44,7 @@ mismatch_text words item =
     let expected = word_at words (address_of item) in
     codes "read " ++ (signed_decimal (address_of item) ++ (codes " gave " ++ (signed_decimal (data_of item) ++ (codes " not " ++ signed_decimal expected))))
 
+-- the text that it reports in the phase report: how many items it has seen, and how many reads were bad
 unfoldable pub score_text : Score → List ℕ
 score_text score = decimal score.seen ++ (codes " seen " ++ (decimal score.bad ++ codes " bad"))
 
@@ -50,6 +52,7 @@ score_text score = decimal score.seen ++ (codes " seen " ++ (decimal score.bad +
 abbrev pub score_act : Severity → List ℕ → ℕ → Act
 score_act severity text verbosity = Report (record { severity = severity; id = codes "SB"; text = text; verbosity = verbosity })
 
+-- what a scoreboard answers to a call: it reports each bad read, and in the phase report its score
 abbrev pub bus_scoreboard_acts : Score → Call → List Act
 bus_scoreboard_acts score (Phase phase.Build) = Add (codes "seen") Imp ∷ []
 bus_scoreboard_acts score (Written imp item) = if is_bad score.words item then score_act Error (mismatch_text score.words item) 0 ∷ [] else []
@@ -68,10 +71,12 @@ score_with item score = record {
   words = words_after item score.words;
 }
 
+-- the score after a call: it changes only if an item is written to the scoreboard
 abbrev pub score_after : Score → Call → Score
 score_after score (Written imp item) = score_with item score
 score_after score call = score
 
+-- the relation of a scoreboard: it answers by the score that it shows, and then shows the score after the call
 abbrev pub BusScoreboardSays : View → Call → List Act → View → Type 0
 BusScoreboardSays before call acts after = let score = score_of before in (acts ≡ bus_scoreboard_acts score call) × (after ≡ score_view (score_after score call))
 

@@ -17,12 +17,14 @@ bus_test_view bus_test = []
 abbrev pub start_act : Act
 start_act = starting (codes "seq_smoke") (codes "seq") (codes "env.agent.sqr") None
 
+-- what a test answers to a call: it creates the environment, and in run starts a sequence under an objection
 abbrev pub bus_test_acts : Call → List Act
 bus_test_acts (Phase Build) = Create (codes "bus_env") (codes "env") ∷ []
 bus_test_acts (Phase Run) = RaiseObjection 1 ∷ start_act ∷ []
 bus_test_acts (Finished name id) = DropObjection 1 ∷ []
 bus_test_acts call = []
 
+-- the relation of a test: it gives these answers, and its view stays the same
 abbrev pub BusTestSays : View → Call → List Act → View → Type 0
 BusTestSays before call acts after = (acts ≡ bus_test_acts call) × (after ≡ before)
 

@@ -10,6 +10,7 @@ use Rattle.uvm_acts.specs.declared.acts.Call.TheVariants.{Phase, Stored, Taken}
 use Rattle.uvm_acts.specs.declared.acts.Act.{Act}
 use Rattle.uvm_acts.specs.declared.acts.Act.TheVariants.{Add, Ask, ItemDone, Put, Take, Write}
 
+-- to add the four ports of a driver
 abbrev pub ports : List Act
 ports =
     Add (codes "sqp") (Port kind.Seq)
@@ -30,6 +31,7 @@ put_act item = Put (codes "req") item
 abbrev pub result_acts : Item → List Act
 result_acts item = Write (codes "ap") item ∷ ItemDone (codes "sqp") (Some item) ∷ ask_act ∷ []
 
+-- the answers that both drivers share: they add ports, ask for items, and write and return the result of each item
 abbrev pub driver_acts : Call → List Act
 driver_acts (Phase Build) = ports
 driver_acts (Phase Run) = ask_act ∷ []

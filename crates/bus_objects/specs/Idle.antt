@@ -9,6 +9,7 @@ use Rattle.bus_objects.specs.declared.idle.Idle.{Idle}
 abbrev pub idle_view : Idle → View
 idle_view idle = []
 
+-- the relation of an idle object: it answers with no actions, and its view stays the same
 abbrev pub IdleSays : View → Call → List Act → View → Type 0
 IdleSays before call acts after = (acts ≡ []) × (after ≡ before)
 

@@ -17,10 +17,12 @@ loud_view loud = []
 abbrev pub error_act : List ℕ → Act
 error_act text = Report (record { severity = Error; id = codes "E"; text = text; verbosity = 0 })
 
+-- what a loud object answers to a call: three errors in build
 abbrev pub loud_acts : Call → List Act
 loud_acts (Phase Build) = error_act (codes "one") ∷ error_act (codes "two") ∷ error_act (codes "three") ∷ []
 loud_acts call = []
 
+-- the relation of a loud object: it gives these answers, and its view stays the same
 abbrev pub LoudSays : View → Call → List Act → View → Type 0
 LoudSays before call acts after = (acts ≡ loud_acts call) × (after ≡ before)
 

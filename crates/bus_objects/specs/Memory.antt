@@ -46,6 +46,7 @@ result_of reading memory =
     if is_write memory.item then memory.item
     else with_data memory.item (data_read reading (word_at memory.words (address_of memory.item)))
 
+-- what a memory answers to a call: it takes an item, waits for its ticks, puts the result, and takes the next item
 abbrev pub memory_acts : Reading → Memory → Call → List Act
 memory_acts reading memory (Phase Build) = Add (codes "req") (Port kind.Get) ∷ Add (codes "rsp") (Port kind.Put) ∷ Get (codes "waits") ∷ []
 memory_acts reading memory (Phase Run) = Take (codes "req") ∷ []
@@ -54,6 +55,7 @@ memory_acts reading memory (Wake tag) = Put (codes "rsp") (result_of reading mem
 memory_acts reading memory (Stored port) = Take (codes "req") ∷ []
 memory_acts reading memory call = []
 
+-- the memory after a call: a field value sets its ticks, an item is kept, and a wake performs the item
 abbrev pub memory_after : Memory → Call → Memory
 memory_after memory (Config field value) = record memory { waits = waits_kept value }
 memory_after memory (Taken port item) = record memory { item = item }

@@ -69,6 +69,7 @@ small_named name =
 abbrev pub object_named : List ℕ → Option BusObject
 object_named name = first_given (large_named name ∷ small_named name ∷ [])
 
+-- what an object of the bench shows
 abbrev pub view_of : BusObject → View
 view_of (BusAgent bus_agent) = bus_agent_view bus_agent
 view_of (BusDriver bus_driver) = bus_driver_view bus_driver
@@ -88,6 +89,7 @@ view_of (Sleeper sleeper) = sleeper_view sleeper
 view_of (SlowDriver slow_driver) = slow_driver_view slow_driver
 view_of (Spinner spinner) = spinner_view spinner
 
+-- the name of the type of an object of the bench
 abbrev pub name_of : BusObject → List ℕ
 name_of (BusAgent bus_agent) = bus_agent.type_name
 name_of (BusDriver bus_driver) = bus_driver.type_name
@@ -107,6 +109,7 @@ name_of (Sleeper sleeper) = sleeper.type_name
 name_of (SlowDriver slow_driver) = slow_driver.type_name
 name_of (Spinner spinner) = spinner.type_name
 
+-- the relation of an object of the bench
 abbrev pub says_of : BusObject → Says
 says_of (BusAgent bus_agent) = BusAgentSays
 says_of (BusDriver bus_driver) = BusDriverSays

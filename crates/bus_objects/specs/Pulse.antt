@@ -21,11 +21,13 @@ woken_acts tag =
     else if tag == 3 then DropObjection 1 ∷ []
     else []
 
+-- what a pulse answers to a call: in run it sets a drain time, raises an objection and waits; then `woken_acts`
 abbrev pub pulse_acts : Call → List Act
 pulse_acts (Phase Run) = SetDrain 5 ∷ RaiseObjection 1 ∷ Wait 10 1 ∷ []
 pulse_acts (Wake tag) = woken_acts tag
 pulse_acts call = []
 
+-- the relation of a pulse: it gives these answers, and its view stays the same
 abbrev pub PulseSays : View → Call → List Act → View → Type 0
 PulseSays before call acts after = (acts ≡ pulse_acts call) × (after ≡ before)
 

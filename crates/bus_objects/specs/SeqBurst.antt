@@ -14,9 +14,11 @@ use Rattle.bus_objects.specs.Sequences.{count_of, send_acts, sent_after, while_l
 abbrev pub seq_burst_view : SeqBurst → View
 seq_burst_view seq_burst = seq_burst.sent ∷ []
 
+-- the items that it sends, in order: it writes 20 at 0 and 21 at 1, then reads at both
 abbrev pub burst_items : List Item
 burst_items = write_item 0 20 ∷ write_item 1 21 ∷ read_item 0 ∷ read_item 1 ∷ []
 
+-- what a burst answers to a call: it asks for a lock, sends its items one by one, and gives the lock back
 abbrev pub seq_burst_acts : ℕ → Call → List Act
 seq_burst_acts sent PreStart = EndStep ∷ []
 seq_burst_acts sent Body = Lock ∷ []
@@ -26,6 +28,7 @@ seq_burst_acts sent Grant = send_acts (slice_get burst_items sent)
 seq_burst_acts sent (ItemDone response) = while_left (slice_get burst_items sent) (Request None ∷ []) (Unlock ∷ EndStep ∷ [])
 seq_burst_acts sent call = []
 
+-- the relation of a burst: it answers by the count that it shows, and then shows the count after the call
 abbrev pub SeqBurstSays : View → Call → List Act → View → Type 0
 SeqBurstSays before call acts after = let sent = count_of before in (acts ≡ seq_burst_acts sent call) × (after ≡ sent_after burst_items sent call ∷ [])
 

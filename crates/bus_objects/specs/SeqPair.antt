@@ -16,6 +16,7 @@ seq_pair_view seq_pair = seq_pair.finished ∷ []
 abbrev pub children : List Act
 children = Start (codes "seq_smoke") (codes "a") [] None ∷ Start (codes "seq_burst") (codes "b") [] (Some 200) ∷ []
 
+-- what a pair answers to a call: in its body it starts both sequences, and ends that step when the second has finished
 abbrev pub seq_pair_acts : ℕ → Call → List Act
 seq_pair_acts finished PreStart = EndStep ∷ []
 seq_pair_acts finished Body = children
@@ -23,10 +24,12 @@ seq_pair_acts finished PostStart = EndStep ∷ []
 seq_pair_acts finished (Finished name id) = if finished == 1 then EndStep ∷ [] else []
 seq_pair_acts finished call = []
 
+-- how many of the two have finished after a call, 2 at most
 abbrev pub finished_after : ℕ → Call → ℕ
 finished_after finished (Finished name id) = if nat_lt finished 2 then finished + 1 else finished
 finished_after finished call = finished
 
+-- the relation of a pair: it answers by the count that it shows, and then shows the count after the call
 abbrev pub SeqPairSays : View → Call → List Act → View → Type 0
 SeqPairSays before call acts after = let finished = count_of before in (acts ≡ seq_pair_acts finished call) × (after ≡ finished_after finished call ∷ [])
 

@@ -14,9 +14,11 @@ use Rattle.bus_objects.specs.Sequences.{count_of, send_acts, sent_after, while_l
 abbrev pub seq_smoke_view : SeqSmoke → View
 seq_smoke_view seq_smoke = seq_smoke.sent ∷ []
 
+-- the items that it sends, in order: it writes 10 at 0, then reads there
 abbrev pub smoke_items : List Item
 smoke_items = write_item 0 10 ∷ read_item 0 ∷ []
 
+-- what it answers to a call: it requests and sends its items one by one, and then ends its body
 abbrev pub seq_smoke_acts : ℕ → Call → List Act
 seq_smoke_acts sent PreStart = EndStep ∷ []
 seq_smoke_acts sent Body = Request None ∷ []
@@ -25,6 +27,7 @@ seq_smoke_acts sent Grant = send_acts (slice_get smoke_items sent)
 seq_smoke_acts sent (ItemDone response) = while_left (slice_get smoke_items sent) (Request None ∷ []) (EndStep ∷ [])
 seq_smoke_acts sent call = []
 
+-- its relation: it answers by the count that it shows, and then shows the count after the call
 abbrev pub SeqSmokeSays : View → Call → List Act → View → Type 0
 SeqSmokeSays before call acts after = let sent = count_of before in (acts ≡ seq_smoke_acts sent call) × (after ≡ sent_after smoke_items sent call ∷ [])
 

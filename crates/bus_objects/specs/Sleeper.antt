@@ -13,6 +13,7 @@ abbrev pub shown : Option ℕ → View
 shown None = []
 shown (Some ticks) = ticks ∷ []
 
+-- a sleeper shows the ticks that it keeps
 abbrev pub sleeper_view : Sleeper → View
 sleeper_view sleeper = shown sleeper.ticks
 
@@ -22,6 +23,7 @@ ticks_kept None = 0 ∷ []
 ticks_kept (Some (pos ticks)) = ticks ∷ []
 ticks_kept (Some (negsuc below)) = []
 
+-- to get the value of the field `at`
 abbrev pub at_act : Act
 at_act = Get (codes "at")
 
@@ -30,16 +32,19 @@ abbrev pub waits_for : View → List Act
 waits_for [] = []
 waits_for (ticks ∷ view) = Wait ticks 1 ∷ []
 
+-- what a sleeper answers to a call: in run it raises an objection and waits for its ticks; when it wakes it drops the objection
 abbrev pub sleeper_acts : View → Call → List Act
 sleeper_acts view (Phase Build) = at_act ∷ []
 sleeper_acts view (Phase Run) = RaiseObjection 1 ∷ waits_for view
 sleeper_acts view (Wake tag) = DropObjection 1 ∷ []
 sleeper_acts view call = []
 
+-- what a sleeper shows after a call: it changes only with a field value
 abbrev pub sleeper_after : View → Call → View
 sleeper_after view (Config field value) = ticks_kept value
 sleeper_after view call = view
 
+-- the relation of a sleeper: it answers by what it shows, and then shows what it keeps after the call
 abbrev pub SleeperSays : View → Call → List Act → View → Type 0
 SleeperSays before call acts after = (acts ≡ sleeper_acts before call) × (after ≡ sleeper_after before call)
 

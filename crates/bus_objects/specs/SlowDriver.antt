@@ -22,11 +22,13 @@ item_of view = record { 0 = map integer_of view }
 abbrev pub slow_driver_view : SlowDriver → View
 slow_driver_view slow_driver = item_view slow_driver.item
 
+-- what a slow driver answers to a call: when an item comes it waits for 3 ticks, and then puts the item that it keeps
 abbrev pub slow_driver_acts : Item → Call → List Act
 slow_driver_acts kept (NextItem port (Some item)) = Wait 3 1 ∷ []
 slow_driver_acts kept (Wake tag) = put_act kept ∷ []
 slow_driver_acts kept call = driver_acts call
 
+-- the item that it keeps after a call: an item that comes, otherwise the same as before
 abbrev pub kept_after : Item → Call → Item
 kept_after kept (NextItem port (Some item)) = item
 kept_after kept call = kept

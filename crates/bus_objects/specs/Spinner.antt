@@ -13,11 +13,13 @@ use Rattle.bus_objects.specs.declared.spinner.Spinner.{Spinner}
 abbrev pub spinner_view : Spinner → View
 spinner_view spinner = []
 
+-- what a spinner answers to a call: in run, and whenever it wakes, it waits for 0 ticks
 abbrev pub spinner_acts : Call → List Act
 spinner_acts (Phase Run) = Wait 0 1 ∷ []
 spinner_acts (Wake tag) = Wait 0 1 ∷ []
 spinner_acts call = []
 
+-- the relation of a spinner: it gives these answers, and its view stays the same
 abbrev pub SpinnerSays : View → Call → List Act → View → Type 0
 SpinnerSays before call acts after = (acts ≡ spinner_acts call) × (after ≡ before)
 

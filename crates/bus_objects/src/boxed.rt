@@ -1,4 +1,4 @@
-//! Objects that stand behind a pointer once they are called.
+//! Objects that move to the heap at their first call.
 
 ghost use Rattle.std.specs.Prelude.{◌≡◌, ℕ, List};
 
@@ -7,27 +7,27 @@ use std::marker::Model;
 use uvm_glob::Name;
 use uvm_object::{Acts, Call, UvmObject};
 
-/// An object whose type has one new object for each name of a type.
+/// An object type whose new objects are determined by their type name.
 pub trait Fresh: UvmObject {
     ghost fresh: { List ℕ → Self };
 
-    /// Makes the new object of the type of this name. Takes no memory.
+    /// Returns the new object with this type name. Allocates no memory.
     fn fresh(alloc: Global, type_name: Name) -> Self
         ensures { result ≡ fresh type_name };
 
-    // It has that name.
+    // The type name of the new object is that name.
     ghost named: { (type_name : List ℕ) → Self.name (fresh type_name) ≡ type_name };
 }
 
-// An object that was not called yet, of which the name of its type says all, or one that was.
+// An object before its first call, which its type name determines, or an object that was called.
 #[derive(Drop)]
 enum BoxedState<O: Fresh> {
     New(Name),
     Called(Box<O>),
 }
 
-/// An object that stands behind a pointer from its first call on, so that one that keeps much takes little room where it is kept beside
-/// those that keep little. Contracts see the object.
+/// An object that is on the heap from its first call on. So an object with much state takes little space in an enum with smaller ones.
+/// Contracts see the object itself.
 #[derive(Drop)]
 pub struct Boxed<O: Fresh> {
     state: BoxedState<O>,
@@ -42,7 +42,8 @@ impl<O: Fresh> Model for Boxed<O> {
 }
 
 impl<O: Fresh> Boxed<O> {
-    /// Makes the new object of the type of this name. Takes no memory before its first call, and stays new where that call is refused memory.
+    /// Returns the new object with this type name. Allocates no memory before the first call; if that call runs out of memory, the object
+    /// stays new.
     pub fn new(type_name: Name) -> Boxed<O>
         ensures { result ≡ O.fresh type_name }
     {

@@ -9,11 +9,13 @@ use uvm_object::{Acts, Call, UvmObject};
 use uvm_phase::Phase;
 use uvm_sequencer::Mode;
 
-/// The agent of the bus. It asks for the field `arb` when it builds (IEEE 1800.2-2020, Annex C). Told its value, it adds the sequencer
-/// `sqr`, which chooses as the value says (Clause 15): 1 is weighted, 2 random, 3 strict by priority and then in order, 4 strict
-/// and then at random, and any other and none in order; and it creates a `bus_driver` as `drv` and a `bus_monitor` as `mon`. In
-/// connect it connects the driver to the sequencer and to the monitor (Clause 12). It answers each other call with no acts, and
-/// shows nothing of itself.
+/// Builds the sequencer, the driver and the monitor of the bus, and connects them. In `build` it looks up the field `arb`. When the value
+/// comes (`config`), it adds the sequencer `sqr`. It then creates a `bus_driver` as `drv` and a `bus_monitor` as `mon`. The value selects
+/// the arbitration mode of `sqr`: 1 `WEIGHTED`, 2 `RANDOM`, 3 `STRICT_FIFO`, 4 `STRICT_RANDOM`; any other value, or none, selects `FIFO`.
+/// In `connect` it connects `drv.sqp` to `sqr` and `drv.ap` to `mon.bus`.
+///
+/// View: always empty, since it has no state. It answers every other call with no actions. Standard: IEEE 1800.2-2020, Annex C (the
+/// field), Clause 15 (the sequencer), Clause 12 (the connections).
 #[derive(Drop)]
 pub struct BusAgent {
     type_name: Name,
@@ -22,7 +24,7 @@ pub struct BusAgent {
 impl BusAgent {
     ghost use Rattle.bus_objects.specs.BusAgent.{bus_agent_named};
 
-    /// A new object, if the type is this one's.
+    /// Returns a new object if `type_name` is `bus_agent`, otherwise `None`.
     pub fn of_type(type_name: &Name) -> Option<BusAgent>
         ensures { result ≡ bus_agent_named type_name.now }
     {
@@ -68,7 +70,7 @@ impl UvmObject for BusAgent {
     }
 }
 
-// How the sequencer chooses, for the value of a field.
+// Returns the arbitration mode for the value of the field `arb`.
 fn mode_of(value: Option<i64>) -> Mode
     ensures { result ≡ mode_of value }
 {

@@ -7,10 +7,14 @@ use std::alloc::{AllocError, Global};
 use uvm_glob::Name;
 use uvm_object::{Acts, Call, UvmObject};
 
-/// A driver of the bus (IEEE 1800.2-2020, Clause 15). It adds the seq port `sqp`, the put port `req`, the get port `rsp` and the analysis
-/// port `ap` when it builds. In run it asks for an item through `sqp`. An item that comes it puts through `req`, and when that is
-/// stored it takes the result through `rsp` (Clause 12). The result it writes through `ap`; it is then done with the item, with
-/// the result as response, and asks for the next. It answers each other call with no acts, and shows nothing of itself.
+/// Passes items from a sequencer to a memory, and their results back. In `build` it adds the seq port `sqp`, the put port `req`, the get
+/// port `rsp` and the analysis port `ap`. In `run` it asks for an item through `sqp` (get_next_item). When an item comes (`next_item`),
+/// it puts the item through `req`. When the item is stored (`stored`), it takes the result through `rsp`. When the result comes
+/// (`taken`), it writes the result to `ap`. It then completes the item with the result as response (item_done), and asks for the next
+/// item.
+///
+/// View: always empty, since it has no state. It answers every other call, and a `next_item` without an item, with no actions. Standard:
+/// IEEE 1800.2-2020, Clause 15 (the driver), Clause 12 (the ports).
 #[derive(Drop)]
 pub struct BusDriver {
     type_name: Name,
@@ -19,7 +23,7 @@ pub struct BusDriver {
 impl BusDriver {
     ghost use Rattle.bus_objects.specs.BusDriver.{bus_driver_named};
 
-    /// A new object, if the type is this one's.
+    /// Returns a new object if `type_name` is `bus_driver`, otherwise `None`.
     pub fn of_type(type_name: &Name) -> Option<BusDriver>
         ensures { result ≡ bus_driver_named type_name.now }
     {

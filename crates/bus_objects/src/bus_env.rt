@@ -7,10 +7,12 @@ use uvm_glob::Name;
 use uvm_object::{Acts, Call, UvmObject};
 use uvm_phase::Phase;
 
-/// The environment of the bus bench. It creates a `bus_agent` as `agent`, a `bus_mem` as `mem` and a `bus_scoreboard` as `sb` when it
-/// builds, and adds the FIFOs `reqf` and `rspf`, each for one item. In connect it connects the driver of the agent and the
-/// memory to the FIFOs, and the monitor of the agent to the scoreboard (IEEE 1800.2-2020, Clause 12). It answers each other call
-/// with no acts, and shows nothing of itself.
+/// Builds the environment of the bus, and connects its parts. In `build` it creates a `bus_agent` as `agent`, a `bus_mem` as `mem` and a
+/// `bus_scoreboard` as `sb`. It then adds the FIFOs `reqf` and `rspf`, each with a capacity of one item. In `connect` it connects
+/// `agent.drv.req` and `mem.req` to `reqf`, and `agent.drv.rsp` and `mem.rsp` to `rspf`. It also connects `agent.mon.ap` to `sb.seen`.
+///
+/// View: always empty, since it has no state. It answers every other call with no actions. Standard: IEEE 1800.2-2020, Clause 12 (the
+/// FIFOs and connections).
 #[derive(Drop)]
 pub struct BusEnv {
     type_name: Name,
@@ -19,7 +21,7 @@ pub struct BusEnv {
 impl BusEnv {
     ghost use Rattle.bus_objects.specs.BusEnv.{bus_env_named};
 
-    /// A new object, if the type is this one's.
+    /// Returns a new object if `type_name` is `bus_env`, otherwise `None`.
     pub fn of_type(type_name: &Name) -> Option<BusEnv>
         ensures { result ≡ bus_env_named type_name.now }
     {

@@ -8,12 +8,16 @@ use std::alloc::{AllocError, Global};
 use uvm_glob::Name;
 use uvm_object::{Acts, Call, UvmObject};
 
-/// A memory on the bus (IEEE 1800.2-2020, Clause 12). It adds the get port `req` and the put port `rsp` when it builds, and asks for
-/// the field `waits` (Annex C), whose value it keeps: 2 where there is none or a negative one. In run, and whenever a result is
-/// stored, it takes an item through `req`; it keeps the item, and waits for so many ticks. When it wakes it performs the item: a
-/// write stores its data at its address, and a read gives the stored word as data, 0 where none was stored. The result, put
-/// through `rsp`, is a write's item as it is, and a read's with that data. It answers each other call with no acts. A new
-/// one waits for 0 ticks, and keeps an item of zeros. It shows the ticks, the item and the stored words.
+/// Performs the items of the bus, as a memory. In `build` it adds the get port `req` and the put port `rsp`, and looks up the field
+/// `waits`. When the value comes (`config`), it keeps the value as the number of ticks between an item and its result. This number is 2
+/// if the field has no value or a negative one. In `run` it takes an item through `req`. When the item comes (`taken`), it keeps the item
+/// and waits for these ticks. When it wakes (`wake`), it performs the item and puts the result through `rsp`. When the result is stored
+/// (`stored`), it takes the next item. An item has four words: operation (1 write, any other number read), address, data, 0. A write
+/// stores its data at its address, and its result is the item itself. The result of a read is the item with the word at its address as
+/// data, 0 if none was stored.
+///
+/// View: the ticks, the kept item, and the stored words by address. A new object has 0 ticks, an item of zeros, and no words. It answers
+/// every other call with no actions. Standard: IEEE 1800.2-2020, Clause 12 (the ports), Annex C (the field).
 #[derive(Drop)]
 pub struct BusMem {
     type_name: Name,
@@ -23,7 +27,7 @@ pub struct BusMem {
 impl BusMem {
     ghost use Rattle.bus_objects.specs.BusMem.{bus_mem_named};
 
-    /// A new object, if the type is this one's. Takes no memory.
+    /// Returns a new object if `type_name` is `bus_mem`, otherwise `None`. Allocates no memory.
     pub fn of_type(type_name: &Name) -> Option<Boxed<BusMem>>
         ensures { result ≡ bus_mem_named type_name.now }
     {

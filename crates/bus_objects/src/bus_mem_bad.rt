@@ -8,7 +8,11 @@ use std::alloc::{AllocError, Global};
 use uvm_glob::Name;
 use uvm_object::{Acts, Call, UvmObject};
 
-/// As `BusMem`, but each read gives the stored word with its lowest bit flipped.
+/// Behaves as `bus_mem`, except that its reads are wrong. The data of a read's result is the word at its address with the lowest bit
+/// flipped. It is 1 if no word was stored there.
+///
+/// View: the ticks, the kept item, and the stored words by address. A new object has 0 ticks, an item of zeros, and no words. It answers
+/// every other call with no actions, as `BusMem` does.
 #[derive(Drop)]
 pub struct BusMemBad {
     type_name: Name,
@@ -18,7 +22,7 @@ pub struct BusMemBad {
 impl BusMemBad {
     ghost use Rattle.bus_objects.specs.BusMemBad.{bus_mem_bad_named};
 
-    /// A new object, if the type is this one's. Takes no memory.
+    /// Returns a new object if `type_name` is `bus_mem_bad`, otherwise `None`. Allocates no memory.
     pub fn of_type(type_name: &Name) -> Option<Boxed<BusMemBad>>
         ensures { result ≡ bus_mem_bad_named type_name.now }
     {

@@ -10,9 +10,12 @@ use uvm_phase::Phase;
 use uvm_report::verbosity;
 use uvm_tlm::PortKind;
 
-/// A monitor of the bus (IEEE 1800.2-2020, Clause 12). It adds the imp `bus` and the analysis port `ap` when it builds. Each item that is
-/// written to it it reports (Clause 6), as an INFO of medium verbosity with the id MON and the text `write A D` or `read A D`, and
-/// then writes it on through `ap`. It answers each other call with no acts, and shows nothing of itself.
+/// Reports the items that are written to it, and passes them on. In `build` it adds the imp `bus` and the analysis port `ap`. When an
+/// item is written to the imp (`written`), it reports an INFO with id `MON` and verbosity 200. The text is `write ADDRESS DATA` if the
+/// item's operation is 1, otherwise `read ADDRESS DATA`. It then writes the item to `ap`.
+///
+/// View: always empty, since it has no state. It answers every other call with no actions. Standard: IEEE 1800.2-2020, Clause 12 (imp and
+/// port), Clause 6 (the report, of medium verbosity).
 #[derive(Drop)]
 pub struct BusMonitor {
     type_name: Name,
@@ -21,7 +24,7 @@ pub struct BusMonitor {
 impl BusMonitor {
     ghost use Rattle.bus_objects.specs.BusMonitor.{bus_monitor_named};
 
-    /// A new object, if the type is this one's.
+    /// Returns a new object if `type_name` is `bus_monitor`, otherwise `None`.
     pub fn of_type(type_name: &Name) -> Option<BusMonitor>
         ensures { result ≡ bus_monitor_named type_name.now }
     {

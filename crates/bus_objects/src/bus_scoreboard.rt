@@ -13,11 +13,15 @@ use uvm_phase::Phase;
 use uvm_report::{Text, verbosity};
 use uvm_tlm::Item;
 
-/// A scoreboard of the bus (IEEE 1800.2-2020, Clause 12). It adds the imp `seen` when it builds. Of the items that are written to it it
-/// keeps what writes store, by address; a read is bad whose data is not the word that was last written at its address, 0 where
-/// none was. A bad read it reports (Clause 6), as an ERROR with the id SB and the text `read A gave D not E`. It counts the items
-/// and the bad ones, and in report it reports both counts, as an INFO of medium verbosity with the id SB and the text `N seen B
-/// bad`; both counts stop at 10^18. It answers each other call with no acts. It shows both counts and the words.
+/// Checks that each read gives the word that was last written at its address. In `build` it adds the imp `seen`. When an item is written
+/// to the imp (`written`), it counts the item. If the item is a write (operation 1), it stores the data at the address. Any other item is
+/// a read. A read is bad if its data is not the word last written at its address, 0 if none was written. It counts a bad read, and
+/// reports it as an ERROR with id `SB` and the text `read ADDRESS gave DATA not WORD`. In `report` it reports an INFO with id `SB` and
+/// verbosity 200. The text is `N seen M bad`, with the numbers of items and of bad reads. Each number stops at 10^18.
+///
+/// View: the number of items, the number of bad reads, and the written words by address. A new object has 0, 0 and no words. It answers
+/// every other call, and an item that is not a bad read, with no actions. Standard: IEEE 1800.2-2020, Clause 12 (the imp), Clause 6 (the
+/// reports).
 #[derive(Drop)]
 pub struct BusScoreboard {
     type_name: Name,
@@ -27,7 +31,7 @@ pub struct BusScoreboard {
 impl BusScoreboard {
     ghost use Rattle.bus_objects.specs.BusScoreboard.{bus_scoreboard_named};
 
-    /// A new object, if the type is this one's. Takes no memory.
+    /// Returns a new object if `type_name` is `bus_scoreboard`, otherwise `None`. Allocates no memory.
     pub fn of_type(type_name: &Name) -> Option<Boxed<BusScoreboard>>
         ensures { result ≡ bus_scoreboard_named type_name.now }
     {
@@ -75,18 +79,18 @@ impl UvmObject for BusScoreboard {
     }
 }
 
-// What a scoreboard has seen.
+// The state of a scoreboard.
 #[derive(Drop)]
 struct Score {
-    // How many items, and how many bad reads among them.
+    // The number of items, and of the bad reads among them. Each is at most `MOST`.
     seen: u64,
     bad: u64,
-    // What was written.
+    // The written words, by address.
     words: WordMap,
 }
 
 impl Score {
-    // At which a count stops.
+    // The number at which a count stops.
     const MOST: u64 = 1_000_000_000_000_000_000;
 
     fn new(alloc: Global) -> Score
@@ -99,7 +103,7 @@ impl Score {
         }
     }
 
-    // The acts that answer a call.
+    // Returns the actions that answer a call. Errors: out of memory.
     fn acts(&self, alloc: Global, call: &Call) -> Result<Acts, AllocError>
         ensures { IfOk result (λ acts. acts ≡ bus_scoreboard_acts self.now call.now) }
     {
@@ -115,7 +119,7 @@ impl Score {
         Ok(acts)
     }
 
-    // Becomes what it is after a call.
+    // Updates the score for a call. Errors: out of memory, which leaves the score unchanged.
     fn take_in(&mut self, call: &Call) -> Result<(), AllocError>
         ensures ok { OnOk result (self.new ≡ score_after self.old call.now) }
         ensures err { OnErr result (self.new ≡ self.old) }
@@ -126,7 +130,7 @@ impl Score {
         }
     }
 
-    // Counts an item, and keeps what it writes. Where memory is refused the score stays.
+    // Counts an item, and stores the data of a write. Errors: out of memory, which leaves the score unchanged.
     fn see(&mut self, item: &Item) -> Result<(), AllocError>
         ensures ok { OnOk result (self.new ≡ score_with item.now self.old) }
         ensures err { OnErr result (self.new ≡ self.old) }
@@ -140,14 +144,14 @@ impl Score {
         Ok(())
     }
 
-    // Whether the item is a read with other data than was last written at its address.
+    // Returns whether the item is a read whose data is not the word last written at its address, 0 if none was written.
     fn is_bad(&self, item: &Item) -> bool
         ensures { result ≡ is_bad self.now.words item.now }
     {
         !is_write(item) && data_of(item) != self.words.at(address_of(item))
     }
 
-    // What is told of a bad read.
+    // Returns the text that reports a bad read. Errors: out of memory.
     fn mismatch_text(&self, alloc: Global, item: &Item) -> Result<Text, AllocError>
         ensures { IfOk result (λ text. text ≡ mismatch_text self.now.words item.now) }
     {
@@ -158,7 +162,7 @@ impl Score {
         Text::lossy(alloc, text.as_str())
     }
 
-    // What is told of both counts.
+    // Returns the text that reports both counts. Errors: out of memory.
     fn text(&self, alloc: Global) -> Result<Text, AllocError>
         ensures { IfOk result (λ text. text ≡ score_text self.now) }
     {
@@ -169,7 +173,7 @@ impl Score {
     }
 }
 
-// One more, up to `Score::MOST`.
+// Returns a count plus one, at most `Score::MOST`.
 fn one_more(count: u64) -> u64
     ensures { result ≡ one_more count }
 {

@@ -7,9 +7,12 @@ use uvm_glob::Name;
 use uvm_object::{Acts, Call, UvmObject};
 use uvm_phase::Phase;
 
-/// The test of the bus bench. It creates a `bus_env` as `env` when it builds. In run it raises an objection and starts a `seq_smoke` as
-/// `seq` on the sequencer `env.agent.sqr` (IEEE 1800.2-2020, Clause 14); when that has finished it drops the objection. It answers
-/// each other call with no acts, and shows nothing of itself.
+/// Runs a `seq_smoke` in the environment of the bus. In `build` it creates a `bus_env` as `env`. In `run` it raises an objection, and
+/// starts a `seq_smoke` as `seq` on `env.agent.sqr`, with no priority given. When the sequence has finished (`finished`), it drops the
+/// objection.
+///
+/// View: always empty, since it has no state. It answers every other call with no actions. Standard: IEEE 1800.2-2020, Clause 14 (the
+/// sequence), Clause 10.5 (the objection).
 #[derive(Drop)]
 pub struct BusTest {
     type_name: Name,
@@ -18,7 +21,7 @@ pub struct BusTest {
 impl BusTest {
     ghost use Rattle.bus_objects.specs.BusTest.{bus_test_named};
 
-    /// A new object, if the type is this one's.
+    /// Returns a new object if `type_name` is `bus_test`, otherwise `None`.
     pub fn of_type(type_name: &Name) -> Option<BusTest>
         ensures { result ≡ bus_test_named type_name.now }
     {

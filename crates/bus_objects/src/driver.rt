@@ -1,4 +1,4 @@
-//! What the drivers of the bus share.
+//! The behavior that the drivers of the bus share.
 
 ghost use Rattle.std.specs.Prelude.{◌≡◌, ◌∷◌, [], IfOk};
 ghost use Rattle.bus_objects.specs.Driver.{driver_acts, put_act};
@@ -8,7 +8,8 @@ use uvm_object::{Acts, Call};
 use uvm_phase::Phase;
 use uvm_tlm::{Item, PortKind};
 
-// The acts with which each driver answers a call. What it does with an item that comes is its own.
+// Returns the answer that both drivers share: it adds ports, asks for items, and writes and returns results, but puts no items. Errors:
+// out of memory.
 pub(crate) fn driver_acts(alloc: Global, call: &Call) -> Result<Acts, AllocError>
     ensures { IfOk result (λ acts. acts ≡ driver_acts call.now) }
 {
@@ -32,7 +33,7 @@ pub(crate) fn driver_acts(alloc: Global, call: &Call) -> Result<Acts, AllocError
     Ok(acts)
 }
 
-// The answer that puts an item on its way.
+// Returns the answer that puts an item through `req`. Errors: out of memory.
 pub(crate) fn put_item(alloc: Global, item: Item) -> Result<Acts, AllocError>
     ensures { IfOk result (λ acts. acts ≡ put_act item ∷ []) }
 {

@@ -6,7 +6,9 @@ use std::alloc::{AllocError, Global};
 use uvm_glob::Name;
 use uvm_object::{Acts, Call, UvmObject};
 
-/// Answers each call with no acts. It shows nothing of itself.
+/// Answers every call with no actions.
+///
+/// View: always empty, since it has no state.
 #[derive(Drop)]
 pub struct Idle {
     type_name: Name,
@@ -15,7 +17,7 @@ pub struct Idle {
 impl Idle {
     ghost use Rattle.bus_objects.specs.Idle.{idle_named};
 
-    /// A new object, if the type is this one's.
+    /// Returns a new object if `type_name` is `idle`, otherwise `None`.
     pub fn of_type(type_name: &Name) -> Option<Idle>
         ensures { result ≡ idle_named type_name.now }
     {

@@ -7,10 +7,10 @@ use std::alloc::{AllocError, Global};
 use uvm_report::Text;
 use uvm_tlm::Item;
 
-// The operation that writes; each other reads.
+// The operation of a write; any other is a read.
 const WRITE: i64 = 1;
 
-// Whether the item is a write.
+// Returns whether the item is a write.
 pub(crate) fn is_write(item: &Item) -> bool
     ensures { result ≡ is_write item.now }
 {
@@ -29,7 +29,7 @@ pub(crate) fn data_of(item: &Item) -> i64
     item.0[2]
 }
 
-// The item with other data.
+// Returns the item with other data.
 pub(crate) fn with_data(item: &Item, word: i64) -> Item
     ensures { result ≡ with_data item.now word }
 {
@@ -38,7 +38,7 @@ pub(crate) fn with_data(item: &Item, word: i64) -> Item
     changed
 }
 
-// The item as text, as `write 16 -5`.
+// Returns the operation, the address and the data of an item as text, for example `write 16 -5`. Errors: out of memory.
 pub(crate) fn transfer_text(alloc: Global, item: &Item) -> Result<Text, AllocError>
     ensures { IfOk result (λ text. text ≡ transfer_text item.now) }
 {

@@ -1,4 +1,4 @@
-//! The objects of the bus bench: each in a file of its own, with what it says in a file of `specs/`.
+//! The built-in objects of the memory bus, each in its own file; its view and relation are defined in a file of `specs/`.
 #![tactic(auto)]
 
 mod boxed;

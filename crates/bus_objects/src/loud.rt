@@ -8,7 +8,9 @@ use uvm_object::{Acts, Call, UvmObject};
 use uvm_phase::Phase;
 use uvm_report::Text;
 
-/// Reports three errors when it builds, and answers each other call with no acts. It shows nothing of itself.
+/// Reports three ERRORs in `build`, all with id `E`. Their texts are `one`, `two` and `three`, in this order.
+///
+/// View: always empty, since it has no state. It answers every other call with no actions.
 #[derive(Drop)]
 pub struct Loud {
     type_name: Name,
@@ -17,7 +19,7 @@ pub struct Loud {
 impl Loud {
     ghost use Rattle.bus_objects.specs.Loud.{loud_named};
 
-    /// A new object, if the type is this one's.
+    /// Returns a new object if `type_name` is `loud`, otherwise `None`.
     pub fn of_type(type_name: &Name) -> Option<Loud>
         ensures { result ≡ loud_named type_name.now }
     {

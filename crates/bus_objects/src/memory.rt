@@ -1,4 +1,4 @@
-//! What the memories of the bus share.
+//! The behavior that the memories of the bus share.
 
 ghost use Rattle.std.specs.Prelude.{◌≡◌, IfOk, OnOk, OnErr};
 ghost use Rattle.bus_objects.specs.Memory.{MemorySays, data_read, memory_acts, memory_after, memory_view, new_memory, result_of, waits_kept};
@@ -10,10 +10,10 @@ use uvm_object::{Acts, Call};
 use uvm_phase::Phase;
 use uvm_tlm::{Item, PortKind};
 
-// The ticks that a memory waits for where it is told none.
+// The ticks that a memory waits for if the field has no value or a negative one.
 const USUAL_WAITS: u64 = 2;
 
-// Which data a read gives.
+// The data that the result of a read has.
 #[derive(Clone, Copy)]
 pub(crate) enum Reading {
     // The stored word.
@@ -23,7 +23,7 @@ pub(crate) enum Reading {
 }
 
 impl Reading {
-    // The data that a read gives of a stored word.
+    // Returns the data of a read's result, for the word at its address.
     fn data_read(self, word: i64) -> i64
         ensures { result ≡ data_read self word }
     {
@@ -34,12 +34,12 @@ impl Reading {
     }
 }
 
-// A memory: it takes an item, waits, performs it, and puts its result.
+// The state of a memory, which takes an item, waits, performs the item, and puts its result.
 #[derive(Drop)]
 pub(crate) struct Memory {
-    // How many ticks pass between an item and its result.
+    // The number of ticks between an item and its result.
     waits: u64,
-    // The item that was taken last.
+    // The item that was taken last, initially four zeros.
     item: Item,
     words: WordMap,
 }
@@ -55,7 +55,7 @@ impl Memory {
         }
     }
 
-    // Answers a call. Where memory is refused the memory stays as it was.
+    // Answers a call. Errors: out of memory, which leaves `self` unchanged.
     pub(crate) fn hear(
         &mut self,
         alloc: Global,
@@ -70,7 +70,7 @@ impl Memory {
         Ok(acts)
     }
 
-    // The acts that answer a call.
+    // Returns the actions that answer a call. Errors: out of memory.
     fn acts(&self, alloc: Global, reading: Reading, call: &Call) -> Result<Acts, AllocError>
         ensures { IfOk result (λ acts. acts ≡ memory_acts reading self.now call.now) }
     {
@@ -89,7 +89,7 @@ impl Memory {
         Ok(acts)
     }
 
-    // Becomes what it is after a call.
+    // Updates `self` for a call. Errors: out of memory, which leaves `self` unchanged.
     fn take_in(&mut self, call: &Call) -> Result<(), AllocError>
         ensures ok { OnOk result (self.new ≡ memory_after self.old call.now) }
         ensures err { OnErr result (self.new ≡ self.old) }
@@ -103,7 +103,7 @@ impl Memory {
         Ok(())
     }
 
-    // The result of the item that it keeps.
+    // Returns the result of the kept item.
     fn result(&self, reading: Reading) -> Item
         ensures { result ≡ result_of reading self.now }
     {
@@ -116,7 +116,7 @@ impl Memory {
     }
 }
 
-// The ticks for the value of a field.
+// Returns the ticks for the value of the field `waits`.
 fn waits_kept(value: Option<i64>) -> u64
     ensures { result ≡ waits_kept value }
 {

@@ -1,4 +1,4 @@
-//! The objects of the bench, of whichever type.
+//! The built-in objects, of all types.
 
 ghost use Rattle.std.specs.Prelude.{◌≡◌};
 
@@ -24,49 +24,49 @@ use std::alloc::{AllocError, Global};
 use uvm_glob::Name;
 use uvm_object::{Acts, Call, UvmObject};
 
-/// An object of one of the bench's types. It shows and says what the object of that type does.
+/// An object of a built-in type. Its view and its relation are those of the object that it holds.
 #[derive(Drop)]
 pub enum BusObject {
-    /// Of the type `bus_agent`.
+    /// An object of the type `bus_agent`.
     BusAgent(BusAgent),
-    /// Of the type `bus_driver`.
+    /// An object of the type `bus_driver`.
     BusDriver(BusDriver),
-    /// Of the type `bus_env`.
+    /// An object of the type `bus_env`.
     BusEnv(BusEnv),
-    /// Of the type `bus_mem`.
+    /// An object of the type `bus_mem`.
     BusMem(Boxed<BusMem>),
-    /// Of the type `bus_mem_bad`.
+    /// An object of the type `bus_mem_bad`.
     BusMemBad(Boxed<BusMemBad>),
-    /// Of the type `bus_monitor`.
+    /// An object of the type `bus_monitor`.
     BusMonitor(BusMonitor),
-    /// Of the type `bus_scoreboard`.
+    /// An object of the type `bus_scoreboard`.
     BusScoreboard(Boxed<BusScoreboard>),
-    /// Of the type `bus_test`.
+    /// An object of the type `bus_test`.
     BusTest(BusTest),
-    /// Of the type `idle`.
+    /// An object of the type `idle`.
     Idle(Idle),
-    /// Of the type `loud`.
+    /// An object of the type `loud`.
     Loud(Loud),
-    /// Of the type `pulse`.
+    /// An object of the type `pulse`.
     Pulse(Pulse),
-    /// Of the type `seq_burst`.
+    /// An object of the type `seq_burst`.
     SeqBurst(SeqBurst),
-    /// Of the type `seq_pair`.
+    /// An object of the type `seq_pair`.
     SeqPair(SeqPair),
-    /// Of the type `seq_smoke`.
+    /// An object of the type `seq_smoke`.
     SeqSmoke(SeqSmoke),
-    /// Of the type `sleeper`.
+    /// An object of the type `sleeper`.
     Sleeper(Boxed<Sleeper>),
-    /// Of the type `slow_driver`.
+    /// An object of the type `slow_driver`.
     SlowDriver(Boxed<SlowDriver>),
-    /// Of the type `spinner`.
+    /// An object of the type `spinner`.
     Spinner(Spinner),
 }
 
 impl BusObject {
     ghost use Rattle.bus_objects.specs.Objects.{large_named, object_named, part_named, sequence_named, small_named};
 
-    /// A new object of the type of this name, if the bench has the type. Takes no memory.
+    /// Returns a new object of the type with this name, or `None` if that type is not built in. Allocates no memory.
     pub fn of_type(type_name: &Name) -> Option<BusObject>
         ensures { result ≡ object_named type_name.now }
     {
@@ -76,7 +76,7 @@ impl BusObject {
         BusObject::small_of_type(type_name)
     }
 
-    // A new object of the type of this name, if it is that of an object that stands behind a pointer once it is called.
+    // Returns a new object of the type with this name, if objects of that type move to the heap at their first call (`Boxed`).
     fn large_of_type(type_name: &Name) -> Option<BusObject>
         ensures { result ≡ large_named type_name.now }
     {
@@ -95,7 +95,7 @@ impl BusObject {
         SlowDriver::of_type(type_name).map(BusObject::SlowDriver)
     }
 
-    // A new object of the type of this name, if it is that of an object that stands in place.
+    // Returns a new object of the type with this name, if objects of that type are held in place.
     fn small_of_type(type_name: &Name) -> Option<BusObject>
         ensures { result ≡ small_named type_name.now }
     {
@@ -117,7 +117,7 @@ impl BusObject {
         Spinner::of_type(type_name).map(BusObject::Spinner)
     }
 
-    // A new object of the type of this name, if it is that of a component of the bus that keeps nothing.
+    // Returns a new object of the type with this name, if that is the type of a component of the bus without state.
     fn part_of_type(type_name: &Name) -> Option<BusObject>
         ensures { result ≡ part_named type_name.now }
     {
@@ -136,7 +136,7 @@ impl BusObject {
         BusTest::of_type(type_name).map(BusObject::BusTest)
     }
 
-    // A new object of the type of this name, if it is that of a sequence.
+    // Returns a new object of the type with this name, if that is a sequence type.
     fn sequence_of_type(type_name: &Name) -> Option<BusObject>
         ensures { result ≡ sequence_named type_name.now }
     {

@@ -7,8 +7,12 @@ use uvm_glob::Name;
 use uvm_object::{Acts, Call, UvmObject};
 use uvm_phase::Phase;
 
-/// Under a drain time of 5 ticks it raises an objection in run and drops it after 10; it raises another 2 ticks later, before the first has
-/// drained, and drops that after 8. It answers each other call with no acts, and shows nothing of itself.
+/// Raises and drops two objections, and raises the second before the first has drained. In `run` it sets a drain time of 5 ticks, raises
+/// an objection, and waits for 10 ticks with tag 1. At `wake 1` it drops the objection, and waits for 2 ticks with tag 2. At `wake 2` it
+/// raises another objection, and waits for 8 ticks with tag 3. At `wake 3` it drops that objection.
+///
+/// View: always empty, since it has no state. It answers every other call, also a `wake` with another tag, with no actions. Standard:
+/// IEEE 1800.2-2020, Clause 10.5.
 #[derive(Drop)]
 pub struct Pulse {
     type_name: Name,
@@ -17,7 +21,7 @@ pub struct Pulse {
 impl Pulse {
     ghost use Rattle.bus_objects.specs.Pulse.{pulse_named};
 
-    /// A new object, if the type is this one's.
+    /// Returns a new object if `type_name` is `pulse`, otherwise `None`.
     pub fn of_type(type_name: &Name) -> Option<Pulse>
         ensures { result ≡ pulse_named type_name.now }
     {

@@ -7,7 +7,7 @@ use uvm_glob::Name;
 use uvm_object::{Act, Acts, Call, UvmObject};
 use uvm_tlm::Item;
 
-// It writes two words and reads them back.
+// The items that it sends, in order: it writes two words and reads them back.
 const ITEMS: [Item; 4] = [
     Item([1, 0, 20, 0]),
     Item([1, 1, 21, 0]),
@@ -15,22 +15,24 @@ const ITEMS: [Item; 4] = [
     Item([0, 1, 0, 0]),
 ];
 
-/// A sequence of four items that are sent under a lock (IEEE 1800.2-2020, Clauses 14 and 15): it writes 20 at 0 and 21 at 1, and reads at
-/// both. In its body it asks to hold the sequencer, and once it does it requests to send. With each grant it sends the next item,
-/// and whenever the driver is done with one it requests again while items are left, else it gives the lock back and its body is
-/// over. It does nothing before its body and behind it. A grant with no item left, and each other call, it answers with no acts.
-/// It shows how many items it has sent.
+/// Sends four items under a lock, as a sequence: it writes 20 at address 0 and 21 at address 1, then reads at both. In `pre_start` and
+/// `post_start` it only ends the step. In `body` it requests a lock of its sequencer. When it holds the sequencer (`held`), it requests
+/// to send an item. At each `grant` it sends the next of the items `[1,0,20,0]`, `[1,1,21,0]`, `[0,0,0,0]` and `[0,1,0,0]`. When the
+/// driver has completed an item (`item_done`), it requests again if items are left. Otherwise it releases the lock and ends `body`.
+///
+/// View: the number of items that it has sent, initially 0. It answers a `grant` with no item left, and every other call, with no
+/// actions. Standard: IEEE 1800.2-2020, Clause 14 (the steps), Clause 15 (lock, requests and items).
 #[derive(Drop)]
 pub struct SeqBurst {
     type_name: Name,
-    // How many items it has sent.
+    // The number of items that it has sent.
     sent: u8,
 }
 
 impl SeqBurst {
     ghost use Rattle.bus_objects.specs.SeqBurst.{seq_burst_named};
 
-    /// A new object, if the type is this one's. It has sent nothing.
+    /// Returns a new object, which has sent no item, if `type_name` is `seq_burst`, otherwise `None`.
     pub fn of_type(type_name: &Name) -> Option<SeqBurst>
         ensures { result ≡ seq_burst_named type_name.now }
     {

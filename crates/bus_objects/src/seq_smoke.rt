@@ -7,24 +7,26 @@ use uvm_glob::Name;
 use uvm_object::{Acts, Call, UvmObject};
 use uvm_tlm::Item;
 
-// It writes a word and reads it back.
+// The items that it sends, in order: it writes a word and reads it back.
 const ITEMS: [Item; 2] = [Item([1, 0, 10, 0]), Item([0, 0, 0, 0])];
 
-/// A sequence of two items (IEEE 1800.2-2020, Clause 14): it writes 10 at 0, and reads there. In its body it requests to send, with each
-/// grant it sends the next item, and whenever the driver is done with one it requests again while items are left (Clause 15), else
-/// its body is over. It does nothing before its body and behind it. A grant with no item left, and each other call, it answers
-/// with no acts. It shows how many items it has sent.
+/// Sends two items, as a sequence: it writes 10 at address 0, then reads there. In `pre_start` and `post_start` it only ends the step. In
+/// `body` it requests to send an item. At each `grant` it sends the next of the items `[1,0,10,0]` and `[0,0,0,0]`. When the driver has
+/// completed an item (`item_done`), it requests again if an item is left. Otherwise it ends `body`.
+///
+/// View: the number of items that it has sent, initially 0. It answers a `grant` with no item left, and every other call, with no
+/// actions. Standard: IEEE 1800.2-2020, Clause 14 (the steps), Clause 15 (requests and items).
 #[derive(Drop)]
 pub struct SeqSmoke {
     type_name: Name,
-    // How many items it has sent.
+    // The number of items that it has sent.
     sent: u8,
 }
 
 impl SeqSmoke {
     ghost use Rattle.bus_objects.specs.SeqSmoke.{seq_smoke_named};
 
-    /// A new object, if the type is this one's. It has sent nothing.
+    /// Returns a new object, which has sent no item, if `type_name` is `seq_smoke`, otherwise `None`.
     pub fn of_type(type_name: &Name) -> Option<SeqSmoke>
         ensures { result ≡ seq_smoke_named type_name.now }
     {

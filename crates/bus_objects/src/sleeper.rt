@@ -9,20 +9,23 @@ use uvm_glob::Name;
 use uvm_object::{Acts, Call, UvmObject};
 use uvm_phase::Phase;
 
-/// Asks for the field `at` when it builds, and keeps its value, which is 0 where there is none. In run it raises an objection, and where the
-/// value is not negative waits for so many ticks; when it wakes it drops the objection. It answers each other call with no acts. It
-/// shows the ticks, or nothing where the value is negative.
+/// Keeps `run` from ending for a number of ticks. In `build` it looks up the field `at`. When the value comes (`config`), it keeps the
+/// value as this number, which is 0 if the field has no value. In `run` it raises an objection and waits for these ticks. When it wakes
+/// (`wake`), it drops the objection. If the value is negative, it raises the objection and does not wait, so the objection remains.
+///
+/// View: the ticks, initially 0; empty if the value is negative. It answers every other call with no actions. Standard: IEEE 1800.2-2020,
+/// Annex C (the field), Clause 10.5 (the objection).
 #[derive(Drop)]
 pub struct Sleeper {
     type_name: Name,
-    // None where the value is negative.
+    // The ticks for which it waits in run; none if the value of the field is negative.
     ticks: Option<u64>,
 }
 
 impl Sleeper {
     ghost use Rattle.bus_objects.specs.Sleeper.{sleeper_named};
 
-    /// A new object, if the type is this one's. It keeps 0.
+    /// Returns a new object, which keeps 0 ticks, if `type_name` is `sleeper`, otherwise `None`. Allocates no memory.
     pub fn of_type(type_name: &Name) -> Option<Boxed<Sleeper>>
         ensures { result ≡ sleeper_named type_name.now }
     {
@@ -81,7 +84,7 @@ impl UvmObject for Sleeper {
     }
 }
 
-// The ticks for a value, unless it is negative.
+// Returns the ticks for the value of the field `at`: 0 without a value, none for a negative one.
 fn ticks_kept(value: Option<i64>) -> Option<u64>
     ensures { shown result ≡ ticks_kept value }
 {

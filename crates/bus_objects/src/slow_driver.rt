@@ -9,19 +9,22 @@ use uvm_glob::Name;
 use uvm_object::{Acts, Call, UvmObject};
 use uvm_tlm::Item;
 
-/// As `BusDriver`, but it keeps an item that comes, waits for 3 ticks, and puts it when it wakes. A new one keeps an item of zeros. It
-/// shows the words of the item.
+/// Behaves as `bus_driver`, except that it puts an item 3 ticks after the item came. When an item comes (`next_item`), it keeps the item
+/// and waits for 3 ticks. When it wakes (`wake`), it puts the kept item through `req`.
+///
+/// View: the four words of the kept item, initially zeros. It answers `build`, `run`, `stored` and `taken` as `BusDriver` does. It
+/// answers every other call, and a `next_item` without an item, with no actions.
 #[derive(Drop)]
 pub struct SlowDriver {
     type_name: Name,
-    // The item that came last.
+    // The item that came last, initially four zeros.
     item: Item,
 }
 
 impl SlowDriver {
     ghost use Rattle.bus_objects.specs.SlowDriver.{slow_driver_named};
 
-    /// A new object, if the type is this one's.
+    /// Returns a new object if `type_name` is `slow_driver`, otherwise `None`. Allocates no memory.
     pub fn of_type(type_name: &Name) -> Option<Boxed<SlowDriver>>
         ensures { result ≡ slow_driver_named type_name.now }
     {

@@ -7,8 +7,9 @@ use uvm_glob::Name;
 use uvm_object::{Acts, Call, UvmObject};
 use uvm_phase::Phase;
 
-/// Waits for no ticks in run, and again whenever that is over: time never passes. Answers each other call with no acts, and shows
-/// nothing of itself.
+/// Waits for 0 ticks in `run`, and again each time it wakes (`wake`). So time never advances, and `run` never ends.
+///
+/// View: always empty, since it has no state. It answers every other call with no actions.
 #[derive(Drop)]
 pub struct Spinner {
     type_name: Name,
@@ -17,7 +18,7 @@ pub struct Spinner {
 impl Spinner {
     ghost use Rattle.bus_objects.specs.Spinner.{spinner_named};
 
-    /// A new object, if the type is this one's.
+    /// Returns a new object if `type_name` is `spinner`, otherwise `None`.
     pub fn of_type(type_name: &Name) -> Option<Spinner>
         ensures { result ≡ spinner_named type_name.now }
     {

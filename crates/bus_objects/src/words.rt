@@ -9,7 +9,7 @@ use std::collections::BTreeMap;
 use std::marker::Model;
 use uvm_tlm::Item;
 
-// The words that writes store, by address. Contracts see the list of them, by ascending address.
+// The words that writes store, by address. Contracts see the list of addresses and words, in ascending order of address.
 #[derive(Drop)]
 pub(crate) struct WordMap {
     words: BTreeMap<i64, i64>,
@@ -24,7 +24,7 @@ impl Model for WordMap {
 }
 
 impl WordMap {
-    // No words.
+    // Returns a map without words. Allocates no memory.
     pub(crate) fn new(alloc: Global) -> WordMap
         ensures { result ≡ [] }
     {
@@ -33,14 +33,14 @@ impl WordMap {
         }
     }
 
-    // The word at an address, 0 where none was stored.
+    // Returns the word at an address, 0 if none was stored.
     pub(crate) fn at(&self, address: i64) -> i64
         ensures { result ≡ word_at self.now address }
     {
         self.words.get(&address).copied().unwrap_or(0)
     }
 
-    // Takes in an item: a write stores its data at its address. Where memory is refused the words stay.
+    // Stores the data of a write at its address; a read changes nothing. Errors: out of memory, which leaves the words unchanged.
     pub(crate) fn take_in(&mut self, item: &Item) -> Result<(), AllocError>
         ensures ok { OnOk result (self.new ≡ words_after item.now self.old) }
         ensures err { OnErr result (self.new ≡ self.old) }

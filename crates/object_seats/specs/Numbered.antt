@@ -30,6 +30,7 @@ module _ {O : Type 0} where
   sitter_at slab None = None
   sitter_at slab (Some key) = option_map sitter_of (get slab key)
 
+  -- the sequences at these keys, each with its object, in the order of the keys
   abbrev pub sitters_in : Slab (SequenceSeat O) → List (Option ℕ) → List (Who × O)
   sitters_in slab keys = filter_map (sitter_at slab) keys
 

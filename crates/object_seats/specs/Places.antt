@@ -26,6 +26,7 @@ module _ {O : Type 0} where
   abbrev pub seat_at : Slab (Seat O) → Place → Option (Taken O)
   seat_at slab place = option_map (λ seat. record { path = place.0.0; node = seat.node; object = seat.object }) (get slab place.1)
 
+  -- the taken seats at these places, in the order of the places
   abbrev pub taken_in : Slab (Seat O) → List Place → List (Taken O)
   taken_in slab places = filter_map (seat_at slab) places
 

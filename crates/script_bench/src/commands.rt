@@ -3,23 +3,35 @@
 use clap::{Arg, ArgAction, ArgMatches, Command, value_parser};
 use std::alloc::{AllocError, Global};
 
-const ABOUT: &str =
-    "Runs UVM testbenches whose objects' answers are data, on a kernel that is proved";
+const ABOUT: &str = "Runs UVM-style testbenches that are described in TOML files";
 
-const ABOUT_RUN: &str = "Runs each file: a script, with the answers of its objects";
+const ABOUT_RUN: &str = "Runs testbench files and prints what they report";
 
-const EXAMPLE: &str = "Example:\n  script_bench run --trace uart.toml";
+const AFTER_HELP: &str =
+    "A FILE declares the types of a testbench, names its test, and says how each type answers its calls.
 
-/// What `run` was asked for.
+Exit status:
+  0  clean
+  1  an ERROR or a FATAL was counted, or the run did not finish
+  2  a file or the command line was refused
+  3  out of memory, log full, output failed, or a file was not read
+With several files the greatest of their statuses.
+
+Example, in crates/script_bench:
+  script_bench run --trace data/one_item.toml
+
+Tutorial: docs/GUIDE.md. All keys, calls and actions: docs/REFERENCE.md";
+
+/// The options of `run`.
 #[derive(Clone, Copy)]
 pub struct Options {
-    /// Whether each entry of the log is printed.
+    /// Whether to print every entry of the log.
     pub trace: bool,
-    /// The seed of the random words.
+    /// The seed of the random numbers.
     pub seed: u64,
 }
 
-/// Makes the command line: `run [--trace] [--seed N] [--test NAME] FILE..`.
+/// Returns the command line: `run [--trace] [--seed N] [--test NAME] FILE..`. Errors: out of memory.
 pub fn command<'a>(alloc: Global) -> Result<Command<'a>, AllocError> {
     let run = run_command(alloc)?;
     top_command(alloc).subcommand(run)
@@ -29,7 +41,7 @@ pub fn command<'a>(alloc: Global) -> Result<Command<'a>, AllocError> {
 fn top_command<'a>(alloc: Global) -> Command<'a> {
     Command::new(alloc, "script_bench")
         .about(ABOUT)
-        .after_help(EXAMPLE)
+        .after_help(AFTER_HELP)
         .version("1.0.0")
         .propagate_version(true)
         .subcommand_required(true)
@@ -46,7 +58,7 @@ fn run_command<'a>(alloc: Global) -> Result<Command<'a>, AllocError> {
 fn run_options<'a>(alloc: Global) -> Result<Command<'a>, AllocError> {
     Command::new(alloc, "run")
         .about(ABOUT_RUN)
-        .after_help(EXAMPLE)
+        .after_help(AFTER_HELP)
         .arg(trace_arg(alloc))?
         .arg(seed_arg(alloc))
 }
@@ -54,7 +66,7 @@ fn run_options<'a>(alloc: Global) -> Result<Command<'a>, AllocError> {
 fn trace_arg<'a>(alloc: Global) -> Arg<'a> {
     Arg::new(alloc, "trace")
         .long("trace")
-        .help("Prints each entry of the log")
+        .help("Prints every entry of the log: phases, calls, actions, grants, time")
         .action(ArgAction::SetTrue)
 }
 
@@ -62,26 +74,25 @@ fn seed_arg<'a>(alloc: Global) -> Arg<'a> {
     Arg::new(alloc, "seed")
         .long("seed")
         .value_name("N")
-        .help("The seed of the random numbers, 1 unless it is given")
+        .help("The seed of the random numbers, 0 to 2^64-1 (1 if omitted)")
         .value_parser(value_parser!(u64))
 }
 
 fn test_arg<'a>(alloc: Global) -> Arg<'a> {
-    Arg::new(alloc, "test")
-        .long("test")
-        .value_name("NAME")
-        .help("The test, in place of the file's own")
+    Arg::new(alloc, "test").long("test").value_name("NAME").help(
+        "Runs this test instead of the file's own, like +UVM_TESTNAME",
+    )
 }
 
 fn files_arg<'a>(alloc: Global) -> Arg<'a> {
     Arg::new(alloc, "file")
         .value_name("FILE")
-        .help("A script with the answers of its objects, in TOML")
+        .help("A testbench file, in TOML. Of several, each is run by itself")
         .required(true)
         .num_args(1..)
 }
 
-/// Reads the options of `run`.
+/// Returns the options of `run`: the seed is 1 if it is omitted.
 pub fn options_of(run: &ArgMatches<'_>) -> Options {
     Options {
         trace: run.get_flag("trace"),

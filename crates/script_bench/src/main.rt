@@ -1,4 +1,4 @@
-//! The program `script_bench`: `run FILE..` runs documents, each a script with the answers of its objects.
+//! The program `script_bench`: `run FILE..` runs documents, each of which is a script with the answers of its objects.
 #![tactic(auto)]
 
 mod commands;

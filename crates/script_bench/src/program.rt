@@ -4,22 +4,44 @@ use crate::commands::{Options, command, options_of};
 use bench_script::ScriptFault;
 use clap::error::ErrorKind;
 use clap::{ArgMatches, Error};
-use script_jobs::{Breakage, FileVerdict, Verdict, read_file, run_bench};
+use script_jobs::{Breakage, FileVerdict, read_file, run_bench};
 use std::alloc::Global;
 use std::fs::File;
 use std::io::Write;
 use std::rt::{Env, Files};
-use std::{env, io};
+use std::{env, fs, io};
 use uvm_glob::{Name, PathFault};
 
-/// The exit status where words or a file are refused.
+// The exit status if the command line or a file is refused.
 const REFUSED: u8 = 2;
 
-// The exit status where something broke off.
+// The exit status if a run stops before its end.
 const BROKEN: u8 = 3;
 
-/// Does what the words of the command line ask for, and answers the exit status: the greatest of those of the files (0 clean, 1 faulty, 2
-/// refused, 3 broken); 0 for help, or 3 where that could not be written; 2 for words that it does not take, and 3 for want of memory.
+// Why a file was not read.
+#[derive(Clone, Copy)]
+enum Unread {
+    Missing,
+    Directory,
+    Unreadable,
+    Memory,
+}
+
+impl Unread {
+    // Returns what is reported of the file.
+    fn message(self) -> &'static str {
+        match self {
+            Unread::Missing => "no such file",
+            Unread::Directory => "is a directory",
+            Unread::Unreadable => "cannot read the file",
+            Unread::Memory => "memory",
+        }
+    }
+}
+
+/// Executes the command line and returns the exit status: the greatest of the files' statuses (0 clean, 1 faulty, 2 refused, 3 broken).
+/// For help and the version it returns 0, or 3 if the text could not be written. It returns 2 if the command line is refused, and 3 if
+/// memory runs out or the output fails.
 pub fn run<R: Env + Files + AllocGlobal, O: Write, E: Write>(
     rt: &R,
     out: &mut O,
@@ -54,7 +76,7 @@ fn serve<R: Files + AllocGlobal, O: Write, E: Write>(
     }
 }
 
-// Shows the help or the version that was asked for, or tells why words are refused.
+// Prints the help or the version, or reports why the command line is refused.
 fn refuse<O: Write, E: Write>(error: &Error, out: &mut O, err: &mut E) -> u8 {
     match error.kind() {
         ErrorKind::DisplayHelp | ErrorKind::DisplayVersion => {
@@ -72,7 +94,7 @@ fn refuse<O: Write, E: Write>(error: &Error, out: &mut O, err: &mut E) -> u8 {
     }
 }
 
-/// Tells what broke, of no file, and answers the exit status.
+/// Reports that the program stopped, apart from any file, and returns the exit status.
 pub fn broken<E: Write>(breakage: Breakage, err: &mut E) -> u8 {
     let message = breakage.message();
     let _ = writeln!(err, "script_bench: {message}");
@@ -89,7 +111,8 @@ fn obey<R: Files + AllocGlobal, O: Write, E: Write>(
         return REFUSED;
     };
     let Ok(test) = test_of(run) else {
-        let _ = writeln!(err, "script_bench: {}", ScriptFault::BadName.label());
+        let fault = ScriptFault::BadName.label();
+        let _ = writeln!(err, "script_bench: --test: not a name ({fault})");
         return REFUSED;
     };
     let options = options_of(run);
@@ -99,7 +122,7 @@ fn obey<R: Files + AllocGlobal, O: Write, E: Write>(
     }
 }
 
-// The test that is asked for, if one is.
+// Returns the test of `--test`, if there is one. Errors: the test is not a name.
 fn test_of(run: &ArgMatches<'_>) -> Result<Option<Name>, PathFault> {
     match run.get_str("test") {
         Some(text) => Ok(Some(Name::new(text.as_bytes())?)),
@@ -107,7 +130,7 @@ fn test_of(run: &ArgMatches<'_>) -> Result<Option<Name>, PathFault> {
     }
 }
 
-// Runs some files: one as it is, several one after another.
+// Runs one file as it is, or several one after another.
 fn run_files<R: Files + AllocGlobal, O: Write, E: Write>(
     rt: &R,
     files: &[&str],
@@ -122,7 +145,7 @@ fn run_files<R: Files + AllocGlobal, O: Write, E: Write>(
     }
 }
 
-// Runs several files one after another, and answers the greatest status.
+// Runs several files one after another, and returns the greatest status.
 fn run_several<R: Files + AllocGlobal, O: Write, E: Write>(
     rt: &R,
     files: &[&str],
@@ -144,7 +167,7 @@ fn run_several<R: Files + AllocGlobal, O: Write, E: Write>(
     greatest
 }
 
-// Runs a file. A line before its text names it, and one behind says its status.
+// Runs a file. A line before its text names it, and a line after it gives its status.
 fn run_named<R: Files + AllocGlobal, O: Write, E: Write>(
     rt: &R,
     file: &str,
@@ -167,13 +190,12 @@ fn run_file<R: Files + AllocGlobal, O: Write, E: Write>(
     out: &mut O,
     err: &mut E,
 ) -> u8 {
-    let verdict = match bytes_of(rt, file) {
-        Ok(bytes) => {
-            let (seed, trace) = (options.seed, options.trace);
-            run_bench(rt.alloc(), bytes.as_slice(), seed, test, trace, out)
-        }
-        Err(breakage) => Verdict::Broken(breakage),
+    let bytes = match bytes_of(rt, file) {
+        Ok(bytes) => bytes,
+        Err(why) => return report_unread(file, why, err),
     };
+    let (seed, trace) = (options.seed, options.trace);
+    let verdict = run_bench(rt.alloc(), bytes.as_slice(), seed, test, trace, out);
     if out.flush().is_err() {
         return broken(Breakage::Output, err);
     }
@@ -181,13 +203,30 @@ fn run_file<R: Files + AllocGlobal, O: Write, E: Write>(
     verdict.status()
 }
 
-fn bytes_of<R: Files + AllocGlobal>(rt: &R, file: &str) -> Result<Vec<u8>, Breakage> {
-    let Ok(mut file) = File::open(rt, file) else {
-        return Err(Breakage::Unread);
+// Reports why a file was not read, and returns the exit status.
+fn report_unread<E: Write>(file: &str, why: Unread, err: &mut E) -> u8 {
+    let message = why.message();
+    let _ = writeln!(err, "script_bench: {file}: {message}");
+    BROKEN
+}
+
+fn bytes_of<R: Files + AllocGlobal>(rt: &R, file: &str) -> Result<Vec<u8>, Unread> {
+    let mut opened = match File::open(rt, file) {
+        Ok(opened) => opened,
+        Err(error) if error.kind() == io::ErrorKind::NotFound => return Err(Unread::Missing),
+        Err(_) => return Err(Unread::Unreadable),
     };
-    match read_file(rt.alloc(), &mut file) {
+    match read_file(rt.alloc(), &mut opened) {
         Ok(bytes) => Ok(bytes),
-        Err(FileVerdict::Broken(breakage)) => Err(breakage),
-        Err(_) => Err(Breakage::Unread),
+        Err(FileVerdict::Broken(Breakage::Memory)) => Err(Unread::Memory),
+        Err(_) if is_directory(rt, file) => Err(Unread::Directory),
+        Err(_) => Err(Unread::Unreadable),
+    }
+}
+
+fn is_directory<R: Files>(rt: &R, file: &str) -> bool {
+    match fs::metadata(rt, file) {
+        Ok(data) => data.is_dir(),
+        Err(_) => false,
     }
 }

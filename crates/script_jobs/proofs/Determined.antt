@@ -22,10 +22,10 @@ use Rattle.scripted_objects.specs.Laws.{AnswersAreFunctions, TablesTellTypes}
 use Rattle.scripted_objects.specs.Tables.{AreTypesOf}
 use Rattle.script_jobs.specs.Laws.{IsDecided, RunsAreDetermined}
 use Rattle.script_jobs.specs.Objects.{name_of, object_named, says_of, view_of}
-use Rattle.script_jobs.specs.Runs.{HasUnknown, HoldsAnswers, IsBenchRun, IsNoTable, IsScriptRun, IsTreeRun, IsUnread, RanTo, script_to_run, unknown_types}
+use Rattle.script_jobs.specs.Runs.{HasBare, HasUnknown, HoldsAnswers, IsBenchRun, IsNoTable, IsScriptRun, IsTreeRun, IsUnread, RanTo, bare_types, lost_test, refusal_by, script_to_run, unknown_types}
 use Rattle.script_jobs.specs.declared.objects.BenchObject.{BenchObject}
 use Rattle.script_jobs.specs.declared.objects.BenchObject.TheVariants.{Scripted, Bus}
-use Rattle.script_jobs.specs.declared.verdicts.Refusal.TheVariants.{Script, NoTable, UnknownType, Answers}
+use Rattle.script_jobs.specs.declared.verdicts.Refusal.TheVariants.{Script, UnknownTest, NoTable, UnknownType, NoObject, Answers}
 use Rattle.script_jobs.specs.declared.verdicts.Verdict.{Verdict}
 use Rattle.script_jobs.specs.declared.verdicts.Verdict.TheVariants.{Clean, Faulty, Refused, Broken}
 
@@ -60,9 +60,11 @@ verdict_of (Err fault) = Broken LogFull
 
 -- what became of the tree of a document: it was refused, or its script ran over its answers
 data OfTree (root : Members) (test : Option (List ℕ)) (words : Stream) (trace : Bool) (held : List ℕ) (new : Option (List ℕ)) (verdict : Verdict) : Type 0 where
-  NoScript : (fault : ScriptFault) → script_to_run root test ≡ Err fault → new ≡ Some held → verdict ≡ Refused (Script fault) → OfTree root test words trace held new verdict
+  NoScript : (fault : ScriptFault) → script_to_run root test ≡ Err fault → new ≡ Some held → verdict ≡ Refused (refusal_by fault (lost_test root test)) → OfTree root test words trace held new verdict
   Tableless : (script : ScriptValue) → script_to_run root test ≡ Ok script → IsNoTable (get_member (codes "answers") root) → new ≡ Some held → verdict ≡ Refused NoTable → OfTree root test words trace held new verdict
   Unknown : (script : ScriptValue) → script_to_run root test ≡ Ok script → (name : List ℕ) → HasUnknown (get_member (codes "answers") root) script.types name → new ≡ Some held → verdict ≡ Refused (UnknownType name)
+      → OfTree root test words trace held new verdict
+  Bare : (script : ScriptValue) → script_to_run root test ≡ Ok script → (name : List ℕ) → HasBare (get_member (codes "answers") root) script.types name → new ≡ Some held → verdict ≡ Refused (NoObject name)
       → OfTree root test words trace held new verdict
   Ran : (result : Result Ending RunFault) → has_ended result → RanTo root test words trace (Some held) new result → verdict ≡ verdict_of result → OfTree root test words trace held new verdict
 
@@ -90,9 +92,11 @@ tree-came : (root : Members) (test : Option (List ℕ)) (words : Stream) (trace 
 unfolding verdict_of
 tree-came root test words trace held new Clean done decided = Ran (Ok done.0) tt done.2 (rw done.1 refl)
 tree-came root test words trace held new Faulty done decided = Ran (Ok done.0) tt done.2 (rw done.1 refl)
-tree-came root test words trace held new (Refused (Script fault)) done decided = NoScript fault done.0 (kept held new done.2) refl
+tree-came root test words trace held new (Refused (Script fault)) done decided = NoScript done.fault done.found (kept held new done.keeps) (ap Refused done.reported)
+tree-came root test words trace held new (Refused (UnknownTest name)) done decided = NoScript done.fault done.found (kept held new done.keeps) (ap Refused done.reported)
 tree-came root test words trace held new (Refused NoTable) done decided = Tableless done.script done.asked done.fault (kept held new done.keeps) refl
 tree-came root test words trace held new (Refused (UnknownType name)) done decided = Unknown done.script done.asked name done.fault (kept held new done.keeps) refl
+tree-came root test words trace held new (Refused (NoObject name)) done decided = Bare done.script done.asked name done.fault (kept held new done.keeps) refl
 tree-came root test words trace held new (Refused (Answers text)) done decided = absurd decided
 tree-came root test words trace held new (Broken LogFull) (inl none) decided = let bad = none.0 in cc
 tree-came root test words trace held new (Broken LogFull) (inr done) decided = broke-came root test words trace held new done.0 (full-fault done.0 done.1) done.2
@@ -129,6 +133,19 @@ module _ (tell : TablesTellTypes) (one_answer : (object : BenchObject) (before :
       let first : slice_get (unknown_types is.0 script.types) 0 ≡ Some name = is.2 in
       let nothing : None ≡ Some name = rw none at first in cc
 
+  -- the first type without an object is one
+  same-bare : (said : Option Data) (script again : ScriptValue) (name other : List ℕ) → again ≡ script → HasBare said script.types name → HasBare said again.types other → other ≡ name
+  same-bare said script again name other same is are =
+      let types : are.0 ≡ is.0 = same-types tell said is.0 are.0 is.1 are.1 in
+      let first : Some other ≡ Some name = sym are.3 ∙ (rw (types, same) refl ∙ is.3) in cc
+
+  no-bare : (said : Option Data) (script again : ScriptValue) (name : List ℕ) (types : List TypeValue) → again ≡ script → HasBare said script.types name → HoldsAnswers said types → bare_types types again.types ≡ [] → ⊥
+  no-bare said script again name types same is holds objects =
+      let one : types ≡ is.0 = same-types tell said is.0 types is.1 holds in
+      let none : bare_types is.0 script.types ≡ [] = rw (one, same) at objects in
+      let first : slice_get (bare_types is.0 script.types) 0 ≡ Some name = is.3 in
+      let nothing : None ≡ Some name = rw none at first in cc
+
   -- two runs of one script over one list of types
   ran-same : (words : Stream) (trace : Bool) (held : List ℕ) (first second : Option (List ℕ)) (one other : Result Ending RunFault) (script again : ScriptValue) (types others : List TypeValue) → again ≡ script → others ≡ types
       → IsScriptRun types words script trace (Some held) first one → IsScriptRun others words again trace (Some held) second other → has_ended one → has_ended other → (other ≡ one) × (second ≡ first)
@@ -140,13 +157,15 @@ module _ (tell : TablesTellTypes) (one_answer : (object : BenchObject) (before :
   tree-same : (root : Members) (test : Option (List ℕ)) (words : Stream) (trace : Bool) (held : List ℕ) (first second : Option (List ℕ)) (one other : Verdict) → OfTree root test words trace held first one → OfTree root test words trace held second other
       → (other ≡ one) × (second ≡ first)
   tree-same root test words trace held first second one other (NoScript fault is new_is verdict_is) (NoScript why are new_too is_too) =
-      let same : why ≡ fault = cc in (is_too ∙ ap (λ f. Refused (Script f)) same ∙ sym verdict_is, new_too ∙ sym new_is)
+      let same : why ≡ fault = cc in (is_too ∙ ap (λ f. Refused (refusal_by f (lost_test root test))) same ∙ sym verdict_is, new_too ∙ sym new_is)
   tree-same root test words trace held first second one other (NoScript fault is new_is verdict_is) (Tableless script are none new_too is_too) = cc
   tree-same root test words trace held first second one other (NoScript fault is new_is verdict_is) (Unknown script are name unknown new_too is_too) = cc
+  tree-same root test words trace held first second one other (NoScript fault is new_is verdict_is) (Bare script are name bare new_too is_too) = cc
   tree-same root test words trace held first second one other (NoScript fault is new_is verdict_is) (Ran result ended run is_too) = let asked = run.bench.asked in cc
   tree-same root test words trace held first second one other (Tableless script is none new_is verdict_is) (NoScript why are new_too is_too) = cc
   tree-same root test words trace held first second one other (Tableless script is none new_is verdict_is) (Tableless again are also new_too is_too) = (is_too ∙ sym verdict_is, new_too ∙ sym new_is)
   tree-same root test words trace held first second one other (Tableless script is none new_is verdict_is) (Unknown again are name unknown new_too is_too) = absurd (no-types (get_member (codes "answers") root) unknown.0 none unknown.1)
+  tree-same root test words trace held first second one other (Tableless script is none new_is verdict_is) (Bare again are name bare new_too is_too) = absurd (no-types (get_member (codes "answers") root) bare.0 none bare.1)
   tree-same root test words trace held first second one other (Tableless script is none new_is verdict_is) (Ran result ended run is_too) = absurd (no-types (get_member (codes "answers") root) run.types none run.bench.answers)
   tree-same root test words trace held first second one other (Unknown script is name unknown new_is verdict_is) (NoScript why are new_too is_too) = cc
   tree-same root test words trace held first second one other (Unknown script is name unknown new_is verdict_is) (Tableless again are none new_too is_too) = absurd (no-types (get_member (codes "answers") root) unknown.0 none unknown.1)
@@ -154,16 +173,36 @@ module _ (tell : TablesTellTypes) (one_answer : (object : BenchObject) (before :
       let same : again ≡ script = cc in
       let named : more ≡ name = same-unknown (get_member (codes "answers") root) script again name more same unknown unknowns in
       (is_too ∙ ap (λ n. Refused (UnknownType n)) named ∙ sym verdict_is, new_too ∙ sym new_is)
+  tree-same root test words trace held first second one other (Unknown script is name unknown new_is verdict_is) (Bare again are bared bare new_too is_too) =
+      let same : again ≡ script = cc in
+      absurd (no-unknown (get_member (codes "answers") root) script again name bare.0 same unknown bare.1 bare.2)
   tree-same root test words trace held first second one other (Unknown script is name unknown new_is verdict_is) (Ran result ended run is_too) =
       let asked = run.bench.asked in
       let same : run.script ≡ script = cc in
       absurd (no-unknown (get_member (codes "answers") root) script run.script name run.types same unknown run.bench.answers run.bench.known)
+  tree-same root test words trace held first second one other (Bare script is name bare new_is verdict_is) (NoScript why are new_too is_too) = cc
+  tree-same root test words trace held first second one other (Bare script is name bare new_is verdict_is) (Tableless again are none new_too is_too) = absurd (no-types (get_member (codes "answers") root) bare.0 none bare.1)
+  tree-same root test words trace held first second one other (Bare script is name bare new_is verdict_is) (Unknown again are unnamed unknown new_too is_too) =
+      let same : script ≡ again = cc in
+      absurd (no-unknown (get_member (codes "answers") root) again script unnamed bare.0 same unknown bare.1 bare.2)
+  tree-same root test words trace held first second one other (Bare script is name bare new_is verdict_is) (Bare again are more bares new_too is_too) =
+      let same : again ≡ script = cc in
+      let named : more ≡ name = same-bare (get_member (codes "answers") root) script again name more same bare bares in
+      (is_too ∙ ap (λ n. Refused (NoObject n)) named ∙ sym verdict_is, new_too ∙ sym new_is)
+  tree-same root test words trace held first second one other (Bare script is name bare new_is verdict_is) (Ran result ended run is_too) =
+      let asked = run.bench.asked in
+      let same : run.script ≡ script = cc in
+      absurd (no-bare (get_member (codes "answers") root) script run.script name run.types same bare run.bench.answers run.bench.objects)
   tree-same root test words trace held first second one other (Ran result ended run verdict_is) (NoScript why are new_too is_too) = let asked = run.bench.asked in cc
   tree-same root test words trace held first second one other (Ran result ended run verdict_is) (Tableless again are none new_too is_too) = absurd (no-types (get_member (codes "answers") root) run.types none run.bench.answers)
   tree-same root test words trace held first second one other (Ran result ended run verdict_is) (Unknown again are name unknown new_too is_too) =
       let asked = run.bench.asked in
       let same : run.script ≡ again = cc in
       absurd (no-unknown (get_member (codes "answers") root) again run.script name run.types same unknown run.bench.answers run.bench.known)
+  tree-same root test words trace held first second one other (Ran result ended run verdict_is) (Bare again are name bare new_too is_too) =
+      let asked = run.bench.asked in
+      let same : run.script ≡ again = cc in
+      absurd (no-bare (get_member (codes "answers") root) again run.script name run.types same bare run.bench.answers run.bench.objects)
   tree-same root test words trace held first second one other (Ran result ended run verdict_is) (Ran later ends also is_too) =
       let asked = run.bench.asked in
       let asks = also.bench.asked in

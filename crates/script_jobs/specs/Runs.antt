@@ -1,15 +1,19 @@
 -- What the run of a document does.
-use Rattle.std.specs.Prelude.{◌≡◌, ◌≢◌, ◌⊎◌, ℕ, Bool, true, false, not, List, [], ◌∷◌, map, filter, slice_get, bytes_eq, Option, Some, None, Result, Ok, Err, codes}
+use Rattle.std.specs.Prelude.{◌≡◌, ◌≢◌, ◌⊎◌, ◌||◌, ℕ, Bool, true, false, not, List, [], ◌∷◌, map, filter, slice_get, bytes_eq, is_none, is_some, Option, Some, None, Result, Ok, Err, codes, if◌then◌else◌}
 use Rattle.std.specs.List.{list_any}
+use Rattle.std.specs.Option.{option_or}
 use Rattle.std.specs.Io.KnownBytes.{Keeps}
 use Rattle.toml.specs.Data.{Data, Members, as_table, get_member}
 use Rattle.rand_core.specs.Stream.{Stream}
 use Rattle.script_values.specs.declared.faults.ScriptFault.{ScriptFault}
 use Rattle.script_values.specs.declared.faults.ScriptFault.TheVariants as faults
+use Rattle.script_values.specs.Keys.{optional, some_of}
 use Rattle.script_values.specs.Reading.{and_then}
+use Rattle.script_values.specs.Values.{name_in}
+use Rattle.script_tables.specs.Tables.{types_in}
 use Rattle.bench_script.specs.Documents.{script_beside, tree_of_bytes}
 use Rattle.bench_script.specs.Scripts.{ScriptValue}
-use Rattle.uvm_factory.specs.Faults.{Types}
+use Rattle.uvm_factory.specs.Faults.{Types, type_named}
 use Rattle.bench_run.specs.Endings.{is_clean}
 use Rattle.bench_run.specs.Running.{IsRun}
 use Rattle.bench_run.specs.declared.endings.Ending.{Ending}
@@ -17,11 +21,13 @@ use Rattle.bench_run.specs.declared.faults.RunFault.{RunFault}
 use Rattle.bus_jobs.specs.Runs.{tested, with_test}
 use Rattle.bus_jobs.specs.Verdicts.{breakage_of}
 use Rattle.bus_jobs.specs.declared.verdicts.Breakage.TheVariants as broke
-use Rattle.scripted_objects.specs.Answers.{TypeValue}
+use Rattle.bus_objects.specs.Objects.{object_named as bus_object}
+use Rattle.scripted_objects.specs.Answers.{TypeValue, rules_named}
 use Rattle.scripted_objects.specs.Tables.{AreTypesOf}
 use Rattle.script_jobs.specs.Objects.{name_of, object_named, says_of, view_of}
 use Rattle.script_jobs.specs.declared.objects.BenchObject.{BenchObject}
-use Rattle.script_jobs.specs.declared.verdicts.Refusal.TheVariants.{Script, NoTable, UnknownType, Answers}
+use Rattle.script_jobs.specs.declared.verdicts.Refusal.{Refusal}
+use Rattle.script_jobs.specs.declared.verdicts.Refusal.TheVariants.{Script, UnknownTest, NoTable, UnknownType, NoObject, Answers}
 use Rattle.script_jobs.specs.declared.verdicts.Verdict.{Verdict}
 use Rattle.script_jobs.specs.declared.verdicts.Verdict.TheVariants.{Clean, Faulty, Refused, Broken}
 
@@ -29,12 +35,30 @@ use Rattle.script_jobs.specs.declared.verdicts.Verdict.TheVariants.{Clean, Fault
 abbrev pub script_to_run : Members → Option (List ℕ) → Result ScriptValue ScriptFault
 script_to_run root test = and_then (and_then (script_beside (codes "answers" ∷ []) root) (with_test test)) tested
 
--- what stands at the key of the answers are the rules of these types
+-- the name that a document gives its test, if it gives one
+abbrev pub own_test : Members → Result (Option (List ℕ)) ScriptFault
+own_test root = optional (codes "test") None (some_of name_in) root
+
+-- a name that no type has
+abbrev pub undeclared : Types → Option (List ℕ) → Option (List ℕ)
+undeclared types None = None
+undeclared types (Some name) = if is_none (type_named types name) then Some name else None
+
+-- the test that no type declares: the document's own, otherwise the one that is asked for
+abbrev pub lost_test : Members → Option (List ℕ) → Result (Option (List ℕ)) ScriptFault
+lost_test root asked = and_then (types_in root) (λ types. and_then (own_test root) (λ own. Ok (option_or (undeclared types own) (undeclared types asked))))
+
+-- how a fault of the script is reported: by the name of the test, if no type declares that
+abbrev pub refusal_by : ScriptFault → Result (Option (List ℕ)) ScriptFault → Refusal
+refusal_by faults.UnknownType (Ok (Some name)) = UnknownTest name
+refusal_by fault lost = Script fault
+
+-- the value at the key of the answers gives the rules of these types
 abbrev pub HoldsAnswers : Option Data → List TypeValue → Type 0
 HoldsAnswers None types = types ≡ []
 HoldsAnswers (Some answers) types = (table : Members) × (as_table answers ≡ Some table) × AreTypesOf table types
 
--- why the answers of a document are refused
+-- the value at the key of the answers is not a table
 abbrev pub IsNoTable : Option Data → Type 0
 IsNoTable None = ⊥
 IsNoTable (Some answers) = as_table answers ≡ None
@@ -44,22 +68,39 @@ abbrev pub HasTable : Option Data → Type 0
 HasTable None = ⊥
 HasTable (Some answers) = (table : Members) × (as_table answers ≡ Some table)
 
--- the types that have answers, and that the script does not have
+-- whether the script declares a type
 abbrev pub has_type : Types → List ℕ → Bool
 has_type types name = list_any (λ row. bytes_eq row.0 name) types
 
+-- the types that have answers, and that the script does not declare
 abbrev pub unknown_types : List TypeValue → Types → List (List ℕ)
 unknown_types answers types = filter (λ name. not (has_type types name)) (map (λ rules. rules.type_name) answers)
 
+-- the first of them has this name
 abbrev pub HasUnknown : Option Data → Types → List ℕ → Type 0
 HasUnknown said types name = (answers : List TypeValue) × HoldsAnswers said answers × (slice_get (unknown_types answers types) 0 ≡ Some name)
 
+-- whether a type has answers, or the bus bench has an object of it
+abbrev pub has_object : List TypeValue → List ℕ → Bool
+has_object answers name = is_some (rules_named answers name) || is_some (bus_object name)
+
+-- the types that the script declares, and that have no object
+abbrev pub bare_types : List TypeValue → Types → List (List ℕ)
+bare_types answers types = filter (λ name. not (has_object answers name)) (map (λ row. row.0) types)
+
+-- the first of them has this name, and each type that has answers is declared
+abbrev pub HasBare : Option Data → Types → List ℕ → Type 0
+HasBare said types name = (answers : List TypeValue) × HoldsAnswers said answers × (unknown_types answers types ≡ []) × (slice_get (bare_types answers types) 0 ≡ Some name)
+
+-- why the answers of a document are refused
 abbrev pub IsAnswersFault : Option Data → Types → Verdict → Type 0
 IsAnswersFault answers types Clean = ⊥
 IsAnswersFault answers types Faulty = ⊥
 IsAnswersFault answers types (Refused (Script fault)) = ⊥
+IsAnswersFault answers types (Refused (UnknownTest name)) = ⊥
 IsAnswersFault answers types (Refused NoTable) = IsNoTable answers
 IsAnswersFault answers types (Refused (UnknownType type_name)) = HasUnknown answers types type_name
+IsAnswersFault answers types (Refused (NoObject type_name)) = HasBare answers types type_name
 IsAnswersFault answers types (Refused (Answers text)) = HasTable answers
 IsAnswersFault answers types (Broken broke.Memory) = Unit {0}
 IsAnswersFault answers types (Broken broke.LogFull) = ⊥
@@ -74,11 +115,12 @@ GivesNamed types type_name given = given ≡ Some (object_named types type_name)
 abbrev pub IsScriptRun : List TypeValue → Stream → ScriptValue → Bool → Option (List ℕ) → Option (List ℕ) → Result Ending RunFault → Type 0
 IsScriptRun types words script trace old new result = (left : Stream) × IsRun view_of name_of says_of (GivesNamed types) words left script trace old new result
 
--- the script of a tree, with the rules of types that it has
+-- the script of a tree, with the rules of types that it declares, and an object for each type
 pub record HasBench (root : Members) (test : Option (List ℕ)) (script : ScriptValue) (types : List TypeValue) : Type 0 where
   pub asked : script_to_run root test ≡ Ok script
   pub answers : HoldsAnswers (get_member (codes "answers") root) types
   pub known : unknown_types types script.types ≡ []
+  pub objects : bare_types types script.types ≡ []
 
 -- a run of the script of a tree, which ended so
 pub record RanTo (root : Members) (test : Option (List ℕ)) (words : Stream) (trace : Bool) (old new : Option (List ℕ)) (result : Result Ending RunFault) : Type 0 where
@@ -94,11 +136,24 @@ pub record IsRefused (root : Members) (test : Option (List ℕ)) (old new : Opti
   pub fault : IsAnswersFault (get_member (codes "answers") root) script.types verdict
   pub keeps : Keeps old new
 
+-- the verdict on a fault of the script, unless memory ran out
+abbrev pub IsReported : ScriptFault → Result (Option (List ℕ)) ScriptFault → Verdict → Type 0
+IsReported fault lost verdict = (verdict ≡ Broken broke.Memory) ⊎ ((fault ≢ faults.Memory) × (verdict ≡ Refused (refusal_by fault lost)))
+
+-- the script of a tree has a fault, which is reported so
+pub record HasFault (root : Members) (test : Option (List ℕ)) (old new : Option (List ℕ)) (refusal : Refusal) : Type 0 where
+  pub fault : ScriptFault
+  pub found : script_to_run root test ≡ Err fault
+  pub judged : fault ≢ faults.Memory
+  pub reported : refusal ≡ refusal_by fault (lost_test root test)
+  pub keeps : Keeps old new
+
 -- what the verdict says of the tree and of the bytes that the writer holds before and after
 abbrev pub IsTreeRun : Members → Option (List ℕ) → Stream → Bool → Option (List ℕ) → Option (List ℕ) → Verdict → Type 0
 IsTreeRun root test words trace old new Clean = (ending : Ending) × (is_clean ending ≡ true) × RanTo root test words trace old new (Ok ending)
 IsTreeRun root test words trace old new Faulty = (ending : Ending) × (is_clean ending ≡ false) × RanTo root test words trace old new (Ok ending)
-IsTreeRun root test words trace old new (Refused (Script fault)) = (script_to_run root test ≡ Err fault) × (fault ≢ faults.Memory) × Keeps old new
+IsTreeRun root test words trace old new (Refused (Script fault)) = HasFault root test old new (Script fault)
+IsTreeRun root test words trace old new (Refused (UnknownTest name)) = HasFault root test old new (UnknownTest name)
 IsTreeRun root test words trace old new (Refused refusal) = IsRefused root test old new (Refused refusal)
 IsTreeRun root test words trace old new (Broken breakage) =
     ((breakage ≡ broke.Memory) × Keeps old new) ⊎ ((fault : RunFault) × (Some breakage ≡ breakage_of fault) × RanTo root test words trace old new (Err fault))

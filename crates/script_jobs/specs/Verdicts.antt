@@ -1,9 +1,10 @@
--- How a run of a document ends, and what is told of it.
+-- How a run of a document ends, and what is reported of it.
 use Rattle.std.specs.Prelude.{ℕ, List, [], ◌∷◌, ◌++◌, codes, string_bytes}
 use Rattle.script_values.specs.FaultTexts.{fault_text}
+use Rattle.script_values.specs.declared.faults.ScriptFault.TheVariants.{UnknownType as unknown_type}
 use Rattle.bus_jobs.specs.Verdicts.{message_of}
 use Rattle.script_jobs.specs.declared.verdicts.Refusal.{Refusal}
-use Rattle.script_jobs.specs.declared.verdicts.Refusal.TheVariants.{Script, NoTable, UnknownType, Answers}
+use Rattle.script_jobs.specs.declared.verdicts.Refusal.TheVariants.{Script, UnknownTest, NoTable, UnknownType, NoObject, Answers}
 use Rattle.script_jobs.specs.declared.verdicts.Verdict.{Verdict}
 use Rattle.script_jobs.specs.declared.verdicts.Verdict.TheVariants.{Clean, Faulty, Refused, Broken}
 
@@ -14,11 +15,13 @@ status_of Faulty = 1
 status_of (Refused refusal) = 2
 status_of (Broken breakage) = 3
 
--- what is told of a document that is refused
+-- what is reported of a document that is refused
 abbrev pub refusal_text : Refusal → List ℕ
 refusal_text (Script fault) = fault_text fault
-refusal_text NoTable = codes "answers: no table"
-refusal_text (UnknownType type_name) = codes "answers." ++ type_name ++ codes ": no type of the script"
+refusal_text (UnknownTest name) = codes "test " ++ (name ++ (codes " is not declared in 'type' (" ++ (fault_text unknown_type ++ codes ")")))
+refusal_text NoTable = codes "answers: not a table"
+refusal_text (UnknownType type_name) = codes "answers." ++ (type_name ++ codes ": not declared in 'type'")
+refusal_text (NoObject type_name) = codes "type " ++ (type_name ++ (codes " has no [answers." ++ (type_name ++ codes "] and is not built in")))
 refusal_text (Answers text) = string_bytes text
 
 -- a line on standard error about a file, with its newline (10)

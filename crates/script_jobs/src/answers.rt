@@ -1,69 +1,78 @@
 //! The answers of a document.
 
-ghost use Rattle.std.specs.Prelude.{◌≡◌, [], IfErr, IfOk, OnOk, Some, codes, option_map, slice_get};
+ghost use Rattle.std.specs.Prelude.{◌≡◌, [], IfErr, IfOk, OnOk, Option, Some, codes, option_map, slice_get};
 ghost use Rattle.toml.specs.Data.{Data, get_member};
 ghost use Rattle.toml.specs.View.{table_view, view};
-ghost use Rattle.script_jobs.specs.Runs.{HasTable, HoldsAnswers, IsAnswersFault, has_type, unknown_types};
+ghost use Rattle.script_jobs.specs.Runs.{HasTable, HoldsAnswers, IsAnswersFault, bare_types, has_object, has_type, unknown_types};
 ghost use Rattle.uvm_factory.specs.Faults.{Types};
 
 use crate::verdicts::{Refusal, Verdict};
 use bench_script::Script;
 use bus_jobs::Breakage;
+use bus_objects::BusObject;
 use scripted_objects::{AnswerFault, Answers, FaultyAnswer, read_answers};
 use std::alloc::Global;
 use toml::{Table, Value};
 use uvm_glob::Name;
 
-/// The key of a document at which the answers stand.
+/// The key of a document whose value is the answers.
 pub(crate) const ANSWERS: &str = "answers";
 
-// The answers that stand in a document, of types that its script has; or the verdict where they are refused.
+// Returns the answers in a document, if its script declares each of their types, and each type that it declares has an object. Errors: the
+// verdict, if they are refused.
 pub(crate) fn answers_in(alloc: Global, root: &Table, script: &Script) -> Result<Answers, Verdict>
     ensures ok { IfOk result (λ answers. HoldsAnswers (get_member (codes "answers") (table_view root.now)) answers) }
     ensures known { IfOk result (λ answers. unknown_types answers script.now.types ≡ []) }
+    ensures objects { IfOk result (λ answers. bare_types answers script.now.types ≡ []) }
     ensures err { IfErr result (IsAnswersFault (get_member (codes "answers") (table_view root.now)) script.now.types) }
 {
     match member(root) {
         Some(value) => answers_at(alloc, value, script),
-        None => Ok(Answers::new(alloc)),
+        None => judged(Answers::new(alloc), script),
     }
 }
 
-// What stands at the key of the answers.
+// Returns the value at the key of the answers.
 fn member(root: &Table) -> Option<&Value>
     ensures { option_map (λ value. view value.now) result ≡ get_member (codes "answers") (table_view root.now) }
 {
     root.get(ANSWERS)
 }
 
-// The answers that a value says.
+// Returns the answers that a value gives. Errors: the verdict, if they are refused.
 fn answers_at(alloc: Global, value: &Value, script: &Script) -> Result<Answers, Verdict>
     ensures ok { IfOk result (λ answers. HoldsAnswers (Some (view value.now)) answers) }
     ensures known { IfOk result (λ answers. unknown_types answers script.now.types ≡ []) }
+    ensures objects { IfOk result (λ answers. bare_types answers script.now.types ≡ []) }
     ensures err { IfErr result (IsAnswersFault (Some (view value.now)) script.now.types) }
 {
     let Some(table) = value.as_table() else {
         return Err(Verdict::Refused(Refusal::NoTable));
     };
     match read_answers(alloc, table) {
-        Ok(answers) => known(answers, script),
+        Ok(answers) => judged(answers, script),
         Err(fault) => Err(refused(alloc, &fault)),
     }
 }
 
-// The answers, where the script has each of their types.
-fn known(answers: Answers, script: &Script) -> Result<Answers, Verdict>
+// Returns the answers, if the script declares each of their types, and each type that it declares has an object. Errors: the verdict on
+// the first type that is not so, if there is one.
+fn judged(answers: Answers, script: &Script) -> Result<Answers, Verdict>
     ensures ok { IfOk result (λ same. same ≡ answers) }
     ensures known { OnOk result (unknown_types answers script.now.types ≡ []) }
-    ensures err { IfErr result (λ verdict. (said : Data) → HoldsAnswers (Some said) answers → IsAnswersFault (Some said) script.now.types verdict) }
+    ensures objects { OnOk result (bare_types answers script.now.types ≡ []) }
+    ensures err { IfErr result (λ verdict. (said : Option Data) → HoldsAnswers said answers → IsAnswersFault said script.now.types verdict) }
 {
-    match unknown_type(&answers, script) {
-        Some(name) => Err(Verdict::Refused(Refusal::UnknownType(name))),
+    if let Some(name) = unknown_type(&answers, script) {
+        return Err(Verdict::Refused(Refusal::UnknownType(name)));
+    }
+    match bare_type(&answers, script) {
+        Some(name) => Err(Verdict::Refused(Refusal::NoObject(name))),
         None => Ok(answers),
     }
 }
 
-// The first type with answers that the script does not have.
+// Returns the first type with answers that the script does not declare.
 fn unknown_type(answers: &Answers, script: &Script) -> Option<Name>
     ensures { result ≡ slice_get (unknown_types answers.now script.now.types) 0 }
 {
@@ -81,7 +90,25 @@ fn has_type(script: &Script, type_name: &Name) -> bool
     script.types().iter().any(|row| row.0 == *type_name)
 }
 
-// The verdict on a document with an answer at fault.
+// Returns the first type that the script declares, and that has no object.
+fn bare_type(answers: &Answers, script: &Script) -> Option<Name>
+    ensures { result ≡ slice_get (bare_types answers.now script.now.types) 0 }
+{
+    for row in script.types() {
+        if !has_object(answers, &row.0) {
+            return Some(row.0);
+        }
+    }
+    None
+}
+
+fn has_object(answers: &Answers, type_name: &Name) -> bool
+    ensures { result ≡ has_object answers.now type_name.now }
+{
+    answers.of_type(type_name).is_some() || BusObject::of_type(type_name).is_some()
+}
+
+// Returns the verdict on a document with an answer at fault.
 fn refused(alloc: Global, fault: &FaultyAnswer<'_>) -> Verdict
     ensures { (said : Data) (types : Types) → HasTable (Some said) → IsAnswersFault (Some said) types result }
 {

@@ -1,5 +1,4 @@
-//! What holds of all runs of documents, in words of the definitions. The functions do nothing that shows; their contracts are the laws
-//! (`specs/Laws.antt`).
+//! Laws of all runs of documents (`specs/Laws.antt`). These functions have no run-time effect: call one where a proof needs its `ensures`.
 
 ghost use Rattle.script_jobs.specs.Laws.{RunsAreDetermined};
 
@@ -8,8 +7,8 @@ use bench_run::laws as runs;
 use bus_objects::laws as bus;
 use scripted_objects::laws as answers;
 
-/// The bytes of a document, the seed, the test and whether a trace is asked for determine the verdict on a run and all that it writes, unless
-/// an answer was refused, memory was refused, or a write failed.
+/// States a law: the bytes of a document, the seed, the test and the trace option determine the verdict and all that is written. The law
+/// excepts a run if an entry of `answers` is at fault, if memory runs out, or if a write fails.
 pub fn runs_are_determined()
     ensures { RunsAreDetermined }
 {

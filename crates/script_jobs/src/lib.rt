@@ -1,4 +1,4 @@
-//! The job of `script_bench`: the run of a document that holds a script, and the answers of its objects.
+//! The job of `script_bench`: the run of a document, which holds a script and the answers of its objects.
 #![tactic(auto)]
 
 mod answers;

@@ -9,18 +9,19 @@ use std::alloc::{AllocError, Global};
 use uvm_glob::Name;
 use uvm_object::{Acts, Call, UvmObject};
 
-/// An object of a run: one whose answers are data, or one of the bus bench.
+/// An object of a run: one whose answers are data, or one of the bus bench. Its view and its relation are those of the object that it
+/// holds.
 #[derive(Drop)]
 pub enum BenchObject<'a> {
-    /// Its answers are data.
+    /// An object whose answers are data.
     Scripted(Scripted<'a>),
-    /// It is one of the bus bench.
+    /// An object of the bus bench.
     Bus(BusObject),
 }
 
 impl<'a> BenchObject<'a> {
-    /// Makes the object of a type: where it has answers one that gives these, else that of the bus bench, if it has the type, and else one
-    /// that answers each call with no acts.
+    /// Returns the new object of a type. If the type has answers, the object gives these. Otherwise it is the object of the bus bench, if
+    /// that has the type. Otherwise it answers every call with no actions. Errors: out of memory.
     pub fn of_type(
         alloc: Global,
         answers: &'a Answers,

@@ -2,11 +2,12 @@
 
 ghost use Rattle.std.specs.Prelude.{◌≡◌, ◌≢◌, IfErr, IfOk, IsSome, MatchResult, Ok, Err, if◌then◌else◌, option_copied};
 ghost use Rattle.toml.specs.View.{table_view};
+ghost use Rattle.script_values.specs.Reading.{IsReading};
 ghost use Rattle.bench_run.specs.Endings.{is_clean};
 ghost use Rattle.bench_run.specs.Texts.{TookSome, TookTexts};
 ghost use Rattle.bench_script.specs.Documents.{IsReadable, tree_of_bytes};
 ghost use Rattle.bus_jobs.specs.Runs.{words_of_seed};
-ghost use Rattle.script_jobs.specs.Runs.{GivesNamed, IsBenchRun, IsScriptRun, IsTreeRun, refused_by, script_to_run};
+ghost use Rattle.script_jobs.specs.Runs.{GivesNamed, IsBenchRun, IsReported, IsScriptRun, IsTreeRun, lost_test, own_test, refused_by, script_to_run, undeclared};
 
 use crate::answers::{ANSWERS, answers_in};
 use crate::objects::BenchObject;
@@ -16,20 +17,23 @@ use bench_script::{Script, ScriptFault, read_document, read_table};
 use bus_jobs::Breakage;
 use rand_core::{Rng, SeedableRng};
 use rand_pcg::Pcg64;
+use script_tables::{TypeTable, read_types};
+use script_values::keys::member;
+use script_values::values::name;
 use scripted_objects::Answers;
 use std::alloc::{AllocError, Global};
 use toml::Table;
 use uvm_glob::Name;
 
-/// Runs the script in a document, with `test` in place of its own test where it is given, on the words of `Pcg64` from the seed, over
-/// objects that give the answers in the document. Types without answers are made by the bus bench where it has them, and else
-/// answer each call with no acts. As each entry of the log is made, its line is written where `trace` asks for it, and the
-/// line of its report where that is displayed; once the run is over the summary of the reports is written.
+/// Runs the script in a document, on the random numbers of `Pcg64` from the seed. If `test` is given, it replaces the script's own test.
+/// The objects give the answers in the document; an object of a type without answers is that of the bus bench. After each entry of the
+/// log, the entry's line is written if `trace` is on, and the line of its report if that is displayed. After the last entry, the summary
+/// is written.
 ///
-/// The verdict is `Clean` where the run finished and neither an ERROR nor a FATAL was counted, `Faulty` where it ended otherwise,
-/// and `Refused`, with nothing written, where the bytes, their answers aside, are no script or have no such test, and then where
-/// the answers are at fault. It is `Broken` where the log is full, memory was refused, which it is not for bytes that are no text or too
-/// many, or the sink refused a text.
+/// Returns `Clean` if the run finished and no ERROR or FATAL was counted, and `Faulty` if it ended otherwise. Returns `Refused`, with
+/// nothing written, if the bytes, their answers aside, are not a script, or have no such test. Otherwise it does so if the answers are at
+/// fault, or a declared type has no object. Returns `Broken` if the log is full, if memory runs out, or if the sink refuses a text. Bytes
+/// that are not UTF-8, or are too many, never run out of memory.
 pub fn run_bench<S: Sink>(
     alloc: Global,
     bytes: &[u8],
@@ -49,7 +53,7 @@ pub fn run_bench<S: Sink>(
     }
 }
 
-// The verdict on a document that is no script.
+// Returns the verdict on a document that is not a script.
 fn refused(fault: ScriptFault) -> Verdict
     ensures { result ≡ refused_by fault }
 {
@@ -74,7 +78,7 @@ fn run_tree<S: Sink>(
 {
     let script = match script_to_run(alloc, root, test) {
         Ok(script) => script,
-        Err(fault) => return refused(fault),
+        Err(fault) => return reported(alloc, root, test, fault),
     };
     let answers = match answers_in(alloc, root, &script) {
         Ok(answers) => answers,
@@ -87,7 +91,62 @@ fn run_tree<S: Sink>(
     }
 }
 
-// The verdict on a run that is over.
+// Returns the verdict on a script with a fault. It names the test if the script declares no type of that name.
+fn reported(alloc: Global, root: &Table, test: Option<&Name>, fault: ScriptFault) -> Verdict
+    ensures { IsReported fault (lost_test (table_view root.now) (option_copied test.entry)) result }
+{
+    match fault {
+        ScriptFault::UnknownType => unknown_type(alloc, root, test),
+        fault => refused(fault),
+    }
+}
+
+// Returns the verdict on a script in which a type is unknown.
+fn unknown_type(alloc: Global, root: &Table, test: Option<&Name>) -> Verdict
+    ensures { IsReported ScriptFault.UnknownType (lost_test (table_view root.now) (option_copied test.entry)) result }
+{
+    match lost_test(alloc, root, test) {
+        Ok(Some(name)) => Verdict::Refused(Refusal::UnknownTest(name)),
+        Ok(None) => Verdict::Refused(Refusal::Script(ScriptFault::UnknownType)),
+        Err(ScriptFault::Memory) => Verdict::Broken(Breakage::Memory),
+        Err(_) => Verdict::Refused(Refusal::Script(ScriptFault::UnknownType)),
+    }
+}
+
+// Returns the name of a test that the script does not declare as a type: the document's own, otherwise the requested one. Errors: the
+// fault of the types or of the document's test.
+fn lost_test(alloc: Global, root: &Table, test: Option<&Name>) -> Result<Option<Name>, ScriptFault>
+    ensures { IsReading (lost_test (table_view root.now) (option_copied test.entry)) result }
+{
+    let types = read_types(alloc, root)?;
+    let own = own_test(root)?;
+    match undeclared(&types, own.as_ref()) {
+        Some(name) => Ok(Some(name)),
+        None => Ok(undeclared(&types, test)),
+    }
+}
+
+// Returns the name that a document gives its test, if it gives one.
+fn own_test(root: &Table) -> Result<Option<Name>, ScriptFault>
+    ensures { result ≡ own_test (table_view root.now) }
+{
+    match member(root, "test") {
+        Some(value) => Ok(Some(name(value)?)),
+        None => Ok(None),
+    }
+}
+
+// Returns a name, if no type has it.
+fn undeclared(types: &TypeTable, name: Option<&Name>) -> Option<Name>
+    ensures { result ≡ undeclared types.now (option_copied name.entry) }
+{
+    match name {
+        Some(name) if types.find(name).is_none() => Some(*name),
+        _ => None,
+    }
+}
+
+// Returns the verdict on a run that has ended.
 fn verdict_on(ending: &Ending) -> Verdict
     ensures { result ≡ (if is_clean ending.now then Verdict.Clean else Verdict.Faulty) }
 {
@@ -98,7 +157,8 @@ fn verdict_on(ending: &Ending) -> Verdict
     }
 }
 
-// The script to run.
+// Returns the script to run, with `test` in place of its own test if it is given. Errors: the first fault; `Missing` if there is no test;
+// `Memory`.
 fn script_to_run(alloc: Global, root: &Table, test: Option<&Name>) -> Result<Script, ScriptFault>
     ensures ok { IfOk result (λ script. script_to_run (table_view root.now) (option_copied test.entry) ≡ Ok script) }
     ensures tested { IfOk result (λ script. IsSome script.test) }

@@ -1,4 +1,4 @@
-//! How a run of a document ends.
+//! How the run of a document ends.
 
 ghost use Rattle.std.specs.Prelude.{◌≡◌, OnOk};
 ghost use Rattle.std.specs.Io.KnownBytes.{Appends, Keeps};
@@ -15,26 +15,30 @@ use uvm_glob::Name;
 /// How the run of a document ended.
 #[derive(Drop)]
 pub enum Verdict {
-    /// The run finished, and neither an ERROR nor a FATAL was counted.
+    /// The run finished, and no ERROR or FATAL was counted.
     Clean,
-    /// The run ended otherwise.
+    /// An ERROR or a FATAL was counted, or the run did not finish.
     Faulty,
     /// The document is refused.
     Refused(Refusal),
-    /// The run could not be done, or broke off.
+    /// The run could not begin, or stopped before its end.
     Broken(Breakage),
 }
 
 /// Why a document is refused.
 #[derive(Drop)]
 pub enum Refusal {
-    /// Its answers aside it is no script, or it has no such test.
+    /// The document, its answers aside, is not a script, or has no test.
     Script(ScriptFault),
-    /// What stands at `answers` is no table.
+    /// The script declares no type with this name, which is that of the test.
+    UnknownTest(Name),
+    /// The value of `answers` is not a table.
     NoTable,
-    /// It has answers of a type that the script does not have.
+    /// A type of this name has answers, and is not declared.
     UnknownType(Name),
-    /// An answer is at fault: the text says where and why.
+    /// A type of this name is declared, and has neither answers nor an object that is built in.
+    NoObject(Name),
+    /// An entry of `answers` is at fault: the text says where and why.
     Answers(String),
 }
 
@@ -55,15 +59,22 @@ impl fmt::Display for Refusal {
     fn fmt<W: fmt::Write>(&self, f: &mut fmt::Formatter<W>) -> fmt::Result {
         match self {
             Refusal::Script(fault) => f.write_str(fault.label()),
-            Refusal::NoTable => f.write_str("answers: no table"),
-            Refusal::UnknownType(name) => write!(f, "answers.{name}: no type of the script"),
+            Refusal::UnknownTest(name) => {
+                let fault = ScriptFault::UnknownType.label();
+                write!(f, "test {name} is not declared in 'type' ({fault})")
+            }
+            Refusal::NoTable => f.write_str("answers: not a table"),
+            Refusal::UnknownType(name) => write!(f, "answers.{name}: not declared in 'type'"),
+            Refusal::NoObject(name) => {
+                write!(f, "type {name} has no [answers.{name}] and is not built in")
+            }
             Refusal::Answers(text) => write!(f, "{text}"),
         }
     }
 }
 
 impl Verdict {
-    /// The exit status: 0 where it is `Clean`, 1 where it is `Faulty`, 2 where it is `Refused` and 3 where it is `Broken`.
+    /// Returns the exit status: 0 if `Clean`, 1 if `Faulty`, 2 if `Refused`, 3 if `Broken`.
     pub fn status(&self) -> u8
         ensures { result ≡ status_of self.now }
     {
@@ -75,8 +86,8 @@ impl Verdict {
         }
     }
 
-    /// Writes the line that says what the fault of a file is, or nothing where there is none. The error is the writer's, which may then have
-    /// taken a part of the line.
+    /// Writes the line that says what is wrong with a file; writes nothing if nothing is. Errors: the writer's, which may then have taken a
+    /// part of the line.
     pub fn write_line<W: io::Write>(&self, file: &str, err: &mut W) -> io::Result<()>
         ensures clean { self.now ≡ Verdict.Clean → Keeps (W.contents err.old) (W.contents err.new) }
         ensures faulty { self.now ≡ Verdict.Faulty → Keeps (W.contents err.old) (W.contents err.new) }

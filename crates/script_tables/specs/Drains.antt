@@ -27,9 +27,11 @@ CanDrain drain = (is_task drain.phase ≡ true) × (drain.ticks ≤ most_drain)
 abbrev pub task_named : List ℕ → Option Phase
 task_named word = find (λ phase. is_same_text word (phase_name phase)) (Run ∷ runtime_phases)
 
+-- the phase that a value names, of those that take time
 abbrev pub task_in : Data → Result Phase ScriptFault
 task_in value = and_then (text_in value) (λ word. ok_or (task_named word) OutOfRange)
 
+-- the drain time that an element of the array `drain` gives
 abbrev pub drain_row : Data → Result Drain ScriptFault
 drain_row element =
     and_then (table_in (codes "path" ∷ codes "phase" ∷ codes "ticks" ∷ []) element) (λ table.
@@ -38,6 +40,7 @@ drain_row element =
     and_then (required (codes "ticks") (number_in most_drain) table) (λ ticks.
     Ok (record { path = path; phase = phase; ticks = ticks })))))
 
+-- the drain times that a script gives in the array `drain`
 abbrev pub drains_in : Members → Result (List Drain) ScriptFault
 drains_in root = and_then (elements_at (codes "drain") root) (rows_from (λ _. drain_row) [])
 

@@ -23,6 +23,7 @@ use Rattle.script_values.specs.Elements.{rows_from, elements_at, table_in}
 abbrev pub severity_named : List ℕ → Option Severity
 severity_named word = find (λ severity. is_same_text word (severity_name severity)) (Info ∷ Warning ∷ Error ∷ Fatal ∷ [])
 
+-- the severity that a value names
 abbrev pub severity_in : Data → Result Severity ScriptFault
 severity_in value = and_then (text_in value) (λ word. ok_or (severity_named word) OutOfRange)
 
@@ -52,6 +53,7 @@ texts_in value = and_then (items_in value) (rows_from (λ _. text_in) [])
 abbrev pub is_one_of : List (List ℕ) → List ℕ → Bool
 is_one_of words word = list_any (is_same_text word) words
 
+-- the names of the actions of a report
 abbrev pub action_words : List (List ℕ)
 action_words = codes "display" ∷ codes "count" ∷ codes "exit" ∷ []
 
@@ -66,9 +68,11 @@ actions_named words =
     })
     else Err OutOfRange
 
+-- the set of the actions that an array names
 abbrev pub action_set_in : Data → Result Actions ScriptFault
 action_set_in value = and_then (texts_in value) actions_named
 
+-- the verbosity setting that an element of the array `verbosity` gives
 abbrev pub verbosity_row : Data → Result VerbositySetting ScriptFault
 verbosity_row element =
     and_then (table_in (codes "scope" ∷ codes "id" ∷ codes "severity" ∷ codes "level" ∷ []) element) (λ table.
@@ -77,6 +81,7 @@ verbosity_row element =
     and_then (required (codes "level") (number_in most_level) table) (λ level.
     Ok (record { scope = scope; which = which; level = level })))))
 
+-- the action setting that an element of the array `action` gives
 abbrev pub action_row : Data → Result ActionSetting ScriptFault
 action_row element =
     and_then (table_in (codes "scope" ∷ codes "id" ∷ codes "severity" ∷ codes "actions" ∷ []) element) (λ table.
@@ -85,6 +90,7 @@ action_row element =
     and_then (required (codes "actions") action_set_in table) (λ actions.
     Ok (record { scope = scope; which = which; actions = actions })))))
 
+-- the severity change that an element of the array `severity` gives
 abbrev pub severity_row : Data → Result SeverityChange ScriptFault
 severity_row element =
     and_then (table_in (codes "scope" ∷ codes "from" ∷ codes "id" ∷ codes "to" ∷ []) element) (λ table.
@@ -94,12 +100,14 @@ severity_row element =
     and_then (required (codes "to") severity_in table) (λ to.
     Ok (record { scope = scope; from = from; id = id; to = to }))))))
 
--- the arrays themselves
+-- the verbosity settings that a script gives in the array `verbosity`
 abbrev pub verbosities_in : Members → Result (List VerbositySetting) ScriptFault
 verbosities_in root = and_then (elements_at (codes "verbosity") root) (rows_from (λ _. verbosity_row) [])
 
+-- the action settings that a script gives in the array `action`
 abbrev pub actions_in : Members → Result (List ActionSetting) ScriptFault
 actions_in root = and_then (elements_at (codes "action") root) (rows_from (λ _. action_row) [])
 
+-- the severity changes that a script gives in the array `severity`
 abbrev pub severities_in : Members → Result (List SeverityChange) ScriptFault
 severities_in root = and_then (elements_at (codes "severity") root) (rows_from (λ _. severity_row) [])

@@ -23,6 +23,7 @@ new_name_in types value = and_then (name_in value) (λ name. if is_some (type_na
 abbrev pub type_id_in : Types → Data → Result ℕ ScriptFault
 type_id_in types value = and_then (name_in value) (λ name. ok_or (type_named types name) UnknownType)
 
+-- the name and the kind of the type that an element of the array `type` gives
 abbrev pub type_row : Types → Data → Result (List ℕ × Kind) ScriptFault
 type_row types element =
     and_then (table_in (codes "name" ∷ codes "kind" ∷ []) element) (λ table.
@@ -39,6 +40,7 @@ abbrev pub override_of : ℕ → ℕ → Option (List ℕ) → Bool → Override
 override_of original new None replace = Whole original new replace
 override_of original new (Some scope) replace = Instance original new scope
 
+-- the override that an element of the array `override` gives
 abbrev pub override_row : Types → Data → Result Override ScriptFault
 override_row types element =
     and_then (table_in (codes "orig" ∷ codes "new" ∷ codes "at" ∷ codes "replace" ∷ []) element) (λ table.
@@ -49,6 +51,7 @@ override_row types element =
     and_then (optional (codes "replace") true flag_in table) (λ replace.
     Ok (override_of original new scope replace)))))))
 
+-- the setting of a field that an element of the array `set` gives
 abbrev pub setting_row : Data → Result Setting ScriptFault
 setting_row element =
     and_then (table_in (codes "scope" ∷ codes "field" ∷ codes "value" ∷ []) element) (λ table.
@@ -57,6 +60,7 @@ setting_row element =
     and_then (required (codes "value") integer_in table) (λ value.
     Ok (record { scope = scope; field = field; value = value })))))
 
+-- the question to the factory that an element of the array `probe` gives
 abbrev pub probe_row : Types → Data → Result Probe ScriptFault
 probe_row types element =
     and_then (table_in (codes "type" ∷ codes "path" ∷ []) element) (λ table.
@@ -64,15 +68,18 @@ probe_row types element =
     and_then (required (codes "path") path_in table) (λ path.
     Ok (record { type_id = type_id; path = path }))))
 
--- the arrays themselves
+-- the types that a script gives in the array `type`
 abbrev pub types_in : Members → Result Types ScriptFault
 types_in root = and_then (few_elements_at most_types (codes "type") root) (rows_from type_row [])
 
+-- the overrides that a script gives in the array `override`
 abbrev pub overrides_in : Types → Members → Result (List Override) ScriptFault
 overrides_in types root = and_then (elements_at (codes "override") root) (rows_from (λ _. override_row types) [])
 
+-- the settings of fields that a script gives in the array `set`
 abbrev pub settings_in : Members → Result (List Setting) ScriptFault
 settings_in root = and_then (few_elements_at most_settings (codes "set") root) (rows_from (λ _. setting_row) [])
 
+-- the questions to the factory that a script gives in the array `probe`
 abbrev pub probes_in : Types → Members → Result (List Probe) ScriptFault
 probes_in types root = and_then (elements_at (codes "probe") root) (rows_from (λ _. probe_row types) [])

@@ -16,10 +16,12 @@ rows_from read rows (item element rest) = and_then (read rows element) (λ row. 
 abbrev pub elements_at : List ℕ → Members → Result Items ScriptFault
 elements_at key root = optional key no_items items_in root
 
+-- how many elements an array has
 abbrev pub count_of : Items → ℕ
 count_of no_items = 0
 count_of (item element rest) = suc (count_of rest)
 
+-- the elements of an array, if there are at most so many; otherwise `OutOfRange`
 abbrev pub up_to : ℕ → Items → Result Items ScriptFault
 up_to most elements = if nat_le (count_of elements) most then Ok elements else Err OutOfRange
 

@@ -7,6 +7,7 @@ use Rattle.script_values.specs.declared.faults.ScriptFault.TheVariants.{UnknownK
 use Rattle.script_values.specs.Reading.{and_then}
 use Rattle.script_values.specs.Values.{is_same_text}
 
+-- the keys of a table, in their order
 abbrev pub keys_of : Members → List (List ℕ)
 keys_of no_members = []
 keys_of (member key value rest) = key ∷ keys_of rest
@@ -25,6 +26,7 @@ abbrev pub value_or : {A : Type 0} → A → (Data → Result A ScriptFault) →
 value_or absent read None = Ok absent
 value_or absent read (Some value) = read value
 
+-- what the value at a key stands for; the given default if the key is absent
 abbrev pub optional : {A : Type 0} → List ℕ → A → (Data → Result A ScriptFault) → Members → Result A ScriptFault
 optional key absent read table = value_or absent read (get_member key table)
 

@@ -19,11 +19,12 @@ reply_data reply = string (reply_line reply)
 abbrev pub answer_data : List Reply → Data
 answer_data replies = array (items_of (map reply_data replies))
 
--- what stands at the key of a rule: the array of its answers, or its only answer
+-- the actions of the first answer as an array, which is empty if there is no answer
 abbrev pub only_data : List (List Reply) → Data
 only_data [] = array no_items
 only_data (replies ∷ others) = answer_data replies
 
+-- the value at the key of a rule: the array of its answers, or its only answer
 abbrev pub data_of : RuleValue → Data
 data_of rule = if rule.once then array (items_of (map answer_data rule.answers)) else only_data rule.answers
 

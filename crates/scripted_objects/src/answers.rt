@@ -12,7 +12,7 @@ use uvm_glob::Name;
 #[derive(Drop)]
 pub struct TypeRules {
     type_name: Name,
-    // Those that fix more of a line before those that fix less.
+    // The rules that fix more bytes of a line come first.
     rules: Vec<Rule>,
 }
 
@@ -25,7 +25,7 @@ impl Model for TypeRules {
 }
 
 impl TypeRules {
-    // The rules of a type.
+    // Returns the rules of a type.
     pub(crate) fn of(type_name: Name, rules: Vec<Rule>) -> TypeRules
         ensures name { result.type_name ≡ type_name }
         ensures rules { result.rules ≡ rules.items }
@@ -33,7 +33,7 @@ impl TypeRules {
         TypeRules { type_name, rules }
     }
 
-    /// Lends the name of the type.
+    /// Returns the name of the type.
     pub fn type_name(&self) -> &Name
         ensures { result.now ≡ self.now.type_name }
     {
@@ -57,7 +57,7 @@ impl Model for Answers {
 }
 
 impl Answers {
-    /// Makes answers of no type.
+    /// Returns the answers of no type. Allocates no memory.
     pub fn new(alloc: Global) -> Answers
         ensures { result ≡ [] }
     {
@@ -66,21 +66,21 @@ impl Answers {
         }
     }
 
-    // The answers of some types.
+    // Returns the answers of these types.
     pub(crate) fn of(types: Vec<TypeRules>) -> Answers
         ensures { result ≡ types.items }
     {
         Answers { types }
     }
 
-    /// Lends the types that have answers, each with its rules.
+    /// Returns the types that have answers, each with its rules.
     pub fn types(&self) -> &[TypeRules]
         ensures { result.now ≡ self.now }
     {
         self.types.as_slice()
     }
 
-    /// Lends the rules of a type, if it has any.
+    /// Returns the rules of a type, which are none if its table of answers is empty, or `None` if it has no such table.
     pub fn of_type(&self, type_name: &Name) -> Option<&[Rule]>
         ensures { option_copied result ≡ rules_named self.now type_name.now }
     {

@@ -4,38 +4,40 @@ use answer_lines::LineFault;
 use std::error::Error;
 use std::fmt;
 
-/// What is wrong with the answers of a document.
+/// What is wrong with an answer of a document.
 #[derive(Clone, Copy, Debug, PartialEq, Eq)]
 pub enum AnswerFault {
-    /// What stands at a type is no table, or what stands at a call no array of texts, nor one of arrays of texts.
-    WrongKind,
-    /// The key of a type is no name.
+    /// The key of a type is not a name.
     BadName,
-    /// A key is no call, as the transcript writes it, nor the first words of one with a `*` behind them.
+    /// The value of a type is not a table.
+    NotTable,
+    /// The value of a call is neither an array of texts nor an array of arrays of texts.
+    NoList,
+    /// A key is neither a call as the transcript writes it, nor the first words of one followed by `*`.
     NoCall,
-    /// A text is no act, or not as the transcript writes it.
+    /// A text is not an action, or is spelled otherwise than the transcript spells it.
     NoAct,
-    /// A `*` stands where such a call never has an item.
+    /// An action has a `*` in place of its item, but a call with this key never carries an item.
     NoItem,
-    /// Memory was refused.
+    /// Memory ran out.
     Memory,
 }
 
-/// What is wrong with answers, and where: at a type, at one of its calls, or at one act of an answer to that.
+/// What is wrong with the answers of a document, and the place: a type, one of its calls, or an action that answers the call.
 #[derive(Clone, Copy, Drop)]
 pub struct FaultyAnswer<'a> {
     /// What is wrong.
     pub fault: AnswerFault,
     /// The key of the type.
     pub type_name: &'a str,
-    /// The key of the call, if it is at fault or an answer to it.
+    /// The key of the call, if the call or an answer to it is at fault.
     pub call: Option<&'a str>,
-    /// The text of the act, if that is at fault.
+    /// The text of the action, if the action is at fault.
     pub act: Option<&'a str>,
 }
 
 impl AnswerFault {
-    // At a type.
+    // Returns this fault, at a type.
     pub(crate) fn at_type(self, type_name: &str) -> FaultyAnswer<'_> {
         FaultyAnswer {
             fault: self,
@@ -45,7 +47,7 @@ impl AnswerFault {
         }
     }
 
-    // At a call of a type, or at an act that answers it.
+    // Returns this fault, at a call of a type, or at an action that answers the call.
     pub(crate) fn at_call<'a>(
         self,
         type_name: &'a str,
@@ -69,11 +71,12 @@ impl fmt::Display for AnswerFault {
 
     fn fmt<W: fmt::Write>(&self, f: &mut fmt::Formatter<W>) -> fmt::Result {
         f.write_str(match self {
-            AnswerFault::WrongKind => "no list of acts",
-            AnswerFault::BadName => "no name",
-            AnswerFault::NoCall => "no call",
-            AnswerFault::NoAct => "no act",
-            AnswerFault::NoItem => "no item to pass on",
+            AnswerFault::BadName => "not a name",
+            AnswerFault::NotTable => "not a table",
+            AnswerFault::NoList => "expected an array of action strings",
+            AnswerFault::NoCall => "not a call",
+            AnswerFault::NoAct => "not an action",
+            AnswerFault::NoItem => "'*' needs a call that carries an item",
             AnswerFault::Memory => "memory",
         })
     }
@@ -81,7 +84,8 @@ impl fmt::Display for AnswerFault {
 
 impl Error for AnswerFault {}
 
-/// The place, what is wrong there, and the text of the act, if there is one: `answers.driver."wake 1": no act: creat c b`.
+/// Writes the place, what is wrong there, and the text of the action if one is at fault. Example:
+/// `answers.driver."wake 1": not an action: creat c b`.
 impl fmt::Display for FaultyAnswer<'_> {
     ghost use Rattle.std.specs.Prelude.{Some};
     ghost use Rattle.scripted_objects.specs.Faults.{faulty_text};

@@ -1,5 +1,5 @@
-//! Objects whose answers are data: what an object of a type answers to each call stands in a TOML document, in the words of the
-//! transcript of a run.
+//! Objects whose answers are data: a TOML document says what an object of each type answers to each call.
+//! Calls and actions are spelled as in the transcript of a run.
 //!
 //! ```toml
 //! [answers.t]

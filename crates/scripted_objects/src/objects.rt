@@ -14,13 +14,14 @@ use uvm_lines::call_text;
 use uvm_object::{Acts, Call, UvmObject};
 use uvm_tlm::Item;
 
-/// An object whose answers are data. It answers a call by the first of its rules that has an answer to it, and with no acts where
-/// none has. It shows how many answers each of its rules has given.
+/// An object whose answers are data. It gives the answer of the first of its rules that has one for the call, or no actions if none has.
+///
+/// View: how many answers each of its rules has given, initially 0 and at most 2^64 - 1.
 #[derive(Drop)]
 pub struct Scripted<'a> {
     type_name: Name,
     rules: &'a [Rule],
-    // How often each rule has answered, where that counts.
+    // How often each rule has answered.
     used: Vec<usize>,
 }
 
@@ -33,7 +34,7 @@ impl<'a> Model for Scripted<'a> {
 }
 
 impl<'a> Scripted<'a> {
-    /// Makes a new object of a type, with the rules of the type. It has answered nothing.
+    /// Returns a new object of a type, with the rules of the type. It has not answered yet. Errors: out of memory.
     pub fn new(
         alloc: Global,
         type_name: &Name,
@@ -48,7 +49,8 @@ impl<'a> Scripted<'a> {
         })
     }
 
-    // The first rule that has an answer to a call, and that answer.
+    // Returns the place of the first rule that has an answer to a call, and that answer. `line` is the line of the call; `has_item` says
+    // whether the call has an item.
     fn answer(&self, line: &[u8], has_item: bool) -> Option<(usize, &'a [Reply])>
         ensures found { option_map (λ found. (found.0, found.1.now)) result ≡ slice_get (answers_to self.now.rules self.now.used line.now has_item) 0 }
         ensures place { IfSome result (λ found. found.0 < length self.now.used) }
@@ -90,7 +92,7 @@ impl UvmObject for Scripted<'_> {
     }
 }
 
-// The acts of an answer, with the item that was heard.
+// Returns the actions of an answer, with the item of the call in place of each `*`. Errors: out of memory.
 fn acts_of(alloc: Global, answer: &[Reply], item: Option<Item>) -> Result<Acts, AllocError>
     ensures { IfOk result (λ acts. acts ≡ map (act_with item) answer.now) }
 {

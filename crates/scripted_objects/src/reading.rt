@@ -1,4 +1,4 @@
-//! Reads answers.
+//! Reads the answers of a document.
 
 ghost use Rattle.std.specs.Prelude.{◌≡◌, ◌<◌, true, false, All, IfOk, length, map};
 ghost use Rattle.toml.specs.Data.{array};
@@ -16,8 +16,8 @@ use std::cmp::Reverse;
 use toml::{Table, Value};
 use uvm_glob::Name;
 
-/// Reads the answers of all types: a table for each type, with a key for each form of calls. The fault is the first, types and keys
-/// in byte order.
+/// Returns the answers of all types, read from a table that has a table for each type, with a key for each form of call. Errors: the
+/// first fault, with types and keys in byte order; out of memory.
 pub fn read_answers<'a>(alloc: Global, table: &'a Table) -> Result<Answers, FaultyAnswer<'a>>
     ensures { IfOk result (λ answers. AreTypesOf (table_view table.now) answers) }
 {
@@ -43,7 +43,7 @@ fn read_type<'a>(
         return Err(AnswerFault::BadName.at_type(type_name));
     };
     let Some(table) = value.as_table() else {
-        return Err(AnswerFault::WrongKind.at_type(type_name));
+        return Err(AnswerFault::NotTable.at_type(type_name));
     };
     let mut rules = read_rules(alloc, type_name, table)?;
     let Ok(()) = rules.sort_by_key(
@@ -56,7 +56,7 @@ fn read_type<'a>(
     Ok(TypeRules::of(name, rules))
 }
 
-// The rules of one type, in the order of their keys.
+// Returns the rules of one type, in the order of their keys. Errors: the first fault; out of memory.
 fn read_rules<'a>(
     alloc: Global,
     type_name: &'a str,
@@ -79,7 +79,7 @@ fn read_rules<'a>(
     Ok(rules)
 }
 
-// The rule of one key, or what is wrong with it, and with which of its acts.
+// Returns the rule of one key. Errors: what is wrong with it, and with which of its actions; out of memory.
 fn read_rule<'a>(
     alloc: Global,
     call: &'a str,
@@ -90,12 +90,12 @@ fn read_rule<'a>(
     ensures read { IfOk result IsRead }
 {
     let Some(values) = value.as_array() else {
-        return Err((AnswerFault::WrongKind, None));
+        return Err((AnswerFault::NoList, None));
     };
     let values = values.as_slice();
     let once = is_list_of_lists(values);
     if !are_answers(values, once) {
-        return Err((AnswerFault::WrongKind, None));
+        return Err((AnswerFault::NoList, None));
     }
     let (key, has_item) = match Key::read(alloc, call) {
         Ok(read) => read,
@@ -109,7 +109,7 @@ fn read_rule<'a>(
     Ok(Rule { key, once, answers })
 }
 
-// Whether a value is an array of texts.
+// Returns whether a value is an array of texts.
 fn are_texts(value: &Value) -> bool {
     match value.as_array() {
         Some(values) => values.iter().all(|value| value.is_str()),
@@ -117,7 +117,7 @@ fn are_texts(value: &Value) -> bool {
     }
 }
 
-// Whether each of some values is a text, or, where each answer is given once, an array of texts.
+// Returns whether each value is a text, or, if each answer is given once, an array of texts.
 fn are_answers(values: &[Value], once: bool) -> bool {
     values.iter().all(|value| if once {
         are_texts(value)
@@ -126,7 +126,7 @@ fn are_answers(values: &[Value], once: bool) -> bool {
     })
 }
 
-// Whether the first of some values is an array.
+// Returns whether the first value is an array.
 fn is_list_of_lists(values: &[Value]) -> bool
     ensures { result ≡ true → 0 < length values.now }
 {
@@ -136,7 +136,7 @@ fn is_list_of_lists(values: &[Value]) -> bool
     }
 }
 
-// The answers that are given once.
+// Returns the answers of a key of which each is given once. Errors: the first fault; out of memory.
 fn read_each<'a>(
     alloc: Global,
     values: &'a [Value],
@@ -149,7 +149,7 @@ fn read_each<'a>(
     let mut answers = Vec::new(alloc);
     for value in values {
         let Some(lines) = value.as_array() else {
-            return Err((AnswerFault::WrongKind, None));
+            return Err((AnswerFault::NoList, None));
         };
         let answer = read_answer(alloc, lines.as_slice(), has_item)?;
         let Ok(()) = answers.push(answer) else {
@@ -159,7 +159,7 @@ fn read_each<'a>(
     Ok(answers)
 }
 
-// The answer that is given always.
+// Returns the answer of a key that is given always, as the only element. Errors: the first fault; out of memory.
 fn read_only<'a>(
     alloc: Global,
     values: &'a [Value],
@@ -177,7 +177,7 @@ fn read_only<'a>(
     Ok(answers)
 }
 
-// The acts of one answer.
+// Returns the actions of one answer. Errors: the first fault; out of memory.
 fn read_answer<'a>(
     alloc: Global,
     lines: &'a [Value],
@@ -199,7 +199,7 @@ fn read_answer<'a>(
     Ok(replies)
 }
 
-// One act of an answer, and its line.
+// Returns one action of an answer, and its line. Errors: what is wrong with it; out of memory.
 fn read_reply<'a>(
     alloc: Global,
     value: &'a Value,
@@ -208,7 +208,7 @@ fn read_reply<'a>(
     ensures alone { IfOk result (λ read. IsAlone read.0) }
 {
     let Some(line) = value.as_str() else {
-        return Err((AnswerFault::WrongKind, None));
+        return Err((AnswerFault::NoList, None));
     };
     match Reply::read(alloc, line) {
         Ok(reply) => Ok((reply, line)),

@@ -9,9 +9,9 @@ use std::marker::Model;
 /// What a type answers to the calls of one key.
 #[derive(Drop)]
 pub struct Rule {
-    // The key, which says which calls it answers.
+    // The key, which says for which calls the rule is.
     pub(crate) key: Key,
-    // Whether each answer is given once, in order; else there is one, which is given always.
+    // Whether each answer is given once, in order; otherwise there is one answer, which is given always.
     pub(crate) once: bool,
     // The answers.
     pub(crate) answers: Vec<Vec<Reply>>,
@@ -27,7 +27,8 @@ impl Model for Rule {
 }
 
 impl Rule {
-    // The answer to the call with this line, where so many were given before, if it has one that can be given.
+    // Returns the answer to the call with this line, if the rule has one that can be given. `used` answers were given before; `has_item`
+    // says whether the call has an item.
     pub(crate) fn answer(&self, line: &[u8], used: usize, has_item: bool) -> Option<&[Reply]>
         ensures { option_copied result ≡ answer_of self.now line.now used has_item }
     {
@@ -44,7 +45,7 @@ impl Rule {
     }
 }
 
-// Whether an answer passes on an item that was heard.
+// Returns whether an answer passes on the item of the call.
 pub(crate) fn needs_item(answer: &[Reply]) -> bool
     ensures { result ≡ needs_item answer.now }
 {

@@ -15,6 +15,7 @@ abbrev pub IsJudged : Option ℕ → ℕ → List Act → Type 0
 IsJudged (Some wanted) byte acts = (byte ≡ wanted → acts ≡ []) × (byte ≢ wanted → IsError acts)
 IsJudged None byte acts = IsError acts
 
+-- the actions that may answer a call, when `seen` bytes were seen and `sent` lists the bytes that were sent
 abbrev pub IsAnswer : ℕ → List ℕ → Call → List Act → Type 0
 IsAnswer seen sent (Phase Build) acts = acts ≡ Add (codes "sent") Imp ∷ Add (codes "seen") Imp ∷ []
 IsAnswer seen sent (Phase Check) acts = (seen ≡ length sent → acts ≡ []) × (seen ≢ length sent → IsError acts)
@@ -26,10 +27,13 @@ abbrev pub judged : Option ℕ → ℕ → List ℕ → View
 judged (Some wanted) seen sent = (seen + 1) ∷ sent
 judged None seen sent = seen ∷ sent
 
+-- the view after a call: how many bytes were seen, then the bytes that were sent
 abbrev pub view_after : ℕ → List ℕ → Call → View
 view_after seen sent (Written imp item) = if bytes_eq imp (codes "sent") then seen ∷ (sent ++ byte_of item ∷ []) else judged (slice_get sent seen) seen sent
 view_after seen sent call = seen ∷ sent
 
+-- the relation that the scoreboard declares: `IsAnswer` for its actions and `view_after` for its view; an empty view
+-- allows all
 abbrev pub ScoreboardSays : View → Call → List Act → View → Type 0
 ScoreboardSays (seen ∷ sent) call acts after = IsAnswer seen sent call acts × (after ≡ view_after seen sent call)
 ScoreboardSays [] call acts after = ⊤

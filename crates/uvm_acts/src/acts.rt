@@ -1,4 +1,4 @@
-//! Calls to an object, and the acts that it answers.
+//! Calls to an object, and the actions of its answers.
 
 ghost use Rattle.std.specs.Prelude.{◌≡◌, true, false, IfOk};
 ghost use Rattle.uvm_acts.specs.Acts.{node_of, is_sequencing};
@@ -13,7 +13,7 @@ use uvm_sequences::SeqId;
 use uvm_tlm::{Item, PortKind};
 use uvm_tree::NodeId;
 
-/// Who is called, and performs what it answers.
+/// The receiver of a call, which performs the actions of its answer.
 #[derive(Clone, Copy, PartialEq, Eq, Hash)]
 pub enum Who {
     /// The component at a node.
@@ -28,7 +28,7 @@ pub enum Who {
 }
 
 impl Who {
-    /// The node at which it stands: a sequence acts as its home does.
+    /// Returns the node of a component; for a sequence that of its sequencer.
     pub fn node(&self) -> NodeId
         ensures { result ≡ node_of self.now }
     {
@@ -38,7 +38,7 @@ impl Who {
         }
     }
 
-    /// The same value.
+    /// Returns the same value.
     pub fn copy(&self) -> Who
         ensures { result ≡ self.now }
     {
@@ -49,86 +49,87 @@ impl Who {
 /// A call to an object.
 #[derive(Clone, Copy, PartialEq, Eq)]
 pub enum Call {
-    /// Its turn in a phase (IEEE 1800.2-2020, Clause 9).
+    /// The call of a component in a phase, once in each phase (IEEE 1800.2-2020, Clause 9).
     Phase(Phase),
-    /// The value that a field has, if it has one: after `Act::Get` (Annex C).
+    /// The value of a configuration field, or none if it has none (Annex C); follows `Act::Get`.
     Config {
-        /// The field that was asked for.
+        /// The field that was looked up.
         field: Name,
-        /// Its value at the performer's path, if one was set.
+        /// Its value at the performer's path; none if no setting applies.
         value: Option<i64>,
     },
-    /// A wait has run out: after `Act::Wait`.
+    /// The ticks of a wait have passed; follows `Act::Wait`.
     Wake {
-        /// What the wait was told by.
+        /// The tag that was given to `Act::Wait`.
         tag: u32,
     },
-    /// An item that was put is in the FIFO: after `Act::Put` (Clause 12).
+    /// An item that was put is now in the FIFO (Clause 12, put); follows `Act::Put`.
     Stored {
-        /// The port that it was put through.
+        /// The port through which it was put.
         port: Name,
     },
-    /// Whether an item could be put at once: after `Act::TryPut` (Clause 12).
+    /// Whether an item could be put immediately (Clause 12, try_put); follows `Act::TryPut`.
     TryStored {
-        /// The port that was asked.
+        /// The port that was given to `Act::TryPut`.
         port: Name,
-        /// Whether it is in the FIFO.
+        /// Whether the item is in the FIFO.
         stored: bool,
     },
-    /// An item was taken from the FIFO: after `Act::Take` (Clause 12).
+    /// An item was taken from the FIFO (Clause 12, get); follows `Act::Take`.
     Taken {
-        /// The port that it was taken through.
+        /// The port through which it was taken.
         port: Name,
         /// The item.
         item: Item,
     },
-    /// What could be taken at once: after `Act::TryTake` (Clause 12).
+    /// The item that could be taken immediately, or none (Clause 12, try_get); follows `Act::TryTake`.
     TryTaken {
-        /// The port that was asked.
+        /// The port that was given to `Act::TryTake`.
         port: Name,
-        /// The item; none where none could be taken.
+        /// The item; none if none could be taken.
         item: Option<Item>,
     },
-    /// An item is there, and stays in the FIFO: after `Act::Peek` (Clause 12).
+    /// The first item of the FIFO, which stays there (Clause 12, peek); follows `Act::Peek`.
     Peeked {
-        /// The port that was asked.
+        /// The port that was given to `Act::Peek`.
         port: Name,
         /// The item.
         item: Item,
     },
-    /// An item was written to an imp of the component: after `Act::Write` (Clause 12).
+    /// An item was written to an imp of the component (Clause 12, write); follows each `Act::Write` that reaches the imp.
     Written {
         /// The imp.
         imp: Name,
         /// The item.
         item: Item,
     },
-    /// What the driver asked for: after `Act::Send` of the sequence that was granted, or at once after `Act::Ask` by a `Try` that
-    /// finds no candidate (Clause 15).
+    /// The item for which the driver asked, once a sequence sends it, or none for a `Try` that finds none (Clause 15);
+    /// follows `Act::Ask`.
     NextItem {
-        /// The port that was asked.
+        /// The port that was given to `Act::Ask`.
         port: Name,
-        /// The item; none where there was no candidate, or the one that was granted ended before it sent.
+        /// The item; none if a `Try` found no candidate, or if the sequence granted to it ended before it sent.
         item: Option<Item>,
     },
-    /// The sequence was started, and stands before its body (Clause 14, pre_start): after `Act::Start`.
+    /// The sequence enters pre_start, its first step (Clause 14); follows `Act::Start`.
     PreStart,
-    /// The sequence is in its body (Clause 14, body).
+    /// The sequence enters body, its second step (Clause 14); follows `Act::EndStep`.
     Body,
-    /// The sequence is behind its body (Clause 14, post_start).
+    /// The sequence enters post_start, its last step (Clause 14); follows `Act::EndStep`.
     PostStart,
-    /// The sequence was granted, and may send its item (Clause 15, wait_for_grant): after `Act::Request`.
+    /// The sequence may send its item (Clause 15, wait_for_grant); follows `Act::Request`.
     Grant,
-    /// The driver is done with the item of the sequence (Clause 15, wait_for_item_done).
+    /// The driver has completed the item of the sequence (Clause 15, wait_for_item_done); follows `Act::Send`.
     ItemDone {
-        /// What the driver responds, if it does.
+        /// The response of the driver, if it gave one.
         response: Option<Item>,
     },
-    /// The sequence holds the sequencer (Clause 15): after `Act::Lock` or `Act::Grab`.
+    /// The sequence now holds the sequencer (Clause 15); follows `Act::Lock` or `Act::Grab`.
     Held,
-    /// A sequence that was started has finished: to who started it, after `Act::Start`.
+    /// A sequence that the object started has ended its last step; follows `Act::Start`. A sequence that ends with its
+    /// phase causes no such call.
     Finished {
-        /// Its name.
+        /// The name of the sequence.
         name: Name,
         /// Its number.
         id: SeqId,
@@ -140,220 +141,239 @@ pub enum Call {
 pub enum What {
     /// A sequencer (Clause 15).
     Sequencer {
-        /// How it chooses.
+        /// Its arbitration mode.
         mode: Mode,
     },
-    /// A FIFO for so many items, 0 for any number (Clause 12).
+    /// A FIFO (Clause 12).
     Fifo {
-        /// How many items it holds at most, 0 for any number.
+        /// How many items it holds at most; 0 for no limit.
         size: u16,
     },
-    /// A port, which asks what it is connected to (Clause 12).
+    /// A port, through which the component puts, takes, writes or asks for items (Clause 12).
     Port {
-        /// What it passes on.
+        /// What the port is for: put, get, analysis or seq.
         kind: PortKind,
     },
-    /// An export, which passes on what is asked of it (Clause 12).
+    /// An export, which passes requests on to what it is connected to (Clause 12).
     Export {
-        /// What it passes on.
+        /// What the export is for: put, get, analysis or seq.
         kind: PortKind,
     },
-    /// An implementation, to which ports write (Clause 12).
+    /// An imp, at which the component receives what analysis ports write (Clause 12).
     Imp,
 }
 
-/// What an object asks for in its answer to a call. Globs and paths are taken under the path of the performer.
+/// An action: what an object does in its answer to a call. The performer is the component or the sequence that answers.
+/// Globs and paths are taken below the performer's path; for a sequence this is the path of its sequencer.
 #[derive(Drop)]
 pub enum Act {
-    /// Create a component of a type as a child, by the factory (Clause 8).
+    /// Creates a component as a child of the performer, by the factory, until build ends (Clause 8). The child then
+    /// receives the call of each phase, build first.
     Create {
-        /// The type that is asked for, which an override may replace.
+        /// The type; an override may replace it.
         type_name: Name,
         /// The child's name.
         name: Name,
     },
-    /// Add a child that is no component.
+    /// Adds a sequencer, a FIFO, a port, an export or an imp as a child of the performer, until build ends.
     Add {
         /// The child's name.
         name: Name,
         /// What the child is.
         what: What,
     },
-    /// Set a field for the paths that a glob matches (Annex C, uvm_config_db).
+    /// Sets a configuration field at the paths that a glob matches (Annex C, uvm_config_db::set).
     Set {
-        /// The paths, as below the performer's.
+        /// The paths, below the performer's.
         glob: Glob,
         /// The field.
         field: Name,
         /// Its value.
         value: i64,
     },
-    /// Ask for the value of a field at the performer's path; it comes as a call (Annex C).
+    /// Looks up a configuration field at the performer's path (Annex C, uvm_config_db::get). `Call::Config` follows
+    /// with the value, or with none.
     Get {
         /// The field.
         field: Name,
     },
-    /// Override a type everywhere (Clause 8); without `replace` an override of that type that is there stays.
+    /// Overrides a type by another of the same kind, at every path (Clause 8). Without `replace`, an earlier override
+    /// of the type stays in force.
     OverrideType {
         /// The type that is replaced.
         original: Name,
-        /// The type that is made for it, of the same kind.
+        /// The type that replaces it.
         new: Name,
-        /// Whether this override replaces one that is there.
+        /// Whether this override replaces an earlier one.
         replace: bool,
     },
-    /// Override a type at the paths that a glob matches (Clause 8).
+    /// Overrides a type by another of the same kind, at the paths that a glob matches (Clause 8). This takes precedence
+    /// over an override at every path.
     OverrideInst {
         /// The type that is replaced.
         original: Name,
-        /// The type that is made for it, of the same kind.
+        /// The type that replaces it.
         new: Name,
-        /// The paths, as below the performer's.
+        /// The paths, below the performer's.
         glob: Glob,
     },
-    /// Connect a port or an export to another end (Clause 12), until the end of connect.
+    /// Connects a port or an export to another end, until connect ends (Clause 12).
     Connect {
-        /// The path of the port or export, as below the performer's.
+        /// The path of the port or export, below the performer's.
         from: Path,
-        /// The path of what it is connected to, as below the performer's.
+        /// The path of the other end, below the performer's.
         to: Path,
     },
-    /// Put an item into the FIFO that a put port of the performer reaches, once there is room (Clause 12, put). A call tells
-    /// when it is there.
+    /// Puts an item into the FIFO that a put port of the performer reaches, once the FIFO has capacity (Clause 12,
+    /// put). `Call::Stored` follows.
     Put {
         /// The port.
         port: Name,
         /// The item.
         item: Item,
     },
-    /// Put an item into that FIFO at once, if there is room and no put waits (Clause 12, try_put). A call tells whether.
+    /// Puts an item into the FIFO that a put port of the performer reaches, if it has capacity and no put waits (Clause
+    /// 12, try_put). `Call::TryStored` follows.
     TryPut {
         /// The port.
         port: Name,
         /// The item.
         item: Item,
     },
-    /// Take an item from the FIFO that a get port of the performer reaches, once one is there (Clause 12, get). It comes as a
-    /// call.
+    /// Takes an item from the FIFO that a get port of the performer reaches, once it has one (Clause 12, get).
+    /// `Call::Taken` follows with the item.
     Take {
         /// The port.
         port: Name,
     },
-    /// Take an item from that FIFO at once, if one is there and nobody waits for one (Clause 12, try_get). A call tells which.
+    /// Takes an item from the FIFO that a get port of the performer reaches, if it has one and no take or peek waits
+    /// (Clause 12, try_get). `Call::TryTaken` follows.
     TryTake {
         /// The port.
         port: Name,
     },
-    /// Look at the first item of that FIFO, which stays, once one is there (Clause 12, peek). It comes as a call.
+    /// Reads the first item of the FIFO that a get port of the performer reaches, once it has one, and leaves it there
+    /// (Clause 12, peek). `Call::Peeked` follows with the item.
     Peek {
         /// The port.
         port: Name,
     },
-    /// Write an item to all that an analysis port of the performer reaches, without waiting (Clause 12, write).
+    /// Writes an item to each FIFO and imp that an analysis port of the performer reaches, without waiting (Clause 12,
+    /// write). `Call::Written` follows at the component of each imp.
     Write {
         /// The port.
         port: Name,
         /// The item.
         item: Item,
     },
-    /// Ask the sequencer that a seq port of the performer reaches for an item (Clause 15, get_next_item, try_next_item, get). It
-    /// comes as a call.
+    /// Asks the sequencer that a seq port of the performer reaches for an item (Clause 15: get_next_item,
+    /// try_next_item, get). `Call::NextItem` follows.
     Ask {
         /// The port.
         port: Name,
-        /// Whether it waits, and whether the item counts as done when it comes.
+        /// Whether the driver waits, and whether the item counts as done when it comes.
         how: How,
     },
-    /// Be done with the item that came through a seq port of the performer (Clause 15, item_done).
+    /// Completes the item that came through a seq port of the performer (Clause 15, item_done). `Call::ItemDone`
+    /// follows at the sequence that sent it, if this is still active.
     ItemDone {
         /// The port.
         port: Name,
-        /// What the sequence is told.
+        /// The response to the sequence, if any.
         response: Option<Item>,
     },
-    /// Start a sequence of a type on a sequencer, by the factory (Clauses 8 and 14). A call tells when it has finished.
+    /// Creates a sequence by the factory and starts it on a sequencer (Clauses 8 and 14). The sequence receives
+    /// `Call::PreStart`. When it has finished, `Call::Finished` follows at the performer.
     Start {
-        /// The type that is asked for, which an override may replace.
+        /// The type; an override may replace it.
         type_name: Name,
         /// The sequence's name.
         name: Name,
-        /// The path of the sequencer, as below the performer's; the empty one where a sequence starts its child.
+        /// The path of the sequencer, below the performer's; empty if a sequence starts its child.
         on: Path,
-        /// Its priority, at least 1; where none is given its parent's, else 100.
+        /// Its priority, at least 1; by default that of the parent sequence, or 100 without a parent.
         priority: Option<u16>,
     },
-    /// Request to send an item, of a sequence (Clause 15, wait_for_grant). A call tells that it was granted.
+    /// Requests to send an item of the sequence (Clause 15, wait_for_grant). `Call::Grant` follows when the sequencer
+    /// grants it.
     Request {
-        /// The priority, at least 1; where none is given the sequence's.
+        /// The priority of this request, at least 1; by default that of the sequence.
         priority: Option<u16>,
     },
-    /// Ask to hold the sequencer, behind all that was asked for before (Clause 15, lock). A call tells that it is held.
+    /// Requests to hold the sequencer, after all requests that wait (Clause 15, lock). `Call::Held` follows when it is
+    /// granted.
     Lock,
-    /// Ask to hold the sequencer, before all that was asked for (Clause 15, grab). A call tells that it is held.
+    /// Requests to hold the sequencer, before all requests that wait (Clause 15, grab). `Call::Held` follows when it is
+    /// granted.
     Grab,
-    /// Give back the last lock or grab of the sequence (Clause 15, unlock and ungrab).
+    /// Releases the latest lock or grab that the sequence holds (Clause 15: unlock, ungrab).
     Unlock,
-    /// Send an item, of a sequence that was granted (Clause 15, send_request). A call tells when the driver is done with it.
+    /// Sends an item of the granted sequence to the driver (Clause 15, send_request). The driver receives
+    /// `Call::NextItem`. When it has completed the item, `Call::ItemDone` follows at the sequence.
     Send {
         /// The item.
         item: Item,
     },
-    /// End the step at which the sequence is (Clause 14): its body comes next, then what is behind it, and then it has finished.
+    /// Ends the current step of the sequence (Clause 14). `Call::Body` or `Call::PostStart` follows; after post_start
+    /// the sequence has finished.
     EndStep,
-    /// Issue a report at the performer's path (Clause 6).
+    /// Issues a report at the performer's path (Clause 6).
     Report {
         /// The report.
         report: Report,
     },
-    /// Set the level for reports at the performer's path: those of a greater verbosity are dropped (Clause 6).
+    /// Sets the verbosity level for reports at the performer's path: INFO reports with a greater verbosity are dropped
+    /// (Clause 6).
     Verbosity {
-        /// The reports that it is for.
+        /// The reports for which it is set.
         which: Which,
         /// The level.
         level: u16,
     },
-    /// Set what is done with reports at the performer's path (Clause 6).
+    /// Sets what is done with reports at the performer's path: display, count, exit (Clause 6).
     Actions {
-        /// The reports that it is for.
+        /// The reports for which it is set.
         which: Which,
         /// What is done with them.
         actions: Actions,
     },
-    /// Change the severity of reports at the performer's path (Clause 6).
+    /// Changes the severity of reports that are issued at the performer's path from then on (Clause 6).
     Severity {
-        /// The severity that they are issued with.
+        /// The severity with which they are issued.
         from: Severity,
         /// Their id; none for all ids.
         id: Option<Name>,
         /// The severity that they have instead.
         to: Severity,
     },
-    /// Raise an objection at the performer's node: the run phase goes on while one stands (Clause 10.5).
+    /// Raises objections at the performer's node: the phase to which the action belongs does not end while one is
+    /// raised (Clause 10.5).
     RaiseObjection {
-        /// By how much.
+        /// How many.
         count: u16,
     },
-    /// Drop what was raised at the performer's node (Clause 10.5).
+    /// Drops objections that were raised at the performer's node in the same phase (Clause 10.5).
     DropObjection {
-        /// By how much.
+        /// How many.
         count: u16,
     },
-    /// Set the drain time of the performer's node: so long a total that falls to zero there is held back (Clause 10.5).
+    /// Sets the drain time of the performer's node: when its objections drop to zero, this propagates to the parent
+    /// only after that time (Clause 10.5).
     SetDrain {
-        /// How many ticks, at most 10^15.
+        /// The drain time in ticks, at most 10^15.
         ticks: u64,
     },
-    /// Be called again after some time.
+    /// Waits without blocking: `Call::Wake` follows after some ticks.
     Wait {
-        /// After how many ticks, at most 10^15.
+        /// The number of ticks, at most 10^15.
         ticks: u64,
-        /// What the call is to tell.
+        /// A number that the call returns.
         tag: u32,
     },
 }
 
 impl Act {
-    /// An equal act. The error is want of memory.
+    /// Returns an equal action. Errors: out of memory.
     pub fn copy(&self) -> Result<Act, AllocError>
         ensures { IfOk result (λ act. act ≡ self.now) }
     {
@@ -398,7 +418,7 @@ impl Act {
         })
     }
 
-    // An equal act, of one that holds no memory.
+    // Returns an equal action, of one that owns no memory.
     fn plain_copy(&self) -> Act
         requires { holds_memory self.now ≡ false }
         ensures { result ≡ self.now }
@@ -433,7 +453,7 @@ impl Act {
         }
     }
 
-    // An equal act, of one that holds no memory and has to do with sequences.
+    // Returns an equal action, of one that owns no memory and concerns sequences.
     fn sequencing_copy(&self) -> Act
         requires plain { holds_memory self.now ≡ false }
         requires sequencing { is_sequencing self.now ≡ true }

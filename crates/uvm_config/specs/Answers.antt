@@ -45,6 +45,7 @@ config_answer settings text asked = option_map (λ setting. setting.value) (stro
 abbrev pub answer_of : Setting → Answer
 answer_of setting = record { precedence = setting.precedence; value = setting.value }
 
+-- the precedence and the value of the setting that wins at a path's text and a field, if any answers there
 unfoldable pub strongest_answer : List Setting → List ℕ → List ℕ → Option Answer
 strongest_answer settings text asked = option_map answer_of (strongest settings text asked)
 

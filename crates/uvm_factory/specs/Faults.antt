@@ -35,6 +35,7 @@ register_fault types type_name =
     else if nat_le most_types (length types) then Some Full
     else None
 
+-- whether both are components, or both are sequences
 abbrev pub is_same_kind : Kind → Kind → Bool
 is_same_kind Component Component = true
 is_same_kind Sequence Sequence = true
@@ -46,10 +47,11 @@ fault_between None new = Some NoType
 fault_between (Some original) None = Some NoType
 fault_between (Some original) (Some new) = if is_same_kind original.1 new.1 then None else Some KindDiffers
 
+-- why the type of one number may not be overridden by the type of another, if it may not
 abbrev pub override_fault : Types → ℕ → ℕ → Option FactoryFault
 override_fault types original new = fault_between (slice_get types original) (slice_get types new)
 
--- what is told of each fault, and of why no type is made
+-- the text of each error
 abbrev pub fault_text : FactoryFault → List ℕ
 fault_text Known = codes "type known"
 fault_text NoType = codes "no such type"
@@ -57,6 +59,7 @@ fault_text KindDiffers = codes "types of two kinds"
 fault_text Full = codes "too many types"
 fault_text Memory = codes "out of memory"
 
+-- the text of each reason why no type is made
 abbrev pub unmade_text : Unmade → List ℕ
 unmade_text unmade.NoType = codes "no such type"
 unmade_text unmade.Loop = codes "override loop"

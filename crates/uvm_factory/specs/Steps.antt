@@ -7,16 +7,17 @@ use Rattle.uvm_factory.specs.declared.overrides.OverrideStep.TheVariants.{ByInst
 use Rattle.uvm_factory.specs.declared.overrides.Override.{Override}
 use Rattle.uvm_factory.specs.declared.overrides.Override.TheVariants.{Instance, Whole}
 
--- the type that is replaced, and the one that replaces it
+-- the type that an override replaces
 abbrev pub original_of : Override → ℕ
 original_of (Instance original new scope) = original
 original_of (Whole original new replace) = original
 
+-- the type that an override puts in its place
 abbrev pub new_of : Override → ℕ
 new_of (Instance original new scope) = new
 new_of (Whole original new replace) = new
 
--- an instance override changes the step where no earlier one gave it
+-- whether an instance override gave the step; a later instance override changes it only if none did
 abbrev pub is_by_instance : Option OverrideStep → Bool
 is_by_instance None = false
 is_by_instance (Some (ByInstance new)) = true
@@ -38,6 +39,7 @@ unfoldable pub after_type : ℕ → ℕ → Bool → ℕ → Option OverrideStep
 after_type original new replace type_id before =
     if original == type_id && takes_effect replace before then Some (ByType new) else before
 
+-- the step of a type at a path's text after one more override
 abbrev pub after_override : Override → ℕ → List ℕ → Option OverrideStep → Option OverrideStep
 after_override (Instance original new scope) type_id text before = after_instance original new scope type_id text before
 after_override (Whole original new replace) type_id text before = after_type original new replace type_id before

@@ -46,15 +46,16 @@ abbrev pub value_text : Option ℤ → List ℕ
 value_text None = codes "none"
 value_text (Some value) = signed_decimal value
 
--- whether
+-- `yes` or `no`
 abbrev pub answer_text : Bool → List ℕ
 answer_text true = codes "yes"
 answer_text false = codes "no"
 
--- an item has four words
+-- one of the four words of an item, in decimal
 abbrev pub word_text : Item → ℕ → List ℕ
 word_text item place = signed_decimal (slice_index_or item.0 place (pos 0))
 
+-- an item: its four words in brackets, with commas between them, as `[1,0,10,0]`
 abbrev pub item_text : Item → List ℕ
 item_text item = 91 ∷ word_text item 0 ++ 44 ∷ word_text item 1 ++ 44 ∷ word_text item 2 ++ 44 ∷ word_text item 3 ++ 93 ∷ []
 
@@ -63,6 +64,7 @@ abbrev pub some_item_text : Option Item → List ℕ
 some_item_text None = codes "none"
 some_item_text (Some item) = item_text item
 
+-- a call, as a `heard` line shows it
 abbrev pub call_text : Call → List ℕ
 call_text (call.Phase phase) = phase_name phase
 call_text (call.Config field value) = codes "config " ++ field ++ 32 ∷ value_text value
@@ -89,7 +91,7 @@ kind_text Get = codes "get"
 kind_text Analysis = codes "analysis"
 kind_text Seq = codes "seq"
 
--- how a sequencer chooses, and how its driver asks
+-- the arbitration mode of a sequencer
 abbrev pub mode_text : Mode → List ℕ
 mode_text mode.Fifo = codes "FIFO"
 mode_text mode.Weighted = codes "WEIGHTED"
@@ -97,11 +99,13 @@ mode_text mode.Random = codes "RANDOM"
 mode_text mode.StrictFifo = codes "STRICT_FIFO"
 mode_text mode.StrictRandom = codes "STRICT_RANDOM"
 
+-- how a driver asks for an item
 abbrev pub how_text : How → List ℕ
 how_text how.Next = codes "next"
 how_text how.Try = codes "try"
 how_text how.Get = codes "get"
 
+-- what a component adds: a sequencer, a FIFO, a port, an export or an imp
 abbrev pub what_text : What → List ℕ
 what_text (what.Sequencer mode) = codes "sequencer " ++ mode_text mode
 what_text (what.Fifo size) = codes "fifo " ++ decimal size
@@ -109,6 +113,7 @@ what_text (what.Port kind) = codes "port " ++ kind_text kind
 what_text (what.Export kind) = codes "export " ++ kind_text kind
 what_text what.Imp = codes "imp"
 
+-- the word ` replace` of a type override that replaces an earlier one, otherwise nothing
 abbrev pub replace_text : Bool → List ℕ
 replace_text true = codes " replace"
 replace_text false = []
@@ -120,11 +125,12 @@ which_text (which.Severity severity) = severity_name severity
 which_text (which.Id id) = codes "id " ++ id
 which_text (which.Both severity id) = severity_name severity ++ 32 ∷ id
 
--- the words of a set of actions, parted by commas
+-- a list of this word if the condition holds, otherwise an empty list
 abbrev pub word_if : Bool → List ℕ → List (List ℕ)
 word_if true word = word ∷ []
 word_if false word = []
 
+-- a set of report actions: its words with commas between them, or `none`
 abbrev pub actions_text : Actions → List ℕ
 actions_text actions =
     if is_empty actions then codes "none"
@@ -140,6 +146,7 @@ abbrev pub priority_text : Option ℕ → List ℕ
 priority_text None = codes "none"
 priority_text (Some priority) = decimal priority
 
+-- an action, as a `did` line shows it before its outcome
 abbrev pub act_text : Act → List ℕ
 act_text (act.Create type_name name) = codes "create " ++ type_name ++ 32 ∷ name
 act_text (act.Add name what) = codes "add " ++ name ++ 32 ∷ what_text what
@@ -172,6 +179,7 @@ act_text (act.DropObjection count) = codes "drop " ++ decimal count
 act_text (act.SetDrain ticks) = codes "set_drain " ++ decimal ticks
 act_text (act.Wait ticks tag) = codes "wait " ++ decimal ticks ++ 32 ∷ decimal tag
 
+-- the outcome of an action, as a `did` line shows it
 abbrev pub outcome_text : Outcome → List ℕ
 outcome_text outcome.Done = codes "done"
 outcome_text (outcome.Made type_name) = codes "made " ++ type_name
@@ -189,6 +197,7 @@ move_text move.Put = codes "put"
 move_text move.Take = codes "take"
 move_text move.Peek = codes "peek"
 
+-- why a run ended, as the `over` line shows it
 abbrev pub reason_text : Reason → List ℕ
 reason_text Finished = codes "finished"
 reason_text Exit = codes "exit"
@@ -201,6 +210,7 @@ abbrev pub drawn_text : Option ℕ → List ℕ
 drawn_text None = []
 drawn_text (Some word) = codes " word " ++ decimal word
 
+-- the line of an entry without its newline, by the nodes of the tree and the sequences that were started
 abbrev pub entry_text : List Node → List Start → Entry → List ℕ
 entry_text nodes started (Begin phase) = codes "begin " ++ phase_name phase
 entry_text nodes started (End phase) = codes "end " ++ phase_name phase

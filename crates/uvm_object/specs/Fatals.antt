@@ -5,6 +5,7 @@ use Rattle.uvm_report.specs.declared.messages.Report.{Report}
 use Rattle.uvm_object.specs.declared.fatals.Fatal.{Fatal}
 use Rattle.uvm_object.specs.declared.fatals.Fatal.TheVariants.{NotOpen, CreatedAfterBuild, TooManyActs, InvalidType, ChildTaken, TreeLimit, OverrideLoop, NoObject, TooManySettings, ConnectedTooLate, UnknownNode, KindsDiffer, TooFewConnections, TooManyConnections, NoPort, NoSequencer, NoDriver, AskedTwice, NothingOut, NotGranted, NotHeld, OutsideTask, ObjectionBelowZero, OutOfRange, Timeout, Stall}
 
+-- the id of each fatal report
 abbrev pub id_of : Fatal → List ℕ
 id_of NotOpen = codes "ILLACT"
 id_of CreatedAfterBuild = codes "ILLCRT"
@@ -33,6 +34,7 @@ id_of OutOfRange = codes "ACTRNG"
 id_of Timeout = codes "PH_TIMEOUT"
 id_of Stall = codes "STALL"
 
+-- the text of each fatal report
 abbrev pub text_of : Fatal → List ℕ
 text_of NotOpen = codes "act not open to this object"
 text_of CreatedAfterBuild = codes "created after build"

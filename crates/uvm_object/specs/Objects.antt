@@ -30,11 +30,12 @@ same_who (Node node) (Node other) = node == other
 same_who (Sequence home id) (Sequence there other) = (id == other) && (home == there)
 same_who who other = false
 
--- what the object of somebody was asked and answered, the newest first
+-- the call to the object of `who` and its answer, if the entry records one, in a list
 abbrev pub exchanged_in : Who → Entry → List Exchange
 exchanged_in who (Heard performer origin call acts) = if same_who performer who then (call, acts) ∷ [] else []
 exchanged_in who entry = []
 
+-- all calls to the object of `who` and its answers in a log, the newest first
 abbrev pub life_of : Who → List Entry → List Exchange
 life_of who history = flat_map (exchanged_in who) history
 

@@ -5,6 +5,7 @@ use Rattle.uvm_object.specs.declared.entries.Outcome.TheVariants as outcome
 use Rattle.uvm_object.specs.declared.entries.CompactOutcome.{CompactOutcome}
 use Rattle.uvm_object.specs.declared.entries.CompactOutcome.TheVariants.{Done, Made, Started, NoValue, Value, Stored, NoItem, Taken, Waits, Finished, Refused}
 
+-- the outcome that an entry stores in compact form
 abbrev pub outcome_of : CompactOutcome → Outcome
 outcome_of Done = outcome.Done
 outcome_of (Made room) = outcome.Made room.value

@@ -7,65 +7,70 @@ use std::alloc::{AllocError, Global};
 use uvm_glob::Name;
 use uvm_report::{Report, Severity, Text};
 
-/// A fatal report of the kernel: why it refuses an act, or gives up.
+/// A fatal report of the kernel: why it rejects an action, or why it ends the run.
 #[derive(Clone, Copy, PartialEq, Eq)]
 pub enum Fatal {
-    /// ILLACT: the act is for another kind of object.
+    /// ILLACT: a component performs an action that only sequences may perform, or the reverse.
     NotOpen,
-    /// ILLCRT: something is created after build.
+    /// ILLCRT: a child is created or added after build has ended.
     CreatedAfterBuild,
-    /// ACTLIM: an answer has more than 64 acts.
+    /// ACTLIM: an answer has more than 64 actions; none of them is performed.
     TooManyActs,
-    /// INVTYP: a type is unknown, or of another kind than is asked for.
+    /// INVTYP: a type is not declared or is of the wrong kind, or an override is between a component type and a
+    /// sequence type.
     InvalidType,
-    /// CLDEXT: the performer has a child of that name.
+    /// CLDEXT: the performer already has a child of that name.
     ChildTaken,
-    /// TREELIM: the tree, or the path of the new node, would pass its limits.
+    /// TREELIM: the tree would have more than 4,096 nodes below the top, or a new path more than 32 names or 1,024
+    /// bytes.
     TreeLimit,
-    /// OVRDLOOP: the overrides of the type lead in a loop.
+    /// OVRDLOOP: the overrides of the type form a loop.
     OverrideLoop,
-    /// FCTTYP: no object was supplied.
+    /// FCTTYP: the bench supplies no object for the type.
     NoObject,
-    /// CFGFULL: as many settings were accepted as there may be.
+    /// CFGFULL: a configuration field is set after 65,536 settings, those of the script included.
     TooManySettings,
-    /// CONNERR: something is connected after connect.
+    /// CONNERR: a connection is made after connect has ended.
     ConnectedTooLate,
-    /// CONNERR: nothing that can be connected stands at a path.
+    /// CONNERR: a path of a connection is not that of a port, an export, an imp, a FIFO or a sequencer.
     UnknownNode,
-    /// CONNERR: the kinds of the two ends differ, or no connection goes from the one to the other.
+    /// CONNERR: the kinds of the two ends differ, or no connection is allowed from the first to the second.
     KindsDiffer,
-    /// CONNERR: a port reaches no target.
+    /// CONNERR: at the end of connect, a put, get or seq port reaches no FIFO or sequencer.
     TooFewConnections,
-    /// CONNERR: a port reaches several targets, or an earlier port drives the sequencer that it reaches.
+    /// CONNERR: at the end of connect, a put, get or seq port reaches several targets, or another port already drives
+    /// the sequencer that it reaches.
     TooManyConnections,
-    /// NOPORT: the performer has no port of that name that is of the act's kind and sound.
+    /// NOPORT: the performer has no correctly connected port of that name and of the kind that the action needs.
     NoPort,
-    /// NOSQR: no sequencer stands where a sequence is started.
+    /// NOSQR: a sequence is started at a path that is not a sequencer's.
     NoSequencer,
-    /// SQRERR: the port does not drive the sequencer.
+    /// SQRERR: the port does not drive the sequencer. (The kernel reports NOPORT instead.)
     NoDriver,
-    /// SQRERR: the driver, or the sequence, asks again before it has its answer.
+    /// SQRERR: the driver asks again while it waits for an item or has one, or the sequence repeats a request that is
+    /// still open.
     AskedTwice,
-    /// SQRERR: the driver has no item in hand.
+    /// SQRERR: the driver completes an item, but has none.
     NothingOut,
-    /// SQRERR: the sequence was not granted, or has sent its item.
+    /// SQRERR: the sequence sends an item without a grant, or has already sent the item of its grant.
     NotGranted,
-    /// SQRERR: the sequence holds no lock.
+    /// SQRERR: the sequence unlocks the sequencer, but holds no lock.
     NotHeld,
-    /// NOTTASK: the act is one of a phase that takes time.
+    /// NOTTASK: the action is only for phases that take time (run and the run-time phases), and belongs to another
+    /// phase.
     OutsideTask,
-    /// OBJTN_ZERO: more is dropped than was raised.
+    /// OBJTN_ZERO: more objections are dropped than are raised at the performer's node in this phase.
     ObjectionBelowZero,
-    /// ACTRNG: a number of the act is out of range.
+    /// ACTRNG: a priority is 0, or a wait or a drain time has more than 10^15 ticks.
     OutOfRange,
-    /// PH_TIMEOUT: what is due next is due beyond the time limit.
+    /// PH_TIMEOUT: an objection keeps a phase from its end, and the next event is due after the time limit.
     Timeout,
-    /// STALL: an objection stands, and nothing is due any more.
+    /// STALL: an objection keeps a phase from its end, and no event is due.
     Stall,
 }
 
 impl Fatal {
-    /// The id of the report, as `ILLCRT`.
+    /// Returns the id of the report, for example `ILLCRT`.
     pub fn id(self) -> &'static str
         ensures { result.now ≡ id_of self }
     {
@@ -99,7 +104,7 @@ impl Fatal {
         }
     }
 
-    /// The text of the report, in a few words.
+    /// Returns the text of the report.
     pub fn text(self) -> &'static str
         ensures { result.now ≡ text_of self }
     {
@@ -133,7 +138,7 @@ impl Fatal {
         }
     }
 
-    /// The report: of severity FATAL. The error is want of memory.
+    /// Returns the report, of severity FATAL. Errors: out of memory.
     #[tactic(auto, unfolding(uvm_glob::specs::Names::name_fault))]
     pub fn report(self, alloc: Global) -> Result<Report, AllocError>
         ensures { IfOk result (λ report. report ≡ fatal_report self) }

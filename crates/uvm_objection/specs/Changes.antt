@@ -7,25 +7,28 @@ use Rattle.uvm_objection.specs.declared.nodes.Change.{Change}
 use Rattle.uvm_objection.specs.declared.nodes.ChangeKind.{ChangeKind}
 use Rattle.uvm_objection.specs.declared.nodes.ChangeKind.TheVariants.{Raise, Drop, Release, SetDrain}
 
--- what a change makes of a source, of what is held, of when its drain is due, and of a drain time
+-- the count raised at a node, after a change of the node
 abbrev pub source_changed : ChangeKind → ℕ → ℕ
 source_changed (Raise count) source = source + count
 source_changed (Drop count) source = source - count
 source_changed Release source = source
 source_changed (SetDrain drain) source = source
 
+-- the count that a node holds back, after a change of the node: a release sets it to 0
 abbrev pub held_changed : ChangeKind → ℕ → ℕ
 held_changed (Raise count) held = held
 held_changed (Drop count) held = held
 held_changed Release held = 0
 held_changed (SetDrain drain) held = held
 
+-- the time at which a node's drain is due, after a change of the node: a release sets it to 0
 abbrev pub due_changed : ChangeKind → ℕ → ℕ
 due_changed (Raise count) due = due
 due_changed (Drop count) due = due
 due_changed Release due = 0
 due_changed (SetDrain drain) due = due
 
+-- the drain time of a node, after a change of the node
 abbrev pub drain_changed : ChangeKind → ℕ → ℕ
 drain_changed (Raise count) drain = drain
 drain_changed (Drop count) drain = drain
@@ -41,13 +44,14 @@ entry_changed c e = record e {
   drain = if c.node == e.node then drain_changed c.kind e.drain else e.drain;
 }
 
--- the nodes with the change at one of them
+-- a node after a change of it
 abbrev pub node_changed : ChangeKind → Node → Node
 node_changed (Raise count) e = record e { source = e.source + count }
 node_changed (Drop count) e = record e { source = e.source - count }
 node_changed Release e = record e { held = 0; due = 0 }
 node_changed (SetDrain drain) e = record e { drain = drain }
 
+-- the nodes after a change of one of them
 abbrev pub nodes_changed : ℕ → ChangeKind → List Node → List Node
 nodes_changed node kind nodes = changed_at node (node_changed kind) nodes
 

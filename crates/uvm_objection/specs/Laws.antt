@@ -47,6 +47,7 @@ pub record GoesByTotals (time : ℕ) (before : ℕ → ℕ) (nodes after : List 
   pub held : held_of node after ≡ held_after (before node) (total after node) (drain_of node nodes) (held_of node nodes)
   pub due : due_of node after ≡ due_after time (before node) (total after node) (drain_of node nodes) (due_of node nodes)
 
+-- the law that settling changes each node as `GoesByTotals` says
 abbrev pub SettledGoByTotals : Type 0
 SettledGoByTotals = (time : ℕ) (before : ℕ → ℕ) (nodes : List Node) (node : ℕ) → GoesByTotals time before nodes (settled time before nodes) node
 
@@ -82,5 +83,6 @@ pub record ChangesGrow (nodes : List Node) : Type 0 where
   pub released : (time node : ℕ) → GrowsBy 0 nodes (settled time (total nodes) (released node nodes))
   pub with_drain : (node drain : ℕ) → GrowsBy 0 nodes (with_drain node drain nodes)
 
+-- the law that the top alone satisfies `AreNodes`, and that each call keeps this as `ChangesGrow` says
 abbrev pub NodesGrow : Type 0
 NodesGrow = AreNodes (top ∷ []) × ((nodes : List Node) → AreNodes nodes → ChangesGrow nodes)

@@ -22,10 +22,11 @@ pub record ObjectionValue : Type 0 where
 abbrev pub capacity_of : ObjectionValue → ℕ
 capacity_of objection = length objection.nodes + objection.spare
 
--- the top, and a node that is added under a parent
+-- the top, at which nothing is raised
 abbrev pub top : Node
 top = record { node = 0; parent = None; source = 0; drain = 0; held = 0; due = 0 }
 
+-- a node that is added under a parent, at which nothing is raised
 abbrev pub new_node : ℕ → ℕ → Node
 new_node node parent = record { node = node; parent = Some parent; source = 0; drain = 0; held = 0; due = 0 }
 
@@ -33,16 +34,19 @@ new_node node parent = record { node = node; parent = Some parent; source = 0; d
 abbrev pub is_known : ℕ → List Node → Bool
 is_known node nodes = list_any (λ e. e.node == node) nodes
 
--- what stands at a node, 0 where there is no such node
+-- the count raised at a node, 0 if there is no such node
 abbrev pub source_of : ℕ → List Node → ℕ
 source_of node nodes = option_map_or (λ e. e.source) (find (λ e. e.node == node) nodes) 0
 
+-- the drain time of a node in ticks, 0 if there is no such node
 abbrev pub drain_of : ℕ → List Node → ℕ
 drain_of node nodes = option_map_or (λ e. e.drain) (find (λ e. e.node == node) nodes) 0
 
+-- the count that a node holds back during its drain time, 0 if there is no such node
 abbrev pub held_of : ℕ → List Node → ℕ
 held_of node nodes = option_map_or (λ e. e.held) (find (λ e. e.node == node) nodes) 0
 
+-- the time at which a node's drain is due, 0 if there is no such node
 abbrev pub due_of : ℕ → List Node → ℕ
 due_of node nodes = option_map_or (λ e. e.due) (find (λ e. e.node == node) nodes) 0
 
@@ -50,15 +54,18 @@ due_of node nodes = option_map_or (λ e. e.due) (find (λ e. e.node == node) nod
 abbrev pub changed_at : ℕ → (Node → Node) → List Node → List Node
 changed_at node change nodes = map (λ e. if node == e.node then change e else e) nodes
 
--- more is raised at a node, or some of it dropped; nothing is held there any more; its drain time is another
+-- the nodes after a count is raised at one of them
 abbrev pub raised : ℕ → ℕ → List Node → List Node
 raised node count nodes = changed_at node (λ e. record e { source = e.source + count }) nodes
 
+-- the nodes after a count is dropped at one of them
 abbrev pub dropped : ℕ → ℕ → List Node → List Node
 dropped node count nodes = changed_at node (λ e. record e { source = e.source - count }) nodes
 
+-- the nodes after one of them no longer holds anything back
 abbrev pub released : ℕ → List Node → List Node
 released node nodes = changed_at node (λ e. record e { held = 0; due = 0 }) nodes
 
+-- the nodes after one of them has another drain time
 abbrev pub with_drain : ℕ → ℕ → List Node → List Node
 with_drain node drain nodes = changed_at node (λ e. record e { drain = drain }) nodes

@@ -21,15 +21,17 @@ standing nodes = total nodes 0 + held_of 0 nodes
 abbrev pub begins : ℕ → ℕ → ℕ → Bool
 begins before after drain = nat_lt 0 before && (after == 0) && nat_lt 0 drain
 
--- what is held at a node whose total was `before` and is `after`: nothing where its total is positive, all that it had where its
--- drain begins, else what was held before; and when its drain is due: 0 where it holds nothing for its total is positive, the
--- drain time later where its drain begins, else when it was due before
+-- what a node holds back after its total changed: nothing if that is positive, the old total if its drain begins,
+-- otherwise the same
 abbrev pub held_after : ℕ → ℕ → ℕ → ℕ → ℕ
 held_after before after drain held = if nat_lt 0 after then 0 else (if begins before after drain then before else held)
 
+-- when a node's drain is due after its total changed: 0 if that is positive, `time + drain` if its drain begins,
+-- otherwise the same
 abbrev pub due_after : ℕ → ℕ → ℕ → ℕ → ℕ → ℕ
 due_after time before after drain due = if nat_lt 0 after then 0 else (if begins before after drain then time + drain else due)
 
+-- a node with what it holds back, and with when its drain is due, after a change of its total at a time
 abbrev pub settled_node : ℕ → ℕ → ℕ → Node → Node
 settled_node time before after e = record e { held = held_after before after e.drain e.held; due = due_after time before after e.drain e.due }
 

@@ -37,9 +37,11 @@ walk_next w e f = record {
   ended = if nat_lt 0 e.held && (f.held == 0) then Some e.node else w.ended;
 }
 
+-- an entry after the walk has passed it: changed if the walk reaches it, otherwise the same
 abbrev pub entry_after : Change → Walk → Entry → Entry
 entry_after c w e = if is_at w e then entry_next c w e else e
 
+-- the walk after it has passed an entry: gone on to its parent if the walk reaches it, otherwise the same
 abbrev pub walk_after : Change → Walk → Entry → Walk
 walk_after c w e = if is_at w e then walk_next w e (entry_next c w e) else w
 
@@ -48,6 +50,7 @@ pub record Walked : Type 0 where
   pub entries : List Entry
   pub walk : Walk
 
+-- the result of the walk of a change through all entries, from the last to the first
 abbrev pub walked : Change → List Entry → Walked
 walked c [] = record { entries = []; walk = start_of c }
 walked c (e ∷ newer) =

@@ -63,6 +63,7 @@ is_runtime phase = nat_lt (phase_number Final) (phase_number phase)
 abbrev pub is_task : Phase → Bool
 is_task phase = same_phase phase Run || is_runtime phase
 
+-- the name of a phase, as transcripts and scripts write it
 abbrev pub phase_name : Phase → List ℕ
 phase_name Build = codes "build"
 phase_name Connect = codes "connect"

@@ -20,23 +20,27 @@ abbrev pub fate_at : Kept → List (List ℕ) → Report → Fate
 fate_at kept path report =
     fate_of report (ruling_at kept path report) (is_reached (limit_of kept) (counts_with report (ruling_at kept path report) (counts_of kept)).quit)
 
--- a command changes one of these, and leaves the others: what is chosen for a severity and an id at a path's text, the quit limit, and the counts
+-- the severity chosen at a path's text for reports of a severity and an id, after one more command
 abbrev pub severity_after : Command → List ℕ → Severity → List ℕ → Option (Choice Severity) → Option (Choice Severity)
 severity_after (SetSeverity scope from id to) text severity asked before = after_setting scope (which_from from id) to text severity asked before
 severity_after command text severity asked before = before
 
+-- the verbosity level chosen at a path's text for reports of a severity and an id, after one more command
 abbrev pub level_after : Command → List ℕ → Severity → List ℕ → Option (Choice ℕ) → Option (Choice ℕ)
 level_after (SetVerbosity scope which level) text severity id before = after_setting scope which level text severity id before
 level_after command text severity id before = before
 
+-- the actions chosen at a path's text for reports of a severity and an id, after one more command
 abbrev pub actions_after : Command → List ℕ → Severity → List ℕ → Option (Choice Actions) → Option (Choice Actions)
 actions_after (SetAction scope which actions) text severity id before = after_setting scope which actions text severity id before
 actions_after command text severity id before = before
 
+-- the quit limit after one more command
 abbrev pub limit_after : Command → ℕ → ℕ
 limit_after (SetQuitLimit limit) before = limit
 limit_after command before = before
 
+-- the counts of issued reports after one more command
 abbrev pub counts_after : Command → Kept → Counts
 counts_after (Issue path report) kept = counts_with report (ruling_at kept path report) (counts_of kept)
 counts_after command kept = counts_of kept

@@ -30,19 +30,22 @@ abbrev pub which_from : Severity → Option (List ℕ) → Which
 which_from from None = which.Severity from
 which_from from (Some id) = which.Both from id
 
--- the settings of levels, of actions and of severities, and the quit limits
+-- the setting of a verbosity level that a command makes, if it makes one
 abbrev pub level_in : Command → Option (Setting ℕ)
 level_in (SetVerbosity scope which level) = Some (record { scope = scope; which = which; value = level })
 level_in command = None
 
+-- the setting of report actions that a command makes, if it makes one
 abbrev pub actions_in : Command → Option (Setting Actions)
 actions_in (SetAction scope which actions) = Some (record { scope = scope; which = which; value = actions })
 actions_in command = None
 
+-- the change of severities that a command makes, if it makes one
 abbrev pub severity_in : Command → Option (Setting Severity)
 severity_in (SetSeverity scope from id to) = Some (record { scope = scope; which = which_from from id; value = to })
 severity_in command = None
 
+-- the quit limit that a command sets, if it sets one
 abbrev pub limit_in : Command → Option ℕ
 limit_in (SetQuitLimit limit) = Some limit
 limit_in command = None
@@ -66,26 +69,30 @@ pub record IssuedReport : Type 0 where
   pub id : List ℕ
   pub count : Bool
 
+-- a report as it is issued under a ruling, if it is issued
 abbrev pub issued_as : Report → Ruling → Option IssuedReport
 issued_as report ruling =
     if is_issued report ruling then Some (record { severity = ruling.severity; id = report.id; count = ruling.actions.count }) else None
 
--- the reports that were issued, the newest first, each by what the commands before it say
+-- the report that a command issues, if any, by what the commands before it say
 abbrev pub issued_in : List Command → Command → Option IssuedReport
 issued_in older (Issue path report) = issued_as report (given_ruling older path report)
 issued_in older command = None
 
+-- the reports that some commands issue, the newest first, each by what the commands before it say
 abbrev pub issued_reports : List Command → List IssuedReport
 issued_reports [] = []
 issued_reports (command ∷ older) = cons_option (issued_in older command) (issued_reports older)
 
--- how many of them are of a severity, and how many have action count
+-- how many of some issued reports have a severity
 abbrev pub severity_count : Severity → List IssuedReport → ℕ
 severity_count severity issued = length (filter (λ report. same_severity report.severity severity) issued)
 
+-- how many of some issued reports have the action `count`
 abbrev pub quit_count : List IssuedReport → ℕ
 quit_count issued = length (filter (λ report. report.count) issued)
 
+-- how many reports with the action `count` some commands issue
 unfoldable pub quit_total : List Command → ℕ
 quit_total commands = quit_count (issued_reports commands)
 

@@ -15,6 +15,7 @@ pub record Counts : Type 0 where
   pub ids : List (List ℕ × ℕ)
   pub quit : ℕ
 
+-- the counts before any report is issued
 abbrev pub no_counts : Counts
 no_counts = record { info = 0; warning = 0; error = 0; fatal = 0; ids = []; quit = 0 }
 
@@ -29,10 +30,11 @@ number_of counts Fatal = counts.fatal
 abbrev pub issued_number : Counts → ℕ
 issued_number counts = counts.info + counts.warning + counts.error + counts.fatal
 
--- whether reports of an id were counted, and how many
+-- whether reports of an id were counted
 abbrev pub is_counted : Counts → List ℕ → Bool
 is_counted counts id = is_some (lookup (pointwise nat_eq id) counts.ids)
 
+-- how many reports of an id were counted
 abbrev pub number_of_id : Counts → List ℕ → ℕ
 number_of_id counts id = unwrap_or (lookup (pointwise nat_eq id) counts.ids) 0
 

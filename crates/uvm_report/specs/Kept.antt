@@ -16,13 +16,15 @@ pub record Kept : Type 0 where
   pub counts : Counts
   pub spare : ℕ
 
--- what is chosen at a path for each severity and id: the severity to which reports are changed, the level, and the actions
+-- the severity chosen at a path, for reports of each severity and id
 unfoldable pub severity_at : Kept → List (List ℕ) → Lookup Severity
 severity_at kept path = choice_among kept.severities (path_text path)
 
+-- the verbosity level chosen at a path, for reports of each severity and id
 unfoldable pub level_at : Kept → List (List ℕ) → Lookup ℕ
 level_at kept path = choice_among kept.levels (path_text path)
 
+-- the actions chosen at a path, for reports of each severity and id
 unfoldable pub actions_at : Kept → List (List ℕ) → Lookup Actions
 actions_at kept path = choice_among kept.actions (path_text path)
 

@@ -26,6 +26,7 @@ pub record AreCounted (commands : List Command) : Type 0 where
   pub agree : Agree (report_counts commands)
   pub few : issued_number (report_counts commands) ≤ length (filter is_issue commands)
 
+-- the law that the counts after any commands satisfy `AreCounted`
 abbrev pub CommandsAreCounted : Type 0
 CommandsAreCounted = (commands : List Command) → AreCounted commands
 

@@ -20,6 +20,7 @@ report_line severity time source id text =
 unfoldable pub severity_line : Counts → Severity → List ℕ
 severity_line counts severity = line (severity_text severity ++ codes " : " ++ decimal (number_of counts severity))
 
+-- all severities, in the order of the summary
 abbrev pub severities : List Severity
 severities = Info ∷ Warning ∷ Error ∷ Fatal ∷ []
 
@@ -31,6 +32,7 @@ id_line counted = line (codes "[" ++ counted.0 ++ codes "] " ++ decimal counted.
 unfoldable pub limit_line : ℕ → ℕ → List ℕ
 limit_line limit quit = if limit == 0 then [] else line (codes "Quit count : " ++ decimal quit ++ codes " of " ++ decimal limit)
 
+-- the summary at the end of a run: the quit count if there is a limit, and the counts by severity and by id
 unfoldable pub summary_text : ℕ → Counts → List ℕ
 summary_text limit counts =
     line (codes "--- UVM Report Summary ---")

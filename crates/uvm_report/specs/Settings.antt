@@ -42,10 +42,11 @@ choice_of setting = record { class = class_of setting.which; value = setting.val
 unfoldable pub choice_among : {A : Type 0} → List (Setting A) → List ℕ → Lookup A
 choice_among settings text severity id = option_map choice_of (last_of_first_class (settings_for settings text severity id))
 
--- a setting is of an earlier class than another, or of no later one
+-- a setting is of an earlier class than another
 abbrev pub IsBefore : {A : Type 0} → Setting A → Setting A → Type 0
 IsBefore a b = class_number (class_of a.which) < class_number (class_of b.which)
 
+-- a setting is of no later class than another
 abbrev pub IsNotAfter : {A : Type 0} → Setting A → Setting A → Type 0
 IsNotAfter a b = class_number (class_of a.which) ≤ class_number (class_of b.which)
 

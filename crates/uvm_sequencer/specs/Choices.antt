@@ -37,13 +37,15 @@ first_over sum n [] = None
 first_over sum n (request ∷ requests) =
     if nat_lt n (sum + priority_of request) then Some request else first_over (sum + priority_of request) n requests
 
--- the one that a word decides on by the priorities, or by the places from 0
+-- the request that a random word selects by the priorities: the word is taken modulo their sum
 abbrev pub by_priority : List Request → ℕ → Option Request
 by_priority requests word = first_over 0 (word % sum_by priority_of requests) requests
 
+-- the request that a random word selects by the places from 0: the word is taken modulo their number
 abbrev pub by_place : List Request → ℕ → Option Request
 by_place requests word = slice_get requests (word % length requests)
 
+-- the request that a random word selects: by the priorities if the mode is WEIGHTED, otherwise by the places
 abbrev pub drawn : Mode → List Request → ℕ → Option Request
 drawn Weighted requests word = by_priority requests word
 drawn mode requests word = by_place requests word

@@ -10,6 +10,7 @@ use Rattle.uvm_sequencer.specs.Choices.{is_strict}
 abbrev pub is_contending : List Start → List ℕ → ℕ → Request → Bool
 is_contending started holders bar request = is_candidate started holders request && nat_le bar (priority_of request)
 
+-- the candidates of a queue with at least that priority, in the order of the queue
 abbrev pub contending : List Start → List ℕ → ℕ → List Request → List Request
 contending started holders bar queue = filter (is_contending started holders bar) queue
 

@@ -3,6 +3,7 @@ use Rattle.std.specs.Prelude.{ℕ, List, Option, Some, None, Result, Ok, Err, co
 use Rattle.uvm_sequencer.specs.declared.faults.SeqFault.{SeqFault}
 use Rattle.uvm_sequencer.specs.declared.faults.SeqFault.TheVariants.{NoDriver, Twice, NothingOut, NotGranted, NotHeld, Memory}
 
+-- the text of each error
 abbrev pub fault_text : SeqFault → List ℕ
 fault_text NoDriver = codes "no driver"
 fault_text Twice = codes "asked twice"

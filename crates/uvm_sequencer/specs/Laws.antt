@@ -70,6 +70,7 @@ pub record IsOut (s : SequencerValue) : Type 0 where
   pub sends : (seq : ℕ) → grant_of seq s.driver ≡ None
   pub stays : (seq : ℕ) → (after_leave seq s).driver ≡ s.driver
 
+-- the law that `IsOut` holds while the driver has an item that is not done
 abbrev pub OneItemOut : Type 0
 OneItemOut = (s : SequencerValue) → IsSome (hand_of s.driver) → IsOut s
 

@@ -29,6 +29,7 @@ pub record SequencerValue : Type 0 where
   pub queue : List Request
   pub holders : List ℕ
 
+-- a sequencer of a mode that has no driver, no requests and no holders
 abbrev pub new_sequencer : Mode → SequencerValue
 new_sequencer mode = record { mode = mode; port = None; driver = Idle; queue = []; holders = [] }
 
@@ -36,33 +37,39 @@ new_sequencer mode = record { mode = mode; port = None; driver = Idle; queue = [
 abbrev pub with_port : ℕ → SequencerValue → SequencerValue
 with_port port s = record s { port = Some port }
 
--- with an item request or a lock behind all others, and with a lock before them
+-- with an item request of a sequence at the end of the queue
 abbrev pub with_item : ℕ → ℕ → SequencerValue → SequencerValue
 with_item seq priority s = record s { queue = s.queue ++ item_request seq priority ∷ [] }
 
+-- with a lock request of a sequence at the end of the queue
 abbrev pub with_lock : ℕ → SequencerValue → SequencerValue
 with_lock seq s = record s { queue = s.queue ++ lock_request seq ∷ [] }
 
+-- with a lock request of a sequence at the front of the queue
 abbrev pub with_grab : ℕ → SequencerValue → SequencerValue
 with_grab seq s = record s { queue = lock_request seq ∷ s.queue }
 
--- after the lock of a sequence was granted, and after it gave back its last
+-- after the lock of a sequence was granted
 abbrev pub locked : ℕ → SequencerValue → SequencerValue
 locked seq s = record s { queue = without_lock seq s.queue; holders = s.holders ++ seq ∷ [] }
 
+-- after a sequence released its latest lock
 abbrev pub unlocked : ℕ → SequencerValue → SequencerValue
 unlocked seq s = record s { holders = released seq s.holders }
 
--- after the driver asked, after a sequence was granted and sent its item, and once the driver is idle
+-- after the driver asked for an item
 abbrev pub after_ask : How → Asked → SequencerValue → SequencerValue
 after_ask how asked s = record s { driver = asked_by how asked s.driver }
 
+-- after the item request of a sequence was granted
 abbrev pub granted : ℕ → SequencerValue → SequencerValue
 granted seq s = record s { driver = granted_by seq s.driver; queue = without_item seq s.queue }
 
+-- after the granted sequence sent its item
 abbrev pub after_send : ℕ → How → SequencerValue → SequencerValue
 after_send seq how s = record s { driver = sent seq how }
 
+-- with an idle driver
 abbrev pub with_idle : SequencerValue → SequencerValue
 with_idle s = record s { driver = Idle }
 
@@ -109,15 +116,18 @@ done_by s port = if is_driver s.port port then or_fault (hand_of s.driver) Nothi
 abbrev pub unlocked_by : SequencerValue → ℕ → Result (Unit {0}) SeqFault
 unlocked_by s seq = if is_held seq s.holders then Ok tt else Err NotHeld
 
--- the candidates of a sequencer, the lock that leads there, whether one of the candidates can be granted, and who is
+-- the candidates of a sequencer, in the order of its queue
 abbrev pub candidates_at : List Start → SequencerValue → List Request
 candidates_at started s = candidates started s.holders s.queue
 
+-- the sequence whose lock the sequencer grants next, if any
 abbrev pub lock_at : List Start → SequencerValue → Option ℕ
 lock_at started s = leading_lock started s.holders s.queue
 
+-- none if the sequencer can grant no item request now, otherwise whether a random word decides which
 abbrev pub ready_at : List Start → SequencerValue → Option Bool
 ready_at started s = readiness s.mode (wait_of s.driver) (candidates_at started s)
 
+-- the sequence whose item request is granted, by a random word if one is given
 abbrev pub choice_at : List Start → SequencerValue → Option ℕ → Option ℕ
 choice_at started s word = option_map (λ request. request.seq) (choice s.mode (candidates_at started s) word)

@@ -44,10 +44,11 @@ ancestors_of (start ∷ older) id =
 abbrev pub is_under : List Start → ℕ → ℕ → Bool
 is_under started id above = (id == above) || list_any (λ ancestor. ancestor == above) (ancestors_of started id)
 
--- the name of a sequence, if it was started, and the names from its root sequence down to itself
+-- the name of a sequence, if it was started
 abbrev pub name_at : List Start → ℕ → Option (List ℕ)
 name_at started id = option_map (λ start. start.name) (numbered started id)
 
+-- the names from the root sequence of a sequence down to itself
 abbrev pub names_of : List Start → ℕ → List (List ℕ)
 names_of started id = reverse (filter_map (name_at started) (id ∷ ancestors_of started id))
 

@@ -3,6 +3,7 @@ use Rattle.std.specs.Prelude.{ℕ, List, Option, Some, None, codes}
 use Rattle.uvm_tlm.specs.declared.faults.WireFault.{WireFault}
 use Rattle.uvm_tlm.specs.declared.faults.WireFault.TheVariants.{KindDiffers, TooFew, TooMany, Unknown, Late, Memory}
 
+-- the text of each error
 abbrev pub fault_text : WireFault → List ℕ
 fault_text KindDiffers = codes "kinds differ"
 fault_text TooFew = codes "too few connections"

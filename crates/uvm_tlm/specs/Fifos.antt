@@ -20,16 +20,19 @@ pub record FifoValue : Type 0 where
 abbrev pub new_fifo : ℕ → FifoValue
 new_fifo size = record { size = size; items = []; puts = []; takes = [] }
 
--- with one more item, put, take or peek behind the others
+-- with one more item at the end
 abbrev pub with_item : Item → FifoValue → FifoValue
 with_item item f = record f { items = f.items ++ item ∷ [] }
 
+-- with one more waiting put at the end
 abbrev pub with_put : Owner → Item → FifoValue → FifoValue
 with_put owner item f = record f { puts = f.puts ++ record { owner = owner; item = item } ∷ [] }
 
+-- with one more waiting take at the end
 abbrev pub with_take : Owner → FifoValue → FifoValue
 with_take owner f = record f { takes = f.takes ++ record { owner = owner; peeks = false } ∷ [] }
 
+-- with one more waiting peek at the end
 abbrev pub with_peek : Owner → FifoValue → FifoValue
 with_peek owner f = record f { takes = f.takes ++ record { owner = owner; peeks = true } ∷ [] }
 
@@ -58,6 +61,7 @@ abbrev pub first_take : List WaitingTake → List Item → Option Move
 first_take (take ∷ takes) (item ∷ items) = Some (record { kind = if take.peeks then Peek else Take; owner = take.owner; item = item })
 first_take takes items = None
 
+-- the move of the first take or peek that waits at a FIFO, if it has an item
 abbrev pub take_move : FifoValue → Option Move
 take_move f = first_take f.takes f.items
 
@@ -66,6 +70,7 @@ abbrev pub first_put : List WaitingPut → Option Move
 first_put (put ∷ puts) = Some (record { kind = Put; owner = put.owner; item = put.item })
 first_put [] = None
 
+-- the move of the first put that waits at a FIFO, if one more item fits
 abbrev pub put_move : FifoValue → Option Move
 put_move f = if has_room f then first_put f.puts else None
 
@@ -79,6 +84,7 @@ after_kind Put item f = record f { items = f.items ++ item ∷ []; puts = drop 1
 after_kind Take item f = record f { items = drop 1 f.items; takes = drop 1 f.takes }
 after_kind Peek item f = record f { takes = drop 1 f.takes }
 
+-- the FIFO after a move, or the same if there is none
 abbrev pub after_move : Option Move → FifoValue → FifoValue
 after_move None f = f
 after_move (Some move) f = after_kind move.kind move.item f

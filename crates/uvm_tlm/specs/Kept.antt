@@ -8,10 +8,11 @@ use Rattle.uvm_tlm.specs.Graphs.{has}
 use Rattle.uvm_tlm.specs.NodeLists.{list_of}
 use Rattle.uvm_tlm.specs.Wirings.{IsWiring, WiringValue, connections_among, end_at, is_connected, targets_in, driver_in}
 
--- its nodes, the one added last first, and its connections in their order
+-- the nodes of a wiring, the one added last first
 abbrev pub nodes_of : Inside → List ℕ
 nodes_of w = map (λ e. e.0) (reverse w.ends.entries)
 
+-- the connections of a wiring, in the order of its nodes
 abbrev pub connections_of : Inside → List Connection
 connections_of w = connections_among (is_connected w.connections.items) (nodes_of w)
 

@@ -40,10 +40,11 @@ is_connected connections from to = list_any (λ c. (from == c.from) && (to == c.
 abbrev pub connection : ℕ → ℕ → Connection
 connection from to = record { from = from; to = to }
 
--- the connections from a node to some, and those among some, each once and in the order of the nodes
+-- the connections from a node to some nodes, in the order of these
 abbrev pub connections_from : (ℕ → ℕ → Bool) → List ℕ → ℕ → List Connection
 connections_from connected nodes from = map (connection from) (filter (connected from) nodes)
 
+-- the connections among some nodes, each once and in the order of the nodes
 abbrev pub connections_among : (ℕ → ℕ → Bool) → List ℕ → List Connection
 connections_among connected nodes = flat_map (connections_from connected nodes) nodes
 
@@ -53,6 +54,7 @@ with_connection from to w = record w {
   connections = connections_among (λ a b. ((a == from) && (b == to)) || is_connected w.connections a b) (map (λ e. e.0) w.ends);
 }
 
+-- whether the wiring is closed: then nothing more can be added or connected
 abbrev pub is_closed : WiringValue → Bool
 is_closed w = is_some w.order
 
@@ -114,6 +116,7 @@ abbrev pub driven_by : Option PortKind → List ℕ → Option ℕ
 driven_by (Some Seq) (target ∷ []) = Some target
 driven_by kind targets = None
 
+-- whether an optional number is given and is this number
 abbrev pub is_some_of : ℕ → Option ℕ → Bool
 is_some_of n m = option_map_or (λ m. m == n) m false
 
@@ -140,6 +143,7 @@ port_fault (Some Get) targets driver port = count_fault targets
 port_fault (Some Seq) targets driver port = seq_fault targets driver port
 port_fault kind targets driver port = None
 
+-- what is wrong with a port, by the ends and the connections of a wiring and the path order of its nodes
 abbrev pub fault_in : List (ℕ × End) → List Connection → List ℕ → ℕ → Option WireFault
 fault_in ends connections order port = port_fault (kind_at ends port) (targets_in ends connections order port) (driver_in ends connections order) port
 

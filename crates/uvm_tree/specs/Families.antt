@@ -25,10 +25,11 @@ pub record AreFamilies (nodes : List Node) (families : List ℕ) : Type 0 where
   pub members : (n : ℕ) → Contains families n ↔ ((0 < n) × (n < length nodes))
   pub ordered : AllPairs (λ m n. place_cmp (place_at nodes m) (place_at nodes n) ≡ Less) families
 
--- a node stands in front of a place, or in front of it or there
+-- whether the place of a node comes before a place
 abbrev pub is_in_front : List Node → Place → ℕ → Bool
 is_in_front nodes place n = is_lt (place_cmp (place_at nodes n) place)
 
+-- whether the place of a node comes before a place or is that place
 abbrev pub is_upto : List Node → Place → ℕ → Bool
 is_upto nodes place n = not (is_gt (place_cmp (place_at nodes n) place))
 

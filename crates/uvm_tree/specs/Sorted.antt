@@ -22,5 +22,6 @@ pub record AreInPathOrder (nodes : List Node) (order : List ℕ) : Type 0 where
   pub whole : IsPermutation (numbers_of nodes) order
   pub ordered : AllPairs (λ m n. is_before down_cmp nodes n m ≡ false) order
 
+-- the law that `path_order` satisfies `AreInPathOrder`
 abbrev pub PathOrderIsInOrder : Type 0
 PathOrderIsInOrder = (nodes : List Node) → AreInPathOrder nodes (path_order nodes)

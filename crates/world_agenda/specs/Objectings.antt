@@ -36,5 +36,6 @@ IsEvent nodes phase (Object who) None time = ⊥
 IsEvent nodes phase (Drain node of) None time = IsDrainEvent nodes phase of node time
 IsEvent nodes phase (Drain node of) (Some call) time = ⊥
 
+-- each of some events is a call to an object or the end of a drain
 abbrev pub AreEvents : (Phase → List objection.Node) → List Event → Type 0
 AreEvents nodes events = All (λ event. IsEvent nodes event.phase event.owner event.notice event.time) events

@@ -9,10 +9,12 @@ use Rattle.uvm_sequences.specs.declared.starts.SeqStep.{SeqStep}
 use Rattle.uvm_sequences.specs.Sequences.{step_at}
 use Rattle.uvm_acts.specs.declared.acts.Who.TheVariants as who
 
--- calls are due, numbered in their order, but for those of sequences that live no longer
+-- the events if their receiver still receives calls, otherwise none
 abbrev pub if_told : Bool → List Event → List Event
 if_told told events = if told then events else []
 
+-- the events of some calls, numbered in their order, the newest first; without those whose receiver no longer
+-- receives calls
 abbrev pub living_numbered : (Who → Bool) → ℕ → ℕ → ℕ → List Told → List Event
 living_numbered told time place number [] = []
 living_numbered told time place number (call ∷ calls) =

@@ -25,6 +25,7 @@ pub record IsPassed (count : ℕ) (size : Option ℕ) (entered : List Item) (lef
   pub no_put : size ≡ None → puts ≡ []
   pub no_take : size ≡ None → takes ≡ []
 
+-- `IsPassed` holds at each node
 pub record ArePassed (count : ℕ) (size : ℕ → Option ℕ) (entered : ℕ → List Item) (left : ℕ → ℕ) (puts : ℕ → List (Request Item)) (puts_answered : ℕ → List ℕ) (takes : ℕ → List (Request Bool)) (takes_answered : ℕ → List ℕ) : Type 0 where
   pub each : (n : ℕ) → IsPassed count (size n) (entered n) (left n) (puts n) (puts_answered n) (takes n) (takes_answered n)
 

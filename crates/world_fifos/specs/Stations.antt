@@ -39,10 +39,11 @@ ChangesEach change old new = (n : ℕ) → get nat_eq new n ≡ option_map chang
 abbrev pub owner_by : Asker → ℕ → Owner
 owner_by asker port = record { node = port; phase = phase_number asker.phase }
 
--- one more put waits, or one more take or peek
+-- with one more waiting put
 abbrev pub with_putter : Asker → ℕ → Item → Station → Station
 with_putter asker port item s = record { fifo = with_put (owner_by asker port) item s.fifo; putters = s.putters ++ asker ∷ []; takers = s.takers }
 
+-- with one more waiting take or peek
 abbrev pub with_taker : Asker → ℕ → Bool → Station → Station
 with_taker asker port peeks s = record {
   fifo = record s.fifo { takes = s.fifo.takes ++ record { owner = owner_by asker port; peeks = peeks } ∷ [] };
@@ -50,11 +51,12 @@ with_taker asker port peeks s = record {
   takers = s.takers ++ asker ∷ [];
 }
 
--- an item is put at once, or taken, if it is
+-- with one more item, if it is put immediately; otherwise the same
 abbrev pub with_stored_if : Bool → Item → Station → Station
 with_stored_if true item s = record { fifo = with_item item s.fifo; putters = s.putters; takers = s.takers }
 with_stored_if false item s = s
 
+-- without the first item, if one is taken immediately; otherwise the same
 abbrev pub without_first_if : Option Item → Station → Station
 without_first_if (Some item) s = record { fifo = without_item s.fifo; putters = s.putters; takers = s.takers }
 without_first_if None s = s
@@ -64,20 +66,23 @@ abbrev pub after_sort : Bool → FifoValue → Station → Station
 after_sort true fifo s = record { fifo = fifo; putters = drop 1 s.putters; takers = s.takers }
 after_sort false fifo s = record { fifo = fifo; putters = s.putters; takers = drop 1 s.takers }
 
+-- after a move, or the same if there is none
 abbrev pub after_passage : Option Move → Station → Station
 after_passage None s = s
 after_passage (Some move) s = after_sort (is_put move.kind) (after_kind move.kind move.item s.fifo) s
 
--- the waits end that were asked in a phase
+-- the waiting askers without those that asked in a phase
 abbrev pub without_askers : Phase → List Asker → List Asker
 without_askers phase askers = filter (λ asker. not (same_phase asker.phase phase)) askers
 
+-- without the puts, takes and peeks that were asked for in a phase
 abbrev pub without_waits : Phase → Station → Station
 without_waits phase s = record { fifo = cleared (phase_number phase) s.fifo; putters = without_askers phase s.putters; takers = without_askers phase s.takers }
 
--- an item is put into each FIFO among some nodes that can take it at once
+-- with one more item, if the FIFO can take it immediately; otherwise the same
 abbrev pub stored_once : Item → Station → Station
 stored_once item s = with_stored_if (can_put s.fifo) item s
 
+-- an item is put into each FIFO among some nodes that can take it immediately
 abbrev pub StoresAll : Item → List ℕ → Kept → Kept → Type 0
 StoresAll item targets old new = (n : ℕ) → get nat_eq new n ≡ (if list_any (nat_eq n) targets then option_map (stored_once item) (get nat_eq old n) else get nat_eq old n)

@@ -12,10 +12,11 @@ use Rattle.uvm_objection.specs.Nodes as objection
 abbrev pub one_at : List ObjectionValue → ℕ → Option ObjectionValue
 one_at objections place = option_or (slice_get objections place) (slice_get objections 1)
 
--- its nodes, and for how many more there is room
+-- the nodes of the objection that counts for a place
 abbrev pub nodes_at : List ObjectionValue → ℕ → List objection.Node
 nodes_at objections place = option_map_or (λ one. one.nodes) (one_at objections place) []
 
+-- for how many more nodes the objection that counts for a place has reserved capacity
 abbrev pub spare_at : List ObjectionValue → ℕ → ℕ
 spare_at objections place = option_map_or (λ one. one.spare) (one_at objections place) 0
 
@@ -36,10 +37,11 @@ pub record ObjectionsValue : Type 0 where
   pub each : List ObjectionValue
   pub given : List Drain
 
--- the nodes of that of a phase, and for how many more there is room
+-- the nodes of the objection of a phase
 abbrev pub nodes_in : ObjectionsValue → Phase → List objection.Node
 nodes_in objections phase = nodes_at objections.each (place_in phase)
 
+-- for how many more nodes the objection of a phase has reserved capacity
 abbrev pub spare_in : ObjectionsValue → Phase → ℕ
 spare_in objections phase = spare_at objections.each (place_in phase)
 

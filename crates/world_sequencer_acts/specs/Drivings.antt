@@ -29,13 +29,15 @@ use Rattle.world_wiring.specs.Ports.{port_in}
 use Rattle.uvm_acts.specs.declared.acts.Call.TheVariants as call
 use Rattle.world_sequences.specs.declared.beginnings.Beginning as kept
 
--- the sequencer to which a port leads
+-- a port with the sequencer at a node, if there is a sequencer
 abbrev pub if_kept : Kept → ℕ → ℕ → Option Reached
 if_kept arbiters port node = if is_some (get nat_eq arbiters node) then Some (record { port = port; sequencer = node }) else None
 
+-- a port with the sequencer that it reaches, if its first target is one
 abbrev pub reached_at : WiringValue → Kept → ℕ → Option Reached
 reached_at wiring arbiters port = option_and_then (if_kept arbiters port) (slice_get (targets_of wiring port) 0)
 
+-- the performer's correctly connected seq port of a name with the sequencer that it reaches
 abbrev pub reached_in : Services → List ℕ → Option Reached
 reached_in services name = option_and_then (reached_at services.wiring services.arbiters) (port_in services.tree.nodes services.wiring services.answer.speaker Seq name)
 
@@ -71,6 +73,8 @@ finished_calls None name id = []
 abbrev pub lapsed_item : Bool → Option DriverPort → List Told
 lapsed_item lapses driver = if lapses then told_item driver None else []
 
+-- the call that tells the sequencer's driver that there is no item, if the end of a sequence withdraws the grant of a
+-- `try`
 abbrev pub lapsed_calls : Option ArbiterValue → ℕ → List Told
 lapsed_calls None id = []
 lapsed_calls (Some a) id = lapsed_item (is_try (grant_of id a.sequencer.driver)) a.driver

@@ -37,6 +37,7 @@ Kept = HashMap ℕ ArbiterValue (BuildHasherDefault FoldHasher)
 abbrev pub new_arbiter : Mode → ArbiterValue
 new_arbiter mode = record { sequencer = new_sequencer mode; driver = None }
 
+-- the mode of a sequencer that is added; none for anything else
 abbrev pub mode_of : What → Option Mode
 mode_of (what.Sequencer mode) = Some mode
 mode_of other = None
@@ -62,23 +63,27 @@ abbrev pub asked_at : DriverPort → How → Asked → ArbiterValue → ArbiterV
 asked_at driver how asked.Waits a = record { sequencer = after_ask how asked.Waits a.sequencer; driver = Some driver }
 asked_at driver how asked.Nothing a = a
 
--- a sequence asks for something, unless that is refused; it gives back a lock, or sends, if it may
+-- after a sequence requested to send an item, unless the request is rejected
 abbrev pub requested_if : Option Fatal → ℕ → ℕ → ArbiterValue → ArbiterValue
 requested_if None id priority a = at_sequencer (with_item id priority) a
 requested_if (Some fatal) id priority a = a
 
+-- after a sequence requested a lock, unless the request is rejected
 abbrev pub locked_if : Option Fatal → ℕ → ArbiterValue → ArbiterValue
 locked_if None id a = at_sequencer (with_lock id) a
 locked_if (Some fatal) id a = a
 
+-- after a sequence requested a lock before all other requests, unless the request is rejected
 abbrev pub grabbed_if : Option Fatal → ℕ → ArbiterValue → ArbiterValue
 grabbed_if None id a = at_sequencer (with_grab id) a
 grabbed_if (Some fatal) id a = a
 
+-- after a sequence released its latest lock, unless that is rejected
 abbrev pub unlocked_if : Option Fatal → ℕ → ArbiterValue → ArbiterValue
 unlocked_if None id a = at_sequencer (unlocked id) a
 unlocked_if (Some fatal) id a = a
 
+-- after a sequence sent its item, if it was granted
 abbrev pub sent_if : Option How → ℕ → ArbiterValue → ArbiterValue
 sent_if None id a = a
 sent_if (Some how) id a = at_sequencer (after_send id how) a
@@ -101,15 +106,18 @@ abbrev pub asked_in : List Start → How → Option ArbiterValue → Result Aske
 asked_in started how None = Ok asked.Waits
 asked_in started how (Some a) = unless (ask_refusal a.sequencer) (answer how (candidates_at started a.sequencer))
 
--- whose lock leads at a node, and whether its driver can be served, with a word or not
+-- the sequence whose lock a sequencer grants next, if any
 abbrev pub lock_in : List Start → Option ArbiterValue → Option ℕ
 lock_in started a = option_and_then (λ a. lock_at started a.sequencer) a
 
+-- none if a sequencer can grant no item request now, otherwise whether a random word decides which
 abbrev pub ready_in : List Start → Option ArbiterValue → Option Bool
 ready_in started a = option_and_then (λ a. ready_at started a.sequencer) a
 
+-- a node with the sequence whose lock its sequencer grants next, if any
 abbrev pub locked_in : List Start → Kept → ℕ → Option (ℕ × ℕ)
 locked_in started arbiters node = option_map (λ id. (node, id)) (lock_in started (get nat_eq arbiters node))
 
+-- a node whose sequencer can grant an item request now, with whether a random word decides which
 abbrev pub served_in : List Start → Kept → ℕ → Option (ℕ × Bool)
 served_in started arbiters node = option_map (λ drawn. (node, drawn)) (ready_in started (get nat_eq arbiters node))

@@ -30,6 +30,7 @@ pub record Ledger : Type 0 where
   pub driver : Driver
   pub asker : Option DriverPort
 
+-- the ledger of a node: what a log says of its sequencer
 abbrev pub ledger_at : List Entry → ℕ → Ledger
 ledger_at history node = record {
   mode = mode_at history node;
@@ -41,13 +42,15 @@ ledger_at history node = record {
   asker = driver_asker history node;
 }
 
--- and what it comes to, by which sequences live
+-- the requests of a ledger that wait, by which sequences are active
 abbrev pub queue_of : (ℕ → Bool) → Ledger → List Request
 queue_of live l = map (λ w. w.request) (filter (waits_by live l.grants l.locks) l.wanted)
 
+-- the sequencer and its driver that follow from a ledger, by its mode and which sequences are active
 abbrev pub arbiter_with : (ℕ → Bool) → Ledger → Mode → ArbiterValue
 arbiter_with live l mode = record { sequencer = record { mode = mode; port = None; driver = l.driver; queue = queue_of live l; holders = filter live l.held }; driver = l.asker }
 
+-- the sequencer and its driver that follow from a ledger, if it has a mode
 abbrev pub arbiter_of : (ℕ → Bool) → Ledger → Option ArbiterValue
 arbiter_of live l = option_map (arbiter_with live l) l.mode
 
@@ -70,6 +73,7 @@ pub record IsArbitrated (count nodes : ℕ) (begun : List Beginning) (node : ℕ
   pub stands : IsSome l.mode → (0 < node) × (node < nodes)
   pub nothing : l.mode ≡ None → (l.wanted ≡ []) × (l.held ≡ []) × (l.driver ≡ Idle) × (l.asker ≡ None)
 
+-- `IsArbitrated` holds at each node
 pub record AreArbitrated (count nodes : ℕ) (begun : List Beginning) (ledger : ℕ → Ledger) : Type 0 where
   pub each : (n : ℕ) → IsArbitrated count nodes begun n (ledger n)
 

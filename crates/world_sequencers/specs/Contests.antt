@@ -16,13 +16,15 @@ known_at contest n = unwrap_or (get nat_eq contest.passed n) 0
 abbrev pub IsKnown : List Start → ℕ → Option ArbiterValue → Type 0
 IsKnown started known arbiter = IfSome arbiter (λ a. IsPassed started a.sequencer known)
 
+-- `IsKnown` holds at each sequencer that is kept
 abbrev pub AreKnown : List Start → Kept → Contest → Type 0
 AreKnown started arbiters contest = (n : ℕ) → IsKnown started (known_at contest n) (get nat_eq arbiters n)
 
--- it is learned for so many of one, if that is kept; of the others nothing changes
+-- the new number of requests known to be blocked at a sequencer, or 0 if no number is kept for it
 abbrev pub learned_at : Contest → ℕ → ℕ → ℕ
 learned_at contest n known = option_map_or (λ before. known) (get nat_eq contest.passed n) 0
 
+-- one sequencer has another number of requests known to be blocked; the numbers of the others stay
 abbrev pub LearnsAt : ℕ → ℕ → Contest → Contest → Type 0
 LearnsAt node known old new = (n : ℕ) → known_at new n ≡ (if node == n then learned_at old n known else known_at old n)
 

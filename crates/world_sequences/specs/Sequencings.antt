@@ -21,24 +21,28 @@ use Rattle.uvm_glob.specs.declared.faults.PathFault.TheVariants as path
 use Rattle.uvm_acts.specs.declared.acts.Who.TheVariants as who
 use Rattle.world_sequences.specs.declared.beginnings.Beginning as kept
 
--- who has ended a step, the newest first, but for the last of a sequence
+-- the sequence that ends a step with an entry, in a list; none if it is the last step
 abbrev pub enders_in : Entry → List Who
 enders_in (Did performer Done EndStep) = performer ∷ []
 enders_in entry = []
 
+-- the sequences that have ended a step which was not their last, once for each step, the newest first
 abbrev pub enders_of : List Entry → List Who
 enders_of history = flat_map enders_in history
 
--- a sequence lives, and at which step it is, by those that have finished and ended a step, and the phases that have ended
+-- whether a started sequence is active: it has not finished, and its phase has not ended
 abbrev pub lives_by : List Who → List Phase → ℕ → Beginning → Bool
 lives_by finished ended id beginning = not (list_any (same_who (who.Sequence beginning.start.home id)) finished) && not (is_over_phase ended beginning.phase)
 
+-- whether the sequence of a number is active, if one was started
 abbrev pub live_by : List Beginning → List Who → List Phase → ℕ → Bool
 live_by begun finished ended id = option_map_or (lives_by finished ended id) (numbered begun id) false
 
+-- how many steps a sequence has ended, its last not counted
 abbrev pub steps_ended : List Who → ℕ → ℕ
 steps_ended enders id = length (filter (is_sequence id) enders)
 
+-- the step of an active sequence, by how many steps it has ended; none if it is not active
 abbrev pub step_by : List Beginning → List Who → List Phase → List Who → ℕ → Option SeqStep
 step_by begun finished ended enders id = if live_by begun finished ended id then slice_get all_steps (steps_ended enders id) else None
 
@@ -52,6 +56,7 @@ abbrev pub IsStarter : List Beginning → Option Phase → Who → Type 0
 IsStarter older phase (who.Node node) = Unit {0}
 IsStarter older phase (who.Sequence home id) = place_of (numbered older id) ≡ Some (home, phase)
 
+-- each sequence was started by a performer that `IsStarter` allows
 abbrev pub AreStarters : List Beginning → Type 0
 AreStarters [] = Unit {0}
 AreStarters (beginning ∷ older) = IsStarter older beginning.phase beginning.starter × AreStarters older
@@ -72,6 +77,7 @@ abbrev pub is_in_phase : Phase → Option Phase → Bool
 is_in_phase phase None = false
 is_in_phase phase (Some other) = same_phase other phase
 
+-- whether a performer is an active sequence
 abbrev pub is_live_in : List (Option SeqStep) → Who → Bool
 is_live_in steps (who.Node node) = false
 is_live_in steps (who.Sequence home id) = is_some (step_at steps id)
@@ -80,6 +86,7 @@ is_live_in steps (who.Sequence home id) = is_some (step_at steps id)
 abbrev pub ends_with : List (Option SeqStep) → Phase → kept.Beginning → Bool
 ends_with steps phase beginning = is_in_phase phase beginning.phase && is_live_in steps beginning.who
 
+-- the sequences that end with a phase: those that were started in it and are active
 abbrev pub leaving_with : List (Option SeqStep) → Phase → List kept.Beginning → List Who
 leaving_with steps phase beginnings = map (λ beginning. beginning.who) (filter (ends_with steps phase) beginnings)
 
@@ -99,10 +106,12 @@ abbrev pub IsStart : Act → Type 0
 IsStart (Start type_name name on priority) = Unit {0}
 IsStart act = ⊥
 
+-- the name of the sequence that an action starts; empty for every other action
 abbrev pub name_started : Act → List ℕ
 name_started (Start type_name name on priority) = name
 name_started act = []
 
+-- the priority that an action gives to the sequence that it starts, if any
 abbrev pub priority_given : Act → Option ℕ
 priority_given (Start type_name name on priority) = priority
 priority_given act = None
@@ -117,6 +126,7 @@ abbrev pub beginning_at : List kept.Beginning → ℕ → Option kept.Beginning
 beginning_at beginnings zero = None
 beginning_at beginnings (suc place) = slice_get beginnings place
 
+-- the phase in which the sequence of a number was started
 abbrev pub phase_at : List kept.Beginning → ℕ → Option Phase
 phase_at beginnings id = option_and_then (λ beginning. beginning.phase) (beginning_at beginnings id)
 

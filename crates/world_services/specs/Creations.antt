@@ -33,6 +33,8 @@ MayWantMemoryEarly (Some TreeLimit) = Unit {0}
 MayWantMemoryEarly (Some OverrideLoop) = Unit {0}
 MayWantMemoryEarly (Some fatal) = ⊥
 
+-- out of memory may be reported in place of this rejection or of none: `MayWantMemoryEarly` for a start, otherwise
+-- `MayWantMemory`
 abbrev pub MayWantMemoryFor : Act → Option Fatal → Type 0
 MayWantMemoryFor (Start type_name name on priority) refusal = MayWantMemoryEarly refusal
 MayWantMemoryFor act refusal = MayWantMemory refusal

@@ -47,11 +47,12 @@ abbrev pub CanMake : Act → Option ℕ → Services → Type 0
 CanMake act None services = CanGrow act services
 CanMake act (Some home) services = CanBegin act home services
 
--- who it is then, and the outcome
+-- who the new object is: the component at the next node, or the next sequence on this sequencer
 abbrev pub who_made : Services → Option ℕ → Who
 who_made services None = who.Node (length services.tree.nodes)
 who_made services (Some home) = who.Sequence home (suc (length services.sequences.started))
 
+-- the outcome of the action that makes it: the type of the component, or the number of the sequence
 abbrev pub outcome_made : Services → List ℕ → Option ℕ → Outcome
 outcome_made services type_name None = Made type_name
 outcome_made services type_name (Some home) = Started (suc (length services.sequences.started))

@@ -12,6 +12,7 @@ use Rattle.bench_history.specs.Refusals.{passing_refusal}
 use Rattle.world_services.specs.declared.services.Services.{Services}
 use Rattle.world_wiring.specs.Ports.{port_in}
 
+-- the performer's correctly connected port of a kind and a name, with the FIFO that it reaches
 abbrev pub gate_in : Services → PortKind → List ℕ → Option Gate
 gate_in services kind name = option_and_then (gate_at services.wiring) (port_in services.tree.nodes services.wiring services.answer.speaker kind name)
 

@@ -48,11 +48,12 @@ pub record IsFactory (types : Types) (overrides : List Override) (kept : Kept) :
   pub types_are : types_of kept ≡ types
   pub steps : (type_id : ℕ) (path : List (List ℕ)) → step_at kept type_id path ≡ type_step overrides type_id (path_text path)
 
--- the acts of the answer at a place, or the opening
+-- the actions of an entry that records an answer; none for every other entry
 abbrev pub acts_in : Option Entry → List Act
 acts_in (Some (Heard performer cause call acts)) = acts
 acts_in entry = []
 
+-- the actions of the answer at a place of the log; without a place, the opening
 abbrev pub acts_at : Act → List Entry → Option ℕ → List Act
 acts_at opening history None = opening ∷ []
 acts_at opening history (Some place) = acts_in (slice_get (reverse history) place)

@@ -7,6 +7,6 @@ use Rattle.uvm_acts.specs.declared.acts.Who.{Who}
 use Rattle.bench_history.specs.Wires.{node_below}
 use Rattle.bench_history.specs.Ports.{if_sound}
 
--- a port, and the gate through which it leads, as the services know them
+-- the performer's correctly connected port of a kind and a name, as the services know it
 abbrev pub port_in : List Node → WiringValue → Who → PortKind → List ℕ → Option ℕ
 port_in nodes wiring performer kind name = option_and_then (if_sound wiring kind) (node_below nodes performer (name ∷ []))

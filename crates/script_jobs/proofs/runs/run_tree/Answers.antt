@@ -4,7 +4,7 @@ use Rattle.toml.specs.View.{table_view}
 use Rattle.bus_jobs.specs.Runs.{words_of_seed}
 use Rattle.bench_run.specs.Texts.{took-nothing-of}
 use Rattle.script_jobs.specs.Runs.{IsScriptRun, RanTo, script_to_run}
-use Rattle.script_jobs.proofs.Ran.{ran-to}
+use Rattle.script_jobs.proofs.Ran.{fault-run, ran-to}
 use Rattle.script_jobs.proofs.runs.run_tree.Goals as goal
 
 -- by the ending of the run over the answers that were read
@@ -16,10 +16,15 @@ returns-in-Ok-run_objects-clause-run g c =
     let ran : RanTo (table_view c.args.root.now) (option_copied c.args.test) (words_of_seed c.args.seed) c.args.trace (contents c.args.out.now) (contents c.run_objects.new.out) (Ok c.in-Ok-run_objects.ending) = record {
       script = c.in-Ok.script;
       types = c.in-Ok-answers_in.answers;
-      bench = record { asked = c.in-Ok.ensures.ok; answers = c.in-Ok-answers_in.ensures.ok; known = c.in-Ok-answers_in.ensures.known };
+      bench = record { asked = c.in-Ok.ensures.ok; answers = c.in-Ok-answers_in.ensures.ok; known = c.in-Ok-answers_in.ensures.known; objects = c.in-Ok-answers_in.ensures.objects };
       run = run;
     } in
     ran-to (table_view c.args.root.now) (option_copied c.args.test) (words_of_seed c.args.seed) c.args.trace (contents c.args.out.now) (contents c.run_objects.new.out) c.in-Ok-run_objects.ending c.verdict_on.result ran c.verdict_on.ensures
+
+-- a fault of the script, by its report
+pub returns-in-Err-clause-run : goal.returns-in-Err-clause-run
+returns-in-Err-clause-run g c =
+    fault-run (table_view c.args.root.now) (option_copied c.args.test) (words_of_seed c.args.seed) c.args.trace (g.S.Sink.contents c.args.out.now) c.in-Err.fault c.reported.result (search rules) c.in-Err.ensures.err c.reported.ensures
 
 -- nothing was written before the first entry
 pub returns-in-Err-clause-room : goal.returns-in-Err-clause-room

@@ -1,21 +1,15 @@
-#!/usr/bin/env python3
-"""What has to be read to believe a statement: the definitions that its words reach, by file, counted in lines.
+"""What to read to believe a statement: the definitions that its words reach, by file, counted in lines.
 
-    tools/trust                prints the tables
-    tools/trust --check FILE   compares those that stand in FILE with them, and exits with 1 where they differ
-    tools/trust --write FILE   writes them there, between lines `<!-- trust KEY -->` and `<!-- end of trust KEY -->`
-
-A word counts wherever it stands in a definition that is reached, also where it is a variable's name there: so a table may
-have a definition too many, and none too few. Of a Rust type count its declaration, and the types of the fields that show.
+A word counts wherever it occurs in a definition that is reached, also as the name of a variable: so a table may have a definition
+too many, and none too few. Of a Rust type the declaration counts, and the types of its public fields.
 """
-import difflib
 import re
 import sys
 from collections import namedtuple
 from itertools import groupby
 from pathlib import Path
 
-# Each root: its key, its name, and the words of the statement, named as a `use` line names them.
+# Each root: its key, its name, and the words of the statement, spelled as in a `use` line.
 ROOTS = [
     ("log", "A legal log", ["Rattle.bench_history.specs.Next.{IsLegal}"]),
     ("step", "One step of the kernel", [
@@ -23,14 +17,14 @@ ROOTS = [
         "Rattle.bench_kernel.specs.Kernels.{open_need}",
         "Rattle.bench_kernel.specs.declared.kernels.Step.{Step}",
         "Rattle.uvm_object.specs.declared.objects.UvmObject.{UvmObject}"])]
-# How scripts are read: no root is to reach these.
+# The definitions of reading a script: no root may reach them.
 READING = {"bench_script/specs/Documents.antt", "script_tables/specs/Tables.antt", "script_tables/specs/ReportTables.antt"} | {
     "script_values/specs/" + name for name in ("Elements.antt", "Keys.antt", "Reading.antt", "Values.antt")}
 
-CRATES = Path(__file__).resolve().parent.parent / "crates"
+CRATES = Path(__file__).resolve().parents[2] / "crates"
 USE = re.compile(r"^\s*(?:pub |ghost )*use (\w[\w.:]*\w)(?:(?:\.|::)\{([^}]*)\})?(?: as (\w+))?;?$", re.M)
-# A definition of specs/ ends at a blank line before a comment or a signature, and the head of a module counts with the first
-# one there; a definition of src/ is a declaration with its comments.
+# A definition of specs/ ends at a blank line before a comment or a signature; the head of a module counts with its first definition. A
+# definition of src/ is a declaration with its comments.
 BLOCK = re.compile(r"^(?! *(?:pub )?use ).+\n(?:.+\n|\n(?! *--| *(?:abbrev |unfoldable )?pub |module |\n))*", re.M)
 SIGNATURE = re.compile(r"^ *(?:abbrev |unfoldable )?pub (record |data )?([^\s:({]+)", re.M)
 DECLARATION = re.compile(
@@ -40,7 +34,7 @@ Definition = namedtuple("Definition", "path name lines words")  # lines: the num
 
 
 class Source:
-    """A file of specs/ or src/: its definitions, and what it takes from elsewhere, by the names that these have there."""
+    """A file of specs/ or src/: its definitions, and what it imports, by the names that these have there."""
 
     def __init__(self, path):
         self.path, self.text, self.is_rust = path, path.read_text(), path.suffix == ".rt"
@@ -72,7 +66,7 @@ SOURCES = {path: Source(path) for glob in ("*/specs/*.antt", "*/src/*.rt") for p
 
 
 def reach(source, word, reached):
-    """Reaches what a word of a file stands for, and what the words of its definition stand for."""
+    """Reaches the definition of a word of a file, and those of the words in it."""
     first, _, member = word.partition(".")
     if member and first in source.short:
         follow(source.short[first], member.split(".")[0], reached)
@@ -87,7 +81,7 @@ def reach(source, word, reached):
 
 
 def follow(module, word, reached):
-    """Reaches what a word of a module stands for."""
+    """Reaches the definition of a word of a module."""
     kind, crate, *rest = module.split(".")
     if kind == "Rust":
         for source in SOURCES.values():
@@ -102,7 +96,7 @@ def follow(module, word, reached):
 
 
 def tables():
-    """The texts by their keys: of each root what no root before it reaches, and the words of the kit."""
+    """Returns the texts by their keys: for each root what no root before it reaches, and the words of the kit."""
     texts, before = {}, set()
     for key, root, words in ROOTS:
         reached = set()
@@ -122,29 +116,8 @@ def tables():
         text += ["", f"{root} reaches {len(whole)} definitions of {lines} lines in {len(files)} files."]
         texts[key] = "\n".join(text)
         for file in sorted(files & READING):
-            print(f"warning: {root} reaches {file}, which says how scripts are read", file=sys.stderr)
+            print(f"warning: {root} reaches {file}, which defines how scripts are read", file=sys.stderr)
         before |= reached
     words = groupby(sorted(one for one in before if not isinstance(one, Definition)), key=lambda one: one[0])
     texts["kit"] = "\n".join(f"- `{module}`: " + ", ".join(f"`{one[1]}`" for one in group) for module, group in words)
     return texts
-
-
-def main(option=None, file=None):
-    if not option:
-        return print("\n\n".join(tables().values()))
-    if option not in ("--check", "--write") or not file:
-        sys.exit(__doc__)
-    old = new = Path(file).read_text()
-    for key, text in tables().items():
-        head, tail = f"<!-- trust {key} -->\n", f"<!-- end of trust {key} -->\n"
-        if old.count(head) != 1 or old.count(tail) != 1:
-            sys.exit(f"{file} has to have the lines {head.strip()} and {tail.strip()} once each")
-        new = new.split(head)[0] + head + text + "\n" + tail + new.split(tail)[1]
-    if option == "--write":
-        Path(file).write_text(new)
-    elif new != old:
-        lines = difflib.unified_diff(old.splitlines(), new.splitlines(), file, "the definitions", lineterm="", n=0)
-        sys.exit("\n".join([*lines, f"{file} is not what the definitions say; tools/trust --write {file} corrects it"]))
-
-
-main(*sys.argv[1:])

@@ -1,0 +1,85 @@
+"""Texts that programs write, and files that pages show."""
+import os
+import re
+import subprocess
+
+from page_parts import sources
+from page_parts.tables import table
+
+GUIDE = sources.CRATES / "script_bench" / "data" / "guide"
+
+# `run MODE [in FOLDER]: PROGRAM WORD..`, where MODE is `whole`, `reports` or `N lines from "TEXT"`, and may end in `, status N`.
+RUN = re.compile(r'run (whole|reports|(\d+) lines from "([^"]*)")(?:, status (\d))?(?: in (\S+))?: (.*)')
+
+FILE = re.compile(r'file ([^ :]+)(?::(\d+)-(\d+))?(?: from "([^"]*)" before "([^"]*)")?')
+
+
+def program(name):
+    """Returns the path of a program, which `rt ci` has left in crates/; $PROGRAMS is another such folder."""
+    return os.path.join(os.environ.get("PROGRAMS", sources.CRATES), name, "out", name)
+
+
+def ran(words, folder=GUIDE):
+    """Returns the output, the errors and the status of a command line."""
+    run = subprocess.run([program(words[0]), *words[1:]], cwd=folder, stdin=subprocess.DEVNULL, capture_output=True, text=True, timeout=60)
+    return run.stdout, run.stderr, run.returncode
+
+
+def fenced(text, kind=""):
+    return f"```{kind}\n{text.rstrip(chr(10))}\n```"
+
+
+def of_run(key):
+    """Returns the command line of a run, and what it writes: all of it, the reports alone, or some lines of it."""
+    mode, count, start, status, folder, line = RUN.fullmatch(key).groups()
+    out, err, ended = ran(line.split(), sources.ROOT / folder if folder else GUIDE)
+    if ended != int(status or 0):
+        raise SystemExit(f"{line}: status {ended}, and the page says {status or 0}: {err}")
+    lines = (out + err).splitlines()
+    if mode == "reports":
+        lines = [it for it in lines if " @ " in it] + err.splitlines()
+    elif count:
+        first = next(at for at, it in enumerate(lines) if it.startswith(start))
+        lines = lines[first:first + int(count)]
+    return fenced("\n".join([f"$ {line}", *lines]))
+
+
+def of_help(key):
+    """Returns the help of a program, or of one of its commands."""
+    words = key.split()[1:] + ["--help"]
+    out, err, status = ran(words)
+    if status:
+        raise SystemExit(f"{' '.join(words)}: status {status}: {err}")
+    return fenced(f"$ {' '.join(words)}\n{out}")
+
+
+def of_file(key):
+    """Returns a file, or a part of it: `file PATH`, `file PATH:FIRST-LAST` by the numbers of lines, or `file PATH from "TEXT" before "TEXT"`."""
+    path, first, last, start, end = FILE.fullmatch(key).groups()
+    lines = (sources.ROOT / path).read_text().splitlines()
+    if first:
+        lines = lines[int(first) - 1:int(last)]
+    if start:
+        begin, stop = (next(at for at, line in enumerate(lines) if line.startswith(text)) for text in (start, end))
+        lines = lines[begin:stop]
+    kind = {"toml": "toml", "rt": "rust"}.get(path.rpartition(".")[2], "")
+    return fenced("\n".join(lines).rstrip(), kind)
+
+
+def of_mistakes():
+    """Returns the table of the mistakes in the guide's files: what is wrong, what is printed, and what to do."""
+    rows = []
+    for file in sorted((GUIDE / "mistakes").glob("*.toml"), key=order):
+        mistake, remedy = (re.search(rf"^# {word}: (.*)\.$", file.read_text(), re.M)[1] for word in ("Mistake", "Remedy"))
+        out, err, status = ran(["script_bench", "run", f"mistakes/{file.name}"])
+        told = err.strip().replace(f"mistakes/{file.name}", "FILE")
+        reports = [line for line in out.splitlines() if " @ " in line]
+        wrong = [line for line in reports if not line.startswith("UVM_INFO")] or reports[:1]
+        rows.append((mistake, f"`{told or wrong[-1]}`", str(status), remedy))
+    return table(["mistake", "what is printed", "status", "what to do"], rows)
+
+
+def order(file):
+    """Files with the fault of a script come first, then those with one of answers, then runs."""
+    _, err, status = ran(["script_bench", "run", f"mistakes/{file.name}"])
+    return status != 2, "answers" in err.partition(".toml")[2], file.name

@@ -3,6 +3,8 @@
 #![tactic(auto)]
 
 #[cfg(test)]
+mod cores;
+#[cfg(test)]
 mod runs;
 #[cfg(test)]
 mod scripts;

@@ -58,6 +58,21 @@ const ITSELF: &str = r#"
 override = [{ orig = "A", new = "A" }]
 "#;
 
+// One type, and a probe of it at the test.
+const BUS_TEST: &str = r#"
+version = 1
+type = [{ name = "bus_test", kind = "component" }]
+probe = [{ type = "bus_test", path = "uvm_test_top" }]
+"#;
+
+#[test]
+fn probe_of_a_type_without_overrides_is_answered_by_that_type(rt: HostRuntime) {
+    let mut out = Vec::new(rt.alloc());
+    let verdict = debug_bench(rt.alloc(), BUS_TEST.as_bytes(), &mut out);
+    assert!(rt; verdict == Verdict::Clean);
+    assert!(rt; out.as_slice() == b"bus_test @ uvm_test_top -> bus_test\n".as_slice());
+}
+
 // Whether the probes with these overrides are answered by these two lines.
 fn are_answered(alloc: Global, overrides: &str, lines: &str) -> bool {
     let mut out = Vec::new(alloc);

@@ -1,6 +1,6 @@
 //! How a file is read: to its end, or to the most bytes.
 
-use bus_jobs::{Breakage, MOST_BYTES, Verdict, read_file};
+use bus_jobs::{Breakage, Verdict, read_file};
 use std::alloc::Global;
 use std::io;
 use std::io::{ErrorKind, Read};
@@ -60,6 +60,6 @@ fn reads_end_as_the_reader_does(rt: HostRuntime) {
     assert!(rt; read_answers(alloc, &[Ok(5), fails]) == unread);
     assert!(rt; read_answers(alloc, &[Ok(5), interrupted, Ok(2), Ok(0)]) == Ok(7));
     assert!(rt; read_answers(alloc, &[interrupted]) == unread);
-    assert!(rt; read_answers(alloc, &[Ok(1)]) == Ok(MOST_BYTES));
-    assert!(rt; read_answers(alloc, &[Ok(usize::MAX)]) == Ok(MOST_BYTES));
+    assert!(rt; read_answers(alloc, &[Ok(1)]) == Ok(1_048_577));
+    assert!(rt; read_answers(alloc, &[Ok(usize::MAX)]) == Ok(1_048_577));
 }

@@ -3,6 +3,8 @@
 #![tactic(auto)]
 
 #[cfg(test)]
+mod bus_rows;
+#[cfg(test)]
 mod bus_runs;
 #[cfg(test)]
 mod commands;

@@ -25,9 +25,9 @@ use Rattle.uvm_acts.specs.declared.acts.Act.{Act}
 use Rattle.uvm_acts.specs.declared.acts.Act.TheVariants as act
 use Rattle.uvm_lines.specs.Lines.{how_text, mode_text, kind_text, actions_text}
 use Rattle.answer_acts.specs.Sound.{HasPlainId, IsNumber, IsSound, IsWhat}
+use Rattle.answer_acts.specs.Words.{act_words, said_words, what_words, which_words}
 use Rattle.answer_acts.proofs.Parts.{number_in, number-back, signed_in, signed-back, inner, inner-back, path_in, path-back, item_in, item-back, is_word, given_in, some-item-back, priority-back}
 use Rattle.answer_acts.proofs.Splits.{parts_at}
-use Rattle.answer_acts.proofs.WordsOf.{what_words, which_words, said_words, words_of}
 
 -- WORDS OF A FEW
 
@@ -230,7 +230,7 @@ pub act_in : List (List ℕ) → Act
 act_in [] = act.Lock
 act_in (keyword ∷ words) = read_by readers keyword words
 
-pub act-back : (other : Act) → IsSound other → HasPlainId other → act_in (words_of other) ≡ other
+pub act-back : (other : Act) → IsSound other → HasPlainId other → act_in (act_words other) ≡ other
 unfolding act_in read_by readers
 act-back (act.Create type_name name) sound plain = refl
 act-back (act.Add name what) sound plain = ap (act.Add name) (what-back what sound.1)

@@ -3,7 +3,6 @@ use Rattle.std.proofs.Common.{◌≡◌, ◌∙◌, ℕ, true, refl, ap, sym, Li
 use Rattle.std.proofs.lemmas.List.{append_cancel_left}
 use Rattle.uvm_lines.specs.Lines.{item_text}
 use Rattle.uvm_acts.specs.declared.acts.Act.{Act}
-use Rattle.uvm_acts.specs.declared.acts.Act.TheVariants as act
 use Rattle.uvm_tlm.specs.declared.items.Item.{Item}
 use Rattle.answer_acts.specs.Laws.{RelaysAreNoActs, RelaysReadSo}
 use Rattle.answer_acts.specs.Lines.{act_line}

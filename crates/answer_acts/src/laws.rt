@@ -1,6 +1,6 @@
 //! Laws of the definitions: what they say, in other words. The functions do nothing; their contracts are the laws.
 
-ghost use Rattle.answer_acts.specs.Laws.{LinesTellActs, RelaysAreNoActs, RelaysReadSo};
+ghost use Rattle.answer_acts.specs.Laws.{LinesAreWords, LinesTellActs, NamesComeBack, RelaysAreNoActs, RelaysReadSo};
 
 /// No two acts have one line, so a line tells its act: where both are sound, as all acts are whose parts are what their types say,
 /// and neither changes the severity for the id `none`, whose line is that of the change for all ids.
@@ -18,4 +18,14 @@ pub fn relays_read_so()
 #[tactic(auto, using(crate::proofs::Passing::relays_are_no_acts))]
 pub fn relays_are_no_acts()
     ensures { RelaysAreNoActs }
+{}
+
+/// The line of an act, cut at its blanks, is the words of the act.
+pub fn lines_are_words()
+    ensures { LinesAreWords }
+{}
+
+/// The text of a path stands for the names of the path.
+pub fn names_come_back()
+    ensures { NamesComeBack }
 {}

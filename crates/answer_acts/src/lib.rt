@@ -4,6 +4,7 @@
 
 pub mod laws;
 mod lines;
+pub mod part_laws;
 mod relays;
 mod types;
 

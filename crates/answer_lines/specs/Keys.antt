@@ -1,10 +1,14 @@
 -- The keys of answers, and the calls that each is for.
-use Rattle.std.specs.Prelude.{◌≡◌, ℕ, ◌-◌, ◌==◌, Bool, true, List, length, take, nat_eq, slice_index_or, bytes_eq, Option, Some, None, is_some, if◌then◌else◌}
+use Rattle.std.specs.Prelude.{◌≡◌, ◌<◌, ◌^◌, ℕ, ◌-◌, ◌==◌, Bool, true, List, length, take, nat_eq, slice_index_or, bytes_eq, if◌then◌else◌}
+use Rattle.std.specs.Prelude.{Option, Some, None, IfSome, is_some}
 use Rattle.std.specs.List.{starts_with}
 use Rattle.uvm_tlm.specs.declared.items.Item.{Item}
 use Rattle.uvm_lines.specs.Lines.{call_text}
+use Rattle.answer_acts.specs.Sound.{IsItem, IsName, IsSigned}
+use Rattle.answer_lines.specs.declared.faults.LineFault.{LineFault}
+use Rattle.answer_lines.specs.declared.faults.LineFault.TheVariants.{NoCall, Memory}
 use Rattle.uvm_acts.specs.declared.acts.Call.{Call}
-use Rattle.uvm_acts.specs.declared.acts.Call.TheVariants.{Taken, TryTaken, Peeked, Written, NextItem, ItemDone}
+use Rattle.uvm_acts.specs.declared.acts.Call.TheVariants.{Config, Wake, Stored, TryStored, Taken, TryTaken, Peeked, Written, NextItem, ItemDone, Finished}
 
 -- whether a key has a `*` (42) at its end
 abbrev pub is_open : List ℕ → Bool
@@ -17,6 +21,14 @@ fixed key = if is_open key then take (length key - 1) key else key
 -- whether a key is for the call with this line: the line is the key; or, where the key has a `*` at its end, begins with what stands before that
 abbrev pub is_for : List ℕ → List ℕ → Bool
 is_for key line = if is_open key then starts_with nat_eq line (fixed key) else bytes_eq line key
+
+-- a text that is empty, or has a blank (32) at its end
+abbrev pub ends_between_words : List ℕ → Bool
+ends_between_words text = slice_index_or text (length text - 1) 32 == 32
+
+-- a key is cut between two words: it has no `*` at its end, or nothing or a blank stands before that
+abbrev pub has_whole_words : List ℕ → Bool
+has_whole_words key = if is_open key then ends_between_words (fixed key) else true
 
 -- the item of a call, if it has one
 abbrev pub item_in : Call → Option Item
@@ -39,3 +51,31 @@ pub record IsKeyOf (key : List ℕ) (has_item : Bool) : Type 0 where
   pub call : Call
   pub for : is_for key (call_text call) ≡ true
   pub item : is_some (item_in call) ≡ has_item
+
+-- the names, numbers and items of a call are what their types say: this is so for every call that is made
+abbrev pub CanBeCall : Call → Type 0
+CanBeCall (Config field value) = IsName field × IfSome value IsSigned
+CanBeCall (Wake tag) = tag < 2 ^ 32
+CanBeCall (Stored port) = IsName port
+CanBeCall (TryStored port stored) = IsName port
+CanBeCall (Taken port item) = IsName port × IsItem item
+CanBeCall (TryTaken port item) = IsName port × IfSome item IsItem
+CanBeCall (Peeked port item) = IsName port × IsItem item
+CanBeCall (Written imp item) = IsName imp × IsItem item
+CanBeCall (NextItem port item) = IsName port × IfSome item IsItem
+CanBeCall (ItemDone response) = IfSome response IsItem
+CanBeCall (Finished name id) = IsName name × (id < 2 ^ 64)
+CanBeCall call = Unit {0}
+
+-- no call with this key has an item
+abbrev pub LacksItem : List ℕ → Type 0
+LacksItem key = (call : Call) → CanBeCall call → is_for key (call_text call) ≡ true → item_in call ≡ None
+
+-- a text is the key of no call
+abbrev pub IsNoKey : List ℕ → Type 0
+IsNoKey key = (call : Call) → CanBeCall call → is_for key (call_text call) ≡ true → has_whole_words key ≡ true → ⊥
+
+-- the fault of a key whose call could not be read
+abbrev pub key_fault : LineFault → LineFault
+key_fault Memory = Memory
+key_fault other = NoCall

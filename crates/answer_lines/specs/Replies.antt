@@ -1,10 +1,12 @@
 -- The acts of an answer, and the text of each.
-use Rattle.std.specs.Prelude.{ℕ, Bool, true, false, pos, List, [], ◌∷◌, ◌++◌, Option, Some, None, codes}
+use Rattle.std.specs.Prelude.{◌≡◌, ℕ, Bool, true, false, pos, List, [], ◌∷◌, ◌++◌, Option, Some, None, codes}
 use Rattle.uvm_tlm.specs.declared.items.Item.{Item}
 use Rattle.uvm_acts.specs.declared.acts.Act.{Act}
 use Rattle.answer_acts.specs.Lines.{act_line}
+use Rattle.answer_acts.specs.declared.relays.Relay.{Relay}
 use Rattle.answer_acts.specs.Relays.{HasName, relay_stem, relayed}
 use Rattle.answer_acts.specs.Sound.{HasPlainId, HasSoundPlaces, IsSound}
+use Rattle.answer_lines.specs.Reading.{CanBeSaid}
 use Rattle.answer_lines.specs.declared.replies.Reply.{Reply}
 use Rattle.answer_lines.specs.declared.replies.Reply.TheVariants.{Says, Passes}
 
@@ -17,6 +19,23 @@ reply_line (Passes passing) = relay_stem passing ++ codes " *"
 abbrev pub IsAlone : Reply → Type 0
 IsAlone (Says other) = IsSound other × HasPlainId other
 IsAlone (Passes passing) = HasName passing
+
+-- an act of an answer that can be made: its numbers fit their types too, its glob is a glob, and the text of a report is one
+abbrev pub CanBe : Reply → Type 0
+CanBe (Says other) = CanBeSaid other
+CanBe (Passes passing) = HasName passing
+
+-- a text is the line of no act that can be made
+abbrev pub IsNoLine : List ℕ → Type 0
+IsNoLine line = (other : Act) → CanBeSaid other → act_line other ≡ line → ⊥
+
+-- a text is that of no act that passes on an item
+abbrev pub IsNoPassing : List ℕ → Type 0
+IsNoPassing line = (passing : Relay) → HasName passing → relay_stem passing ++ codes " *" ≡ line → ⊥
+
+-- a text is that of no act of an answer
+abbrev pub IsNoReply : List ℕ → Type 0
+IsNoReply line = (reply : Reply) → CanBe reply → reply_line reply ≡ line → ⊥
 
 -- what is known of an act that was read, before its line is compared
 abbrev pub IsPlain : Act → Type 0

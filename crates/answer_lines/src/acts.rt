@@ -1,7 +1,11 @@
 //! The act that a line is.
 
-ghost use Rattle.std.specs.Prelude.{IfOk};
+ghost use Rattle.std.specs.Prelude.{◌≡◌, IfOk, Ok, codes};
+ghost use Rattle.uvm_acts.specs.declared.acts.What.{What};
+ghost use Rattle.answer_acts.specs.Words.{what_words};
+ghost use Rattle.answer_lines.specs.Reading.{FitsWhat, ReadsAct, ReadsAfter, ReadsOneOf, port_words, time_words};
 ghost use Rattle.answer_lines.specs.Replies.{IsPlain};
+ghost use Rattle.answer_lines.specs.Words.{words_left, words_of};
 
 use crate::faults::LineFault;
 use crate::items::{item, port_kind};
@@ -13,7 +17,8 @@ use uvm_object::{Act, What};
 
 // The act that a line is, by its first word. What stands behind the act is not looked at.
 pub(crate) fn act_of(alloc: Global, line: &str) -> Result<Act, LineFault>
-    ensures { IfOk result IsPlain }
+    ensures plain { IfOk result IsPlain }
+    ensures reads { ReadsAct (words_of line.now) result }
 {
     let mut words = Words::of(line);
     match words.word()? {
@@ -40,7 +45,8 @@ pub(crate) fn act_of(alloc: Global, line: &str) -> Result<Act, LineFault>
 
 // An act of objections and of time, or the fault of a line that is none.
 fn time_act(line: &str) -> Result<Act, LineFault>
-    ensures { IfOk result IsPlain }
+    ensures plain { IfOk result IsPlain }
+    ensures reads { ReadsOneOf time_words (words_of line.now) result }
 {
     let mut words = Words::of(line);
     match words.word()? {
@@ -63,7 +69,8 @@ fn time_act(line: &str) -> Result<Act, LineFault>
 
 // An act of a port, or the fault of a line that is none.
 fn port_act(line: &str) -> Result<Act, LineFault>
-    ensures { IfOk result IsPlain }
+    ensures plain { IfOk result IsPlain }
+    ensures reads { ReadsOneOf port_words (words_of line.now) result }
 {
     let mut words = Words::of(line);
     match words.word()? {
@@ -92,7 +99,9 @@ fn port_act(line: &str) -> Result<Act, LineFault>
     }
 }
 
-fn what(words: &mut Words<'_>) -> Result<What, LineFault> {
+fn what(words: &mut Words<'_>) -> Result<What, LineFault>
+    ensures { (what : What) → FitsWhat what → words_left words.old ≡ what_words what → result ≡ Ok what }
+{
     match words.word()? {
         "sequencer" => Ok(What::Sequencer { mode: mode(words)? }),
         "fifo" => Ok(What::Fifo {
@@ -110,7 +119,8 @@ fn what(words: &mut Words<'_>) -> Result<What, LineFault> {
 }
 
 fn set_act(alloc: Global, words: &mut Words<'_>) -> Result<Act, LineFault>
-    ensures { IfOk result IsPlain }
+    ensures plain { IfOk result IsPlain }
+    ensures reads { ReadsAfter (codes "set") (words_left words.old) result }
 {
     Ok(Act::Set {
         glob: words.glob(alloc)?,
@@ -120,7 +130,8 @@ fn set_act(alloc: Global, words: &mut Words<'_>) -> Result<Act, LineFault>
 }
 
 fn connect_act(alloc: Global, words: &mut Words<'_>) -> Result<Act, LineFault>
-    ensures { IfOk result IsPlain }
+    ensures plain { IfOk result IsPlain }
+    ensures reads { ReadsAfter (codes "connect") (words_left words.old) result }
 {
     Ok(Act::Connect {
         from: words.path(alloc)?,
@@ -129,7 +140,8 @@ fn connect_act(alloc: Global, words: &mut Words<'_>) -> Result<Act, LineFault>
 }
 
 fn override_act(alloc: Global, words: &mut Words<'_>) -> Result<Act, LineFault>
-    ensures { IfOk result IsPlain }
+    ensures plain { IfOk result IsPlain }
+    ensures reads { ReadsAfter (codes "override") (words_left words.old) result }
 {
     let original = words.name()?;
     let new = words.name()?;

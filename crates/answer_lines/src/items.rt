@@ -1,31 +1,46 @@
 //! Items, and the words of ports.
 
+ghost use Rattle.uvm_lines.specs.Lines.{item_text, kind_text, some_item_text};
+ghost use Rattle.std.specs.Prelude.{◌≡◌, ◌∷◌, ◌++◌, ℕ, ℤ, List, IfSome, MatchResult};
+ghost use Rattle.std.specs.Fmt.{signed_decimal};
+ghost use Rattle.answer_acts.specs.Sound.{IsItem, IsSigned};
+ghost use Rattle.answer_lines.specs.Words.{IsAny, Reads, ReadsWord, words_left};
+
 use crate::faults::LineFault;
-use crate::words::{Words, integer_of};
+use crate::words::{Words, between, integer_of};
 use uvm_tlm::{Item, PortKind};
 
 // The item that a word is.
-pub(crate) fn item_of(word: &str) -> Result<Item, LineFault> {
-    let inner = word.strip_prefix('[').ok_or(LineFault::NoAct)?;
-    let inner = inner.strip_suffix(']').ok_or(LineFault::NoAct)?;
-    let (first, inner) = inner.split_once(',').ok_or(LineFault::NoAct)?;
-    let (second, inner) = inner.split_once(',').ok_or(LineFault::NoAct)?;
-    let (third, fourth) = inner.split_once(',').ok_or(LineFault::NoAct)?;
-    Ok(Item([
-        integer_of(first)?,
-        integer_of(second)?,
-        integer_of(third)?,
-        integer_of(fourth)?,
-    ]))
+pub(crate) fn item_of(word: &str) -> Result<Item, LineFault>
+    ensures { ReadsWord item_text IsItem word.now result }
+{
+    let words = between(word, '[', ']')?;
+    let (first, words) = integer_before(words)?;
+    let (second, words) = integer_before(words)?;
+    let (third, fourth) = integer_before(words)?;
+    Ok(Item([first, second, third, integer_of(fourth)?]))
+}
+
+// The integer before the first comma of a text, and what stands behind the comma.
+fn integer_before(text: &str) -> Result<(i64, &str), LineFault>
+    ensures { (first : ℤ) (others : List ℕ) → IsSigned first → text.now ≡ signed_decimal first ++ 44 ∷ others
+        → MatchResult result (λ read. (read.0 ≡ first) × (read.1.now ≡ others)) (λ _. ⊥) }
+{
+    let (first, others) = text.split_once(',').ok_or(LineFault::NoAct)?;
+    Ok((integer_of(first)?, others))
 }
 
 // The next word is an item.
-pub(crate) fn item(words: &mut Words<'_>) -> Result<Item, LineFault> {
+pub(crate) fn item(words: &mut Words<'_>) -> Result<Item, LineFault>
+    ensures { Reads item_text IsItem (words_left words.old) (words_left words.new) result }
+{
     item_of(words.word()?)
 }
 
 // The next word is an item, or `none`.
-pub(crate) fn some_item(words: &mut Words<'_>) -> Result<Option<Item>, LineFault> {
+pub(crate) fn some_item(words: &mut Words<'_>) -> Result<Option<Item>, LineFault>
+    ensures { Reads some_item_text (λ item. IfSome item IsItem) (words_left words.old) (words_left words.new) result }
+{
     match words.word()? {
         "none" => Ok(None),
         word => Ok(Some(item_of(word)?)),
@@ -33,7 +48,9 @@ pub(crate) fn some_item(words: &mut Words<'_>) -> Result<Option<Item>, LineFault
 }
 
 // The next word is the kind of a port.
-pub(crate) fn port_kind(words: &mut Words<'_>) -> Result<PortKind, LineFault> {
+pub(crate) fn port_kind(words: &mut Words<'_>) -> Result<PortKind, LineFault>
+    ensures { Reads kind_text IsAny (words_left words.old) (words_left words.new) result }
+{
     match words.word()? {
         "put" => Ok(PortKind::Put),
         "get" => Ok(PortKind::Get),

@@ -3,6 +3,9 @@
 #![tactic(auto)]
 
 mod acts;
+pub mod call_laws;
+mod calls;
+mod examples;
 mod faults;
 mod items;
 mod keys;

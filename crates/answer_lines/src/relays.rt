@@ -1,6 +1,7 @@
 //! The act that passes on an item, in a text.
 
-ghost use Rattle.std.specs.Prelude.{◌≡◌, IfSome};
+ghost use Rattle.std.specs.Prelude.{◌≡◌, IfNone, IfSome};
+ghost use Rattle.answer_acts.specs.declared.relays.Relay.{Relay};
 ghost use Rattle.answer_acts.specs.Relays.{HasName, relay_stem};
 
 use crate::words::name_of;
@@ -10,6 +11,7 @@ use answer_acts::Relay;
 pub(crate) fn relay_of(stem: &str) -> Option<Relay>
     ensures stem { IfSome result (λ passing. relay_stem passing ≡ stem.now) }
     ensures named { IfSome result HasName }
+    ensures none { IfNone result ((passing : Relay) → HasName passing → relay_stem passing ≡ stem.now → ⊥) }
 {
     if stem == "send" {
         return Some(Relay::Send);

@@ -1,12 +1,14 @@
 //! One act of an answer, as it is read.
 
-ghost use Rattle.std.specs.Prelude.{◌≡◌, IfOk};
+ghost use Rattle.std.specs.Prelude.{◌≡◌, ◌⊎◌, ◌++◌, IfErr, IfNone, IfOk, IfSome, codes};
 ghost use Rattle.answer_acts.specs.Lines.{act_line};
-ghost use Rattle.answer_lines.specs.Replies.{IsAlone, act_with, passes, reply_line};
+ghost use Rattle.answer_acts.specs.Relays.{HasName, relay_stem};
+ghost use Rattle.answer_lines.specs.Replies.{IsAlone, IsNoLine, IsNoPassing, IsNoReply, act_with, passes, reply_line};
 
 use crate::acts::act_of;
 use crate::faults::LineFault;
 use crate::relays::relay_of;
+use answer_acts::laws::lines_are_words;
 use answer_acts::{Relay, act_line, acts_are_sound};
 use std::alloc::{AllocError, Global};
 use uvm_object::Act;
@@ -30,11 +32,10 @@ impl Reply {
     pub fn read(alloc: Global, line: &str) -> Result<Reply, LineFault>
         ensures line { IfOk result (λ reply. reply_line reply ≡ line.now) }
         ensures alone { IfOk result IsAlone }
+        ensures err { IfErr result (λ fault. (fault ≡ LineFault.Memory) ⊎ ((fault ≡ LineFault.NoAct) × IsNoReply line.now)) }
     {
-        if let Some(stem) = line.strip_suffix(HEARD) {
-            if let Some(relay) = relay_of(stem) {
-                return Ok(Reply::Passes(relay));
-            }
+        if let Some(relay) = passing_of(line) {
+            return Ok(Reply::Passes(relay));
         }
         Ok(Reply::Says(exact_act(alloc, line)?))
     }
@@ -57,12 +58,27 @@ impl Reply {
     }
 }
 
+// The act that passes on an item whose text this is: none where it is no such text.
+fn passing_of(line: &str) -> Option<Relay>
+    ensures text { IfSome result (λ passing. relay_stem passing ++ codes " *" ≡ line.now) }
+    ensures named { IfSome result HasName }
+    ensures none { IfNone result (IsNoPassing line.now) }
+{
+    relay_of(line.strip_suffix(HEARD)?)
+}
+
 // The act whose line this is, and of no other form.
 fn exact_act(alloc: Global, line: &str) -> Result<Act, LineFault>
     ensures line { IfOk result (λ act. act_line act ≡ line.now) }
     ensures alone { IfOk result (λ act. IsAlone (Reply.Says act)) }
+    ensures err { IfErr result (λ fault. (fault ≡ LineFault.Memory) ⊎ ((fault ≡ LineFault.NoAct) × IsNoLine line.now)) }
 {
-    let act = act_of(alloc, line)?;
+    lines_are_words();
+    let act = match act_of(alloc, line) {
+        Ok(act) => act,
+        Err(LineFault::Memory) => return Err(LineFault::Memory),
+        Err(_) => return Err(LineFault::NoAct),
+    };
     let text = act_line(alloc, &act)?;
     if text.as_slice() == line.as_bytes() {
         acts_are_sound(&act);

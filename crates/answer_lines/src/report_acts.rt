@@ -1,17 +1,27 @@
 //! The acts on reports.
 
-ghost use Rattle.std.specs.Prelude.{IfOk};
+ghost use Rattle.std.specs.Prelude.{◌≡◌, ◌<◌, ◌^◌, ℕ, List, IfOk, IfSome, None, Ok, codes};
+ghost use Rattle.std.specs.List.{join_with_byte};
+ghost use Rattle.uvm_report.specs.Texts.{text_fault};
+ghost use Rattle.uvm_report.specs.declared.severities.Actions.{Actions};
+ghost use Rattle.uvm_lines.specs.Lines.{actions_text, id_text};
+ghost use Rattle.answer_acts.specs.Sound.{IsName, IsPlainId};
+ghost use Rattle.answer_acts.specs.Words.{said_words};
+ghost use Rattle.answer_lines.specs.Reading.{IsRead, ReadsAfter, ReadsOneOf, ReadsWhich, report_words};
 ghost use Rattle.answer_lines.specs.Replies.{IsPlain};
+ghost use Rattle.answer_lines.specs.Words.{Reads, words_left, words_of};
 
 use crate::faults::LineFault;
 use crate::words::{Words, name_of, severity_of};
 use std::alloc::Global;
+use uvm_glob::Name;
 use uvm_object::Act;
 use uvm_report::{Actions, Report, Text, TextFault, Which};
 
 // The act on reports that a line is.
 pub(crate) fn report_act(alloc: Global, line: &str) -> Result<Act, LineFault>
-    ensures { IfOk result IsPlain }
+    ensures plain { IfOk result IsPlain }
+    ensures reads { ReadsOneOf report_words (words_of line.now) result }
 {
     let mut words = Words::of(line);
     match words.word()? {
@@ -26,10 +36,7 @@ pub(crate) fn report_act(alloc: Global, line: &str) -> Result<Act, LineFault>
         }),
         "severity" => Ok(Act::Severity {
             from: words.severity()?,
-            id: match words.word()? {
-                "none" => None,
-                word => Some(name_of(word)?),
-            },
+            id: some_id(&mut words)?,
             to: words.severity()?,
         }),
         _ => Err(LineFault::NoAct),
@@ -38,16 +45,13 @@ pub(crate) fn report_act(alloc: Global, line: &str) -> Result<Act, LineFault>
 
 // Behind the id stand the verbosity and the text, where they are not 0 and empty.
 fn report(alloc: Global, words: &mut Words<'_>) -> Result<Act, LineFault>
-    ensures { IfOk result IsPlain }
+    ensures plain { IfOk result IsPlain }
+    ensures reads { ReadsAfter (codes "report") (words_left words.old) result }
 {
     let severity = words.severity()?;
     let id = words.name()?;
-    let verbosity = if words.is_done() { 0 } else { words.small()? };
-    let text = match Text::new(alloc, words.rest().as_bytes()) {
-        Ok(text) => text,
-        Err(TextFault::Memory) => return Err(LineFault::Memory),
-        Err(_) => return Err(LineFault::NoAct),
-    };
+    let verbosity = verbosity_of(words)?;
+    let text = text_of(alloc, words)?;
     Ok(Act::Report {
         report: Report {
             severity,
@@ -58,8 +62,43 @@ fn report(alloc: Global, words: &mut Words<'_>) -> Result<Act, LineFault>
     })
 }
 
+// The verbosity of a report: 0 where nothing stands behind its id.
+fn verbosity_of(words: &mut Words<'_>) -> Result<u16, LineFault>
+    ensures { (verbosity : ℕ) (text : List ℕ) → verbosity < 2 ^ 16 → words_left words.old ≡ said_words verbosity text
+        → (result ≡ Ok verbosity) × (join_with_byte 32 (words_left words.new) ≡ text) }
+{
+    if words.is_done() {
+        return Ok(0);
+    }
+    words.small()
+}
+
+// The text of a report: all that is left.
+fn text_of(alloc: Global, words: &mut Words<'_>) -> Result<Text, LineFault>
+    ensures { text_fault (join_with_byte 32 (words_left words.old)) ≡ None → IsRead (join_with_byte 32 (words_left words.old)) result }
+{
+    match Text::new(alloc, words.rest().as_bytes()) {
+        Ok(text) => Ok(text),
+        Err(TextFault::Memory) => Err(LineFault::Memory),
+        Err(_) => Err(LineFault::NoAct),
+    }
+}
+
+// The next word is an id, or `none`.
+fn some_id(words: &mut Words<'_>) -> Result<Option<Name>, LineFault>
+    ensures plain { IfOk result IsPlainId }
+    ensures reads { Reads id_text (λ id. IfSome id IsName × IsPlainId id) (words_left words.old) (words_left words.new) result }
+{
+    match words.word()? {
+        "none" => Ok(None),
+        word => Ok(Some(name_of(word)?)),
+    }
+}
+
 // The reports that a setting is for: `all`, `SEVERITY`, `id ID` or `SEVERITY ID`, with one more word behind.
-fn which(words: &mut Words<'_>) -> Result<Which, LineFault> {
+fn which(words: &mut Words<'_>) -> Result<Which, LineFault>
+    ensures { ReadsWhich (words_left words.old) (words_left words.new) result }
+{
     let first = words.word()?;
     if first == "all" {
         return Ok(Which::All);
@@ -76,7 +115,9 @@ fn which(words: &mut Words<'_>) -> Result<Which, LineFault> {
     Ok(Which::Both(severity, words.name()?))
 }
 
-fn actions(word: &str) -> Result<Actions, LineFault> {
+fn actions(word: &str) -> Result<Actions, LineFault>
+    ensures { (actions : Actions) → word.now ≡ actions_text actions → result ≡ Ok actions }
+{
     let (display, count, exit) = match word {
         "display,count,exit" => (true, true, true),
         "display,count" => (true, true, false),

@@ -1,7 +1,10 @@
 //! The acts that have to do with sequences.
 
-ghost use Rattle.std.specs.Prelude.{IfOk};
+ghost use Rattle.std.specs.Prelude.{IfOk, codes};
+ghost use Rattle.uvm_lines.specs.Lines.{how_text, mode_text};
+ghost use Rattle.answer_lines.specs.Reading.{ReadsAfter, ReadsOneOf, sequence_words};
 ghost use Rattle.answer_lines.specs.Replies.{IsPlain};
+ghost use Rattle.answer_lines.specs.Words.{IsAny, Reads, words_left, words_of};
 
 use crate::faults::LineFault;
 use crate::items::{item, some_item};
@@ -12,7 +15,8 @@ use uvm_sequencer::{How, Mode};
 
 // The act of a sequence, or of its driver, that a line is.
 pub(crate) fn sequence_act(alloc: Global, line: &str) -> Result<Act, LineFault>
-    ensures { IfOk result IsPlain }
+    ensures plain { IfOk result IsPlain }
+    ensures reads { ReadsOneOf sequence_words (words_of line.now) result }
 {
     let mut words = Words::of(line);
     match words.word()? {
@@ -40,7 +44,8 @@ pub(crate) fn sequence_act(alloc: Global, line: &str) -> Result<Act, LineFault>
 }
 
 fn start_act(alloc: Global, words: &mut Words<'_>) -> Result<Act, LineFault>
-    ensures { IfOk result IsPlain }
+    ensures plain { IfOk result IsPlain }
+    ensures reads { ReadsAfter (codes "start") (words_left words.old) result }
 {
     Ok(Act::Start {
         type_name: words.name()?,
@@ -51,7 +56,9 @@ fn start_act(alloc: Global, words: &mut Words<'_>) -> Result<Act, LineFault>
 }
 
 // The next word is the mode of a sequencer.
-pub(crate) fn mode(words: &mut Words<'_>) -> Result<Mode, LineFault> {
+pub(crate) fn mode(words: &mut Words<'_>) -> Result<Mode, LineFault>
+    ensures { Reads mode_text IsAny (words_left words.old) (words_left words.new) result }
+{
     match words.word()? {
         "FIFO" => Ok(Mode::Fifo),
         "WEIGHTED" => Ok(Mode::Weighted),
@@ -62,7 +69,9 @@ pub(crate) fn mode(words: &mut Words<'_>) -> Result<Mode, LineFault> {
     }
 }
 
-fn how(words: &mut Words<'_>) -> Result<How, LineFault> {
+fn how(words: &mut Words<'_>) -> Result<How, LineFault>
+    ensures { Reads how_text IsAny (words_left words.old) (words_left words.new) result }
+{
     match words.word()? {
         "next" => Ok(How::Next),
         "try" => Ok(How::Try),

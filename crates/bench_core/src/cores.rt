@@ -237,10 +237,11 @@ impl Core {
         told::phase(&self.world)
     }
 
-    /// The log. It is legal at every moment.
+    /// Returns a reference to the log, which is legal at every moment. Its limit is that of the script's version.
     pub fn log(&self) -> &Log
         ensures entries { result.now.entries ≡ self.now.history }
         ensures legal { IsLegal self.now.script self.now.history }
+        ensures limit { result.now.limit ≡ log_limit self.now.script }
     {
         self.world.log()
     }

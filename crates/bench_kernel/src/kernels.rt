@@ -4,6 +4,7 @@ ghost use Rattle.std.specs.Prelude.{◌≡◌, ◌∷◌, [], true, false, All, 
 ghost use Rattle.std.specs.List.{IsDistinct};
 ghost use Rattle.std.specs.List.Sorted.{IsPermutation};
 ghost use Rattle.bench_history.specs.History.{nodes_of};
+ghost use Rattle.bench_history.specs.Limits.{log_limit};
 ghost use Rattle.bench_history.specs.Next.{next_of, declined_in, IsLegal};
 ghost use Rattle.bench_history.specs.Reports.{report_commands};
 ghost use Rattle.uvm_report.specs.Changes.{Gives};
@@ -245,10 +246,12 @@ impl<O: UvmObject> Kernel<O> {
         }
     }
 
-    /// The log. It is legal at every moment, and each answer in it is what the object that it names gave.
+    /// Returns a reference to the log, which is legal at every moment. Each answer in it of an object that is held is one that the object may
+    /// give. Its limit is that of the script's version.
     pub fn log(&self) -> &Log
         ensures entries { result.now.entries ≡ self.now.core.history }
         ensures legal { IsLegal self.now.core.script self.now.core.history }
+        ensures limit { result.now.limit ≡ log_limit self.now.core.script }
         ensures honest { AreHonest O.view O.says self.now }
     {
         self.core.log()

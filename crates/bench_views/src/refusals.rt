@@ -15,9 +15,8 @@ use world_sequencer_acts::starts::what_is_started;
 use world_services::attempts::is_open_to;
 use world_services::creations::{Uncreated, what_is_created};
 
-/// Why a creation or a start by somebody would be refused now, if so; whether there is an object to be made is told when it
-/// is needed. Memory is refused after every refusal but that of a loop of overrides; for a start also before those for its
-/// sequencer and its path. For a sound world.
+/// Returns why a creation or a start by `performer` would be rejected now, or `None`; an object that is missing is reported when it is needed.
+/// Errors: out of memory, after every rejection except that of a loop of overrides and, for a start, of its path. Requires a consistent world.
 pub fn refusal(world: &World, performer: &Who, act: &Act) -> Result<Option<Fatal>, AllocError>
     requires sound { world.now.sound ≡ true }
     requires makes { IsMaking act.now }

@@ -107,10 +107,11 @@ impl World {
         &self.script
     }
 
-    /// The log, which is legal.
+    /// Returns a reference to the log, which is legal. Its limit is that of the script's version.
     pub fn log(&self) -> &Log
         ensures entries { result.now.entries ≡ self.now.history }
         ensures legal { IsLegal self.now.script self.now.history }
+        ensures limit { result.now.limit ≡ log_limit self.now.script }
     {
         &self.log
     }

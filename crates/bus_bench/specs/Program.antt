@@ -8,10 +8,9 @@ use Rattle.bus_command.specs.Commands.{Asked, bus_bench_app, debug, named_job, r
 use Rattle.bus_command.specs.Faults.{IsJobFaultOf}
 use Rattle.bus_command.specs.declared.jobs.JobFault.{JobFault}
 use Rattle.bus_command.specs.declared.jobs.JobFault.TheVariants.{Help, Version, Refused, BadName, Memory}
-use Rattle.bus_jobs.specs.declared.files.TheConstants.{MOST_BYTES}
 use Rattle.bus_jobs.specs.Debugging.{IsDebugRun}
 use Rattle.bus_jobs.specs.Runs.{IsBenchRun, script_to_run, words_of_seed}
-use Rattle.bus_jobs.specs.Verdicts.{IsUnread, status_of, unflushed}
+use Rattle.bus_jobs.specs.Verdicts.{IsUnread, most_file_bytes, status_of, unflushed}
 use Rattle.bus_jobs.specs.declared.verdicts.Verdict.{Verdict}
 
 -- what the verdict on the bytes of a job's file says of them and of the bytes that the writer holds before and after
@@ -26,7 +25,7 @@ IsReport asked bytes old new verdict = (done : Verdict) × IsWork asked bytes ol
 -- a job on a file that tells its bytes: nothing was read of it, or its bytes were, as many as are read at most
 abbrev pub IsJobOn : Asked → Option (List ℕ) → Option (List ℕ) → Option (List ℕ) → Verdict → Type 0
 IsJobOn asked file old new verdict = (IsUnread verdict × Keeps old new)
-    ⊎ ((bytes : List ℕ) × IfSome file (λ all. bytes ≡ take MOST_BYTES all) × IsReport asked bytes old new verdict)
+    ⊎ ((bytes : List ℕ) × IfSome file (λ all. bytes ≡ take most_file_bytes all) × IsReport asked bytes old new verdict)
 
 -- a job on its file, whose bytes no clause can say: nothing was read of it, or some bytes were
 abbrev pub IsJobDone : Asked → Option (List ℕ) → Option (List ℕ) → Verdict → Type 0

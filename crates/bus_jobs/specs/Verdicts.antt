@@ -48,6 +48,10 @@ fault_line Faulty = []
 fault_line (Refused fault) = error_line (fault_text fault)
 fault_line (Broken breakage) = error_line (message_of breakage)
 
+-- the most bytes that are read of a file: one more than a script may have
+abbrev pub most_file_bytes : ℕ
+most_file_bytes = 1048577
+
 -- the verdict where a file is not read
 abbrev pub IsUnread : Verdict → Type 0
 IsUnread verdict = (verdict ≡ Broken Memory) ⊎ (verdict ≡ Broken Unread)

@@ -1,7 +1,7 @@
 //! The bytes of a file.
 ghost use Rattle.std.specs.Prelude.{◌≡◌, ◌⊎◌, ◌<◌, ◌≤◌, ◌+◌, ◌++◌, ℕ, List, Err, IfErr, IfOk, IfSome, OnOk, false, length, take, true, vec_len};
 ghost use Rattle.std.specs.Io.KnownBytes.{Consumes, IsAtEnd};
-ghost use Rattle.bus_jobs.specs.Verdicts.{IsReadFault, IsUnread};
+ghost use Rattle.bus_jobs.specs.Verdicts.{IsReadFault, IsUnread, most_file_bytes};
 
 use crate::sources::Source;
 use crate::verdicts::{Breakage, Verdict};
@@ -22,9 +22,9 @@ const PIECE: usize = 8192;
 /// Errors: `Broken(Unread)` if a read fails, or if 2,097,152 reads do not reach the end; `Broken(Memory)` if memory runs out. After an
 /// error the bytes that were read are lost.
 pub fn read_file<S: Source>(alloc: Global, reader: &mut S) -> Result<Vec<u8>, Verdict>
-    ensures bound { IfOk result (λ bytes. vec_len bytes ≤ MOST_BYTES) }
+    ensures bound { IfOk result (λ bytes. vec_len bytes ≤ most_file_bytes) }
     ensures bytes { IfOk result (λ bytes. IfSome (S.remaining reader.old)
-        (λ all. bytes.items ≡ take MOST_BYTES all)) }
+        (λ all. bytes.items ≡ take most_file_bytes all)) }
     ensures left { IfOk result (λ bytes.
         Consumes (S.remaining reader.old) (S.remaining reader.new) bytes.items) }
     ensures fault { IfErr result (IsReadFault (S.remaining reader.old) (S.remaining reader.new)) }

@@ -1,5 +1,5 @@
 -- What the run of a document does.
-use Rattle.std.specs.Prelude.{◌≡◌, ◌≢◌, ◌⊎◌, ◌||◌, ℕ, Bool, true, false, not, List, [], ◌∷◌, map, filter, slice_get, bytes_eq, is_none, is_some, Option, Some, None, Result, Ok, Err, codes, if◌then◌else◌}
+use Rattle.std.specs.Prelude.{◌≡◌, ◌≢◌, ◌⊎◌, ◌||◌, ℕ, Bool, true, false, not, List, [], ◌∷◌, map, filter, slice_get, bytes_eq, is_none, is_some, string_bytes, Option, Some, None, Result, Ok, Err, codes, if◌then◌else◌}
 use Rattle.std.specs.List.{list_any}
 use Rattle.std.specs.Option.{option_or}
 use Rattle.std.specs.Io.KnownBytes.{Keeps}
@@ -23,6 +23,8 @@ use Rattle.bus_jobs.specs.Verdicts.{breakage_of}
 use Rattle.bus_jobs.specs.declared.verdicts.Breakage.TheVariants as broke
 use Rattle.bus_objects.specs.Objects.{object_named as bus_object}
 use Rattle.scripted_objects.specs.Answers.{TypeValue, rules_named}
+use Rattle.scripted_objects.specs.FirstFaults.{FaultAt, HasFirstFault}
+use Rattle.scripted_objects.specs.Faults.{place_text}
 use Rattle.scripted_objects.specs.Tables.{AreTypesOf}
 use Rattle.script_jobs.specs.Objects.{name_of, object_named, says_of, view_of}
 use Rattle.script_jobs.specs.declared.objects.BenchObject.{BenchObject}
@@ -63,10 +65,10 @@ abbrev pub IsNoTable : Option Data → Type 0
 IsNoTable None = ⊥
 IsNoTable (Some answers) = as_table answers ≡ None
 
--- there are answers, in a table
-abbrev pub HasTable : Option Data → Type 0
-HasTable None = ⊥
-HasTable (Some answers) = (table : Members) × (as_table answers ≡ Some table)
+-- the value at the key of the answers is a table, and a text tells its first fault
+abbrev pub TellsFirstFault : Option Data → List ℕ → Type 0
+TellsFirstFault None text = ⊥
+TellsFirstFault (Some answers) text = (table : Members) × (as_table answers ≡ Some table) × ((at : FaultAt) × HasFirstFault table at × (text ≡ place_text at))
 
 -- whether the script declares a type
 abbrev pub has_type : Types → List ℕ → Bool
@@ -101,7 +103,7 @@ IsAnswersFault answers types (Refused (UnknownTest name)) = ⊥
 IsAnswersFault answers types (Refused NoTable) = IsNoTable answers
 IsAnswersFault answers types (Refused (UnknownType type_name)) = HasUnknown answers types type_name
 IsAnswersFault answers types (Refused (NoObject type_name)) = HasBare answers types type_name
-IsAnswersFault answers types (Refused (Answers text)) = HasTable answers
+IsAnswersFault answers types (Refused (Answers text)) = TellsFirstFault answers (string_bytes text)
 IsAnswersFault answers types (Broken broke.Memory) = Unit {0}
 IsAnswersFault answers types (Broken broke.LogFull) = ⊥
 IsAnswersFault answers types (Broken broke.Output) = ⊥

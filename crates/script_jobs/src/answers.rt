@@ -1,9 +1,10 @@
 //! The answers of a document.
 
 ghost use Rattle.std.specs.Prelude.{◌≡◌, [], IfErr, IfOk, OnOk, Option, Some, codes, option_map, slice_get};
-ghost use Rattle.toml.specs.Data.{Data, get_member};
+ghost use Rattle.toml.specs.Data.{Data, Members, as_table, get_member};
 ghost use Rattle.toml.specs.View.{table_view, view};
-ghost use Rattle.script_jobs.specs.Runs.{HasTable, HoldsAnswers, IsAnswersFault, bare_types, has_object, has_type, unknown_types};
+ghost use Rattle.scripted_objects.specs.FirstFaults.{HasFirstFault, OrMemoryAt};
+ghost use Rattle.script_jobs.specs.Runs.{HoldsAnswers, IsAnswersFault, bare_types, has_object, has_type, unknown_types};
 ghost use Rattle.uvm_factory.specs.Faults.{Types};
 
 use crate::verdicts::{Refusal, Verdict};
@@ -110,7 +111,7 @@ fn has_object(answers: &Answers, type_name: &Name) -> bool
 
 // Returns the verdict on a document with an answer at fault.
 fn refused(alloc: Global, fault: &FaultyAnswer<'_>) -> Verdict
-    ensures { (said : Data) (types : Types) → HasTable (Some said) → IsAnswersFault (Some said) types result }
+    ensures { (said : Data) (table : Members) (types : Types) → as_table said ≡ Some table → OrMemoryAt (HasFirstFault table) fault.now → IsAnswersFault (Some said) types result }
 {
     if fault.fault == AnswerFault::Memory {
         return Verdict::Broken(Breakage::Memory);

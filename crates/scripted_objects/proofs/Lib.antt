@@ -1,4 +1,5 @@
 mod Entries
+mod FirstFaults
 mod Functions
 mod Single
 mod Sorting

@@ -5,7 +5,7 @@ use Rattle.answer_lines.specs.declared.faults.LineFault.TheVariants as line
 use Rattle.scripted_objects.specs.declared.faults.AnswerFault.{AnswerFault}
 use Rattle.scripted_objects.specs.declared.faults.AnswerFault.TheVariants.{BadName, NotTable, NoList, NoCall, NoAct, NoItem, Memory}
 use Rattle.scripted_objects.specs.declared.faults.FaultyAnswer.{FaultyAnswer}
-use denote.Ref.{Bor}
+use Rattle.scripted_objects.specs.FirstFaults.{FaultAt, told_by}
 
 -- the fault of a text, as one of answers
 abbrev pub fault_of : LineFault → AnswerFault
@@ -24,15 +24,19 @@ fault_text NoItem = codes "'*' needs a call that carries an item"
 fault_text Memory = codes "memory"
 
 -- the call at fault, if there is one: `."wake 1"`
-abbrev pub call_text : Option (Bor (List ℕ)) → List ℕ
+abbrev pub call_text : Option (List ℕ) → List ℕ
 call_text None = []
-call_text (Some call) = codes ".\"" ++ call.now ++ 34 ∷ []
+call_text (Some call) = codes ".\"" ++ call ++ 34 ∷ []
 
 -- the action at fault, if there is one: `: creat c b`
-abbrev pub act_text : Option (Bor (List ℕ)) → List ℕ
+abbrev pub act_text : Option (List ℕ) → List ℕ
 act_text None = []
-act_text (Some act) = codes ": " ++ act.now
+act_text (Some act) = codes ": " ++ act
 
 -- the place, what is wrong there, and the text of the action, if there is one
+abbrev pub place_text : FaultAt → List ℕ
+place_text at = codes "answers." ++ at.type_name ++ call_text at.call ++ codes ": " ++ fault_text at.fault ++ act_text at.act
+
+-- the text of a fault that is reported
 abbrev pub faulty_text : FaultyAnswer → List ℕ
-faulty_text faulty = codes "answers." ++ faulty.type_name.now ++ call_text faulty.call ++ codes ": " ++ fault_text faulty.fault ++ act_text faulty.act
+faulty_text faulty = place_text (told_by faulty)

@@ -1,5 +1,6 @@
 pub mod Answers
 pub mod Faults
+pub mod FirstFaults
 pub mod Laws
 pub mod Rules
 pub mod Scripted

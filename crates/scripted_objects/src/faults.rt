@@ -1,5 +1,8 @@
 //! Why answers are refused.
 
+ghost use Rattle.std.specs.Prelude.{◌≡◌, None, Some, option_map};
+ghost use Rattle.scripted_objects.specs.FirstFaults.{told_by};
+
 use answer_lines::LineFault;
 use std::error::Error;
 use std::fmt;
@@ -38,7 +41,9 @@ pub struct FaultyAnswer<'a> {
 
 impl AnswerFault {
     // Returns this fault, at a type.
-    pub(crate) fn at_type(self, type_name: &str) -> FaultyAnswer<'_> {
+    pub(crate) fn at_type(self, type_name: &str) -> FaultyAnswer<'_>
+        ensures { told_by result ≡ record { fault = self; type_name = type_name.now; call = None; act = None } }
+    {
         FaultyAnswer {
             fault: self,
             type_name,
@@ -53,7 +58,9 @@ impl AnswerFault {
         type_name: &'a str,
         call: &'a str,
         act: Option<&'a str>,
-    ) -> FaultyAnswer<'a> {
+    ) -> FaultyAnswer<'a>
+        ensures { told_by result ≡ record { fault = self; type_name = type_name.now; call = Some call.now; act = option_map (λ act. act.now) act.entry } }
+    {
         FaultyAnswer {
             fault: self,
             type_name,

@@ -363,7 +363,7 @@ pub enum Act {
         /// The drain time in ticks, at most 10^15.
         ticks: u64,
     },
-    /// Waits without blocking: `Call::Wake` follows after some ticks.
+    /// Waits without blocking: `Call::Wake` follows after these ticks.
     Wait {
         /// The number of ticks, at most 10^15.
         ticks: u64,

@@ -1,5 +1,5 @@
 -- What is said of an item in hand.
-use Rattle.std.proofs.Common.{◌≡◌, ℕ, Bool, true, false, Some, IsSome, refl, if◌then◌else◌}
+use Rattle.std.proofs.Common.{◌≡◌, Bool, true, false, Some, IsSome, refl, if◌then◌else◌}
 use Rattle.uvm_sequencer.specs.declared.drivers.Driver.{Driver}
 use Rattle.uvm_sequencer.specs.declared.drivers.Driver.TheVariants.{Idle, Waiting, Granted, InHand}
 use Rattle.uvm_sequencer.specs.declared.faults.SeqFault.TheVariants.{NoDriver, Twice}

@@ -5,8 +5,8 @@ pub mod Marks
 pub mod Nesting
 pub mod Ordering
 pub mod Passing
-pub mod Releases
 pub mod Singles
+pub mod Slots
 pub mod Starting
 pub mod Taking
 pub mod Waiting

@@ -83,34 +83,24 @@ shorter test (x ∷ xs) = shorter_by test x xs (test x) refl (shorter test xs)
 pub locks_few : (queue : List Request) → length (locks queue) ≤ length queue
 locks_few queue = shorter (λ request. not (is_item request)) queue
 
--- room for each that waits and for one more is room for the locks and for one more
-pub room-asked : (queue : List Request) (request : Request) (holders : List ℕ) (capacity : ℕ) → length holders + (length queue + 1) ≤ capacity → length (locks (queue ++ request ∷ [])) + length holders ≤ capacity
-room-asked queue request holders capacity room = let few = locks_few (queue ++ request ∷ []) in let size = length-append queue (request ∷ []) in omega arith
+-- room for each that waits and for one more is room for the locks
+pub room-asked : (queue : List Request) (request : Request) (spare : ℕ) → length queue + 1 ≤ spare → length (locks (queue ++ request ∷ [])) ≤ spare
+room-asked queue request spare room = let few = locks_few (queue ++ request ∷ []) in let size = length-append queue (request ∷ []) in omega arith
 
-pub room-first : (queue : List Request) (request : Request) (holders : List ℕ) (capacity : ℕ) → length holders + (length queue + 1) ≤ capacity → length (locks (request ∷ queue)) + length holders ≤ capacity
-room-first queue request holders capacity room = let few = locks_few (request ∷ queue) in omega arith
+pub room-first : (queue : List Request) (request : Request) (spare : ℕ) → length queue + 1 ≤ spare → length (locks (request ∷ queue)) ≤ spare
+room-first queue request spare room = let few = locks_few (request ∷ queue) in omega arith
 
--- what stays true of what waits and of the holders
-pub left-room : (keep : Request → Bool) (test : ℕ → Bool) (queue : List Request) (holders : List ℕ) (capacity : ℕ)
-    → length (locks queue) + length holders ≤ capacity
-    → length (locks (filter keep queue)) + length (filter test holders) ≤ capacity
-left-room keep test queue holders capacity room =
-    let few = few-locks keep queue in
-    let less = shorter test holders in
-    omega arith
+-- what is left of what waits has room
+pub left-room : (keep : Request → Bool) (queue : List Request) (spare after : ℕ) → length (locks queue) ≤ spare → spare ≤ after → length (locks (filter keep queue)) ≤ after
+left-room keep queue spare after room more = let few = few-locks keep queue in omega arith
 
 -- where a lock leads there is room for it, and after it is granted there is room for the others
 module _ (started : List Start) (holders : List ℕ) (queue : List Request) (seq : ℕ) (led : leading_lock started holders queue ≡ Some seq) where
   fewer : length (locks (filter (λ r. not (is_lock_of seq r)) queue)) < length (locks queue)
   fewer = fewer-locks seq queue (leading-waits started holders seq queue led)
 
-  pub room-to-grant : (capacity : ℕ) → length (locks queue) + length holders ≤ capacity → length holders < capacity
-  room-to-grant capacity room = omega (arith, fewer)
+  pub room-to-grant : (spare : ℕ) → length (locks queue) ≤ spare → 0 < spare
+  room-to-grant spare room = omega (arith, fewer)
 
-  pub room-granted : (capacity after : ℕ) → length (locks queue) + length holders ≤ capacity → capacity ≤ after → length (locks (filter (λ r. not (is_lock_of seq r)) queue)) + length (holders ++ seq ∷ []) ≤ after
-  room-granted capacity after room more = simp length-append (omega (arith, fewer))
-
-pub fewer-waiting : (keep : Request → Bool) (queue : List Request) (holders : List ℕ) (capacity : ℕ)
-    → length (locks queue) + length holders ≤ capacity
-    → length (locks (filter keep queue)) + length holders ≤ capacity
-fewer-waiting keep queue holders capacity room = let few = few-locks keep queue in omega arith
+  pub room-granted : (spare after : ℕ) → length (locks queue) ≤ spare → spare ≤ after + 1 → length (locks (filter (λ r. not (is_lock_of seq r)) queue)) ≤ after
+  room-granted spare after room more = omega (arith, fewer)

@@ -1,5 +1,5 @@
 -- What the definitions say, in other words.
-use Rattle.std.specs.Prelude.{◌≡◌, ◌+◌, ◌<◌, ◌≤◌, ◌==◌, ◌&&◌, ℕ, Bool, true, IsTrue, nat_le, List, [], ◌∷◌, ◌++◌, length, filter, sum_by, All, Contains, Option, Some, None, IsSome, if◌then◌else◌}
+use Rattle.std.specs.Prelude.{◌≡◌, ◌+◌, ◌<◌, ◌≤◌, ◌&&◌, ℕ, Bool, true, IsTrue, nat_le, List, [], ◌∷◌, ◌++◌, length, filter, sum_by, All, Contains, Option, Some, None, IsSome}
 use Rattle.std.specs.List.{list_all}
 use Rattle.uvm_sequencer.specs.declared.modes.Mode.{Mode}
 use Rattle.uvm_sequencer.specs.declared.modes.Mode.TheVariants.{Fifo, StrictFifo}

@@ -12,7 +12,7 @@ has_priority request = not (is_item request) || nat_lt 0 (priority_of request)
 
 -- the marks are of those who wait, each item request has a priority, and no sequence waits twice
 pub record IsQueue (q : Inside) : Type 0 where
-  pub items : (seq : ℕ) → contains nat_eq q.items seq ≡ list_any (is_item_of seq) q.requests.items
-  pub locks : (seq : ℕ) → contains nat_eq q.locks seq ≡ list_any (is_lock_of seq) q.requests.items
-  pub priorities : list_all has_priority q.requests.items ≡ true
-  pub single : AreSingle q.requests.items
+  pub items : (seq : ℕ) → contains nat_eq q.items seq ≡ list_any (is_item_of seq) q.requests
+  pub locks : (seq : ℕ) → contains nat_eq q.locks seq ≡ list_any (is_lock_of seq) q.requests
+  pub priorities : list_all has_priority q.requests ≡ true
+  pub single : AreSingle q.requests

@@ -5,7 +5,8 @@ use Rattle.std.specs.List.{list_any}
 use Rattle.uvm_sequencer.specs.declared.requests.Request.{Request}
 use Rattle.uvm_sequencer.specs.declared.requests.Want.{Want}
 use Rattle.uvm_sequencer.specs.declared.requests.Want.TheVariants.{Item, Lock}
-use Rattle.uvm_sequences.specs.Sequences.{Start, is_under}
+use Rattle.uvm_sequences.specs.Sequences.{Start}
+pub use Rattle.uvm_holders.specs.Holding.{is_blocked, is_held, released, all_released}
 
 -- the request of a sequence to send an item, with its priority
 abbrev pub item_request : ℕ → ℕ → Request
@@ -61,10 +62,6 @@ without_item seq queue = filter (λ request. not (is_item_of seq request)) queue
 abbrev pub without_lock : ℕ → List Request → List Request
 without_lock seq queue = filter (λ request. not (is_lock_of seq request)) queue
 
--- a sequence is blocked where some holder is neither itself nor one of its ancestors
-abbrev pub is_blocked : List Start → List ℕ → ℕ → Bool
-is_blocked started holders seq = list_any (λ holder. not (is_under started seq holder)) holders
-
 -- a candidate is an item request of a sequence that is not blocked
 abbrev pub is_candidate : List Start → List ℕ → Request → Bool
 is_candidate started holders request = is_item request && not (is_blocked started holders request.seq)
@@ -84,16 +81,3 @@ lock_in request = if is_item request then None else Some request.seq
 -- the sequence whose lock is granted next: that of the request that leads, if this is for a lock
 abbrev pub leading_lock : List Start → List ℕ → List Request → Option ℕ
 leading_lock started holders queue = option_and_then lock_in (leading started holders queue)
-
--- a sequence holds a lock
-abbrev pub is_held : ℕ → List ℕ → Bool
-is_held seq holders = list_any (λ holder. holder == seq) holders
-
--- the holders without the latest lock of a sequence
-abbrev pub released : ℕ → List ℕ → List ℕ
-released seq [] = []
-released seq (holder ∷ later) = if (holder == seq) && not (is_held seq later) then later else holder ∷ released seq later
-
--- the holders without all locks of a sequence
-abbrev pub all_released : ℕ → List ℕ → List ℕ
-all_released seq holders = filter (λ holder. not (holder == seq)) holders

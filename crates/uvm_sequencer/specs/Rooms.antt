@@ -1,5 +1,5 @@
 -- What a sequencer keeps.
-use Rattle.std.specs.Prelude.{◌≤◌, ◌+◌, not, List, length, filter, vec_capacity}
+use Rattle.std.specs.Prelude.{◌≤◌, not, List, length, filter}
 use Rattle.uvm_sequencer.specs.declared.requests.Request.{Request}
 use Rattle.uvm_sequencer.specs.declared.sequencers.Sequencer.TheInside.{Inside}
 use Rattle.uvm_sequencer.specs.Queues.{is_item}
@@ -10,4 +10,4 @@ locks queue = filter (λ request. not (is_item request)) queue
 
 -- each lock request that waits has room among the holders
 pub record IsSequencer (s : Inside) : Type 0 where
-  pub room : length (locks s.queue) + length s.holders.items ≤ vec_capacity s.holders
+  pub room : length (locks s.queue) ≤ s.holders.spare

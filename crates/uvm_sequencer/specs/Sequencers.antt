@@ -18,7 +18,8 @@ use Rattle.uvm_sequencer.specs.Drivers.{is_idle, asked_by, grant_of, granted_by,
 use Rattle.uvm_sequencer.specs.Faults.{or_fault}
 use Rattle.uvm_sequencer.specs.Queues.{item_request, lock_request, is_item_of, is_lock_of, without, without_item, without_lock, candidates, leading_lock, is_held, released, all_released}
 use Rattle.uvm_sequences.specs.declared.starts.SeqStep.{SeqStep}
-use Rattle.uvm_sequences.specs.Sequences.{Start, step_at}
+use Rattle.uvm_sequences.specs.Sequences.{Start}
+pub use Rattle.uvm_holders.specs.Holding.{is_live_at}
 
 -- how it chooses, the port that drives it and where that driver stands, what was asked for in the order of the queue, and the
 -- holders in the order of granting: a sequence stands there once for each lock that it holds
@@ -76,10 +77,6 @@ with_idle s = record s { driver = Idle }
 -- after a sequence left: what it asked for and held is gone, and its unsent grant lapses
 abbrev pub after_leave : ℕ → SequencerValue → SequencerValue
 after_leave seq s = record s { driver = left_by (grant_of seq s.driver) s.driver; queue = without seq s.queue; holders = all_released seq s.holders }
-
--- a sequence lives
-abbrev pub is_live_at : List (Option SeqStep) → ℕ → Bool
-is_live_at steps id = is_some (step_at steps id)
 
 -- once a phase has ended, and with it what the driver asked or not: what sequences asked for and hold that live no longer is gone
 abbrev pub after_phase : List (Option SeqStep) → Bool → SequencerValue → SequencerValue

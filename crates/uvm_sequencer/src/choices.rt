@@ -11,20 +11,21 @@ ghost use Rattle.uvm_sequencer.specs.Marks.{has_priority};
 use crate::modes::Mode;
 use crate::requests::Request;
 use crate::scans::is_candidate;
-use uvm_sequences::{SeqId, Sequences};
+use uvm_holders::Holders;
+use uvm_sequences::Sequences;
 
 // A queue, and what decides who of it is blocked.
 #[derive(Clone, Copy)]
 pub(crate) struct Choices<'a> {
     pub sequences: &'a Sequences,
-    pub holders: &'a [SeqId],
+    pub holders: &'a Holders,
     pub queue: &'a [Request],
 }
 
 impl<'a> Choices<'a> {
     // The greatest priority of a candidate, 0 where there is none.
     fn highest(&self) -> u16
-        ensures { result ≡ highest (candidates self.now.sequences.now.started self.now.holders.now self.now.queue.now) }
+        ensures { result ≡ highest (candidates self.now.sequences.now.started self.now.holders.now.list self.now.queue.now) }
     {
         let mut highest = 0;
         for request in self.queue {
@@ -37,21 +38,21 @@ impl<'a> Choices<'a> {
 
     // The priority that a candidate needs.
     fn bar(&self, mode: Mode) -> u16
-        ensures { result ≡ bar_of mode (candidates self.now.sequences.now.started self.now.holders.now self.now.queue.now) }
+        ensures { result ≡ bar_of mode (candidates self.now.sequences.now.started self.now.holders.now.list self.now.queue.now) }
     {
         if mode.is_strict() { self.highest() } else { 0 }
     }
 
     // Whether a request is a candidate of at least some priority.
     fn is_contending(&self, bar: u16, request: &Request) -> bool
-        ensures { result ≡ is_contending self.now.sequences.now.started self.now.holders.now bar request.now }
+        ensures { result ≡ is_contending self.now.sequences.now.started self.now.holders.now.list bar request.now }
     {
         is_candidate(self.sequences, self.holders, request) && bar <= request.priority()
     }
 
     // How many there are.
     fn count(&self, bar: u16) -> usize
-        ensures { result ≡ length (contending self.now.sequences.now.started self.now.holders.now bar self.now.queue.now) }
+        ensures { result ≡ length (contending self.now.sequences.now.started self.now.holders.now.list bar self.now.queue.now) }
     {
         self.queue
             .iter()
@@ -61,7 +62,7 @@ impl<'a> Choices<'a> {
 
     // Where one of them stands, by its number from 0.
     fn nth(&self, bar: u16, n: usize) -> Option<usize>
-        ensures value { option_and_then (slice_get self.now.queue.now) result ≡ slice_get (contending self.now.sequences.now.started self.now.holders.now bar self.now.queue.now) n }
+        ensures value { option_and_then (slice_get self.now.queue.now) result ≡ slice_get (contending self.now.sequences.now.started self.now.holders.now.list bar self.now.queue.now) n }
         ensures within { IfSome result (λ place. place < length self.now.queue.now) }
     {
         let mut left = n;
@@ -78,7 +79,7 @@ impl<'a> Choices<'a> {
 
     // The sum of their priorities.
     fn sum(&self, bar: u16) -> u128
-        ensures { result ≡ sum_by priority_of (contending self.now.sequences.now.started self.now.holders.now bar self.now.queue.now) }
+        ensures { result ≡ sum_by priority_of (contending self.now.sequences.now.started self.now.holders.now.list bar self.now.queue.now) }
     {
         let mut sum = 0;
         for request in self.queue {
@@ -91,7 +92,7 @@ impl<'a> Choices<'a> {
 
     // Where the first of them stands at which the sum of the priorities so far exceeds a number.
     fn first_over(&self, bar: u16, n: u128) -> Option<usize>
-        ensures { option_and_then (slice_get self.now.queue.now) result ≡ first_over 0 n (contending self.now.sequences.now.started self.now.holders.now bar self.now.queue.now) }
+        ensures { option_and_then (slice_get self.now.queue.now) result ≡ first_over 0 n (contending self.now.sequences.now.started self.now.holders.now.list bar self.now.queue.now) }
     {
         let mut sum = 0;
         for (place, request) in self.queue.iter().enumerate() {
@@ -108,10 +109,10 @@ impl<'a> Choices<'a> {
     // Where the one stands that is granted: without a word the first contender. Where all requests are known to be contenders the
     // number of one is its place.
     pub(crate) fn chosen(&self, mode: Mode, word: Option<u64>, are_all: bool) -> Option<usize>
-        requires some { IsSome word → 0 < length (contenders mode (candidates self.now.sequences.now.started self.now.holders.now self.now.queue.now)) }
+        requires some { IsSome word → 0 < length (contenders mode (candidates self.now.sequences.now.started self.now.holders.now.list self.now.queue.now)) }
         requires priorities { list_all has_priority self.now.queue.now ≡ true }
-        requires all { IsTrue are_all → contenders mode (candidates self.now.sequences.now.started self.now.holders.now self.now.queue.now) ≡ self.now.queue.now }
-        ensures { option_and_then (slice_get self.now.queue.now) result ≡ choice mode (candidates self.now.sequences.now.started self.now.holders.now self.now.queue.now) word }
+        requires all { IsTrue are_all → contenders mode (candidates self.now.sequences.now.started self.now.holders.now.list self.now.queue.now) ≡ self.now.queue.now }
+        ensures { option_and_then (slice_get self.now.queue.now) result ≡ choice mode (candidates self.now.sequences.now.started self.now.holders.now.list self.now.queue.now) word }
     {
         let bar = self.bar(mode);
         let Some(word) = word else {
@@ -132,14 +133,14 @@ impl<'a> Choices<'a> {
 
     // Whether there is a candidate: a look at the queue up to the first.
     pub(crate) fn has_candidate(&self) -> bool
-        ensures { result ≡ list_any (is_candidate self.now.sequences.now.started self.now.holders.now) self.now.queue.now }
+        ensures { result ≡ list_any (is_candidate self.now.sequences.now.started self.now.holders.now.list) self.now.queue.now }
     {
         self.queue.iter().any(|request| is_candidate(self.sequences, self.holders, request))
     }
 
     // Whether a word decides: a look at the queue up to the second contender.
     pub(crate) fn is_drawn(&self, mode: Mode) -> bool
-        ensures { result ≡ is_drawn mode (candidates self.now.sequences.now.started self.now.holders.now self.now.queue.now) }
+        ensures { result ≡ is_drawn mode (candidates self.now.sequences.now.started self.now.holders.now.list self.now.queue.now) }
     {
         mode.is_random() && self.nth(self.bar(mode), 1).is_some()
     }

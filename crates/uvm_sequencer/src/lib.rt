@@ -5,6 +5,7 @@ mod choices;
 mod drivers;
 mod faults;
 pub mod laws;
+mod lines;
 mod modes;
 mod queues;
 mod requests;

@@ -7,7 +7,8 @@ ghost use Rattle.uvm_sequencer.specs.Queues.{AreSingle, is_item, is_item_of, is_
 ghost use Rattle.uvm_sequencer.specs.Marks.{has_priority};
 ghost use Rattle.uvm_sequencer.specs.Sequencers.{is_live_at};
 
-use crate::requests::{Request, Want, keep_live, put_first, put_last, take_all};
+use crate::lines::Line;
+use crate::requests::{Request, Want};
 use std::alloc::{AllocError, Global};
 use std::collections::HashSet;
 use std::marker::Model;
@@ -16,7 +17,7 @@ use uvm_sequences::{SeqId, Sequences};
 // The requests in the order of the queue. Marks tell who waits without a look at them.
 #[derive(Drop)]
 pub(crate) struct Queue {
-    requests: Vec<Request>,
+    requests: Line,
     // Whose item requests wait.
     items: HashSet<SeqId>,
     // Whose lock requests wait.
@@ -30,7 +31,7 @@ impl Model for Queue {
 
     ghost Value = { List Request };
 
-    ghost view = { λ q. q.requests.items };
+    ghost view = { λ q. q.requests };
 
     ghost invariant = { λ q. IsQueue q };
 }
@@ -41,7 +42,7 @@ impl Queue {
         ensures { result ≡ [] }
     {
         Queue {
-            requests: Vec::new(alloc),
+            requests: Line::new(alloc),
             items: HashSet::new(alloc),
             locks: HashSet::new(alloc),
         }
@@ -63,7 +64,7 @@ impl Queue {
         ensures priorities { list_all has_priority result.now ≡ true }
         ensures small { length self.now < 2 ^ 63 }
     {
-        &self.requests[known..]
+        self.requests.behind(known)
     }
 
     // Whether a sequence waits for an item.
@@ -91,7 +92,7 @@ impl Queue {
     pub(crate) fn lock_at(&self, place: usize) -> Option<SeqId>
         ensures { result ≡ option_and_then lock_in (slice_get self.now place) }
     {
-        self.requests.get(place)?.lock()
+        self.requests.behind(0).get(place)?.lock()
     }
 
     // Puts an item request behind all others. Its error is want of memory, which changes nothing.
@@ -102,7 +103,7 @@ impl Queue {
         ensures err { OnErr result (self.new ≡ self.old) }
     {
         self.items.reserve(1)?;
-        put_last(&mut self.requests, seq, Want::Item(priority))?;
+        self.requests.put_last(seq, Want::Item(priority))?;
         let Ok(_) = self.items.insert(seq) else {
             unreachable!()
         };
@@ -116,7 +117,7 @@ impl Queue {
         ensures err { OnErr result (self.new ≡ self.old) }
     {
         self.locks.reserve(1)?;
-        put_last(&mut self.requests, seq, Want::Lock)?;
+        self.requests.put_last(seq, Want::Lock)?;
         let Ok(_) = self.locks.insert(seq) else {
             unreachable!()
         };
@@ -130,7 +131,7 @@ impl Queue {
         ensures err { OnErr result (self.new ≡ self.old) }
     {
         self.locks.reserve(1)?;
-        put_first(&mut self.requests, seq, Want::Lock)?;
+        self.requests.put_first(seq, Want::Lock)?;
         let Ok(_) = self.locks.insert(seq) else {
             unreachable!()
         };
@@ -169,7 +170,7 @@ impl Queue {
         let had_item = self.items.remove(&seq);
         let had_lock = self.locks.remove(&seq);
         if had_item || had_lock {
-            take_all(&mut self.requests, seq);
+            self.requests.take_all(seq);
         }
     }
 
@@ -177,7 +178,7 @@ impl Queue {
     pub(crate) fn keep_live(&mut self, sequences: &Sequences)
         ensures { self.new ≡ filter (λ request. is_live_at sequences.now.steps request.seq) self.old }
     {
-        keep_live(&mut self.requests, sequences);
+        self.requests.keep_live(sequences);
         keep_marks(&mut self.items, sequences);
         keep_marks(&mut self.locks, sequences);
     }

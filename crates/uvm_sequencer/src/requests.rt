@@ -1,10 +1,9 @@
 //! What sequences ask of a sequencer.
 
-ghost use Rattle.std.specs.Prelude.{◌≡◌, ◌∷◌, ◌++◌, [], filter, OnOk, OnErr};
+ghost use Rattle.std.specs.Prelude.{◌≡◌, filter};
 ghost use Rattle.uvm_sequencer.specs.Sequencers.{is_live_at};
 ghost use Rattle.uvm_sequencer.specs.Queues.{is_item, is_of, lock_in, priority_of, without};
 
-use std::alloc::AllocError;
 use uvm_sequences::{SeqId, Sequences};
 
 /// What a sequence wants.
@@ -62,24 +61,6 @@ impl Request {
     {
         self.seq == seq
     }
-}
-
-// Puts what a sequence wants behind all others. Its error is want of memory, which changes nothing.
-pub(crate) fn put_last(queue: &mut Vec<Request>, seq: SeqId, want: Want) -> Result<(), AllocError>
-    ensures ok { OnOk result (queue.new.items ≡ queue.old.items ++ record { seq = seq; want = want } ∷ []) }
-    ensures err { OnErr result (queue.new.items ≡ queue.old.items) }
-{
-    queue.push(Request { seq, want })?;
-    Ok(())
-}
-
-// Puts what a sequence wants before all others. Its error is want of memory, which changes nothing.
-pub(crate) fn put_first(queue: &mut Vec<Request>, seq: SeqId, want: Want) -> Result<(), AllocError>
-    ensures ok { OnOk result (queue.new.items ≡ record { seq = seq; want = want } ∷ queue.old.items) }
-    ensures err { OnErr result (queue.new.items ≡ queue.old.items) }
-{
-    queue.insert(0, Request { seq, want })?;
-    Ok(())
 }
 
 // Takes out what a sequence asked for.

@@ -21,6 +21,7 @@ use crate::queues::Queue;
 use crate::scans;
 use std::alloc::Global;
 use std::marker::Model;
+use uvm_holders::Holders;
 use uvm_sequences::{SeqId, Sequences};
 use uvm_tree::NodeId;
 
@@ -42,7 +43,7 @@ pub struct Sequencer {
     driver: Driver,
     queue: Queue,
     // There is room for each lock that waits.
-    holders: Vec<SeqId>,
+    holders: Holders,
 }
 
 // (By hand, so that crates above prove no drop of what it holds.)
@@ -65,7 +66,7 @@ impl Model for Sequencer {
 
     ghost use Rattle.uvm_sequencer.specs.Rooms.{IsSequencer};
 
-    ghost view = { λ s. record { mode = s.mode; port = s.port; driver = s.driver; queue = s.queue; holders = s.holders.items } };
+    ghost view = { λ s. record { mode = s.mode; port = s.port; driver = s.driver; queue = s.queue; holders = s.holders.list } };
 
     ghost invariant = { λ s. IsSequencer s };
 }
@@ -80,7 +81,7 @@ impl Sequencer {
             port: None,
             driver: Driver::Idle,
             queue: Queue::new(alloc),
-            holders: Vec::new(alloc),
+            holders: Holders::new(alloc),
         }
     }
 
@@ -147,10 +148,9 @@ impl Sequencer {
         ensures ok { OnOk result (self.new ≡ unlocked seq self.old) }
         ensures unchanged { OnErr result (self.new ≡ self.old) }
     {
-        let Some(place) = last_place(self.holders.as_slice(), seq) else {
+        if !self.holders.release(seq) {
             return Err(SeqFault::NotHeld);
-        };
-        self.holders.remove(place);
+        }
         Ok(())
     }
 
@@ -240,7 +240,7 @@ impl Sequencer {
         ensures after { self.new ≡ after_leave seq self.old }
     {
         self.queue.leave(seq);
-        give_back_all(&mut self.holders, seq);
+        self.holders.release_all(seq);
         let grant = self.driver.grant(seq);
         self.driver.lapse(grant)
     }
@@ -261,7 +261,7 @@ impl Sequencer {
         ensures after { self.new ≡ after_phase sequences.now.steps ends self.old }
     {
         self.queue.keep_live(sequences);
-        keep_held(&mut self.holders, sequences);
+        self.holders.keep_live(sequences);
         if ends {
             self.driver = Driver::Idle;
             return false;
@@ -292,9 +292,7 @@ impl Sequencer {
     {
         let place = self.leading(sequences, known);
         let seq = self.queue.take_lock(place)?;
-        let Ok(()) = self.holders.push(seq) else {
-            unreachable!()
-        };
+        self.holders.push(seq);
         Some(seq)
     }
 
@@ -323,7 +321,7 @@ impl Sequencer {
         ensures next { IfSome (slice_get self.now.queue result) (λ request. is_blocked sequences.now.started self.now.holders request.seq ≡ false) }
     {
         let rest = self.queue.behind(known);
-        known + scans::count_passed(sequences, self.holders.as_slice(), rest)
+        known + scans::count_passed(sequences, &self.holders, rest)
     }
 
     /// How many item requests and locks wait: of each sequence one item request and one lock at most.
@@ -338,7 +336,7 @@ impl Sequencer {
     pub fn candidates(&self, sequences: &Sequences) -> usize
         ensures { result ≡ length (candidates_at sequences.now.started self.now) }
     {
-        scans::count_candidates(sequences, self.holders.as_slice(), self.queue.behind(0))
+        scans::count_candidates(sequences, &self.holders, self.queue.behind(0))
     }
 
     /// Whether `choose` can grant an item request: none where the driver does not wait or there is no candidate, and else whether
@@ -431,7 +429,7 @@ impl Sequencer {
     fn choices<'a>(&'a self, sequences: &'a Sequences, known: usize) -> Choices<'a>
         requires { IsPassed sequences.now.started self.now known }
         ensures sequences { result.sequences.now ≡ sequences.now }
-        ensures holders { result.holders.now ≡ self.now.holders }
+        ensures holders { result.holders.now.list ≡ self.now.holders }
         ensures queue { result.queue.now ≡ drop known self.now.queue }
         ensures candidates { candidates sequences.now.started self.now.holders result.queue.now ≡ candidates_at sequences.now.started self.now }
         ensures priorities { list_all has_priority result.queue.now ≡ true }
@@ -439,7 +437,7 @@ impl Sequencer {
     {
         Choices {
             sequences,
-            holders: self.holders.as_slice(),
+            holders: &self.holders,
             queue: self.queue.behind(known),
         }
     }
@@ -453,29 +451,4 @@ impl Sequencer {
             None => false,
         }
     }
-}
-
-// Takes out each lock of a sequence.
-fn give_back_all(holders: &mut Vec<SeqId>, seq: SeqId)
-    ensures items { holders.new.items ≡ all_released seq holders.old.items }
-    ensures capacity { vec_capacity holders.new ≡ vec_capacity holders.old }
-{
-    holders.retain(|holder| *holder != seq);
-}
-
-// Takes out each lock of a sequence that lives no longer.
-fn keep_held(holders: &mut Vec<SeqId>, sequences: &Sequences)
-    ensures items { holders.new.items ≡ filter (is_live_at sequences.now.steps) holders.old.items }
-    ensures capacity { vec_capacity holders.new ≡ vec_capacity holders.old }
-{
-    holders.retain(|holder| sequences.is_live(*holder));
-}
-
-// Where the last lock of a sequence stands.
-fn last_place(holders: &[SeqId], seq: SeqId) -> Option<usize>
-    ensures held { is_some result ≡ is_held seq holders.now }
-    ensures within { IfSome result (λ place. place < length holders.now) }
-    ensures rest { released seq holders.now ≡ without_place holders.now result }
-{
-    holders.iter().rposition(|holder| *holder == seq)
 }

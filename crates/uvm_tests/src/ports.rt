@@ -62,8 +62,10 @@ fn is_shown_and_taken(fifo: &mut Fifo) -> Result<bool, AllocError> {
 fn goes_at_once(fifo: &mut Fifo) -> Result<bool, AllocError> {
     let stored = fifo.try_put(item(9))?;
     let first = fifo.item(0);
+    let (front, back) = fifo.items();
+    let is_lent = front == [item(9)].as_slice() && back.is_empty();
     let taken = fifo.try_take();
-    Ok(stored && first == Some(item(9)) && taken == first && fifo.try_take() == None)
+    Ok(stored && first == Some(item(9)) && is_lent && taken == first && fifo.try_take() == None)
 }
 
 fn waits_end(fifo: &mut Fifo) -> Result<bool, AllocError> {

@@ -1,12 +1,13 @@
 -- What a loop over connections, nodes, ports or targets has noted, one step further.
-use Rattle.std.proofs.Common.{◌≡◌, ◌+◌, ◌<◌, ℕ, Bool, true, false, ◌||◌, ◌&&◌, eqb, nat_eq, List, [], ◌∷◌, ◌++◌, length, get_or, take, find, Option, Some, None, is_some, if◌then◌else◌, refl, sym, ap, ◌∙◌, arith}
+use Rattle.std.proofs.Common.{◌≡◌, ◌+◌, ◌<◌, ℕ, Bool, true, false, ◌||◌, ◌&&◌, not, eqb, nat_eq, List, [], ◌∷◌, ◌++◌, length, get_or, take, find, Option, Some, None, is_some, if◌then◌else◌, refl, sym, ap, ◌∙◌, arith}
 use Rattle.std.specs.List.{IsDistinct}
 use Rattle.std.specs.Option.{option_or}
 use Rattle.std.proofs.lemmas.Bool.{eqb-true, false≢true}
 use Rattle.std.proofs.lemmas.List.{append-nil, take_more, get_or-take, length-take-le, get_or_default}
 use Rattle.std.proofs.lemmas.List.Elements.{filter_more}
-use Rattle.std.proofs.lemmas.List.Folds.{find-append, list_any_more, list_any_none}
+use Rattle.std.proofs.lemmas.List.Folds.{find-append, list_any-append, list_any_more, list_any_none}
 use Rattle.std.proofs.lemmas.Map.Keys.{apart_from_distinct}
+use Rattle.indexmap.specs.IndexSet.{insert_key}
 use Rattle.uvm_tlm.specs.declared.ends.End.{End}
 use Rattle.uvm_tlm.specs.declared.wirings.Connection.{Connection}
 use Rattle.uvm_tlm.specs.Graphs.{has, is_connected}
@@ -36,6 +37,68 @@ start_noted connections i c old new more is pushed so_far from to =
     by : (b : Bool) → has (if b then old to ++ c.from ∷ [] else old to) from ≡ (is_connected (take i connections) from to || (eqb from c.from && b))
     by true = has_push (old to) c.from from ∙ ap (λ b. b || eqb from c.from) (so_far from to) ∙ ap (λ b. is_connected (take i connections) from to || b) (sym (and-true (eqb from c.from)))
     by false = so_far from to ∙ sym (or-false (is_connected (take i connections) from to)) ∙ ap (λ b. is_connected (take i connections) from to || b) (sym (and-false (eqb from c.from)))
+
+and-first : (a b : Bool) → (a && b) ≡ true → a ≡ true
+and-first true b h = refl
+and-first false b h = h
+
+and-second : (a b : Bool) → (a && b) ≡ true → b ≡ true
+and-second true b h = h
+and-second false b h = absurd (false≢true h)
+
+-- a test that follows from another adds nothing to it
+absorbed : (a b : Bool) → (b ≡ true → a ≡ true) → a ≡ (a || b)
+absorbed true b f = refl
+absorbed false false f = refl
+absorbed false true f = f refl
+
+-- two nodes are those of a connection that is among some
+connected_as : (connections : List Connection) (c : Connection) (from to : ℕ) → is_connected connections c.from c.to ≡ true → (eqb from c.from && eqb to c.to) ≡ true → is_connected connections from to ≡ true
+connected_as connections c from to there same =
+    ap (λ n. is_connected connections n to) (eqb-true from c.from (and-first (eqb from c.from) (eqb to c.to) same))
+    ∙ ap (λ n. is_connected connections c.from n) (eqb-true to c.to (and-second (eqb from c.from) (eqb to c.to) same))
+    ∙ there
+
+-- one more connection
+connected_more : (connections : List Connection) (i : ℕ) (c : Connection) (from to : ℕ) → i < length connections → c ≡ get_or connections i c
+    → is_connected (take (i + 1) connections) from to ≡ (is_connected (take i connections) from to || (eqb from c.from && eqb to c.to))
+connected_more connections i c from to more is =
+    list_any_more (λ d. eqb from d.from && eqb to d.to) connections i c more
+    ∙ ap (λ d. is_connected (take i connections) from to || (eqb from d.from && eqb to d.to)) (sym is)
+
+-- two connections are the same
+abbrev pub is_same : Connection → Connection → Bool
+is_same a b = eqb a.from b.from && eqb a.to b.to
+
+-- one more connection, which is kept once
+pub made_noted : (connections keys grown : List Connection) (i : ℕ) (c : Connection)
+    → i < length connections → c ≡ get_or connections i c → grown ≡ insert_key is_same keys c
+    → ((from to : ℕ) → is_connected keys from to ≡ is_connected (take i connections) from to)
+    → (from to : ℕ) → is_connected grown from to ≡ is_connected (take (i + 1) connections) from to
+made_noted connections keys grown i c more is added so_far from to =
+    ap (λ ks. is_connected ks from to) added
+    ∙ by (is_connected keys c.from c.to) refl
+    ∙ ap (λ b. b || (eqb from c.from && eqb to c.to)) (so_far from to)
+    ∙ sym (connected_more connections i c from to more is)
+  where
+    by : (b : Bool) → is_connected keys c.from c.to ≡ b → is_connected (if b then keys else keys ++ c ∷ []) from to ≡ (is_connected keys from to || (eqb from c.from && eqb to c.to))
+    by true held = absorbed (is_connected keys from to) (eqb from c.from && eqb to c.to) (connected_as keys c from to held)
+    by false held = list_any-append (λ d. eqb from d.from && eqb to d.to) keys (c ∷ []) ∙ ap (λ b. is_connected keys from to || b) (or-false (eqb from c.from && eqb to c.to))
+
+-- what is not new is among them
+pub not-new : (added held : Bool) → added ≡ not held → added ≡ false → held ≡ true
+not-new added true is none = refl
+not-new added false is none = absurd (false≢true (sym none ∙ is))
+
+-- one more connection that was made before
+pub start_known : (connections : List Connection) (i : ℕ) (c : Connection) (starts : ℕ → List ℕ)
+    → i < length connections → c ≡ get_or connections i c → is_connected (take i connections) c.from c.to ≡ true
+    → ((from to : ℕ) → has (starts to) from ≡ is_connected (take i connections) from to)
+    → (from to : ℕ) → has (starts to) from ≡ is_connected (take (i + 1) connections) from to
+start_known connections i c starts more is there so_far from to =
+    so_far from to
+    ∙ absorbed (is_connected (take i connections) from to) (eqb from c.from && eqb to c.to) (connected_as (take i connections) c from to there)
+    ∙ sym (connected_more connections i c from to more is)
 
 -- a key of a set is none of those before it
 new_key : (keys : List ℕ) (i d : ℕ) → IsDistinct nat_eq keys → i < length keys → has (take i keys) (get_or keys i d) ≡ false

@@ -1,6 +1,6 @@
 //! A FIFO, and who waits at it.
 
-ghost use Rattle.std.specs.Prelude.{◌≡◌, ◌==◌, ◌≤◌, [], true, None, not, filter, length, slice_get, IsTrue, ◌↔◌, OnOk, OnErr, IfOk, if◌then◌else◌};
+ghost use Rattle.std.specs.Prelude.{◌≡◌, ◌==◌, ◌≤◌, ◌++◌, [], true, None, not, filter, length, slice_get, IsTrue, ◌↔◌, OnOk, OnErr, IfOk, if◌then◌else◌};
 ghost use Rattle.std.specs.VecDeque.{deque_len};
 ghost use Rattle.uvm_tlm.specs.Fifos.{new_fifo, with_item, with_put, with_take, with_peek, without_item, waiting_count, has_room, can_put, can_take, take_move, put_move, next_move, after_move, cleared};
 
@@ -218,6 +218,13 @@ impl Fifo {
         ensures { IsTrue result ↔ (self.now.items ≡ []) }
     {
         self.items.is_empty()
+    }
+
+    /// Returns the items, the first to go out first: those of the first slice, then those of the second.
+    pub fn items(&self) -> (&[Item], &[Item])
+        ensures { result.0.now ++ result.1.now ≡ self.now.items }
+    {
+        self.items.as_slices()
     }
 
     /// The item at a place, of which 0 is that of the first to go out, and none where there are not so many.

@@ -135,13 +135,16 @@ impl<'a> Graph<'a> {
     }
 }
 
-// For each node where the connections to it start.
+// Returns for each node where the connections to it start, each start once.
 fn starts(alloc: Global, connections: &[Connection]) -> Result<NodeLists, AllocError>
     ensures { IfOk result (λ starts. (from to : ℕ) → has (list_of starts to) from ≡ is_connected connections.now from to) }
 {
     let mut starts = NodeLists::new(alloc);
+    let mut made = IndexSet::new(alloc);
     for connection in connections {
-        starts.push(connection.to, connection.from)?;
+        if made.insert(*connection)? {
+            starts.push(connection.to, connection.from)?;
+        }
     }
     Ok(starts)
 }

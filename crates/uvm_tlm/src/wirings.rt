@@ -141,9 +141,9 @@ impl Wiring {
         self.add(node, End::Sequencer)
     }
 
-    /// Connects a node to another; to do so again changes nothing that shows, and takes memory again. The first of these that holds is the
-    /// fault: `Late` where the wiring is closed; `Unknown` where nothing was added at one of the nodes; `KindDiffers` where no connection
-    /// goes from the one to the other; `Memory` where memory is refused. A fault connects nothing.
+    /// Connects a node to another (the standard's `connect`). A repeated connection changes no result, and takes memory again. Errors: `Late`
+    /// if the wiring is closed; `Unknown` if nothing was added at one of the nodes; `KindDiffers` if no connection goes from the one to the
+    /// other; `Memory`. An error connects nothing.
     #[tactic(auto, unfolding(crate::specs::Wirings::connect_fault))]
     pub fn connect(&mut self, from: NodeId, to: NodeId) -> Result<(), WireFault>
         ensures ok { OnOk result (connect_fault self.old from to ≡ None) }
@@ -161,7 +161,7 @@ impl Wiring {
 
     /// Finds the targets of each port, in the path order that is given, in which each node that was added stands once; nothing
     /// is added or connected from then on. `Late` where the wiring is closed; else `Memory` where memory is refused. Either
-    /// leaves the wiring as it was. For each target the nodes that reach it are looked at once, and so are their connections.
+    /// leaves the wiring as it was. Cost: for each target one look at the nodes that reach it, and at the distinct connections to these.
     pub fn close(&mut self, order: &[NodeId]) -> Result<(), WireFault>
         requires { IsPathOrder order.now self.old.ends }
         ensures ok { OnOk result (late_fault self.old ≡ None) }

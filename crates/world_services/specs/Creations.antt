@@ -7,7 +7,7 @@ use Rattle.uvm_acts.specs.declared.acts.Who.{Who}
 use Rattle.uvm_acts.specs.declared.acts.Act.{Act}
 use Rattle.uvm_object.specs.declared.fatals.Fatal.{Fatal}
 use Rattle.uvm_acts.specs.declared.acts.Act.TheVariants.{Start}
-use Rattle.uvm_object.specs.declared.fatals.Fatal.TheVariants.{NoSequencer, OverrideLoop, TreeLimit}
+use Rattle.uvm_object.specs.declared.fatals.Fatal.TheVariants.{OverrideLoop, TreeLimit}
 use Rattle.world_services.specs.declared.creations.Uncreated.{Uncreated}
 use Rattle.world_services.specs.declared.creations.Uncreated.TheVariants.{Refused, Memory}
 use Rattle.world_services.specs.declared.services.Services.{Services}
@@ -25,10 +25,9 @@ MayWantMemory None = Unit {0}
 MayWantMemory (Some OverrideLoop) = Unit {0}
 MayWantMemory (Some fatal) = ⊥
 
--- for a start it is wanted for the path of its sequencer, too, and for its own
+-- for a start out of memory may come before its own path is judged, too, and after all else
 abbrev pub MayWantMemoryEarly : Option Fatal → Type 0
 MayWantMemoryEarly None = Unit {0}
-MayWantMemoryEarly (Some NoSequencer) = Unit {0}
 MayWantMemoryEarly (Some TreeLimit) = Unit {0}
 MayWantMemoryEarly (Some OverrideLoop) = Unit {0}
 MayWantMemoryEarly (Some fatal) = ⊥

@@ -1,6 +1,7 @@
 use Rattle.std.proofs.Common.{◌≡◌, ◌++◌, All, drop, map}
 use Rattle.toml.specs.View.{view}
 use Rattle.answer_lines.specs.Replies.{IsAlone}
+use Rattle.scripted_objects.specs.FirstFaults.{Given}
 use Rattle.scripted_objects.specs.Tables.{answer_data}
 use Rattle.scripted_objects.proofs.reading.read_each.Given as goal
 
@@ -9,4 +10,5 @@ abbrev pub invariant-loop-value : goal.invariant-loop-value
 invariant-loop-value l = record {
   read : map answer_data (map (λ answer. answer.items) l.answers.items) ++ map view (drop l.value-index l.values) ≡ map view l.values;
   alone : All (All IsAlone) (map (λ answer. answer.items) l.answers.items);
+  given : All (All (Given l.has_item)) (map (λ answer. answer.items) l.answers.items);
 }

@@ -17,7 +17,7 @@ or_all n all false e within = grind (arith, nat_tests)
 pub returns : goal.returns
 returns c =
     let queue = c.args.queue.now in
-    let free = λ (request : Request). not (is_blocked c.args.sequences.now.started c.args.holders.now request.seq) in
+    let free = λ (request : Request). not (is_blocked c.args.sequences.now.started c.args.holders.now.list request.seq) in
     let n = position_or_len free queue in
     let found : c.position.result ≡ cond (ltb n (length queue)) (Some n) None = position_from_yields_List free _ _ c.position.result c.position.ensures.ran (YieldsList-from_slice queue cc) (λ x b q k. search (rules, tests)) in
     c.unwrap_or.ensures ∙ ap (λ o. unwrap_or o (length queue)) found

@@ -1,4 +1,4 @@
-use Rattle.std.proofs.Common.{◌≡◌, ◌≤◌, ◌∙◌, [], ℕ, List, nat_eq, take, length, ap, sym, arith}
+use Rattle.std.proofs.Common.{◌≤◌, ◌∙◌, [], nat_eq, take, length, ap, sym, arith}
 use Rattle.std.specs.Map.{keys_of}
 use Rattle.std.proofs.lemmas.List.{take_all}
 use Rattle.std.proofs.lemmas.List.Sums.{fold_more}

@@ -12,7 +12,7 @@ returns-then-left-eq0-clause-value c =
     let queue = s.queue.now in
     let request = c.request-item.result in
     let at : slice_get queue c.loop-place.place ≡ Some request = slice_get_read queue (length queue) c.loop-place.place request refl c.loop-place-test.true c.request-item.is in
-    let passes : is_contending s.sequences.now.started s.holders.now c.args.bar request ≡ true = sym c.is_contending.ensures ∙ c.if-is_contending.true in
+    let passes : is_contending s.sequences.now.started s.holders.now.list c.args.bar request ≡ true = sym c.is_contending.ensures ∙ c.if-is_contending.true in
     at ∙ sym (c.loop-place.invariant
-    ∙ ap (slice_get (contending s.sequences.now.started s.holders.now c.args.bar (drop c.loop-place.place queue))) c.if-left-eq0.true
-    ∙ ap (λ l. slice_get l 0) (contending-at s.sequences.now.started s.holders.now c.args.bar queue c.loop-place.place request at passes))
+    ∙ ap (slice_get (contending s.sequences.now.started s.holders.now.list c.args.bar (drop c.loop-place.place queue))) c.if-left-eq0.true
+    ∙ ap (λ l. slice_get l 0) (contending-at s.sequences.now.started s.holders.now.list c.args.bar queue c.loop-place.place request at passes))

@@ -12,5 +12,5 @@ told false items P is each other = sym (other (λ p. let wrong : false ≡ true 
 
 pub returns : goal.returns
 returns c =
-    let are = items-only c.self.inside.locks.keys c.self.inside.requests.items c.self.invariant.locks in
-    rw (← c.self.view_is) (told c.is_empty.result (list_all is_item c.self.inside.requests.items) (length c.self.inside.locks.keys ≡ 0) c.is_empty.ensures are.0 are.1)
+    let are = items-only c.self.inside.locks.keys c.self.inside.requests c.self.invariant.locks in
+    rw (← c.self.view_is) (told c.is_empty.result (list_all is_item c.self.inside.requests) (length c.self.inside.locks.keys ≡ 0) c.is_empty.ensures are.0 are.1)

@@ -9,7 +9,7 @@ use Rattle.uvm_sequencer.proofs.queues.Queue.keep_live.Goals as goal
 
 pub invariant_of-self : goal.invariant_of-self
 invariant_of-self c =
-    let queue = c.self.inside.requests.items in
+    let queue = c.self.inside.requests in
     let live = is_live_at c.args.sequences.now.steps in
     let keep = λ (request : Request). live request.seq in
     record {

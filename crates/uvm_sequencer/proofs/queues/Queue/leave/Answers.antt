@@ -11,7 +11,7 @@ use Rattle.uvm_sequencer.proofs.queues.Queue.leave.Goals as goal
 pub invariant_of-self-then-had_item : goal.invariant_of-self-then-had_item
 invariant_of-self-then-had_item c =
     let seq = c.args.seq in
-    let queue = c.self.inside.requests.items in
+    let queue = c.self.inside.requests in
     let keep = λ (request : Request). not (is_of seq request) in
     record {
       items = rw c.take_all.ensures (marked-cut is_item keep seq (contains nat_eq c.self.inside.items) (contains nat_eq c.remove-had_item.new.self) queue (λ request _. refl) c.self.invariant.items c.remove-had_item.ensures.updates.0);
@@ -22,7 +22,7 @@ invariant_of-self-then-had_item c =
 
 pub returns-else-had_lock : goal.returns-else-had_lock
 returns-else-had_lock c =
-    let queue = c.self.inside.requests.items in
+    let queue = c.self.inside.requests in
     let items : list_any (is_item_of c.args.seq) queue ≡ false = sym (c.self.invariant.items c.args.seq) ∙ sym c.remove-had_item.ensures.test ∙ c.if-had_item.false in
     let locks : list_any (is_lock_of c.args.seq) queue ≡ false = sym (c.self.invariant.locks c.args.seq) ∙ sym c.remove-had_lock.ensures.test ∙ c.if-had_lock.false in
     rw (← c.self.view_is) (none-left c.args.seq queue items locks)

@@ -18,7 +18,7 @@ invariant_of-self-in_err-put_first c = record {
 
 pub invariant_of-self-2 : goal.invariant_of-self-2
 invariant_of-self-2 c =
-    let queue = c.self.inside.requests.items in
+    let queue = c.self.inside.requests in
     let fresh : list_any (is_lock_of c.args.seq) queue ≡ false = rw c.self.view_is c.requires in
     record {
       items = rw c.in_ok-put_first.ensures.ok (unmarked-first is_item (contains nat_eq c.self.inside.items) queue (lock_request c.args.seq) refl c.self.invariant.items);

@@ -17,7 +17,7 @@ invariant_of-self-in_err-put_last c = record {
 
 pub invariant_of-self-2 : goal.invariant_of-self-2
 invariant_of-self-2 c =
-    let queue = c.self.inside.requests.items in
+    let queue = c.self.inside.requests in
     let request = item_request c.args.seq c.args.priority in
     let fresh : list_any (is_item_of c.args.seq) queue ≡ false = rw c.self.view_is c.requires.fresh in
     record {

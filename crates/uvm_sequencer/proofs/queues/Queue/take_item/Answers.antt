@@ -12,21 +12,21 @@ use Rattle.uvm_sequencer.proofs.Waiting.{all-filter}
 use Rattle.uvm_sequencer.proofs.queues.Queue.take_item.Goals as goal
 
 -- what stood there is what was taken
-there : (c : goal.After-remove) → (slice_get c.self.inside.requests.items c.args.place ≡ Some c.remove-seq.result) × (is_item c.remove-seq.result ≡ true)
+there : (c : goal.After-remove) → (slice_get c.self.inside.requests c.args.place ≡ Some c.remove-seq.result) × (is_item c.remove-seq.result ≡ true)
 there c =
     let P : List Request → Type 0 = λ l. IsSomeAnd (slice_get l c.args.place) (λ request. is_item request ≡ true) in
-    item-at c.self.inside.requests.items c.args.place c.remove-seq.result (subst P (sym c.self.view_is) c.requires) c.remove-seq.ensures.value
+    item-at c.self.inside.requests c.args.place c.remove-seq.result (subst P (sym c.self.view_is) c.requires) c.remove-seq.ensures.value
 
-left : (c : goal.After-remove) → c.remove-seq.new.self.items ≡ without_item c.remove-seq.result.seq c.self.inside.requests.items
+left : (c : goal.After-remove) → c.remove-seq.new.self ≡ without_item c.remove-seq.result.seq c.self.inside.requests
 left c =
     let request = c.remove-seq.result in
     let own : is_item_of request.seq request ≡ true = ap (λ b. b && is_item request) (same request.seq) ∙ (there c).1 in
-    c.remove-seq.ensures.items ∙ removed-at (is_item_of request.seq) c.self.inside.requests.items c.args.place request (there c).0 own (c.self.invariant.single request.seq).0
+    c.remove-seq.ensures.items ∙ removed-at (is_item_of request.seq) c.self.inside.requests c.args.place request (there c).0 own (c.self.invariant.single request.seq).0
 
 pub invariant_of-self : goal.invariant_of-self
 invariant_of-self c =
     let seq = c.remove-seq.result.seq in
-    let queue = c.self.inside.requests.items in
+    let queue = c.self.inside.requests in
     let keep = λ (request : Request). not (is_item_of seq request) in
     record {
       items = rw (left c) (marked-cut is_item keep seq (contains nat_eq c.self.inside.items) (contains nat_eq c.remove.new.self) queue (λ request item. item_out (is_of seq request) item) c.self.invariant.items c.remove.ensures.updates.0);

@@ -1,4 +1,4 @@
-use Rattle.std.proofs.Common.{◌≤◌, ◌+◌, length, vec_capacity, arith}
+use Rattle.std.proofs.Common.{◌≤◌, ◌+◌, length, arith}
 use Rattle.std.proofs.lemmas.Grind.{common_steps}
 use Rattle.uvm_sequencer.specs.Queues.{lock_request}
 use Rattle.uvm_sequencer.proofs.Waiting.{room-first}
@@ -6,6 +6,6 @@ use Rattle.uvm_sequencer.proofs.sequencers.Sequencer.grab.Goals as goal
 
 pub invariant_of-self-2 : goal.invariant_of-self-2
 invariant_of-self-2 c =
-    let room : length c.reserve.new.self.items + (length c.self.inside.queue + 1) ≤ vec_capacity c.reserve.new.self =
+    let room : length c.self.inside.queue + 1 ≤ c.reserve.new.self.spare =
     grind (arith, common_steps, c.in_ok-reserve.ensures.ok, c.len.ensures.count) in
-    record { room = rw c.in_ok-put_grab.ensures.ok (room-first c.self.inside.queue (lock_request c.args.seq) c.reserve.new.self.items (vec_capacity c.reserve.new.self) room) }
+    record { room = rw c.in_ok-put_grab.ensures.ok (room-first c.self.inside.queue (lock_request c.args.seq) c.reserve.new.self.spare room) }

@@ -12,7 +12,7 @@ use Rattle.uvm_sequencer.proofs.sequencers.Sequencer.passed.Goals as goal
 counted : (c : goal.After-count_passed) → c.count_passed.result ≡ position_or_len (λ (request : Request). not (is_blocked c.args.sequences.now.started c.args.self.now.holders request.seq)) (drop c.args.known c.args.self.now.queue)
 counted c =
     let queue : c.self.inside.queue ≡ c.args.self.now.queue = ap (λ (v : SequencerValue). v.queue) c.self.view_is in
-    let holders = c.as_slice.ensures.value ∙ ap (λ (v : SequencerValue). v.holders) c.self.view_is in
+    let holders = ap (λ (v : SequencerValue). v.holders) c.self.view_is in
     c.count_passed.ensures
     ∙ ap (λ l. position_or_len (λ (request : Request). not (is_blocked c.args.sequences.now.started l request.seq)) c.behind-rest.result.now) holders
     ∙ ap (λ l. position_or_len (λ (request : Request). not (is_blocked c.args.sequences.now.started c.args.self.now.holders request.seq)) l) (c.behind-rest.ensures.value ∙ ap (drop c.args.known) queue)

@@ -1,4 +1,4 @@
-use Rattle.std.proofs.Common.{◌≡◌, ◌∙◌, ◌<◌, sym, ap, arith, Some, length, vec_capacity}
+use Rattle.std.proofs.Common.{◌≡◌, ◌∙◌, sym, ap, Some}
 use Rattle.std.specs.List.{slice_get}
 use Rattle.std.specs.Option.{option_and_then}
 use Rattle.uvm_sequencer.specs.Queues.{leading_lock, lock_in}
@@ -6,21 +6,19 @@ use Rattle.uvm_sequencer.specs.Sequencers.{SequencerValue, lock_at}
 use Rattle.uvm_sequencer.proofs.Waiting.{room-to-grant, room-granted}
 use Rattle.uvm_sequencer.proofs.sequencers.Sequencer.settle_behind.Goals as goal
 
-pub unreachable-requires : goal.unreachable-requires
-unreachable-requires c =
-    let lead : leading_lock c.args.sequences.now.started c.self.inside.holders.items c.self.inside.queue ≡ Some c.in_ok-seq.seq =
+pub push-requires : goal.push-requires
+push-requires c =
+    let lead : leading_lock c.args.sequences.now.started c.self.inside.holders.list c.self.inside.queue ≡ Some c.in_ok-seq.seq =
     ap (lock_at c.args.sequences.now.started) c.self.view_is ∙ sym c.leading-place.ensures ∙ ap (λ (v : SequencerValue). option_and_then lock_in (slice_get v.queue c.leading-place.result)) (sym c.self.view_is)
     ∙ sym c.take_lock.ensures.value ∙ c.in_ok-seq.was in
-    let room : length c.self.inside.holders.items < vec_capacity c.self.inside.holders =
-    room-to-grant c.args.sequences.now.started c.self.inside.holders.items c.self.inside.queue c.in_ok-seq.seq lead (vec_capacity c.self.inside.holders) c.self.invariant.room in
-    omega (arith, c.in_default.ensures.full, c.self.inside.holders.ok.0)
+    room-to-grant c.args.sequences.now.started c.self.inside.holders.list c.self.inside.queue c.in_ok-seq.seq lead c.self.inside.holders.spare c.self.invariant.room
 
 pub invariant_of-self-2 : goal.invariant_of-self-2
 invariant_of-self-2 c =
-    let lead : leading_lock c.args.sequences.now.started c.self.inside.holders.items c.self.inside.queue ≡ Some c.in_ok-seq.seq =
+    let lead : leading_lock c.args.sequences.now.started c.self.inside.holders.list c.self.inside.queue ≡ Some c.in_ok-seq.seq =
     ap (lock_at c.args.sequences.now.started) c.self.view_is ∙ sym c.leading-place.ensures ∙ ap (λ (v : SequencerValue). option_and_then lock_in (slice_get v.queue c.leading-place.result)) (sym c.self.view_is)
     ∙ sym c.take_lock.ensures.value ∙ c.in_ok-seq.was in
     record {
-      room = rw (c.in_ok-seq.ensures.after, c.in-Ok.ensures.items)
-          (room-granted c.args.sequences.now.started c.self.inside.holders.items c.self.inside.queue c.in_ok-seq.seq lead (vec_capacity c.self.inside.holders) (vec_capacity c.push.new.self) c.self.invariant.room c.in-Ok.ensures.capacity);
+      room = rw c.in_ok-seq.ensures.after
+          (room-granted c.args.sequences.now.started c.self.inside.holders.list c.self.inside.queue c.in_ok-seq.seq lead c.self.inside.holders.spare c.push.new.self.spare c.self.invariant.room c.push.ensures.spare);
     }

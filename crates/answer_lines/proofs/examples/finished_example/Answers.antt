@@ -1,0 +1,35 @@
+use Rattle.std.proofs.Common.{◌≡◌, inr, refl, sym, ap, ◌∙◌, codes, is_some}
+use Rattle.uvm_acts.specs.declared.acts.Call.TheVariants.{Finished}
+use Rattle.answer_lines.specs.Calls.{example_by}
+use Rattle.answer_lines.specs.Keys.{item_in}
+use Rattle.uvm_lines.specs.Lines.{call_text}
+use Rattle.answer_lines.specs.KeyWords.{first_or, given_left, goes_on}
+use Rattle.answer_lines.proofs.CallReads.{err-any, finished-parts}
+use Rattle.answer_lines.proofs.examples.finished_example.Goals as goal
+
+-- the name of such a call is read
+pub returns-in_err-name-clause-none : goal.returns-in_err-name-clause-none
+returns-in_err-name-clause-none c = err-any _ _ (λ fault. inr (λ call can same begins.
+    let parts = finished-parts (given_left c.args.words.now) (goes_on c.args.words.now) call can same begins in
+    let read = c.in_err-name.ensures.reads parts.name parts.named (c.in_ok-word_or.ensures.word ∙ parts.first) in
+    absurd cc))
+
+-- and its number
+pub returns-in_err-number-clause-none : goal.returns-in_err-number-clause-none
+returns-in_err-number-clause-none c = err-any _ _ (λ fault. inr (λ call can same begins.
+    let parts = finished-parts (given_left c.args.words.now) (goes_on c.args.words.now) call can same begins in
+    let read = c.in_err-number.ensures parts.id parts.small (c.in_ok-word_or-2.ensures.word ∙ ap (first_or (codes "1")) c.in_ok-word_or.ensures.left ∙ parts.second) in
+    absurd cc))
+
+-- the line is that of the call
+pub returns-clause-line : goal.returns-clause-line
+returns-clause-line c = record { call = Finished c.in_ok-name.name c.in_ok-number.number; text = sym c.in_ok-finished_line.ensures; item = refl }
+
+pub returns-clause-tells : goal.returns-clause-tells
+returns-clause-tells c = λ call can same begins.
+    let given = given_left c.args.words.now in
+    let parts = finished-parts given (goes_on c.args.words.now) call can same begins in
+    let name-read = c.in_ok-name.ensures.reads parts.name parts.named (c.in_ok-word_or.ensures.word ∙ parts.first) in
+    let number-read = c.in_ok-number.ensures parts.id parts.small (c.in_ok-word_or-2.ensures.word ∙ ap (first_or (codes "1")) c.in_ok-word_or.ensures.left ∙ parts.second) in
+    let is : Finished c.in_ok-name.name c.in_ok-number.number ≡ example_by given call = cc (name-read, number-read, parts.is) in
+    (c.in_ok-finished_line.ensures ∙ ap call_text is, ap (λ other. is_some (item_in other)) is)

@@ -1,0 +1,131 @@
+//! The calls that keys are read as.
+
+ghost use Rattle.std.specs.Prelude.{◌≡◌, ◌⊎◌, [], false, OnErr, OnOk, IfErr, IfOk, drop, codes, ◌≢◌};
+ghost use Rattle.answer_lines.specs.Calls.{HasNone, NoneBehind, ReadsBehind, TellsBehind, TellsExamples, last_example};
+ghost use Rattle.answer_lines.specs.KeyWords.{but_star, ends_in_star, first_or, given_left, goes_on};
+ghost use Rattle.answer_lines.specs.Words.{words_of};
+ghost use Rattle.answer_lines.specs.Keys.{IsCallLine};
+ghost use Rattle.uvm_lines.specs.Lines.{call_text};
+
+use crate::calls::{is_named, is_short, named_call, plain_call, short_call};
+use crate::faults::LineFault;
+use crate::keys::item_in;
+use crate::words::{Words, name_of, number_of};
+use std::alloc::{AllocError, Global};
+use uvm_glob::Name;
+use uvm_lines::call_text;
+use uvm_object::Call;
+
+// The line of a call that a key is for, if there is one, and whether that call has an item: one that has, where the key leaves it open.
+pub(crate) fn example_of(alloc: Global, key: &str) -> Result<(Vec<u8>, bool), LineFault>
+    ensures line { IfOk result (λ read. IsCallLine read.0.items read.1) }
+    ensures tells { IfOk result (λ read. TellsExamples key.now read.0.items read.1) }
+    ensures none { IfErr result (λ fault. (fault ≡ LineFault.Memory) ⊎ HasNone key.now) }
+{
+    let mut words = KeyWords::of(key);
+    let keyword = words.word_or("item_done")?;
+    if keyword == "finished" {
+        finished_example(alloc, &mut words)
+    } else {
+        call_example(alloc, keyword, &mut words)
+    }
+}
+
+// The same, of a call that tells that a sequence has finished, by the words behind its keyword.
+fn finished_example(alloc: Global, words: &mut KeyWords<'_>) -> Result<(Vec<u8>, bool), LineFault>
+    ensures line { IfOk result (λ read. IsCallLine read.0.items read.1) }
+    ensures tells { IfOk result (λ read. TellsBehind (codes "finished") (given_left words.old) (goes_on words.old) read.0.items read.1) }
+    ensures none { IfErr result (λ fault. (fault ≡ LineFault.Memory) ⊎ NoneBehind (codes "finished") (given_left words.old) (goes_on words.old)) }
+{
+    let name = name_of(words.word_or("a")?)?;
+    let number = number_of(words.word_or("1")?)?;
+    Ok((finished_line(alloc, &name, number)?, false))
+}
+
+// The same, of any other call, by its keyword and the words behind it.
+fn call_example(
+    alloc: Global,
+    keyword: &str,
+    words: &mut KeyWords<'_>,
+) -> Result<(Vec<u8>, bool), LineFault>
+    ensures line { IfOk result (λ read. IsCallLine read.0.items read.1) }
+    ensures tells { keyword.now ≢ codes "finished" → IfOk result (λ read. TellsBehind keyword.now (given_left words.old) (goes_on words.old) read.0.items read.1) }
+    ensures none { keyword.now ≢ codes "finished" → IfErr result (λ fault. (fault ≡ LineFault.Memory) ⊎ NoneBehind keyword.now (given_left words.old) (goes_on words.old)) }
+{
+    let call = call_by(keyword, words)?;
+    Ok((call_text(alloc, &call)?, item_in(&call).is_some()))
+}
+
+// The line of the call that tells that a sequence has finished.
+fn finished_line(alloc: Global, name: &Name, number: u64) -> Result<Vec<u8>, AllocError>
+    ensures { IfOk result (λ line. line.items ≡ call_text (Call.Finished name.now number)) }
+{
+    let mut line = Vec::from_slice(alloc, b"finished ")?;
+    line.extend_from_slice(name.as_bytes())?;
+    line.push(b' ')?;
+    line.extend_from_slice(number.to_string(alloc)?.as_bytes())?;
+    Ok(line)
+}
+
+// The call that a key is read as, by its keyword and the words behind it, if it does not tell that a sequence has finished.
+fn call_by(keyword: &str, words: &mut KeyWords<'_>) -> Result<Call, LineFault>
+    ensures { ReadsBehind keyword.now (given_left words.old) (goes_on words.old) result }
+{
+    if is_named(keyword) {
+        let name = words.word_or("a")?;
+        named_call(keyword, name, words.word_or(last_example(keyword))?)
+    } else if is_short(keyword) {
+        short_call(keyword, words.word_or(last_example(keyword))?)
+    } else {
+        plain_call(keyword)
+    }
+}
+
+// The last word of the example with a keyword.
+fn last_example(keyword: &str) -> &'static str
+    ensures { result.now ≡ last_example keyword.now }
+{
+    match keyword {
+        "config" => "none",
+        "wake" => "0",
+        "stored" => "a",
+        "try_stored" => "yes",
+        _ => "[0,0,0,0]",
+    }
+}
+
+// The words of a key. Where a `*` stands for what is left, words of an example follow.
+#[derive(Drop)]
+struct KeyWords<'a> {
+    words: Words<'a>,
+    is_open: bool,
+}
+
+impl<'a> KeyWords<'a> {
+    // All words of a key.
+    fn of(key: &'a str) -> KeyWords<'a>
+        ensures left { given_left result ≡ but_star (words_of key.now) }
+        ensures goes_on { goes_on result ≡ ends_in_star (words_of key.now) }
+    {
+        KeyWords {
+            words: Words::of(key),
+            is_open: false,
+        }
+    }
+
+    // The next word, or that of the example.
+    fn word_or(&mut self, example: &'a str) -> Result<&'a str, LineFault>
+        ensures word { IfOk result (λ word. word.now ≡ first_or example.now (given_left self.old)) }
+        ensures left { OnOk result (given_left self.new ≡ drop 1 (given_left self.old)) }
+        ensures goes_on { OnOk result (goes_on self.new ≡ goes_on self.old) }
+        ensures none { OnErr result (given_left self.old ≡ []) }
+        ensures done { OnErr result (goes_on self.old ≡ false) }
+    {
+        if self.is_open {
+            return Ok(example);
+        }
+        let word = self.words.word()?;
+        self.is_open = word == "*" && self.words.is_done();
+        Ok(if self.is_open { example } else { word })
+    }
+}

@@ -64,7 +64,7 @@ four-words (a ∷ b ∷ c ∷ d ∷ []) four = refl
 four-words (a ∷ b ∷ c ∷ d ∷ e ∷ words) four = absurd (omega arith)
 
 -- a signed number is what its 64 bits say
-kept : (read z : ℤ) → IsSigned z → read ≡ z → to_z w64 (of_z w64 read) ≡ z
+pub kept : (read z : ℤ) → IsSigned z → read ≡ z → to_z w64 (of_z w64 read) ≡ z
 kept read z fits same = ap (λ (x : ℤ). to_z w64 (of_z w64 x)) same ∙ to_z-of_z w64 z (record { sfits = fits })
 
 -- the item of four numbers that were read

@@ -40,18 +40,6 @@ item_in (NextItem port item) = item
 item_in (ItemDone response) = response
 item_in call = None
 
--- a line is that of a call, which has an item or none
-pub record IsCallLine (line : List ℕ) (has_item : Bool) : Type 0 where
-  pub call : Call
-  pub text : call_text call ≡ line
-  pub item : is_some (item_in call) ≡ has_item
-
--- a key is for some call, and such a call has an item, where the key is said to be for calls with one
-pub record IsKeyOf (key : List ℕ) (has_item : Bool) : Type 0 where
-  pub call : Call
-  pub for : is_for key (call_text call) ≡ true
-  pub item : is_some (item_in call) ≡ has_item
-
 -- the names, numbers and items of a call are what their types say: this is so for every call that is made
 abbrev pub CanBeCall : Call → Type 0
 CanBeCall (Config field value) = IsName field × IfSome value IsSigned
@@ -66,6 +54,20 @@ CanBeCall (NextItem port item) = IsName port × IfSome item IsItem
 CanBeCall (ItemDone response) = IfSome response IsItem
 CanBeCall (Finished name id) = IsName name × (id < 2 ^ 64)
 CanBeCall call = Unit {0}
+
+-- a line is that of a call that can be made, which has an item or none
+pub record IsCallLine (line : List ℕ) (has_item : Bool) : Type 0 where
+  pub call : Call
+  pub can : CanBeCall call
+  pub text : call_text call ≡ line
+  pub item : is_some (item_in call) ≡ has_item
+
+-- a key is for some call that can be made, and such a call has an item, where the key is said to be for calls with one
+pub record IsKeyOf (key : List ℕ) (has_item : Bool) : Type 0 where
+  pub call : Call
+  pub can : CanBeCall call
+  pub for : is_for key (call_text call) ≡ true
+  pub item : is_some (item_in call) ≡ has_item
 
 -- no call with this key has an item
 abbrev pub LacksItem : List ℕ → Type 0

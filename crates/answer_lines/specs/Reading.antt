@@ -32,6 +32,12 @@ FitsTypes (act.DropObjection count) = count < 2 ^ 16
 FitsTypes (act.Wait ticks tag) = tag < 2 ^ 32
 FitsTypes other = Unit {0}
 
+-- the glob in an action has no fault as one: other crates see no more of it than its text
+abbrev pub HasGlob : Act → Type 0
+HasGlob (act.Set glob field value) = glob_fault glob ≡ None
+HasGlob (act.OverrideInst original new glob) = glob_fault glob ≡ None
+HasGlob other = Unit {0}
+
 -- an action can be read: its parts are what their types say, and it changes no severity for the id `none`
 abbrev pub CanBeSaid : Act → Type 0
 CanBeSaid other = IsSound other × HasPlainId other × FitsTypes other

@@ -6,7 +6,7 @@ use Rattle.answer_acts.specs.Lines.{act_line}
 use Rattle.answer_acts.specs.declared.relays.Relay.{Relay}
 use Rattle.answer_acts.specs.Relays.{HasName, relay_stem, relayed}
 use Rattle.answer_acts.specs.Sound.{HasPlainId, HasSoundPlaces, IsSound}
-use Rattle.answer_lines.specs.Reading.{CanBeSaid}
+use Rattle.answer_lines.specs.Reading.{CanBeSaid, HasGlob}
 use Rattle.answer_lines.specs.declared.replies.Reply.{Reply}
 use Rattle.answer_lines.specs.declared.replies.Reply.TheVariants.{Says, Passes}
 
@@ -39,7 +39,7 @@ IsNoReply line = (reply : Reply) → CanBe reply → reply_line reply ≡ line �
 
 -- what is known of an act that was read, before its line is compared
 abbrev pub IsPlain : Act → Type 0
-IsPlain other = HasSoundPlaces other × HasPlainId other
+IsPlain other = HasSoundPlaces other × HasPlainId other × HasGlob other
 
 -- whether it passes on the item of a call
 abbrev pub passes : Reply → Bool

@@ -10,6 +10,7 @@ ghost use Rattle.uvm_lines.specs.Lines.{call_text};
 use crate::calls::{is_named, is_short, named_call, plain_call, short_call};
 use crate::faults::LineFault;
 use crate::keys::item_in;
+use crate::types::{calls_can_be, name_is_sound};
 use crate::words::{Words, name_of, number_of};
 use std::alloc::{AllocError, Global};
 use uvm_glob::Name;
@@ -39,6 +40,7 @@ fn finished_example(alloc: Global, words: &mut KeyWords<'_>) -> Result<(Vec<u8>,
 {
     let name = name_of(words.word_or("a")?)?;
     let number = number_of(words.word_or("1")?)?;
+    name_is_sound(&name);
     Ok((finished_line(alloc, &name, number)?, false))
 }
 
@@ -53,6 +55,7 @@ fn call_example(
     ensures none { keyword.now ≢ codes "finished" → IfErr result (λ fault. (fault ≡ LineFault.Memory) ⊎ NoneBehind keyword.now (given_left words.old) (goes_on words.old)) }
 {
     let call = call_by(keyword, words)?;
+    calls_can_be(&call);
     Ok((call_text(alloc, &call)?, item_in(&call).is_some()))
 }
 

@@ -14,6 +14,7 @@ mod relays;
 mod replies;
 mod report_acts;
 mod sequence_acts;
+mod types;
 mod words;
 
 pub use faults::LineFault;

@@ -3,11 +3,13 @@
 ghost use Rattle.std.specs.Prelude.{◌≡◌, ◌⊎◌, ◌++◌, IfErr, IfNone, IfOk, IfSome, codes};
 ghost use Rattle.answer_acts.specs.Lines.{act_line};
 ghost use Rattle.answer_acts.specs.Relays.{HasName, relay_stem};
-ghost use Rattle.answer_lines.specs.Replies.{IsAlone, IsNoLine, IsNoPassing, IsNoReply, act_with, passes, reply_line};
+ghost use Rattle.answer_lines.specs.Reading.{CanBeSaid};
+ghost use Rattle.answer_lines.specs.Replies.{CanBe, IsAlone, IsNoLine, IsNoPassing, IsNoReply, act_with, passes, reply_line};
 
 use crate::acts::act_of;
 use crate::faults::LineFault;
 use crate::relays::relay_of;
+use crate::types::acts_fit_types;
 use answer_acts::laws::lines_are_words;
 use answer_acts::{Relay, act_line, acts_are_sound};
 use std::alloc::{AllocError, Global};
@@ -32,6 +34,7 @@ impl Reply {
     pub fn read(alloc: Global, line: &str) -> Result<Reply, LineFault>
         ensures line { IfOk result (λ reply. reply_line reply ≡ line.now) }
         ensures alone { IfOk result IsAlone }
+        ensures can { IfOk result CanBe }
         ensures err { IfErr result (λ fault. (fault ≡ LineFault.Memory) ⊎ ((fault ≡ LineFault.NoAct) × IsNoReply line.now)) }
     {
         if let Some(relay) = passing_of(line) {
@@ -71,6 +74,7 @@ fn passing_of(line: &str) -> Option<Relay>
 fn exact_act(alloc: Global, line: &str) -> Result<Act, LineFault>
     ensures line { IfOk result (λ act. act_line act ≡ line.now) }
     ensures alone { IfOk result (λ act. IsAlone (Reply.Says act)) }
+    ensures can { IfOk result CanBeSaid }
     ensures err { IfErr result (λ fault. (fault ≡ LineFault.Memory) ⊎ ((fault ≡ LineFault.NoAct) × IsNoLine line.now)) }
 {
     lines_are_words();
@@ -82,6 +86,7 @@ fn exact_act(alloc: Global, line: &str) -> Result<Act, LineFault>
     let text = act_line(alloc, &act)?;
     if text.as_slice() == line.as_bytes() {
         acts_are_sound(&act);
+        acts_fit_types(&act);
         Ok(act)
     } else {
         Err(LineFault::NoAct)

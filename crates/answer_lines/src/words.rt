@@ -91,6 +91,7 @@ impl<'a> Words<'a> {
     // The next word is a glob in parentheses.
     pub(crate) fn glob(&mut self, alloc: Global) -> Result<Glob, LineFault>
         ensures glob { IfOk result IsGlob }
+        ensures sound { IfOk result (λ glob. glob_fault glob ≡ None) }
         ensures reads { ReadsInMemory in_brackets (λ glob. glob_fault glob ≡ None) (words_left self.old) (words_left self.new) result }
     {
         match Glob::new(alloc, self.enclosed()?.as_bytes()) {

@@ -15,7 +15,9 @@ ghost use Rattle.uvm_phase.specs.Phases.{is_task};
 ghost use Rattle.uvm_phase.specs.declared.phases.Phase.TheVariants.{Run};
 ghost use Rattle.bench_history.specs.Arbitration.{waiters_at};
 ghost use Rattle.bench_history.specs.Reports.{report_commands};
+ghost use Rattle.bench_history.specs.Sequences.{sequences_of};
 ghost use Rattle.uvm_report.specs.Changes.{Gives};
+ghost use Rattle.uvm_lines.specs.Lines.{who_text};
 ghost use Rattle.bench_history.specs.Next.{next_of, made_in, declined_in, IsLegal};
 ghost use Rattle.bench_history.specs.Cases as comes;
 ghost use Rattle.bench_history.specs.Laws.{IsSomething};
@@ -32,7 +34,7 @@ use rand_core::Rng;
 use std::alloc::{AllocError, Global};
 use std::marker::Model;
 use uvm_glob::{Name, Path};
-use uvm_lines::line_of;
+use uvm_lines::{line_of, who_text};
 use uvm_object::{Acts, Call, Entry, Log, Who};
 use uvm_phase::Phase;
 use uvm_report::Reports;
@@ -344,6 +346,22 @@ impl Core {
             out.truncate(before);
         }
         pushed
+    }
+
+    /// Returns the text of a component or a sequence, as the lines of entries show it; an empty text once memory ran out. Errors: out of
+    /// memory.
+    pub fn who_text(&self, alloc: Global, who: &Who) -> Result<Vec<u8>, AllocError>
+        ensures { IfOk result (λ text. text.items ≡ (if is_sound self.now.health then who_text (nodes_of self.now.history) (sequences_of self.now.history) who.now else [])) }
+    {
+        if !self.is_sound() {
+            return Ok(Vec::new(alloc));
+        }
+        who_text(
+            alloc,
+            who,
+            lent::tree(&self.world),
+            lent::sequences(&self.world),
+        )
     }
 
     // The line of the newest entry, where it is asked for and there is one.

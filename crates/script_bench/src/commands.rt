@@ -7,6 +7,20 @@ const ABOUT: &str = "Runs UVM-style testbenches that are described in TOML files
 
 const ABOUT_RUN: &str = "Runs testbench files and prints what they report";
 
+const ABOUT_SERVE: &str =
+    "Runs a testbench file whose objects are in another program, over standard input and output";
+
+const AFTER_SERVE: &str =
+    "The objects of the testbench are in another program, the client. It reads the questions from standard output, and writes the answers to
+standard input. Clients in Python and C++ are in clients/. A file of answers repeats a run.
+
+Exit status: as that of run.
+
+Example, in the top folder:
+  script_bench serve crates/hello_bench/data/hello.toml < clients/hello.answers
+
+The protocol: docs/PROTOCOL.md. Which way to write a testbench: docs/BENCHES.md";
+
 const AFTER_HELP: &str =
     "A FILE declares the types of a testbench, names its test, and says how each type answers its calls.
 
@@ -22,7 +36,7 @@ Example, in crates/script_bench:
 
 Tutorial: docs/GUIDE.md. All keys, calls and actions: docs/REFERENCE.md";
 
-/// The options of `run`.
+/// The options of `run` and of `serve`.
 #[derive(Clone, Copy)]
 pub struct Options {
     /// Whether to print every entry of the log.
@@ -31,10 +45,12 @@ pub struct Options {
     pub seed: u64,
 }
 
-/// Returns the command line: `run [--trace] [--seed N] [--test NAME] FILE..`. Errors: out of memory.
+/// Returns the command line: `run [--trace] [--seed N] [--test NAME] FILE..`, and `serve` with the same options and one FILE. Errors: out
+/// of memory.
 pub fn command<'a>(alloc: Global) -> Result<Command<'a>, AllocError> {
     let run = run_command(alloc)?;
-    top_command(alloc).subcommand(run)
+    let serve = serve_command(alloc)?;
+    top_command(alloc).subcommand(run)?.subcommand(serve)
 }
 
 // `script_bench` without its subcommand.
@@ -52,6 +68,17 @@ fn run_command<'a>(alloc: Global) -> Result<Command<'a>, AllocError> {
     run_options(alloc)?
         .arg(test_arg(alloc))?
         .arg(files_arg(alloc))
+}
+
+// `serve [--trace] [--seed N] [--test NAME] FILE`.
+fn serve_command<'a>(alloc: Global) -> Result<Command<'a>, AllocError> {
+    Command::new(alloc, "serve")
+        .about(ABOUT_SERVE)
+        .after_help(AFTER_SERVE)
+        .arg(trace_arg(alloc))?
+        .arg(seed_arg(alloc))?
+        .arg(test_arg(alloc))?
+        .arg(file_arg(alloc))
 }
 
 // `run [--trace] [--seed N]`.
@@ -92,7 +119,14 @@ fn files_arg<'a>(alloc: Global) -> Arg<'a> {
         .num_args(1..)
 }
 
-/// Returns the options of `run`: the seed is 1 if it is omitted.
+fn file_arg<'a>(alloc: Global) -> Arg<'a> {
+    Arg::new(alloc, "file")
+        .value_name("FILE")
+        .help("A testbench file, in TOML, without [answers]")
+        .required(true)
+}
+
+/// Returns the options of `run` or `serve`: the seed is 1 if it is omitted.
 pub fn options_of(run: &ArgMatches<'_>) -> Options {
     Options {
         trace: run.get_flag("trace"),

@@ -1,17 +1,23 @@
-//! The program `script_bench`: `run FILE..` runs documents, each of which is a script with the answers of its objects.
+//! The program `script_bench`: `run FILE..` runs documents, each of which is a script with the answers of its objects; `serve FILE` runs
+//! one whose objects are in another program.
 #![tactic(auto)]
 
 mod commands;
 mod program;
 
 use script_jobs::Breakage;
-use std::io::BufWriter;
+use std::io::{BufReader, BufWriter, Input};
 use std::process::ExitCode;
 
 fn main(rt: HostRuntime) -> ExitCode {
     let mut err = rt.stderr();
-    ExitCode::from(match BufWriter::new(rt.alloc(), rt.stdout()) {
-        Ok(mut out) => program::run(&rt, &mut out, &mut err),
-        Err(_) => program::broken(Breakage::Memory, &mut err),
-    })
+    let out = match BufWriter::new(rt.alloc(), rt.stdout()) {
+        Ok(out) => out,
+        Err(_) => return ExitCode::from(program::broken(Breakage::Memory, &mut err)),
+    };
+    let input = match BufReader::new(rt.alloc(), rt.reader()) {
+        Ok(input) => input,
+        Err(_) => return ExitCode::from(program::broken(Breakage::Memory, &mut err)),
+    };
+    ExitCode::from(program::run(&rt, input, out, &mut err))
 }

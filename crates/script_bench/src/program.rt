@@ -5,9 +5,10 @@ use bench_script::ScriptFault;
 use clap::error::ErrorKind;
 use clap::{ArgMatches, Error};
 use script_jobs::{Breakage, FileVerdict, read_file, run_bench};
+use serve_jobs::{Pipe, serve_bench, serve_nothing};
 use std::alloc::Global;
 use std::fs::File;
-use std::io::Write;
+use std::io::{BufRead, Write};
 use std::rt::{Env, Files};
 use std::{env, fs, io};
 use uvm_glob::{Name, PathFault};
@@ -42,13 +43,14 @@ impl Unread {
 /// Executes the command line and returns the exit status: the greatest of the files' statuses (0 clean, 1 faulty, 2 refused, 3 broken).
 /// For help and the version it returns 0, or 3 if the text could not be written. It returns 2 if the command line is refused, and 3 if
 /// memory runs out or the output fails.
-pub fn run<R: Env + Files + AllocGlobal, O: Write, E: Write>(
+pub fn run<R: Env + Files + AllocGlobal, I: BufRead + Drop, O: Write + Drop, E: Write>(
     rt: &R,
-    out: &mut O,
+    input: I,
+    out: O,
     err: &mut E,
 ) -> u8 {
     match words(rt) {
-        Ok(words) => serve(rt, words.as_slice(), out, err),
+        Ok(words) => parse(rt, words.as_slice(), input, out, err),
         Err(error) if error.kind() == io::ErrorKind::OutOfMemory => broken(Breakage::Memory, err),
         Err(_) => {
             let _ = writeln!(err, "script_bench: the command line is not UTF-8");
@@ -61,18 +63,19 @@ fn words<R: Env + AllocGlobal>(rt: &R) -> io::Result<Vec<String>> {
     Ok(env::args(rt)?.collect(rt.alloc())?)
 }
 
-fn serve<R: Files + AllocGlobal, O: Write, E: Write>(
+fn parse<R: Files + AllocGlobal, I: BufRead + Drop, O: Write + Drop, E: Write>(
     rt: &R,
     words: &[String],
-    out: &mut O,
+    input: I,
+    mut out: O,
     err: &mut E,
 ) -> u8 {
     let Ok(command) = command(rt.alloc()) else {
         return broken(Breakage::Memory, err);
     };
     match command.try_get_matches_from(words) {
-        Ok(matches) => obey(rt, &matches, out, err),
-        Err(error) => refuse(&error, out, err),
+        Ok(matches) => obey(rt, &matches, input, out, err),
+        Err(error) => refuse(&error, &mut out, err),
     }
 }
 
@@ -101,25 +104,54 @@ pub fn broken<E: Write>(breakage: Breakage, err: &mut E) -> u8 {
     BROKEN
 }
 
-fn obey<R: Files + AllocGlobal, O: Write, E: Write>(
+fn obey<R: Files + AllocGlobal, I: BufRead + Drop, O: Write + Drop, E: Write>(
     rt: &R,
     matches: &ArgMatches<'_>,
-    out: &mut O,
+    input: I,
+    mut out: O,
     err: &mut E,
 ) -> u8 {
-    let Some(("run", run)) = matches.subcommand() else {
+    let Some((word, given)) = matches.subcommand() else {
         return REFUSED;
     };
-    let Ok(test) = test_of(run) else {
+    let Ok(test) = test_of(given) else {
         let fault = ScriptFault::BadName.label();
         let _ = writeln!(err, "script_bench: --test: not a name ({fault})");
         return REFUSED;
     };
-    let options = options_of(run);
-    match run.get_strs("file") {
-        Some(files) => run_files(rt, files, &options, test.as_ref(), out, err),
-        None => REFUSED,
+    let options = options_of(given);
+    let Some(files) = given.get_strs("file") else {
+        return REFUSED;
+    };
+    match (word, files) {
+        ("serve", [file]) => serve_file(rt, file, &options, test.as_ref(), (input, out), err),
+        _ => run_files(rt, files, &options, test.as_ref(), &mut out, err),
     }
+}
+
+// Serves a file to the client that writes the input and reads the output.
+fn serve_file<R: Files + AllocGlobal, I: BufRead + Drop, O: Write + Drop, E: Write>(
+    rt: &R,
+    file: &str,
+    options: &Options,
+    test: Option<&Name>,
+    (input, out): (I, O),
+    err: &mut E,
+) -> u8 {
+    let Ok(mut client) = Pipe::new(rt.alloc(), input, out) else {
+        return broken(Breakage::Memory, err);
+    };
+    let (seed, trace) = (options.seed, options.trace);
+    let bytes = match bytes_of(rt, file) {
+        Ok(bytes) => bytes,
+        Err(why) => {
+            let _ = serve_nothing(seed, &mut client);
+            return report_unread(file, why, err);
+        }
+    };
+    let verdict = serve_bench(rt.alloc(), bytes.as_slice(), seed, test, trace, &mut client);
+    let _ = verdict.write_line(file, client.last_line(), err);
+    verdict.status()
 }
 
 // Returns the test of `--test`, if there is one. Errors: the test is not a name.

@@ -9,5 +9,5 @@ mod verdicts;
 
 pub use bus_jobs::{Breakage, Verdict as FileVerdict, read_file};
 pub use objects::BenchObject;
-pub use runs::run_bench;
+pub use runs::{reported, run_bench, script_to_run};
 pub use verdicts::{Refusal, Verdict};

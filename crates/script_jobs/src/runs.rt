@@ -91,8 +91,8 @@ fn run_tree<S: Sink>(
     }
 }
 
-// Returns the verdict on a script with a fault. It names the test if the script declares no type of that name.
-fn reported(alloc: Global, root: &Table, test: Option<&Name>, fault: ScriptFault) -> Verdict
+/// Returns the verdict on a script with a fault. It names the test if the script declares no type of that name.
+pub fn reported(alloc: Global, root: &Table, test: Option<&Name>, fault: ScriptFault) -> Verdict
     ensures { IsReported fault (lost_test (table_view root.now) (option_copied test.entry)) result }
 {
     match fault {
@@ -157,9 +157,13 @@ fn verdict_on(ending: &Ending) -> Verdict
     }
 }
 
-// Returns the script to run, with `test` in place of its own test if it is given. Errors: the first fault; `Missing` if there is no test;
-// `Memory`.
-fn script_to_run(alloc: Global, root: &Table, test: Option<&Name>) -> Result<Script, ScriptFault>
+/// Returns the script in the tree of a document, its answers aside, with `test` in place of its own test if it is given. Errors: the first
+/// fault; `Missing` if there is no test; `Memory`.
+pub fn script_to_run(
+    alloc: Global,
+    root: &Table,
+    test: Option<&Name>,
+) -> Result<Script, ScriptFault>
     ensures ok { IfOk result (λ script. script_to_run (table_view root.now) (option_copied test.entry) ≡ Ok script) }
     ensures tested { IfOk result (λ script. IsSome script.test) }
     ensures err { IfErr result (λ fault. fault ≢ ScriptFault.Memory → script_to_run (table_view root.now) (option_copied test.entry) ≡ Err fault) }

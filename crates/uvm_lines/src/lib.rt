@@ -8,3 +8,4 @@ mod sequence_lines;
 
 pub use act_lines::act_text;
 pub use lines::{call_text, line_of};
+pub use sequence_lines::who_text;

@@ -1,6 +1,6 @@
 //! The lines of sequences, of their acts and of those of their driver.
 
-ghost use Rattle.std.specs.Prelude.{◌≡◌, ◌++◌, ◌∷◌, true, OnOk};
+ghost use Rattle.std.specs.Prelude.{◌≡◌, ◌++◌, ◌∷◌, true, IfOk, OnOk};
 ghost use Rattle.uvm_acts.specs.declared.acts.Act.TheVariants as act;
 ghost use Rattle.uvm_acts.specs.declared.acts.Call.TheVariants as call;
 ghost use Rattle.uvm_object.specs.declared.entries.Entry.TheVariants.{Granted, Locked};
@@ -9,13 +9,28 @@ ghost use Rattle.uvm_lines.specs.Lines.{act_text, call_text, drawn_text, entry_t
 
 use crate::item_lines::{push_item, push_named, push_some_item};
 use crate::lines::{push_ticks, push_two};
-use std::alloc::AllocError;
+use std::alloc::{AllocError, Global};
 use uvm_glob::{Name, Path};
 use uvm_object::{Act, Grant, Who, push_node, push_sequence};
 use uvm_sequencer::{How, Mode};
 use uvm_sequences::{SeqId, Sequences};
 use uvm_tlm::Item;
 use uvm_tree::{NodeId, Tree};
+
+/// Returns the text of a component or a sequence, as the lines of entries show it: its path, and behind a sequence's its number. Errors:
+/// out of memory.
+pub fn who_text(
+    alloc: Global,
+    who: &Who,
+    tree: &Tree,
+    sequences: &Sequences,
+) -> Result<Vec<u8>, AllocError>
+    ensures { IfOk result (λ text. text.items ≡ who_text tree.now.nodes sequences.now.started who.now) }
+{
+    let mut text = Vec::new(alloc);
+    push_who(who, tree, sequences, &mut text)?;
+    Ok(text)
+}
 
 // Somebody, a sequence with its number.
 pub(crate) fn push_who(

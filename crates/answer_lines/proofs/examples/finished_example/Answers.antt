@@ -1,4 +1,4 @@
-use Rattle.std.proofs.Common.{◌≡◌, inr, refl, sym, ap, ◌∙◌, codes, is_some}
+use Rattle.std.proofs.Common.{arith, ◌≡◌, inr, refl, sym, ap, ◌∙◌, codes, is_some}
 use Rattle.uvm_acts.specs.declared.acts.Call.TheVariants.{Finished}
 use Rattle.answer_lines.specs.Calls.{example_by}
 use Rattle.answer_lines.specs.Keys.{item_in}
@@ -23,7 +23,7 @@ returns-in_err-number-clause-none c = err-any _ _ (λ fault. inr (λ call can sa
 
 -- the line is that of the call
 pub returns-clause-line : goal.returns-clause-line
-returns-clause-line c = record { call = Finished c.in_ok-name.name c.in_ok-number.number; text = sym c.in_ok-finished_line.ensures; item = refl }
+returns-clause-line c = record { call = Finished c.in_ok-name.name c.in_ok-number.number; can = (c.name_is_sound.ensures, omega arith); text = sym c.in_ok-finished_line.ensures; item = refl }
 
 pub returns-clause-tells : goal.returns-clause-tells
 returns-clause-tells c = λ call can same begins.

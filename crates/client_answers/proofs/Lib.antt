@@ -1,0 +1,4 @@
+mod NoLines
+mod Shown
+mod Stops
+mod Tells

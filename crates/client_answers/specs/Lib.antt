@@ -1,0 +1,4 @@
+pub mod Answers
+pub mod Readers
+pub mod Errors
+pub mod Laws

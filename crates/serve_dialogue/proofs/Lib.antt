@@ -1,0 +1,4 @@
+mod Asks
+mod Begins
+mod PipeTalk
+mod Turns

@@ -1,0 +1,28 @@
+use Rattle.std.proofs.Common.{◌≡◌, ◌-◌, length}
+use Rattle.bench_history.specs.Limits.{log_limit}
+use Rattle.bench_history.specs.Next.{IsLegal}
+use Rattle.bench_history.specs.Sequences.{leaving_of}
+use Rattle.bench_core.specs.Cores.{Nothing}
+use Rattle.bench_core.specs.declared.cores.Health.TheVariants.{Good}
+use Rattle.bench_run.specs.Words.{AreDrawn}
+use Rattle.serve_dialogue.specs.Dialogue.{AreTold}
+use Rattle.serve_dialogue.specs.Served.{SpokeLog}
+use Rattle.serve_dialogue.proofs.serving.serve_core.Given as goal
+
+-- the dialogue of the log so far was spoken; its random numbers were drawn
+abbrev pub invariant-loop-core : goal.invariant-loop-core
+invariant-loop-core g l = record {
+  good : l.core.health ≡ Good;
+  script : l.core.script ≡ l.fn.core.script;
+  nothing : l.core.standing ≡ Nothing;
+  leaving : l.core.leaving ≡ leaving_of l.core.history;
+  legal : IsLegal l.core.script l.core.history;
+  drawn : AreDrawn g.R.Rng.stream l.core.history l.fn.words l.words;
+  told : AreTold l.fn.core.script l.core.history;
+  talk : SpokeLog g.C.Client.spoke g.C.Client.ended g.C.Client.line l.fn.core.script l.trace l.core.history l.fn.client l.client;
+  steady : g.C.Client.refuses l.client → g.C.Client.refuses l.fn.client;
+}
+
+-- the log grows
+abbrev pub decreases-loop-core : goal.decreases-loop-core
+decreases-loop-core g l = log_limit l.fn.core.script - length l.core.history

@@ -1,0 +1,138 @@
+-- The dialogue of a log: what the kernel says and what the client answers, in the order of time. It is a function of the log alone.
+use Rattle.std.specs.Prelude.{ℕ, ◌+◌, Bool, true, false, List, [], ◌∷◌, ◌++◌, length, All, Option, Some, None, codes}
+use Rattle.std.specs.List.{flat_map}
+use Rattle.std.specs.Fmt.{decimal}
+use Rattle.uvm_factory.specs.declared.types.Kind.{Kind}
+use Rattle.uvm_factory.specs.declared.types.Kind.TheVariants as kind
+use Rattle.uvm_acts.specs.declared.acts.Who.{Who}
+use Rattle.uvm_acts.specs.declared.acts.Who.TheVariants as who
+use Rattle.uvm_acts.specs.declared.acts.Call.{Call}
+use Rattle.uvm_object.specs.declared.entries.Outcome.TheVariants.{Made, Started}
+use Rattle.uvm_object.specs.declared.entries.Entry.{Entry}
+use Rattle.uvm_object.specs.declared.entries.Entry.TheVariants.{Did, Heard, Time}
+use Rattle.uvm_glob.specs.Lists.{newest}
+use Rattle.uvm_glob.specs.Paths.{path_text}
+use Rattle.uvm_lines.specs.Lines.{call_text, who_text}
+use Rattle.bench_script.specs.Scripts.{ScriptValue}
+use Rattle.bench_history.specs.declared.needs.Need as declared
+use Rattle.bench_history.specs.History.{nodes_of}
+use Rattle.bench_history.specs.Sequences.{sequences_of, leaving_of}
+use Rattle.bench_history.specs.Cases as next
+use Rattle.bench_history.specs.Next.{next_of}
+use Rattle.bench_core.specs.Cores.{last_text}
+use Rattle.bench_core.specs.Worlds.{made_who}
+use Rattle.client_answers.specs.Answers.{IsTellingAct, answer_text, made_text}
+use Rattle.serve_dialogue.specs.Spoken.{Spoken, answered, said}
+
+-- WHAT THE KERNEL SAYS
+
+-- the word for a component or for a sequence
+abbrev pub kind_word : Kind → List ℕ
+kind_word kind.Component = codes "component "
+kind_word kind.Sequence = codes "sequence "
+
+-- which of them somebody is
+abbrev pub kind_of : Who → Kind
+kind_of (who.Node node) = kind.Component
+kind_of (who.Sequence home id) = kind.Sequence
+
+-- a component or a sequence, after the word that says which
+abbrev pub kind_and_who : List Entry → Who → List ℕ
+kind_and_who history one = kind_word (kind_of one) ++ who_text (nodes_of history) (sequences_of history) one
+
+-- the question for an object, and for the answer to a call
+abbrev pub need_line : declared.Need → List ℕ
+need_line need = codes "? need " ++ kind_word need.kind ++ need.type_name ++ 32 ∷ path_text need.path ++ 10 ∷ []
+
+abbrev pub ask_line : List Entry → Who → Call → List ℕ
+ask_line history hearer call = codes "? ask " ++ kind_and_who history hearer ++ 32 ∷ call_text call ++ 10 ∷ []
+
+-- the question that comes next, if one does
+abbrev pub question_in : List Entry → next.Next → List ℕ
+question_in history (next.Answer hearer call origin) = ask_line history hearer call
+question_in history (next.Need need made performer act) = need_line need
+question_in history other = []
+
+-- the notice that a sequence has ended
+abbrev pub back_line : List Entry → Who → List ℕ
+back_line history one = codes "! back " ++ kind_and_who history one ++ 10 ∷ []
+
+-- the notices of the sequences that the newest entry has ended
+abbrev pub backs_of : List Entry → List ℕ
+backs_of history = flat_map (back_line history) (leaving_of history)
+
+-- the notice of an object that was made
+abbrev pub new_line : List Entry → Option Who → List ℕ
+new_line history None = []
+new_line history (Some one) = codes "! new " ++ kind_and_who history one ++ 10 ∷ []
+
+-- whether the entry that answers a need says that the object was made
+abbrev pub says_made : Entry → Bool
+says_made (Did performer (Made type_name) act) = true
+says_made (Did performer (Started id) act) = true
+says_made other = false
+
+-- its notice, if an object was needed and was made
+abbrev pub new_if : Bool → Entry → List Entry → next.Next → List ℕ
+new_if true entry before comes = new_line (entry ∷ before) (made_who before comes)
+new_if false entry before comes = []
+
+abbrev pub new_in : Entry → List Entry → next.Next → List ℕ
+new_in entry before comes = new_if (says_made entry) entry before comes
+
+-- WHAT THE CLIENT ANSWERS
+
+-- its answer to what came next, by the entry that was made of it
+abbrev pub answer_of : next.Next → Entry → List ℕ
+answer_of (next.Answer hearer call origin) (Heard one cause said acts) = answer_text acts
+answer_of (next.Need need made performer act) entry = made_text (says_made entry)
+answer_of other entry = []
+
+-- how many lines that is
+abbrev pub lines_of : next.Next → Entry → ℕ
+lines_of (next.Answer hearer call origin) (Heard one cause said acts) = length acts + 1
+lines_of (next.Need need made performer act) entry = 1
+lines_of other entry = 0
+
+-- all lines that the client has answered in a log
+abbrev pub lines_answered : ScriptValue → List Entry → ℕ
+lines_answered script [] = 0
+lines_answered script (entry ∷ before) = lines_answered script before + lines_of (next_of script before) entry
+
+-- the actions of an answer are told by its text
+abbrev pub IsTold : next.Next → Entry → Type 0
+IsTold (next.Answer hearer call origin) (Heard one cause said acts) = All IsTellingAct acts
+IsTold other entry = Unit {0}
+
+-- and so are those of each answer in a log
+abbrev pub AreTold : ScriptValue → List Entry → Type 0
+AreTold script [] = Unit {0}
+AreTold script (entry ∷ before) = IsTold (next_of script before) entry × AreTold script before
+
+-- THE DIALOGUE
+
+-- what is asked before the next entry: first the notices of the sequences that have ended, then the question
+abbrev pub asked_in : ScriptValue → List Entry → List ℕ
+asked_in script history = backs_of history ++ question_in history (next_of script history)
+
+-- the notice that time passes, if the newest entry says so
+abbrev pub time_in : Option Entry → List ℕ
+time_in (Some (Time time)) = codes "! time " ++ decimal time ++ 10 ∷ []
+time_in entry = []
+
+-- what is said of the newest entry: the time, the line of the entry, and that of its report
+abbrev pub told_last : Bool → ScriptValue → List Entry → List ℕ
+told_last trace script history = time_in (newest history) ++ last_text trace script history
+
+-- and before that the object that was made
+abbrev pub told_of : Bool → ScriptValue → Entry → List Entry → List ℕ
+told_of trace script entry before = new_in entry before (next_of script before) ++ told_last trace script (entry ∷ before)
+
+-- what is asked before an entry, then answered, and then said of it
+abbrev pub exchange : Bool → ScriptValue → Entry → List Entry → List Spoken
+exchange trace script entry before = said (asked_in script before) ++ answered (answer_of (next_of script before) entry) ++ said (told_of trace script entry before)
+
+-- the dialogue of a log: that of each entry, in order
+abbrev pub dialogue : Bool → ScriptValue → List Entry → List Spoken
+dialogue trace script [] = []
+dialogue trace script (entry ∷ before) = dialogue trace script before ++ exchange trace script entry before

@@ -1,0 +1,80 @@
+-- One entry of a run over a client.
+use Rattle.std.specs.Prelude.{◌≡◌, ◌<◌, ◌≤◌, ◌⊎◌, ℕ, true, false, List, [], ◌++◌, length, Option}
+use Rattle.uvm_acts.specs.declared.acts.Who.{Who}
+use Rattle.uvm_acts.specs.declared.acts.Call.{Call}
+use Rattle.uvm_object.specs.declared.entries.Entry.{Entry}
+use Rattle.uvm_object.specs.declared.entries.Origin.{Origin}
+use Rattle.bench_script.specs.Scripts.{ScriptValue}
+use Rattle.bench_history.specs.Cases as next
+use Rattle.bench_history.specs.Limits.{log_limit}
+use Rattle.bench_history.specs.History.{is_over}
+use Rattle.bench_history.specs.Next.{next_of}
+use Rattle.bench_history.specs.Sequences.{leaving_of}
+use Rattle.bench_core.specs.Cores.{Asked, CoreValue, core_after}
+use Rattle.client_answers.specs.Answers.{BreaksOff, count_after}
+use Rattle.client_answers.specs.Errors.{line_in}
+use Rattle.client_answers.specs.declared.errors.AnswerError.{AnswerError}
+use Rattle.serve_dialogue.specs.Clients.{IsUnmade}
+use Rattle.serve_dialogue.specs.Dialogue.{IsTold, answer_of, asked_in, lines_of, new_in}
+use Rattle.serve_dialogue.specs.Spoken.{Spoken, answered, said}
+use Rattle.serve_dialogue.specs.declared.errors.ServeError.{ServeError}
+use Rattle.serve_dialogue.specs.declared.errors.ServeError.TheVariants.{Memory, LogFull, Output, NoTest, NoAnswer}
+
+-- what somebody is asked is the call that comes next
+pub record AsksNext (who : Who) (core : CoreValue) : Type 0 where
+  pub call : Call
+  pub origin : Option Origin
+  pub stands : core.standing ≡ Asked who call origin
+  pub comes : next_of core.script core.history ≡ next.Answer who call origin
+
+-- the log has room for another entry, unless the run is over, or notices are to be said first
+abbrev pub HasRoom : ScriptValue → List Entry → Type 0
+HasRoom script history = is_over history ≡ false → leaving_of history ≡ [] → length history < log_limit script
+
+-- why an entry was not told: memory ran out, and nothing was said; or the client refused it
+abbrev pub IsUntold : {C : Type 0} → ServeError → C → C → Type 0
+IsUntold Memory old new = new ≡ old
+IsUntold Output old new = Unit {0}
+IsUntold other old new = ⊥
+
+module _ {C : Type 0} (spoke : C → C → List Spoken → Type 0) (ended : C → C → Type 0) (line : C → ℕ) where
+  -- why there is no answer to what came next, by what the client answered
+  abbrev pub IsFlaw : next.Next → AnswerError → C → C → Type 0
+  IsFlaw (next.Answer hearer call origin) error old new = BreaksOff error (λ text. spoke old new (answered text)) (ended old new) (line old) (line new)
+  IsFlaw (next.Need need made performer act) error old new = IsUnmade error (λ text. spoke old new (answered text)) (ended old new) × (line new ≡ count_after (line old) 1)
+  IsFlaw other error old new = ⊥
+
+  -- what comes next was asked, and was not answered; the error has the number of the line at which reading stopped
+  pub record AskedInVain (script : ScriptValue) (history : List Entry) (error : AnswerError) (old new : C) : Type 0 where
+    pub between : C
+    pub asked : spoke old between (said (asked_in script history))
+    pub line_stays : line between ≡ line old
+    pub flaw : IsFlaw (next_of script history) error between new
+    pub number : line_in error ≡ line new
+
+  -- one more entry: what comes next was asked, and answered as the entry says; the notice of the object that was made is left to be said
+  pub record Grows (old new : CoreValue) (client client' : C) (left : List ℕ) : Type 0 where
+    pub entry : Entry
+    pub is : new ≡ core_after entry old
+    pub talk : spoke client client' (said (asked_in old.script old.history) ++ answered (answer_of (next_of old.script old.history) entry))
+    pub left_is : left ≡ new_in entry old.history (next_of old.script old.history)
+    pub lines : line client' ≡ count_after (line client) (lines_of (next_of old.script old.history) entry)
+    pub told : IsTold (next_of old.script old.history) entry
+
+  -- no more entry: the run is over
+  pub record HasEndedRun (old new : CoreValue) (client client' : C) : Type 0 where
+    pub over : is_over old.history ≡ true
+    pub is : new ≡ record old { leaving = [] }
+    pub talk : spoke client client' (said (asked_in old.script old.history))
+
+  -- what was spoken before memory ran out: nothing; or what comes next was asked, and something was answered
+  abbrev pub SpokeSome : ScriptValue → List Entry → C → C → Type 0
+  SpokeSome script history old new = (new ≡ old) ⊎ ((text : List ℕ) × spoke old new (said (asked_in script history) ++ answered text))
+
+  -- why no more entry is told
+  abbrev pub Halts : ServeError → ScriptValue → List Entry → C → C → Type 0
+  Halts Memory script history old new = HasRoom script history × SpokeSome script history old new
+  Halts LogFull script history old new = (log_limit script ≤ length history) × (is_over history ≡ false) × (new ≡ old)
+  Halts Output script history old new = Unit {0}
+  Halts NoTest script history old new = ⊥
+  Halts (NoAnswer error) script history old new = AskedInVain script history error old new

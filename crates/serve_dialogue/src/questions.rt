@@ -1,0 +1,110 @@
+//! The lines that the kernel says, but for those of the transcript.
+
+ghost use Rattle.std.specs.Prelude.{◌≡◌, ◌++◌, ◌∷◌, [], IfOk, IfSome, IsSome, OnOk, Some};
+ghost use Rattle.uvm_glob.specs.Lists.{newest};
+ghost use Rattle.bench_core.specs.Cores.{call_of, need_of};
+ghost use Rattle.bench_core.specs.declared.cores.Health.TheVariants.{Good};
+ghost use Rattle.serve_dialogue.specs.Dialogue.{ask_line, back_line, kind_and_who, kind_of, kind_word, need_line, new_line, time_in};
+
+use bench_core::Core;
+use itoa::Buffer;
+use std::alloc::AllocError;
+use uvm_factory::Kind;
+use uvm_lines::call_text;
+use uvm_object::{Entry, Who};
+
+/// Appends the question for the object that is needed. Errors: out of memory.
+pub(crate) fn push_need(core: &Core, text: &mut Vec<u8>) -> Result<(), AllocError>
+    requires { IsSome (need_of core.now.standing) }
+    ensures { OnOk result (IfSome (need_of core.now.standing) (λ need. text.new.items ≡ text.old.items ++ need_line need)) }
+{
+    let Some(need) = core.need() else {
+        unreachable!()
+    };
+    text.extend_from_slice(b"? need ")?;
+    text.extend_from_slice(kind_word(need.kind).as_bytes())?;
+    text.extend_from_slice(need.type_name.as_bytes())?;
+    text.push(b' ')?;
+    text.extend_from_slice(need.path.as_bytes())?;
+    text.push(b'\n')?;
+    Ok(())
+}
+
+/// Appends the question for the answer to the call that is asked of somebody. Errors: out of memory.
+pub(crate) fn push_ask(core: &Core, who: &Who, text: &mut Vec<u8>) -> Result<(), AllocError>
+    requires asked { IsSome (call_of core.now.standing) }
+    requires good { core.now.health ≡ Good }
+    ensures { OnOk result (IfSome (call_of core.now.standing) (λ call. text.new.items ≡ text.old.items ++ ask_line core.now.history who.now call)) }
+{
+    let Some(call) = core.call() else {
+        unreachable!()
+    };
+    text.extend_from_slice(b"? ask ")?;
+    push_who(core, who, text)?;
+    text.push(b' ')?;
+    text.extend_from_slice(call_text(*text.allocator(), call)?.as_slice())?;
+    text.push(b'\n')?;
+    Ok(())
+}
+
+/// Appends the notice that a sequence has ended. Errors: out of memory.
+pub(crate) fn push_back(core: &Core, who: &Who, text: &mut Vec<u8>) -> Result<(), AllocError>
+    requires { core.now.health ≡ Good }
+    ensures { OnOk result (text.new.items ≡ text.old.items ++ back_line core.now.history who.now) }
+{
+    text.extend_from_slice(b"! back ")?;
+    push_who(core, who, text)?;
+    text.push(b'\n')?;
+    Ok(())
+}
+
+/// Appends the notice of an object that was made. Errors: out of memory.
+pub(crate) fn push_new(core: &Core, who: &Who, text: &mut Vec<u8>) -> Result<(), AllocError>
+    requires { core.now.health ≡ Good }
+    ensures { OnOk result (text.new.items ≡ text.old.items ++ new_line core.now.history (Some who.now)) }
+{
+    text.extend_from_slice(b"! new ")?;
+    push_who(core, who, text)?;
+    text.push(b'\n')?;
+    Ok(())
+}
+
+/// Appends the notice that time passes, if the newest entry says so. Errors: out of memory.
+pub(crate) fn push_time(core: &Core, text: &mut Vec<u8>) -> Result<(), AllocError>
+    ensures { OnOk result (text.new.items ≡ text.old.items ++ time_in (newest core.now.history)) }
+{
+    let Some(Entry::Time(time)) = core.log().last() else {
+        return Ok(());
+    };
+    text.extend_from_slice(b"! time ")?;
+    text.extend_from_slice(Buffer::new().format(*time).as_bytes())?;
+    text.push(b'\n')?;
+    Ok(())
+}
+
+// Appends a component or a sequence, after the word that says which.
+fn push_who(core: &Core, who: &Who, text: &mut Vec<u8>) -> Result<(), AllocError>
+    requires { core.now.health ≡ Good }
+    ensures { OnOk result (text.new.items ≡ text.old.items ++ kind_and_who core.now.history who.now) }
+{
+    text.extend_from_slice(kind_word(kind_of(who)).as_bytes())?;
+    text.extend_from_slice(core.who_text(*text.allocator(), who)?.as_slice())
+}
+
+fn kind_of(who: &Who) -> Kind
+    ensures { result ≡ kind_of who.now }
+{
+    match who {
+        Who::Node(_) => Kind::Component,
+        Who::Sequence { .. } => Kind::Sequence,
+    }
+}
+
+fn kind_word(kind: Kind) -> &'static str
+    ensures { result.now ≡ kind_word kind }
+{
+    match kind {
+        Kind::Component => "component ",
+        Kind::Sequence => "sequence ",
+    }
+}

@@ -1,0 +1,299 @@
+//! The run of a script whose objects live in another program.
+
+ghost use Rattle.std.specs.Prelude.{◌≡◌, ◌≢◌, ◌<◌, ◌++◌, ◌⊎◌, [], None, Err, IfErr, IfOk, IsSome, MatchBool, OnErr, OnOk, Some, length, true};
+ghost use Rattle.uvm_glob.specs.Lists.{newest};
+ghost use Rattle.uvm_object.specs.declared.entries.Entry.TheVariants.{Over};
+ghost use Rattle.uvm_report.specs.Commands.{quit_limit};
+ghost use Rattle.uvm_report.specs.Observed as reports;
+ghost use Rattle.uvm_report.specs.Observed.{limit_of};
+ghost use Rattle.bench_history.specs.History.{is_over};
+ghost use Rattle.bench_history.specs.Limits.{log_limit};
+ghost use Rattle.bench_history.specs.Next.{IsLegal, need_in, next_of};
+ghost use Rattle.bench_history.specs.Reports.{report_commands};
+ghost use Rattle.bench_history.specs.Sequences.{leaving_of};
+ghost use Rattle.bench_core.specs.Cores.{IsDrawn, Nothing, need_of, turn_of, word_in};
+ghost use Rattle.bench_core.specs.declared.cores.Health.TheVariants.{Good};
+ghost use Rattle.bench_run.specs.Running.{IsEnding, log_counts, summary_of};
+ghost use Rattle.bench_run.specs.Words.{word_made};
+ghost use Rattle.serve_dialogue.specs.Dialogue.{backs_of, told_last};
+ghost use Rattle.serve_dialogue.specs.Served.{IsServed};
+ghost use Rattle.serve_dialogue.specs.Spoken.{said};
+ghost use Rattle.serve_dialogue.specs.Steps.{AsksNext, Grows, Halts, HasEndedRun, IsUntold};
+
+use crate::clients::Client;
+use crate::errors::ServeError;
+use crate::questions::{push_ask, push_back, push_need, push_new, push_time};
+use bench_core::{Core, CoreFault, Turn};
+use bench_history::laws;
+use bench_run::Ending;
+use bench_script::Script;
+use rand_core::Rng;
+use std::alloc::Global;
+use uvm_object::{Entry, Reason, Who};
+use uvm_report::{Reports, Severity};
+
+/// Runs a script to its end over the objects of a client, on the random numbers of `words`, and returns how the run ended. The client is
+/// asked for each object that is needed, and for the answer to each call. It receives a notice of each object that was made, of each
+/// sequence that has ended, and each time that time passes. After each entry of the log it receives the line of the entry if `trace` is
+/// on, and the line of its report if that is displayed; at the end, the summary.
+///
+/// Errors: `NoTest` if the script has no test, before anything is said. Then, as they occur: `LogFull` if the log has as many entries as
+/// it may have and the run has not ended; `Output` if the client refuses a line; `NoAnswer` if it does not answer; `Memory` if memory
+/// runs out. What was said until then is the text of a legal log.
+pub fn serve_script<C: Client, R: Rng>(
+    alloc: Global,
+    script: Script,
+    words: &mut R,
+    trace: bool,
+    client: &mut C,
+) -> Result<Ending, ServeError>
+    ensures served { IsServed C.spoke C.ended C.line (R.stream words.old) script trace client.old client.new result }
+    ensures output { result ≡ Err ServeError.Output → C.refuses client.old }
+    ensures may_refuse { C.refuses client.new → C.refuses client.old }
+    ensures untested { script.test ≡ None → result ≡ Err ServeError.NoTest }
+    ensures tested { IsSome script.test → IfErr result (λ error. error ≢ ServeError.NoTest) }
+{
+    let Some(_) = script.test() else {
+        return Err(ServeError::NoTest);
+    };
+    let mut core = match Core::new(alloc, script) {
+        Ok(core) => core,
+        Err(_) => return Err(ServeError::Memory),
+    };
+    serve_core(&mut core, words, trace, client, &mut Vec::new(alloc))
+}
+
+// Makes entries until the run has ended, says the summary, and returns how the run ended. What is said is built in `text`.
+fn serve_core<C: Client, R: Rng>(
+    core: &mut Core,
+    words: &mut R,
+    trace: bool,
+    client: &mut C,
+    text: &mut Vec<u8>,
+) -> Result<Ending, ServeError>
+    requires good { core.old.health ≡ Good }
+    requires begun { core.old.history ≡ [] }
+    requires nothing { core.old.standing ≡ Nothing }
+    requires all_told { core.old.leaving ≡ [] }
+    ensures served { IsServed C.spoke C.ended C.line (R.stream words.old) core.old.script trace client.old client.new result }
+    ensures output { result ≡ Err ServeError.Output → C.refuses client.old }
+    ensures may_refuse { C.refuses client.new → C.refuses client.old }
+    ensures tested { IfErr result (λ error. error ≢ ServeError.NoTest) }
+{
+    while make_entry(core, words, client, text)? {
+        tell_entry(core, trace, client, text)?;
+    }
+    tell_summary(core, client, text)?;
+    Ok(ending_of(core))
+}
+
+// Makes the next entry and returns true, or returns false if the run has ended. The client has then received a notice of each sequence
+// that had ended, and was asked if something was to be asked. What is to be said first of the entry is left in `text`.
+fn make_entry<C: Client, R: Rng>(
+    core: &mut Core,
+    words: &mut R,
+    client: &mut C,
+    text: &mut Vec<u8>,
+) -> Result<bool, ServeError>
+    requires good { core.old.health ≡ Good }
+    requires nothing { core.old.standing ≡ Nothing }
+    requires told { core.old.leaving ≡ leaving_of core.old.history }
+    ensures ok { IfOk result (λ made. MatchBool made (Grows C.spoke C.ended C.line core.old core.new client.old client.new text.new.items) (HasEndedRun C.spoke C.ended C.line core.old core.new client.old client.new)) }
+    ensures err { IfErr result (λ error. Halts C.spoke C.ended C.line error core.old.script core.old.history client.old client.new) }
+    ensures words { IfOk result (λ made. IsDrawn R.stream (word_made made core.new.history) words.old words.new) }
+    ensures output { result ≡ Err ServeError.Output → C.refuses client.old }
+    ensures may_refuse { C.refuses client.new → C.refuses client.old }
+{
+    // For the proof: if something comes next, the run has not ended.
+    laws::nothing_after_over();
+    text.clear();
+    loop {
+        match core.next(words) {
+            Ok(Turn::Leave { who }) => push_back(core, &who, text)?,
+            Ok(Turn::Over) => {
+                say(client, text)?;
+                return Ok(false);
+            }
+            Ok(Turn::Moved) => {
+                say(client, text)?;
+                return Ok(true);
+            }
+            Ok(Turn::Need) => {
+                fill(core, client, text)?;
+                return Ok(true);
+            }
+            Ok(Turn::Ask { who }) => {
+                ask(core, &who, client, text)?;
+                return Ok(true);
+            }
+            Err(CoreFault::LogFull) => return Err(ServeError::LogFull),
+            Err(_) => return Err(ServeError::Memory),
+        }
+    }
+}
+
+// Asks for the object that is needed, and makes the entry of what the client answers. Leaves the notice of the object in `text`.
+fn fill<C: Client>(core: &mut Core, client: &mut C, text: &mut Vec<u8>) -> Result<(), ServeError>
+    requires good { core.old.health ≡ Good }
+    requires needed { turn_of core.old.standing ≡ Some Turn.Need }
+    requires asked { need_of core.old.standing ≡ need_in (next_of core.old.script core.old.history) }
+    requires room { length core.old.history < log_limit core.old.script }
+    requires backs { text.old.items ≡ backs_of core.old.history }
+    ensures ok { OnOk result (Grows C.spoke C.ended C.line core.old core.new client.old client.new text.new.items) }
+    ensures err { IfErr result (λ error. Halts C.spoke C.ended C.line error core.old.script core.old.history client.old client.new) }
+    ensures wordless { OnOk result (word_in core.new.history ≡ None) }
+    ensures output { result ≡ Err ServeError.Output → C.refuses client.old }
+    ensures may_refuse { C.refuses client.new → C.refuses client.old }
+{
+    push_need(core, text)?;
+    send(client, text)?;
+    let made = match client.read_made() {
+        Ok(made) => made,
+        Err(error) => return Err(ServeError::NoAnswer(error)),
+    };
+    if made {
+        let who = core.made();
+        push_new(core, &who, text)?;
+    } else {
+        core.declined();
+    }
+    Ok(())
+}
+
+// Asks for the answer to the call of somebody, and makes its entry.
+fn ask<C: Client>(
+    core: &mut Core,
+    who: &Who,
+    client: &mut C,
+    text: &mut Vec<u8>,
+) -> Result<(), ServeError>
+    requires good { core.old.health ≡ Good }
+    requires asked { AsksNext who.now core.old }
+    requires room { length core.old.history < log_limit core.old.script }
+    requires backs { text.old.items ≡ backs_of core.old.history }
+    ensures ok { OnOk result (Grows C.spoke C.ended C.line core.old core.new client.old client.new text.new.items) }
+    ensures err { IfErr result (λ error. Halts C.spoke C.ended C.line error core.old.script core.old.history client.old client.new) }
+    ensures wordless { OnOk result (word_in core.new.history ≡ None) }
+    ensures output { result ≡ Err ServeError.Output → C.refuses client.old }
+    ensures may_refuse { C.refuses client.new → C.refuses client.old }
+{
+    push_ask(core, who, text)?;
+    send(client, text)?;
+    let acts = match client.read_acts() {
+        Ok(acts) => acts,
+        Err(error) => return Err(ServeError::NoAnswer(error)),
+    };
+    match core.heard(acts) {
+        Ok(()) => Ok(()),
+        Err(_) => Err(ServeError::Memory),
+    }
+}
+
+// Tells the newest entry: what is left of it in `text`, the time, its line and that of its report.
+fn tell_entry<C: Client>(
+    core: &Core,
+    trace: bool,
+    client: &mut C,
+    text: &mut Vec<u8>,
+) -> Result<(), ServeError>
+    requires { core.now.health ≡ Good }
+    ensures legal { IsLegal core.now.script core.now.history }
+    ensures ok { OnOk result (C.spoke client.old client.new (said (text.old.items ++ told_last trace core.now.script core.now.history))) }
+    ensures err { IfErr result (λ error. IsUntold error client.old client.new) }
+    ensures count { C.line client.new ≡ C.line client.old }
+    ensures output { result ≡ Err ServeError.Output → C.refuses client.old }
+    ensures may_refuse { C.refuses client.new → C.refuses client.old }
+{
+    // For the proof: the entry is the last of a legal log.
+    let _log = core.log();
+    push_time(core, text)?;
+    core.last_text(trace, text)?;
+    say(client, text)
+}
+
+// Tells the summary of the reports.
+fn tell_summary<C: Client>(
+    core: &Core,
+    client: &mut C,
+    text: &mut Vec<u8>,
+) -> Result<(), ServeError>
+    requires { core.now.health ≡ Good }
+    ensures ok { OnOk result (C.spoke client.old client.new (said (summary_of core.now.script core.now.history))) }
+    ensures err { IfErr result (λ error. IsUntold error client.old client.new) }
+    ensures output { result ≡ Err ServeError.Output → C.refuses client.old }
+    ensures may_refuse { C.refuses client.new → C.refuses client.old }
+{
+    text.clear();
+    reports_of(core).summary(text)?;
+    say(client, text)
+}
+
+// Says a text, which is then empty.
+fn say<C: Client>(client: &mut C, text: &mut Vec<u8>) -> Result<(), ServeError>
+    ensures ok { OnOk result (C.spoke client.old client.new (said text.old.items)) }
+    ensures err { IfErr result (λ error. error ≡ ServeError.Output) }
+    ensures text { OnOk result (text.new.items ≡ []) }
+    ensures count { C.line client.new ≡ C.line client.old }
+    ensures output { OnErr result (C.refuses client.old) }
+    ensures may_refuse { C.refuses client.new → C.refuses client.old }
+{
+    let Ok(()) = client.say(text.as_slice()) else {
+        return Err(ServeError::Output);
+    };
+    text.clear();
+    Ok(())
+}
+
+// Says a text, which is then empty, and sends all that was said.
+fn send<C: Client>(client: &mut C, text: &mut Vec<u8>) -> Result<(), ServeError>
+    ensures ok { OnOk result (C.spoke client.old client.new (said text.old.items)) }
+    ensures sent { OnOk result (C.sent client.new) }
+    ensures err { IfErr result (λ error. error ≡ ServeError.Output) }
+    ensures text { OnOk result (text.new.items ≡ []) }
+    ensures count { C.line client.new ≡ C.line client.old }
+    ensures output { OnErr result (C.refuses client.old) }
+    ensures may_refuse { C.refuses client.new → C.refuses client.old }
+{
+    let Ok(()) = client.send(text.as_slice()) else {
+        return Err(ServeError::Output);
+    };
+    text.clear();
+    Ok(())
+}
+
+// Returns how the run ended.
+fn ending_of(core: &Core) -> Ending
+    requires over { is_over core.now.history ≡ true }
+    requires good { core.now.health ≡ Good }
+    ensures { IsEnding result core.now.script core.now.history }
+{
+    let reports = reports_of(core);
+    Ending {
+        reason: why_over(core),
+        errors: reports.count_of(Severity::Error),
+        fatals: reports.count_of(Severity::Fatal),
+    }
+}
+
+// Returns why the run ended.
+fn why_over(core: &Core) -> Reason
+    requires { is_over core.now.history ≡ true }
+    ensures { newest core.now.history ≡ Some (Over result) }
+{
+    match core.log().last() {
+        Some(Entry::Over(reason)) => *reason,
+        _ => unreachable!(),
+    }
+}
+
+// Returns the report server of a machine that has not run out of memory.
+fn reports_of(core: &Core) -> &Reports
+    requires { core.now.health ≡ Good }
+    ensures limit { limit_of result.now ≡ quit_limit (report_commands core.now.script core.now.history) }
+    ensures counts { reports.counts_of result.now ≡ log_counts core.now.script core.now.history }
+{
+    match core.reports() {
+        Some(reports) => reports,
+        None => unreachable!(),
+    }
+}

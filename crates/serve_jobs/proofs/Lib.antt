@@ -1,0 +1,2 @@
+mod Talks
+mod Wholes

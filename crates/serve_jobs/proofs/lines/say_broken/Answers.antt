@@ -1,0 +1,7 @@
+use Rattle.std.proofs.Common.{codes}
+use Rattle.serve_jobs.specs.Lines.{end_line, fault_line}
+use Rattle.serve_jobs.proofs.Talks.{said_last}
+use Rattle.serve_jobs.proofs.lines.say_broken.Goals as goal
+
+pub returns-clause-ok : goal.returns-clause-ok
+returns-clause-ok g c = said_last g.C.Client.spoke g.met.C.Client.joined c.say_end.result _ _ _ (fault_line c.args.error) (end_line (codes "broken 3")) c.in_ok-say_fault.ensures.ok c.say_end.ensures.ok

@@ -1,0 +1,149 @@
+//! The run of a document over a client.
+
+ghost use Rattle.std.specs.Prelude.{◌≡◌, ◌++◌, IfErr, IfOk, IsSome, OnErr, OnOk, Ok, codes, false, if◌then◌else◌, option_copied};
+ghost use Rattle.toml.specs.View.{table_view};
+ghost use Rattle.bench_run.specs.Endings.{is_clean};
+ghost use Rattle.bench_script.specs.Documents.{IsReadable};
+ghost use Rattle.bus_jobs.specs.Runs.{words_of_seed};
+ghost use Rattle.script_jobs.specs.Runs.{script_to_run};
+ghost use Rattle.serve_dialogue.specs.Spoken.{said};
+ghost use Rattle.serve_jobs.specs.Lines.{end_line, head_lines};
+ghost use Rattle.serve_jobs.specs.Served.{has_answers, IsRefusedBy, IsServedBench, IsServedDocument, IsServedTree};
+
+use crate::lines::{say_end, say_head, say_last};
+use crate::verdicts::Verdict;
+use bench_run::Ending;
+use bench_script::{Script, ScriptFault, read_document};
+use rand_core::SeedableRng;
+use rand_pcg::Pcg64;
+use script_jobs::{Refusal, reported, script_to_run};
+use serve_dialogue::{Client, ServeError, serve_script};
+use std::alloc::Global;
+use std::io;
+use toml::Table;
+use uvm_glob::Name;
+
+/// Runs the script in a document over the objects of a client, on the random numbers of `Pcg64` from the seed. If `test` is given, it
+/// replaces the script's own test. The client receives the number of the protocol's version and the seed first, and last, after why the
+/// run broke off if it did, how it ended.
+///
+/// Returns `Clean` if the run finished and no ERROR or FATAL was counted, and `Faulty` if it ended otherwise. Returns `Refused`, with
+/// nothing asked, if the bytes, their answers aside, are not a script, or have no such test; otherwise `HasAnswers` if the document has
+/// answers. Returns `Broken` if the run broke off, or if the client refuses a line.
+pub fn serve_bench<C: Client>(
+    alloc: Global,
+    bytes: &[u8],
+    seed: u64,
+    test: Option<&Name>,
+    trace: bool,
+    client: &mut C,
+) -> Verdict
+    ensures served { IsServedBench C.spoke C.ended C.line bytes.now (option_copied test.entry) seed (words_of_seed seed) trace client.old client.new result }
+    ensures memory { result ≡ Verdict.Broken ServeError.Memory → IsReadable bytes.now }
+    ensures output { result ≡ Verdict.Broken ServeError.Output → C.refuses client.old }
+{
+    let Ok(()) = say_head(client, seed) else {
+        return Verdict::Broken(ServeError::Output);
+    };
+    let verdict = serve_document(alloc, bytes, seed, test, trace, client);
+    if let Verdict::Broken(ServeError::Output) = &verdict {
+        return verdict;
+    }
+    match say_last(&verdict, client) {
+        Ok(()) => verdict,
+        Err(_) => Verdict::Broken(ServeError::Output),
+    }
+}
+
+/// Says to a client that there is no document: the version, the seed, and that the run broke off. Errors: the client refuses a line.
+pub fn serve_nothing<C: Client>(seed: u64, client: &mut C) -> io::Result<()>
+    ensures ok { OnOk result (C.spoke client.old client.new (said (head_lines seed ++ end_line (codes "broken 3")))) }
+    ensures refused { OnErr result (C.refuses client.old) }
+{
+    say_head(client, seed)?;
+    say_end(b"broken 3", client)
+}
+
+// Runs the script in a document.
+fn serve_document<C: Client>(
+    alloc: Global,
+    bytes: &[u8],
+    seed: u64,
+    test: Option<&Name>,
+    trace: bool,
+    client: &mut C,
+) -> Verdict
+    ensures served { IsServedDocument C.spoke C.ended C.line bytes.now (option_copied test.entry) (words_of_seed seed) trace client.old client.new result }
+    ensures memory { result ≡ Verdict.Broken ServeError.Memory → IsReadable bytes.now }
+    ensures output { result ≡ Verdict.Broken ServeError.Output → C.refuses client.old }
+    ensures may_refuse { C.refuses client.new → C.refuses client.old }
+{
+    match read_document(alloc, bytes) {
+        Ok(root) => serve_tree(alloc, &root, seed, test, trace, client),
+        Err(ScriptFault::Memory) => Verdict::Broken(ServeError::Memory),
+        Err(fault) => Verdict::Refused(Refusal::Script(fault)),
+    }
+}
+
+// Runs the script in the tree of a document.
+fn serve_tree<C: Client>(
+    alloc: Global,
+    root: &Table,
+    seed: u64,
+    test: Option<&Name>,
+    trace: bool,
+    client: &mut C,
+) -> Verdict
+    ensures served { IsServedTree C.spoke C.ended C.line (table_view root.now) (option_copied test.entry) (words_of_seed seed) trace client.old client.new result }
+    ensures output { result ≡ Verdict.Broken ServeError.Output → C.refuses client.old }
+    ensures may_refuse { C.refuses client.new → C.refuses client.old }
+{
+    let script = match script_in(alloc, root, test) {
+        Ok(script) => script,
+        Err(verdict) => return verdict,
+    };
+    let mut words = Pcg64::seed_from_u64(seed);
+    match serve_script(alloc, script, &mut words, trace, client) {
+        Ok(ending) => verdict_on(&ending),
+        Err(error) => Verdict::Broken(error),
+    }
+}
+
+// Returns the script in the tree of a document, if it has no answers. Errors: the verdict, if it is refused.
+fn script_in(alloc: Global, root: &Table, test: Option<&Name>) -> Result<Script, Verdict>
+    ensures ok { IfOk result (λ script. script_to_run (table_view root.now) (option_copied test.entry) ≡ Ok script) }
+    ensures none { OnOk result (has_answers (table_view root.now) ≡ false) }
+    ensures tested { IfOk result (λ script. IsSome script.test) }
+    ensures err { IfErr result (IsRefusedBy (table_view root.now) (option_copied test.entry)) }
+{
+    match script_to_run(alloc, root, test) {
+        Ok(script) => {
+            if has_answers(root) {
+                return Err(Verdict::HasAnswers);
+            }
+            Ok(script)
+        }
+        Err(fault) => Err(match reported(alloc, root, test, fault) {
+            script_jobs::Verdict::Refused(refusal) => Verdict::Refused(refusal),
+            _ => Verdict::Broken(ServeError::Memory),
+        }),
+    }
+}
+
+// Whether the tree of a document has answers.
+fn has_answers(root: &Table) -> bool
+    ensures { result ≡ has_answers (table_view root.now) }
+{
+    root.get("answers").is_some()
+}
+
+// Returns the verdict on a run that has ended.
+fn verdict_on(ending: &Ending) -> Verdict
+    ensures { result ≡ (if is_clean ending.now then Verdict.Clean else Verdict.Faulty) }
+{
+    if ending.is_clean() {
+        Verdict::Clean
+    } else {
+        Verdict::Faulty
+    }
+}

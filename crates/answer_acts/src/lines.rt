@@ -8,7 +8,7 @@ use uvm_lines::act_text;
 use uvm_object::Act;
 
 /// Gives the line of an act as an answer in a file writes it: its text in a transcript, and behind that of a report its verbosity
-/// and its text. The error is want of memory.
+/// and its text. Errors: out of memory.
 pub fn act_line(alloc: Global, act: &Act) -> Result<Vec<u8>, AllocError>
     ensures { IfOk result (λ line. line.items ≡ act_line act.now) }
 {

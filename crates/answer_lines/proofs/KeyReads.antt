@@ -21,7 +21,7 @@ begins-key key other law can whole for = subst (λ words. Begins (but_star (word
 no-key : (key : List ℕ) → CallsHaveWords → HasNone key → IsNoKey key
 no-key key law none = λ other can for whole. none other can (begins-key key other law can whole for)
 
--- where there is no example, the fault is want of memory, or the text is no key
+-- where there is no example, the fault is out of memory, or the text is no key
 pub no-example : (told fault : LineFault) (key : List ℕ) → told ≡ key_fault fault → CallsHaveWords → (fault ≡ Memory) ⊎ HasNone key
     → (told ≡ Memory) ⊎ ((told ≡ NoCall) × IsNoKey key)
 no-example told fault key is law (inl memory) = inl (is ∙ ap key_fault memory)

@@ -114,7 +114,7 @@ is-read a b same = cc
 pub not-read : {A : Type 0} (fault : LineFault) (a : A) → (◌≡◌ {A = Result A LineFault} (Err fault) (Ok a)) → ⊥
 not-read fault a same = cc
 
--- nor is want of memory
+-- nor is out of memory
 pub no-memory : {A : Type 0} (a : A) → (◌≡◌ {A = Result A LineFault} (Ok a) (Err Memory)) → ⊥
 no-memory a same = cc
 

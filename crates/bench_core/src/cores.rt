@@ -16,7 +16,9 @@ ghost use Rattle.uvm_phase.specs.declared.phases.Phase.TheVariants.{Run};
 ghost use Rattle.bench_history.specs.Arbitration.{waiters_at};
 ghost use Rattle.bench_history.specs.Reports.{report_commands};
 ghost use Rattle.bench_history.specs.Sequences.{sequences_of};
+ghost use Rattle.uvm_glob.specs.Printed.{IsPrinted};
 ghost use Rattle.uvm_report.specs.Changes.{Gives};
+ghost use Rattle.uvm_report.specs.Plain.{ArePlainLines};
 ghost use Rattle.uvm_lines.specs.Lines.{who_text};
 ghost use Rattle.bench_history.specs.Next.{next_of, made_in, declined_in, IsLegal};
 ghost use Rattle.bench_history.specs.Cases as comes;
@@ -79,7 +81,7 @@ pub enum Health {
     Good,
     /// It has failed with a full log, and still tells what the log says.
     Full,
-    /// It has failed for want of memory, and tells no more than the log.
+    /// Memory ran out: it tells no more than the log.
     Broken,
 }
 
@@ -328,11 +330,13 @@ impl Core {
 
     /// Appends the text of the newest entry: its line, where `trace` asks for it and there is one, and the line of its report,
     /// where it has one that is displayed; nothing where memory is refused, or was. It is not refused where the text is empty.
+    /// The text is whole lines of a transcript: each is printed, and begins neither with `!` nor with `?`.
     /// Where `out` is empty, the line of the entry is built in it, and in a vector of its own where it is not.
-    #[tactic(auto, using(crate::proofs::Shown::some_in_front, crate::proofs::Shown::some_behind))]
+    #[tactic(auto, using(crate::proofs::Shown::some_in_front, crate::proofs::Shown::some_behind, crate::proofs::Shown::plain))]
     pub fn last_text(&self, trace: bool, out: &mut Vec<u8>) -> Result<(), AllocError>
         ensures ok { OnOk result (out.new.items ≡ out.old.items ++ (if is_sound self.now.health then last_text trace self.now.script self.now.history else [])) }
         ensures err { OnErr result (out.new.items ≡ out.old.items) }
+        ensures plain { OnOk result (ArePlainLines (if is_sound self.now.health then last_text trace self.now.script self.now.history else [])) }
         ensures some { OnErr result (last_text trace self.now.script self.now.history ≢ []) }
     {
         if !self.is_sound() {
@@ -348,10 +352,11 @@ impl Core {
         pushed
     }
 
-    /// Returns the text of a component or a sequence, as the lines of entries show it; an empty text once memory ran out. Errors: out of
-    /// memory.
+    /// Returns the text of a component or a sequence, as the lines of entries show it; an empty text once memory ran out. Its bytes are
+    /// printed. Errors: out of memory.
     pub fn who_text(&self, alloc: Global, who: &Who) -> Result<Vec<u8>, AllocError>
-        ensures { IfOk result (λ text. text.items ≡ (if is_sound self.now.health then who_text (nodes_of self.now.history) (sequences_of self.now.history) who.now else [])) }
+        ensures printed { IfOk result (λ text. IsPrinted text.items) }
+        ensures text { IfOk result (λ text. text.items ≡ (if is_sound self.now.health then who_text (nodes_of self.now.history) (sequences_of self.now.history) who.now else [])) }
     {
         if !self.is_sound() {
             return Ok(Vec::new(alloc));
@@ -365,11 +370,12 @@ impl Core {
     }
 
     // The line of the newest entry, where it is asked for and there is one.
-    #[tactic(auto, using(crate::proofs::Shown::line_some))]
+    #[tactic(auto, using(crate::proofs::Shown::line_some, crate::proofs::Shown::plain))]
     fn push_last_line(&self, trace: bool, text: &mut Vec<u8>) -> Result<(), AllocError>
         requires { is_sound self.now.health ≡ true }
         ensures ok { OnOk result (text.new.items ≡ text.old.items ++ last_line trace self.now.history) }
         ensures err { OnErr result (text.new.items ≡ text.old.items) }
+        ensures plain { OnOk result (ArePlainLines (last_line trace self.now.history)) }
         ensures some { OnErr result (last_line trace self.now.history ≢ []) }
     {
         match self.world.log().last() {

@@ -95,7 +95,7 @@ pub record Grows (old new : CoreValue) : Type 0 where
   pub entry : Entry
   pub is : new ≡ core_after entry old
 
--- why a kernel that has not failed made no entry: want of memory where the log has room, or a full log that is not over
+-- why a kernel that has not failed made no entry: out of memory where the log has room, or a full log that is not over
 abbrev pub IsHalted : RunFault → Bool → CoreValue → Type 0
 IsHalted Memory failed core = failed ≡ false → length core.history < log_limit core.script
 IsHalted LogFull failed core = (log_limit core.script ≤ length core.history) × (is_over core.history ≡ false)

@@ -15,7 +15,7 @@ use uvm_factory::{Kind, Override, TypeId};
 use uvm_glob::Name;
 
 impl Script {
-    /// An equal script. The error is want of memory.
+    /// An equal script. Errors: out of memory.
     pub fn copy(&self) -> Result<Script, AllocError>
         ensures { IfOk result (λ script. script ≡ self.now) }
     {

@@ -13,7 +13,7 @@ use std::alloc::{AllocError, Global};
 use uvm_factory::{Factory, FactoryFault, Kind, Override, laws};
 use uvm_glob::Name;
 
-/// Makes the factory with the types and the overrides of a script (IEEE 1800.2-2020, Clause 8). The error is want of memory. (It is no method:
+/// Makes the factory with the types and the overrides of a script (IEEE 1800.2-2020, Clause 8). Errors: out of memory. (It is no method:
 /// each library that keeps a script would be written out with all that a factory keeps.)
 pub fn factory_of(alloc: Global, script: &Script) -> Result<Factory, AllocError>
     ensures { IfOk result (IsFactoryOf script.now) }

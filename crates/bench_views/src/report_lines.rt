@@ -3,6 +3,7 @@
 ghost use Rattle.std.specs.Prelude.{◌≡◌, ◌≢◌, ◌++◌, [], true, Some, OnOk, OnErr, option_and_then};
 ghost use Rattle.uvm_report.specs.Fates.{displayed_as};
 ghost use Rattle.uvm_report.specs.Lines.{report_line};
+ghost use Rattle.uvm_report.specs.Plain.{ArePlainLines};
 ghost use Rattle.uvm_tree.specs.Nodes.{path_at};
 ghost use Rattle.uvm_acts.specs.Acts.{node_of};
 ghost use Rattle.uvm_object.specs.Fatals.{fatal_report};
@@ -21,12 +22,13 @@ use uvm_tree::NodeId;
 use world_reports::report_lines::ReportSite;
 
 /// Appends the line of the report of the newest entry, with its newline, where it has a report that is displayed (IEEE
-/// 1800.2-2020, Clause 6). Where memory is refused nothing is appended; it is not where there is nothing to be appended. For
-/// a sound world.
+/// 1800.2-2020, Clause 6): a line of a transcript. Where memory is refused nothing is appended; it is not where there is nothing to be
+/// appended. For a sound world.
 pub fn push_report(world: &World, out: &mut Vec<u8>) -> Result<(), AllocError>
     requires { world.now.sound ≡ true }
     ensures ok { OnOk result (out.new.items ≡ out.old.items ++ report_text world.now.script world.now.history) }
     ensures err { OnErr result (out.new.items ≡ out.old.items) }
+    ensures plain { OnOk result (ArePlainLines (report_text world.now.script world.now.history)) }
     ensures some { OnErr result (report_text world.now.script world.now.history ≢ []) }
 {
     let Some(severity) = displayed_severity(world) else {
@@ -61,6 +63,7 @@ fn push_deed(
     requires { world.now.sound ≡ true }
     ensures ok { OnOk result (out.new.items ≡ out.old.items ++ line_under (now_of world.now.history) (source_text (nodes_of world.now.history) (sequences_of world.now.history) who.now) (deed_command (path_at (nodes_of world.now.history) (node_of who.now)) outcome.now act.now) (Some severity)) }
     ensures err { OnErr result (out.new.items ≡ out.old.items) }
+    ensures plain { OnOk result (ArePlainLines (line_under (now_of world.now.history) (source_text (nodes_of world.now.history) (sequences_of world.now.history) who.now) (deed_command (path_at (nodes_of world.now.history) (node_of who.now)) outcome.now act.now) (Some severity))) }
     ensures some { OnErr result (line_under (now_of world.now.history) (source_text (nodes_of world.now.history) (sequences_of world.now.history) who.now) (deed_command (path_at (nodes_of world.now.history) (node_of who.now)) outcome.now act.now) (Some severity) ≢ []) }
 {
     site(world, severity).push_deed(who, outcome, act, out)
@@ -77,6 +80,7 @@ fn push_note(
     requires { world.now.sound ≡ true }
     ensures ok { OnOk result (out.new.items ≡ out.old.items ++ report_line severity (now_of world.now.history) (shown_path (path_at (nodes_of world.now.history) node)) (fatal_report fatal.now).id (fatal_report fatal.now).text) }
     ensures err { OnErr result (out.new.items ≡ out.old.items) }
+    ensures plain { OnOk result (ArePlainLines (report_line severity (now_of world.now.history) (shown_path (path_at (nodes_of world.now.history) node)) (fatal_report fatal.now).id (fatal_report fatal.now).text)) }
     ensures some { OnErr result (report_line severity (now_of world.now.history) (shown_path (path_at (nodes_of world.now.history) node)) (fatal_report fatal.now).id (fatal_report fatal.now).text ≢ []) }
 {
     site(world, severity).push_note(fatal, node, out)

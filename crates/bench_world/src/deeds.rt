@@ -26,7 +26,7 @@ impl World {
 
     /// The next act of the last answer. It is performed, or refused, and has its entry then. Or it needs an object: then the log
     /// and the services are as before, `need` tells the object, and `made` or `declined`, for which there is room, enters the
-    /// act. The world is sound, its log is not full, and an act is next. The error is want of memory: the log stays as it was,
+    /// act. The world is sound, its log is not full, and an act is next. Errors: out of memory; the log stays as it was,
     /// and the world is not sound any more.
     #[inline(never)]
     pub fn did(&mut self) -> Result<(), AllocError>

@@ -16,7 +16,7 @@ use world_entries::marks::{self, Mark};
 use world_entries::{answers, grants};
 
 impl World {
-    /// An entry that the machine makes by itself. The world is sound, its log is not full, and this entry is next. The error is want of memory: the
+    /// An entry that the machine makes by itself. The world is sound, its log is not full, and this entry is next. Errors: out of memory; the
     /// log stays as it was, and the world is not sound any more.
     #[inline(never)]
     pub fn enter(&mut self, mark: Mark) -> Result<(), AllocError>
@@ -39,7 +39,7 @@ impl World {
     }
 
     /// Somebody was called and answered: the call was due with an origin, or is that of a phase in progress. The world is sound, its log is not
-    /// full, and an answer of this one to this call is next. The error is want of memory: the log stays as it was, and the world is not sound
+    /// full, and an answer of this one to this call is next. Errors: out of memory; the log stays as it was, and the world is not sound
     /// any more.
     #[inline(never)]
     pub fn heard(
@@ -66,7 +66,7 @@ impl World {
 
     /// An item is granted at a sequencer, by the word where one decides, and the sequence that may send it is to hear of it
     /// (Clause 15). The world is sound, its log is not full, a grant at this sequencer is next, and a word is given exactly where
-    /// one decides. The error is want of memory: the log stays as it was, and the world is not sound any more.
+    /// one decides. Errors: out of memory; the log stays as it was, and the world is not sound any more.
     #[inline(never)]
     pub fn granted(&mut self, sequencer: NodeId, word: Option<u64>) -> Result<(), AllocError>
         requires { MayGrant self.old sequencer word }
@@ -85,7 +85,7 @@ impl World {
     }
 
     /// What somebody waits for at a FIFO comes to pass, and whoever asked is to hear of it (Clause 12). The world is sound, its
-    /// log is not full, and this entry is next. The error is want of memory: the log stays as it was, and the world is not sound
+    /// log is not full, and this entry is next. Errors: out of memory; the log stays as it was, and the world is not sound
     /// any more.
     #[inline(never)]
     pub fn passed(&mut self, fifo: NodeId, passage: Passage) -> Result<(), AllocError>

@@ -14,7 +14,7 @@ use world_wiring::connections::{close_wiring, unsound_behind};
 impl World {
     /// The next unsound port in path order, and what is reported of it, where connect has nothing left to be done: nothing is
     /// granted or passes next, and there is no act, no event that is due now and no call. The wiring is closed before the first.
-    /// The error is want of memory, and changes nothing. For a sound world.
+    /// Errors: out of memory, and changes nothing. For a sound world.
     #[tactic(auto, unfolding(bench_history::specs::Wires::next_unsound))]
     pub fn next_unsound(&mut self) -> Result<Option<(NodeId, Fatal)>, AllocError>
         requires sound { self.old.sound ≡ true }

@@ -63,7 +63,7 @@ impl World {
     /// The most acts of an answer.
     pub const MAX_ACTS: usize = 64;
 
-    /// The world of a script that has a test, before the first entry. The error is want of memory.
+    /// The world of a script that has a test, before the first entry. Errors: out of memory.
     pub fn new(alloc: Global, script: Script) -> Result<World, AllocError>
         requires { IsSome script.test }
         ensures { IfOk result (λ world. world ≡ record { script = script; history = []; sound = true; waiting = None }) }

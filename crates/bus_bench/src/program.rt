@@ -18,7 +18,7 @@ use std::{env, io};
 const REFUSED: u8 = 2;
 
 /// Does what the words of the command line ask for, and answers the exit status: that of the job's verdict (0 clean, 1 faulty, 2
-/// refused, 3 broken); 0 for help, or 3 where that could not be written; 2 for words that it does not take, and 3 for want of memory.
+/// refused, 3 broken); 0 for help, or 3 where that could not be written; 2 for words that it does not take, and 3 when out of memory.
 /// What is asked for is written to `out`, and what is wrong to `err`.
 pub fn run<R: Env + Files + AllocGlobal, O: Write, E: Write>(rt: &R, out: &mut O, err: &mut E) -> u8
     ensures { DidNothing (O.contents out.old) (O.contents out.new) result ⊎ (GaveText (O.contents out.old) (O.contents out.new) result ⊎ DidJob (O.contents out.old) (O.contents out.new) result) }

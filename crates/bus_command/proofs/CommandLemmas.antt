@@ -195,7 +195,7 @@ pub on_ok : {X : Type 0} (r : Result Job JobFault) → X → OnOk r X
 on_ok (Ok job) x = x
 on_ok (Err fault) x = tt
 
--- where clap's error is want of memory, so is the fault
+-- where clap's error is out of memory, so is the fault
 pub only_memory : (fault : JobFault) (e : Error) → IsFaultBy e fault → kind_of e ≡ OutOfMemory → fault ≡ Memory
 only_memory (Help text) e by memory = let bad : DisplayHelp ≡ OutOfMemory = sym by ∙ memory in cc
 only_memory (Version text) e by memory = let bad : DisplayVersion ≡ OutOfMemory = sym by ∙ memory in cc

@@ -11,7 +11,7 @@ use Rattle.bus_command.specs.declared.jobs.JobFault.TheVariants.{Help, Version, 
 abbrev pub IsRefusal : ErrorKind → Type 0
 IsRefusal kind = (kind ≢ DisplayHelp) × (kind ≢ DisplayVersion)
 
--- the fault that an error of clap comes to: help, the version and want of memory are faults of their own
+-- the fault that an error of clap comes to: help, the version and `Memory` are faults of their own
 abbrev pub IsFaultBy : Error → JobFault → Type 0
 IsFaultBy error (Help text) = kind_of error ≡ DisplayHelp
 IsFaultBy error (Version text) = kind_of error ≡ DisplayVersion

@@ -61,7 +61,7 @@ impl<'a> Whims<Counted<'a>> for Supplies<'a> {
 
 /// Runs the bench in a file as it is; with an object of another type supplied first wherever one is needed (of the type `idle`, or where that
 /// is needed `loud`), which is turned away and changes nothing; and once for each call that it hears, to which the object gives no answer. Then
-/// the run breaks off for want of memory, with the log before that call, and each later step answers that it failed. Each object comes back
+/// the run breaks off when out of memory, with the log before that call, and each later step answers that it failed. Each object comes back
 /// and is dropped, once. The error says that it is no bench, or which check fails.
 pub fn check_file<R: Files + AllocGlobal>(rt: &R, file: &str) -> Result<Checked, End> {
     let bytes = bytes_of(rt, file)?;

@@ -15,7 +15,7 @@ pub(crate) struct Counted<'a> {
 }
 
 impl<'a> Counted<'a> {
-    /// Makes what answers for an object of a type. The error is want of memory.
+    /// Makes what answers for an object of a type. Errors: out of memory.
     pub(crate) fn of_type(
         alloc: Global,
         answers: &'a Answers,

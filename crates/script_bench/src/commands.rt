@@ -11,8 +11,8 @@ const ABOUT_SERVE: &str =
     "Runs a testbench file whose objects are in another program, over standard input and output";
 
 const AFTER_SERVE: &str =
-    "The objects of the testbench are in another program, the client. It reads the questions from standard output, and writes the answers to
-standard input. Clients in Python and C++ are in clients/. A file of answers repeats a run.
+    "The objects of types without [answers] are in another program, the client. It reads the questions from standard output, and writes the
+answers to standard input. Clients in Python and C++ are in clients/. A file of answers repeats a run.
 
 Exit status: as that of run.
 
@@ -122,7 +122,7 @@ fn files_arg<'a>(alloc: Global) -> Arg<'a> {
 fn file_arg<'a>(alloc: Global) -> Arg<'a> {
     Arg::new(alloc, "file")
         .value_name("FILE")
-        .help("A testbench file, in TOML, without [answers]")
+        .help("A testbench file, in TOML")
         .required(true)
 }
 

@@ -1,2 +1,3 @@
+mod Firsts
 mod Determined
 mod Ran

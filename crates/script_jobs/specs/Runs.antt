@@ -109,6 +109,11 @@ IsAnswersFault answers types (Broken broke.LogFull) = ⊥
 IsAnswersFault answers types (Broken broke.Output) = ⊥
 IsAnswersFault answers types (Broken broke.Unread) = ⊥
 
+-- why they are refused before it is asked which types have an object
+abbrev pub IsReadFault : Option Data → Types → Verdict → Type 0
+IsReadFault answers types (Refused (NoObject type_name)) = ⊥
+IsReadFault answers types verdict = IsAnswersFault answers types verdict
+
 -- for the name of a type a document gives the new object of it
 abbrev pub GivesNamed : List TypeValue → List ℕ → Option BenchObject → Type 0
 GivesNamed types type_name given = given ≡ Some (object_named types type_name)

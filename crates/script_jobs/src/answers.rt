@@ -4,7 +4,7 @@ ghost use Rattle.std.specs.Prelude.{◌≡◌, [], IfErr, IfOk, OnOk, Option, So
 ghost use Rattle.toml.specs.Data.{Data, Members, as_table, get_member};
 ghost use Rattle.toml.specs.View.{table_view, view};
 ghost use Rattle.scripted_objects.specs.FirstFaults.{HasFirstFault, OrMemoryAt};
-ghost use Rattle.script_jobs.specs.Runs.{HoldsAnswers, IsAnswersFault, bare_types, has_object, has_type, unknown_types};
+ghost use Rattle.script_jobs.specs.Runs.{HoldsAnswers, IsAnswersFault, IsReadFault, bare_types, has_object, has_type, unknown_types};
 ghost use Rattle.uvm_factory.specs.Faults.{Types};
 
 use crate::verdicts::{Refusal, Verdict};
@@ -21,15 +21,28 @@ pub(crate) const ANSWERS: &str = "answers";
 
 // Returns the answers in a document, if its script declares each of their types, and each type that it declares has an object. Errors: the
 // verdict, if they are refused.
+#[tactic(auto, using(crate::proofs::Firsts::read_fault))]
 pub(crate) fn answers_in(alloc: Global, root: &Table, script: &Script) -> Result<Answers, Verdict>
     ensures ok { IfOk result (λ answers. HoldsAnswers (get_member (codes "answers") (table_view root.now)) answers) }
     ensures known { IfOk result (λ answers. unknown_types answers script.now.types ≡ []) }
     ensures objects { IfOk result (λ answers. bare_types answers script.now.types ≡ []) }
     ensures err { IfErr result (IsAnswersFault (get_member (codes "answers") (table_view root.now)) script.now.types) }
 {
+    match declared_answers(alloc, root, script) {
+        Ok(answers) => with_objects(answers, script),
+        Err(verdict) => Err(verdict),
+    }
+}
+
+/// Returns the answers in a document, if its script declares each of their types. Errors: the verdict, if they are refused.
+pub fn declared_answers(alloc: Global, root: &Table, script: &Script) -> Result<Answers, Verdict>
+    ensures ok { IfOk result (λ answers. HoldsAnswers (get_member (codes "answers") (table_view root.now)) answers) }
+    ensures known { IfOk result (λ answers. unknown_types answers script.now.types ≡ []) }
+    ensures err { IfErr result (IsReadFault (get_member (codes "answers") (table_view root.now)) script.now.types) }
+{
     match member(root) {
         Some(value) => answers_at(alloc, value, script),
-        None => judged(Answers::new(alloc), script),
+        None => declared(Answers::new(alloc), script),
     }
 }
 
@@ -44,29 +57,36 @@ fn member(root: &Table) -> Option<&Value>
 fn answers_at(alloc: Global, value: &Value, script: &Script) -> Result<Answers, Verdict>
     ensures ok { IfOk result (λ answers. HoldsAnswers (Some (view value.now)) answers) }
     ensures known { IfOk result (λ answers. unknown_types answers script.now.types ≡ []) }
-    ensures objects { IfOk result (λ answers. bare_types answers script.now.types ≡ []) }
-    ensures err { IfErr result (IsAnswersFault (Some (view value.now)) script.now.types) }
+    ensures err { IfErr result (IsReadFault (Some (view value.now)) script.now.types) }
 {
     let Some(table) = value.as_table() else {
         return Err(Verdict::Refused(Refusal::NoTable));
     };
     match read_answers(alloc, table) {
-        Ok(answers) => judged(answers, script),
+        Ok(answers) => declared(answers, script),
         Err(fault) => Err(refused(alloc, &fault)),
     }
 }
 
-// Returns the answers, if the script declares each of their types, and each type that it declares has an object. Errors: the verdict on
-// the first type that is not so, if there is one.
-fn judged(answers: Answers, script: &Script) -> Result<Answers, Verdict>
+// Returns the answers, if the script declares each of their types. Errors: the verdict on the first type that is not so.
+fn declared(answers: Answers, script: &Script) -> Result<Answers, Verdict>
     ensures ok { IfOk result (λ same. same ≡ answers) }
     ensures known { OnOk result (unknown_types answers script.now.types ≡ []) }
+    ensures err { IfErr result (λ verdict. (said : Option Data) → HoldsAnswers said answers → IsReadFault said script.now.types verdict) }
+{
+    match unknown_type(&answers, script) {
+        Some(name) => Err(Verdict::Refused(Refusal::UnknownType(name))),
+        None => Ok(answers),
+    }
+}
+
+// Returns the answers, if each type that the script declares has an object. Errors: the verdict on the first type that is not so.
+fn with_objects(answers: Answers, script: &Script) -> Result<Answers, Verdict>
+    requires { unknown_types answers script.now.types ≡ [] }
+    ensures ok { IfOk result (λ same. same ≡ answers) }
     ensures objects { OnOk result (bare_types answers script.now.types ≡ []) }
     ensures err { IfErr result (λ verdict. (said : Option Data) → HoldsAnswers said answers → IsAnswersFault said script.now.types verdict) }
 {
-    if let Some(name) = unknown_type(&answers, script) {
-        return Err(Verdict::Refused(Refusal::UnknownType(name)));
-    }
     match bare_type(&answers, script) {
         Some(name) => Err(Verdict::Refused(Refusal::NoObject(name))),
         None => Ok(answers),
@@ -111,7 +131,7 @@ fn has_object(answers: &Answers, type_name: &Name) -> bool
 
 // Returns the verdict on a document with an answer at fault.
 fn refused(alloc: Global, fault: &FaultyAnswer<'_>) -> Verdict
-    ensures { (said : Data) (table : Members) (types : Types) → as_table said ≡ Some table → OrMemoryAt (HasFirstFault table) fault.now → IsAnswersFault (Some said) types result }
+    ensures { (said : Data) (table : Members) (types : Types) → as_table said ≡ Some table → OrMemoryAt (HasFirstFault table) fault.now → IsReadFault (Some said) types result }
 {
     if fault.fault == AnswerFault::Memory {
         return Verdict::Broken(Breakage::Memory);

@@ -7,6 +7,7 @@ mod objects;
 mod runs;
 mod verdicts;
 
+pub use answers::declared_answers;
 pub use bus_jobs::{Breakage, Verdict as FileVerdict, read_file};
 pub use objects::BenchObject;
 pub use runs::{reported, run_bench, script_to_run};

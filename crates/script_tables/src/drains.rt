@@ -26,7 +26,7 @@ pub struct Drain {
 }
 
 impl Drain {
-    /// An equal drain time. The error is want of memory.
+    /// An equal drain time. Errors: out of memory.
     pub fn copy(&self) -> Result<Drain, AllocError>
         ensures { IfOk result (λ drain. drain ≡ self.now) }
     {
@@ -38,7 +38,7 @@ impl Drain {
     }
 }
 
-/// Reads the drain times, of the key `drain` of a document. The error is the first fault of a row, or want of memory.
+/// Reads the drain times, of the key `drain` of a document. The error is the first fault of a row, or out of memory.
 pub fn read_drains(alloc: Global, root: &Table) -> Result<Vec<Drain>, ScriptFault>
     ensures sound { IfOk result (λ rows. All CanDrain rows.items) }
     ensures rows { MatchResult result

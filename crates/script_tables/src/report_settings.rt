@@ -42,7 +42,7 @@ pub struct SeverityChange {
 }
 
 impl VerbositySetting {
-    /// An equal setting. The error is want of memory.
+    /// An equal setting. Errors: out of memory.
     pub fn copy(&self) -> Result<VerbositySetting, AllocError>
         ensures { IfOk result (λ setting. setting ≡ self.now) }
     {
@@ -55,7 +55,7 @@ impl VerbositySetting {
 }
 
 impl ActionSetting {
-    /// An equal setting. The error is want of memory.
+    /// An equal setting. Errors: out of memory.
     pub fn copy(&self) -> Result<ActionSetting, AllocError>
         ensures { IfOk result (λ setting. setting ≡ self.now) }
     {
@@ -68,7 +68,7 @@ impl ActionSetting {
 }
 
 impl SeverityChange {
-    /// An equal change. The error is want of memory.
+    /// An equal change. Errors: out of memory.
     pub fn copy(&self) -> Result<SeverityChange, AllocError>
         ensures { IfOk result (λ change. change ≡ self.now) }
     {

@@ -19,7 +19,7 @@ use uvm_report::{Actions, Severity, Which};
 /// The greatest level of verbosity.
 const MAX_LEVEL: u64 = 10_000;
 
-/// Reads the levels of verbosity, of the key `verbosity` of a document. The error is the first fault of a row, or want of memory.
+/// Reads the levels of verbosity, of the key `verbosity` of a document. The error is the first fault of a row, or out of memory.
 pub fn read_verbosities(alloc: Global, root: &Table) -> Result<Vec<VerbositySetting>, ScriptFault>
     ensures sound { IfOk result (λ rows. All HasLevelInRange rows.items) }
     ensures rows { MatchResult result
@@ -33,7 +33,7 @@ pub fn read_verbosities(alloc: Global, root: &Table) -> Result<Vec<VerbositySett
     Ok(rows)
 }
 
-/// Reads what is done with reports, of the key `action` of a document. The error is the first fault of a row, or want of memory.
+/// Reads what is done with reports, of the key `action` of a document. The error is the first fault of a row, or out of memory.
 pub fn read_actions(alloc: Global, root: &Table) -> Result<Vec<ActionSetting>, ScriptFault>
     ensures { MatchResult result
         (λ rows. actions_in (table_view root.now) ≡ Ok rows.items)
@@ -46,7 +46,7 @@ pub fn read_actions(alloc: Global, root: &Table) -> Result<Vec<ActionSetting>, S
     Ok(rows)
 }
 
-/// Reads the changes of severities, of the key `severity` of a document. The error is the first fault of a row, or want of memory.
+/// Reads the changes of severities, of the key `severity` of a document. The error is the first fault of a row, or out of memory.
 pub fn read_severities(alloc: Global, root: &Table) -> Result<Vec<SeverityChange>, ScriptFault>
     ensures { MatchResult result
         (λ rows. severities_in (table_view root.now) ≡ Ok rows.items)

@@ -19,7 +19,7 @@ use uvm_config::Settings;
 use uvm_factory::{Factory, Kind, Override, TypeId};
 use uvm_glob::Name;
 
-/// Reads the types, of the key `type` of a document. The error is the first fault of a row, or that there are too many; want of memory else.
+/// Reads the types, of the key `type` of a document. The error is the first fault of a row, or that there are too many; otherwise out of memory.
 pub fn read_types(alloc: Global, root: &Table) -> Result<TypeTable, ScriptFault>
     ensures { IsReading (types_in (table_view root.now)) result }
 {
@@ -31,7 +31,7 @@ pub fn read_types(alloc: Global, root: &Table) -> Result<TypeTable, ScriptFault>
     Ok(types)
 }
 
-/// Reads the overrides, of the key `override` of a document whose types these are. The error is the first fault of a row, or want of memory.
+/// Reads the overrides, of the key `override` of a document whose types these are. The error is the first fault of a row, or out of memory.
 pub fn read_overrides(
     alloc: Global,
     types: &TypeTable,
@@ -49,7 +49,7 @@ pub fn read_overrides(
     Ok(rows)
 }
 
-/// Reads the settings of the configuration, of the key `set` of a document. The error is the first fault of a row, or that there are too many; want of memory else.
+/// Reads the settings of the configuration, of the key `set` of a document. The error is the first fault of a row, or that there are too many; otherwise out of memory.
 pub fn read_settings(alloc: Global, root: &Table) -> Result<Vec<Setting>, ScriptFault>
     ensures few { IfOk result (λ rows. length rows.items ≤ most_settings) }
     ensures rows { MatchResult result
@@ -63,7 +63,7 @@ pub fn read_settings(alloc: Global, root: &Table) -> Result<Vec<Setting>, Script
     Ok(rows)
 }
 
-/// Reads the probes, of the key `probe` of a document whose types these are. The error is the first fault of a row, or want of memory.
+/// Reads the probes, of the key `probe` of a document whose types these are. The error is the first fault of a row, or out of memory.
 pub fn read_probes(
     alloc: Global,
     types: &TypeTable,

@@ -12,7 +12,7 @@ and_then (Err fault) next = Err fault
 abbrev pub IsReading : {A : Type 0} → Result A ScriptFault → Result A ScriptFault → Type 0
 IsReading reading result = MatchResult result (λ value. reading ≡ Ok value) (λ fault. fault ≢ Memory → reading ≡ Err fault)
 
--- a fault of a call that fails as the definition does, and for want of memory only where the definition does not fail
+-- a fault of a call that fails as the definition does, and when out of memory only where the definition does not fail
 abbrev pub IsFaultOf : {A : Type 0} → Result A ScriptFault → ScriptFault → Type 0
 IsFaultOf reading Memory = IsOk reading
 IsFaultOf reading fault = reading ≡ Err fault

@@ -1,9 +1,9 @@
 //! The object whose answers are data.
 
-ghost use Rattle.std.specs.Prelude.{◌≡◌, ◌<◌, length, map, option_map, slice_get, IfOk, IfSome};
+ghost use Rattle.std.specs.Prelude.{◌≡◌, ◌<◌, length, map, option_map, slice_get, IfOk, IfSome, OnErr};
 ghost use Rattle.answer_lines.specs.Replies.{act_with};
 ghost use Rattle.scripted_objects.specs.Rules.{answers_to};
-ghost use Rattle.scripted_objects.specs.Scripted.{new_of};
+ghost use Rattle.scripted_objects.specs.Scripted.{ScriptedSays, new_of};
 
 use crate::rules::Rule;
 use answer_lines::{Reply, item_in};
@@ -49,6 +49,24 @@ impl<'a> Scripted<'a> {
         })
     }
 
+    /// Returns what the object answers to a call. Errors: out of memory, which changes nothing.
+    pub fn answer_call(&mut self, alloc: Global, call: &Call) -> Result<Acts, AllocError>
+        ensures said { IfOk result (λ acts. ScriptedSays self.old.rules self.old.used call.now acts self.new.used) }
+        ensures same { self.new ≡ record self.old { used = self.new.used } }
+        ensures err { OnErr result (self.new ≡ self.old) }
+    {
+        let line = call_text(alloc, call)?;
+        let item = item_in(call);
+        match self.answer(line.as_slice(), item.is_some()) {
+            Some((place, answer)) => {
+                let acts = acts_of(alloc, answer, item)?;
+                self.used[place] = self.used[place].saturating_add(1);
+                Ok(acts)
+            }
+            None => Ok(Acts::new(alloc)),
+        }
+    }
+
     // Returns the place of the first rule that has an answer to a call, and that answer. `line` is the line of the call; `has_item` says
     // whether the call has an item.
     fn answer(&self, line: &[u8], has_item: bool) -> Option<(usize, &'a [Reply])>
@@ -79,16 +97,7 @@ impl UvmObject for Scripted<'_> {
     }
 
     fn hear(&mut self, alloc: Global, call: &Call) -> Result<Acts, AllocError> {
-        let line = call_text(alloc, call)?;
-        let item = item_in(call);
-        match self.answer(line.as_slice(), item.is_some()) {
-            Some((place, answer)) => {
-                let acts = acts_of(alloc, answer, item)?;
-                self.used[place] = self.used[place].saturating_add(1);
-                Ok(acts)
-            }
-            None => Ok(Acts::new(alloc)),
-        }
+        self.answer_call(alloc, call)
     }
 }
 

@@ -4,6 +4,7 @@ use Rattle.rand_core.specs.Stream.{Stream}
 use Rattle.bench_script.specs.Scripts.{ScriptValue}
 use Rattle.bench_run.specs.Words.{AreDrawn}
 use Rattle.client_answers.specs.Answers.{count_after}
+use Rattle.scripted_objects.specs.Answers.{TypeValue}
 use Rattle.serve_dialogue.specs.Served.{SpokeLog}
 use Rattle.serve_dialogue.specs.Spoken.{Spoken}
 
@@ -16,6 +17,6 @@ no-lines : (count : ℕ) → count ≡ count_after count 0
 no-lines count = omega arith
 
 -- nothing was spoken of the empty log
-pub no_log : {C : Type 0} (spoke : C → C → List Spoken → Type 0) (ended : C → C → Type 0) (line : C → ℕ) → ((client : C) → spoke client client []) → (trace : Bool) (script : ScriptValue) (client : C)
-    → SpokeLog spoke ended line script trace [] client client
-no_log spoke ended line silent trace script client = record { talk = silent client; lines = no-lines (line client) }
+pub no_log : {C : Type 0} (spoke : C → C → List Spoken → Type 0) (ended : C → C → Type 0) (line : C → ℕ) → ((client : C) → spoke client client []) → (answers : List TypeValue) (trace : Bool) (script : ScriptValue) (client : C)
+    → SpokeLog spoke ended line answers script trace [] client client
+no_log spoke ended line silent answers trace script client = record { talk = silent client; lines = no-lines (line client) }

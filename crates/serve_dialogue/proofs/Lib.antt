@@ -1,4 +1,9 @@
+mod ApartLines
 mod Asks
 mod Begins
+mod Filled
+mod Grown
+mod Marked
 mod PipeTalk
+mod Seated
 mod Turns

@@ -13,7 +13,7 @@ use Rattle.serve_dialogue.specs.Clients.{IsUnmade}
 use Rattle.serve_dialogue.specs.Pipes.{HasClosed, HasPassed, PipeValue}
 use Rattle.serve_dialogue.specs.Spoken.{answered, answered_in, said, said_in}
 
-said_in-said : (text : List ℕ) → said_in (said text) ≡ text
+pub said_in-said : (text : List ℕ) → said_in (said text) ≡ text
 said_in-said [] = refl
 said_in-said (byte ∷ text) = ap (λ rest. byte ∷ rest) (said_in-said text)
 
@@ -21,7 +21,7 @@ answered_in-said : (text : List ℕ) → answered_in (said text) ≡ []
 answered_in-said [] = refl
 answered_in-said (byte ∷ text) = answered_in-said text
 
-said_in-answered : (text : List ℕ) → said_in (answered text) ≡ []
+pub said_in-answered : (text : List ℕ) → said_in (answered text) ≡ []
 said_in-answered [] = refl
 said_in-answered (byte ∷ text) = said_in-answered text
 

@@ -1,19 +1,29 @@
 -- What a turn of the machine says of what comes next.
-use Rattle.std.proofs.Common.{◌≡◌, ◌∙◌, ℕ, Bool, true, false, List, [], ◌∷◌, ◌++◌, Option, Some, Ok, refl, sym, ap, subst, append-nil, arith}
+use Rattle.std.proofs.Common.{◌≡◌, ◌∙◌, ℕ, Bool, true, false, List, [], ◌∷◌, ◌++◌, Option, Some, Ok, filter, if◌then◌else◌, refl, sym, ap, subst, append-nil, arith}
 use Rattle.std.specs.List.{flat_map}
 use Rattle.uvm_acts.specs.declared.acts.Who.{Who}
 use Rattle.uvm_acts.specs.declared.acts.Call.{Call}
 use Rattle.uvm_object.specs.declared.entries.Entry.{Entry}
 use Rattle.uvm_object.specs.declared.entries.Origin.{Origin}
+use Rattle.bench_script.specs.Scripts.{ScriptValue}
 use Rattle.bench_history.specs.declared.needs.Need as declared
+use Rattle.bench_history.specs.History.{is_over}
 use Rattle.bench_history.specs.Cases as next
 use Rattle.bench_history.specs.Next.{need_in, next_of}
+use Rattle.bench_history.specs.Sequences.{leaving_of}
 use Rattle.bench_core.specs.Cores.{Asked, CoreValue, IsNextTurn, IsToldTurn, IsTurn, Needed, Nothing, Standing, core_after}
 use Rattle.bench_core.specs.declared.cores.Turn as turn
 use Rattle.client_answers.specs.Answers.{count_after}
-use Rattle.serve_dialogue.specs.Dialogue.{IsTold, answer_of, asked_in, back_line, backs_of, lines_of, new_if, new_in, question_in, says_made}
+use Rattle.scripted_objects.specs.Answers.{TypeValue}
+use Rattle.scripted_seats.specs.Seats.{SeatsValue}
+use Rattle.serve_dialogue.specs.Apart.{AreMarkedLines}
+use Rattle.serve_dialogue.specs.Dialogue.{IsTold, answer_of, asked_in, back_line, backs_of, is_clients, lines_of, new_if, new_in, question_in, says_made}
+use Rattle.serve_dialogue.specs.Scripted.{AreSeated, IsByScript, client_next, is_scripted, left_to_client}
+use Rattle.serve_dialogue.specs.Seating.{SeatsFollow}
 use Rattle.serve_dialogue.specs.Spoken.{Spoken, answered, said}
-use Rattle.serve_dialogue.specs.Steps.{AsksNext, Grows}
+use Rattle.serve_dialogue.specs.Steps.{AsksNext, Grows, Halts, HasEndedRun}
+use Rattle.serve_dialogue.specs.declared.errors.ServeError.{ServeError}
+use Rattle.serve_dialogue.proofs.Marked.{marked-none}
 
 -- no sequence is told by this turn
 abbrev pub IsNoLeave : turn.Turn → Type 0
@@ -39,6 +49,9 @@ pub record IsMoved (comes : next.Next) (old new : CoreValue) : Type 0 where
   pub no_lines : lines_of comes entry ≡ 0
   pub no_object : (before : List Entry) → new_in entry before comes ≡ []
   pub told : IsTold comes entry
+  pub clients : (answers : List TypeValue) (script : ScriptValue) (history : List Entry) → left_to_client (is_scripted answers script history comes) comes ≡ comes
+  pub unscripted : (answers : List TypeValue) (script : ScriptValue) (before : List Entry) → IsByScript answers script before comes entry
+  pub seats : (history : List Entry) (old new : SeatsValue) → new ≡ old → SeatsFollow history comes old new
 
 nobody : (said : Bool) (one entry : Entry) (before : List Entry) → new_if said entry before (next.Exactly one) ≡ []
 nobody true one entry before = refl
@@ -50,7 +63,7 @@ nobody-granted false entry before sequencer drawn chosen = refl
 
 pub moved-turn : (comes : next.Next) (old new : CoreValue) → IsTurn comes turn.TheVariants.Moved old new → IsMoved comes old new
 moved-turn (next.Exactly entry) old new told =
-    record { entry = entry; is = told.1; unasked = λ history. refl; unanswered = refl; no_lines = refl; no_object = λ before. nobody (says_made entry) entry entry before; told = tt }
+    record { entry = entry; is = told.1; unasked = λ history. refl; unanswered = refl; no_lines = refl; no_object = λ before. nobody (says_made entry) entry entry before; told = tt; clients = λ answers script history. refl; unscripted = λ answers script before. tt; seats = λ history old new same. same }
 moved-turn (next.Answer hearer call origin) old new told = cc
 moved-turn (next.Grant sequencer drawn chosen) old new told =
     record {
@@ -61,6 +74,9 @@ moved-turn (next.Grant sequencer drawn chosen) old new told =
       no_lines = refl;
       no_object = λ before. nobody-granted (says_made told.1) told.1 before sequencer drawn chosen;
       told = tt;
+      clients = λ answers script history. refl;
+      unscripted = λ answers script before. tt;
+      seats = λ history old new same. same;
     }
 moved-turn (next.Need need made performer act) old new told = cc
 moved-turn next.Nothing old new told = cc
@@ -78,7 +94,7 @@ need-turn (next.Grant sequencer drawn chosen) old new told = cc
 need-turn (next.Need need made performer act) old new told = record { need = need; comes_in = refl; is = told.1 }
 need-turn next.Nothing old new told = cc
 
--- somebody is asked
+-- a component or a sequence is asked
 pub record IsAskedOf (who : Who) (comes : next.Next) (old new : CoreValue) : Type 0 where
   pub call : Call
   pub origin : Option Origin
@@ -94,45 +110,126 @@ ask-turn who (next.Grant sequencer drawn chosen) old new told = cc
 ask-turn who (next.Need need made performer act) old new told = cc
 ask-turn who next.Nothing old new told = cc
 
+-- the notices of those that are still to be told
+abbrev pub notices_of : List TypeValue → CoreValue → List Who → List ℕ
+notices_of answers core leaving = flat_map (back_line core.history) (filter (is_clients answers core.script core.history) leaving)
+
+-- once all are told, and nothing is asked of the client, their notices are what is asked
+all_asked : (answers : List TypeValue) (core : CoreValue) (leaving : List Who) (text : List ℕ) → leaving ≡ [] → text ++ notices_of answers core leaving ≡ backs_of answers core.script core.history
+    → question_in core.history (client_next answers core.script core.history) ≡ [] → text ≡ asked_in answers core.script core.history
+all_asked answers core leaving text none notices unasked =
+    sym (append-nil text) ∙ (ap (λ (all : List Who). text ++ notices_of answers core all) (sym none) ∙ (notices ∙ (sym (append-nil (backs_of answers core.script core.history)) ∙ ap (λ question. backs_of answers core.script core.history ++ question) (sym unasked))))
+
+-- the run is over only if nothing comes
+over-turn : (comes : next.Next) (old new : CoreValue) → IsTurn comes turn.TheVariants.Over old new → (comes ≡ next.Nothing) × (new ≡ old)
+over-turn (next.Exactly entry) old new told = cc
+over-turn (next.Answer hearer call origin) old new told = cc
+over-turn (next.Grant sequencer drawn chosen) old new told = cc
+over-turn (next.Need need made performer act) old new told = cc
+over-turn next.Nothing old new told = (refl, told.1)
+
+-- a turn that tells of a sequence tells of the first of those that are still to be told
+never-leaves : (comes : next.Next) (who : Who) (old new : CoreValue) → IsTurn comes (turn.TheVariants.Leave who) old new → ⊥
+never-leaves (next.Exactly entry) who old new told = cc
+never-leaves (next.Answer hearer call origin) who old new told = cc
+never-leaves (next.Grant sequencer drawn chosen) who old new told = cc
+never-leaves (next.Need need made performer act) who old new told = cc
+never-leaves next.Nothing who old new told = cc
+
+pub record IsTold1 (leaving : List Who) (who : Who) (old new : CoreValue) : Type 0 where
+  pub others : List Who
+  pub first : leaving ≡ who ∷ others
+  pub is : new ≡ record old { leaving = others }
+
+leave-turn : (leaving : List Who) (who : Who) (old new : CoreValue) → old.standing ≡ Nothing → IsToldTurn leaving (Ok (turn.TheVariants.Leave who)) old new → IsTold1 leaving who old new
+leave-turn [] who old new nothing told =
+    let bare : IsNextTurn Nothing (Ok (turn.TheVariants.Leave who)) old new = subst (λ standing. IsNextTurn standing (Ok (turn.TheVariants.Leave who)) old new) nothing told in
+    absurd (never-leaves (next_of old.script old.history) who old new bare.1)
+leave-turn (first ∷ others) who old new nothing told =
+    let same : first ≡ who = cc in
+    record { others = others; first = ap (λ (one : Who). one ∷ others) same; is = told.1 }
+
+-- then the newest entry has ended a sequence, if that is the client's
+some-text : (text : List ℕ) (byte : ℕ) (more : List ℕ) → text ++ byte ∷ more ≡ [] → ⊥
+some-text [] byte more none = cc
+some-text (b ∷ text) byte more none = cc
+
+pub leaver_left : (answers seats_answers : List TypeValue) (core half new : CoreValue) (who : Who) (text : List ℕ) → seats_answers ≡ answers → half ≡ record core { leaving = half.leaving } → core.standing ≡ Nothing
+    → IsToldTurn half.leaving (Ok (turn.TheVariants.Leave who)) half new → text ++ notices_of answers core half.leaving ≡ backs_of answers core.script core.history
+    → is_clients seats_answers new.script new.history who ≡ true → leaving_of core.history ≡ [] → ⊥
+leaver_left answers seats_answers core half new who text same is nothing told notices clients none =
+    let one = leave-turn half.leaving who half new (ap (λ (c : CoreValue). c.standing) is ∙ nothing) told in
+    let new_is : new ≡ record core { leaving = one.others } = one.is ∙ ap (λ (c : CoreValue). record c { leaving = one.others }) is in
+    let mine : is_clients answers core.script core.history who ≡ true =
+    subst (λ (a : List TypeValue). is_clients a core.script core.history who ≡ true) same (subst (λ (c : CoreValue). is_clients seats_answers c.script c.history who ≡ true) new_is clients) in
+    let first : text ++ notices_of answers core (who ∷ one.others) ≡ backs_of answers core.script core.history = subst (λ (all : List Who). text ++ notices_of answers core all ≡ backs_of answers core.script core.history) one.first notices in
+    let ended : backs_of answers core.script core.history ≡ [] = ap (λ (all : List Who). flat_map (back_line core.history) (filter (is_clients answers core.script core.history) all)) none in
+    let shown : notices_of answers core (who ∷ one.others) ≡ back_line core.history who ++ notices_of answers core one.others =
+    ap (λ b. flat_map (back_line core.history) (if b then who ∷ filter (is_clients answers core.script core.history) one.others else filter (is_clients answers core.script core.history) one.others)) mine in
+    some-text text 33 _ (ap (λ t. text ++ t) (sym shown) ∙ (first ∙ ended))
+
 -- so many lines are as many, if there is none more
 count-none : (count : ℕ) → count ≡ count_after count 0
 count-none count = omega arith
 
-module _ {C : Type 0} (spoke : C → C → List Spoken → Type 0) (ended : C → C → Type 0) (line : C → ℕ) where
+module _ {C : Type 0} (spoke : C → C → List Spoken → Type 0) (ended : C → C → Type 0) (line : C → ℕ) (answers : List TypeValue) where
   -- one more entry, with nothing asked
-  pub moved_grows : (core half new : CoreValue) (client between client' : C) (text left : List ℕ) → half ≡ record core { leaving = half.leaving } → text ++ flat_map (back_line core.history) half.leaving ≡ backs_of core.history
-      → between ≡ client → core.standing ≡ Nothing → IsToldTurn half.leaving (Ok turn.TheVariants.Moved) half new → spoke between client' (said text) → line client' ≡ line between → left ≡ []
-      → Grows spoke ended line core new client client' left
-  moved_grows core half new client between client' text left is notices same nothing told talk still none =
+  pub moved_grows : (core half new : CoreValue) (client between client' : C) (text left : List ℕ) → half ≡ record core { leaving = half.leaving } → text ++ notices_of answers core half.leaving ≡ backs_of answers core.script core.history
+      → AreMarkedLines text → between ≡ client → core.standing ≡ Nothing → IsToldTurn half.leaving (Ok turn.TheVariants.Moved) half new → spoke between client' (said text) → line client' ≡ line between → left ≡ []
+      → Grows spoke ended line answers core new client client' left
+  moved_grows core half new client between client' text left is notices marks same nothing told talk still none =
       let now = all_told half.leaving turn.TheVariants.Moved half new tt (ap (λ (c : CoreValue). c.standing) is ∙ nothing) told in
       let moved : IsMoved (next_of core.script core.history) (record core { leaving = half.leaving }) new =
       moved-turn (next_of core.script core.history) _ new (subst (λ (c : CoreValue). IsTurn (next_of c.script c.history) turn.TheVariants.Moved c new) is now.1) in
-      let asked : text ≡ asked_in core.script core.history =
-      sym (append-nil text) ∙ (ap (λ (all : List Who). text ++ flat_map (back_line core.history) all) (sym now.0) ∙ (notices ∙ (sym (append-nil (backs_of core.history)) ∙ ap (λ question. backs_of core.history ++ question) (sym (moved.unasked core.history))))) in
-      let talk' : spoke client client' (said (asked_in core.script core.history)) = subst (λ t. spoke client client' (said t)) asked (subst (λ c. spoke c client' (said text)) same talk) in
+      let clients : client_next answers core.script core.history ≡ next_of core.script core.history = moved.clients answers core.script core.history in
+      let unasked : question_in core.history (client_next answers core.script core.history) ≡ [] = ap (question_in core.history) clients ∙ moved.unasked core.history in
+      let asked : text ≡ asked_in answers core.script core.history = all_asked answers core half.leaving text now.0 notices unasked in
+      let talk' : spoke client client' (said (asked_in answers core.script core.history)) = subst (λ t. spoke client client' (said t)) asked (subst (λ c. spoke c client' (said text)) same talk) in
+      let unanswered : answer_of (client_next answers core.script core.history) moved.entry ≡ [] = ap (λ (c : next.Next). answer_of c moved.entry) clients ∙ moved.unanswered in
       record {
         entry = moved.entry;
         is = moved.is;
-        talk = subst (spoke client client') (sym (append-nil (said (asked_in core.script core.history))) ∙ ap (λ answer. said (asked_in core.script core.history) ++ answered answer) (sym moved.unanswered)) talk';
-        left_is = none ∙ sym (moved.no_object core.history);
-        lines = still ∙ (ap line same ∙ (count-none (line client) ∙ ap (count_after (line client)) (sym moved.no_lines)));
-        told = moved.told;
+        talk = subst (spoke client client') (sym (append-nil (said (asked_in answers core.script core.history))) ∙ ap (λ answer. said (asked_in answers core.script core.history) ++ answered answer) (sym unanswered)) talk';
+        asks = subst AreMarkedLines asked marks;
+        left_is = none ∙ sym (ap (new_in moved.entry core.history) clients ∙ moved.no_object core.history);
+        notes = subst AreMarkedLines (sym none) marked-none;
+        lines = still ∙ (ap line same ∙ (count-none (line client) ∙ ap (count_after (line client)) (sym (ap (λ (c : next.Next). lines_of c moved.entry) clients ∙ moved.no_lines))));
+        told = subst (λ (c : next.Next). IsTold c moved.entry) (sym clients) moved.told;
+        by_script = moved.unscripted answers core.script core.history;
+      }
+
+  -- the run is over
+  pub over_ends : (core half new : CoreValue) (client between client' : C) (text : List ℕ) → half ≡ record core { leaving = half.leaving } → text ++ notices_of answers core half.leaving ≡ backs_of answers core.script core.history
+      → AreMarkedLines text → between ≡ client → core.standing ≡ Nothing → IsToldTurn half.leaving (Ok turn.TheVariants.Over) half new → is_over new.history ≡ true → spoke between client' (said text)
+      → HasEndedRun spoke ended line answers core new client client'
+  over_ends core half new client between client' text is notices marks same nothing told over talk =
+      let now = all_told half.leaving turn.TheVariants.Over half new tt (ap (λ (c : CoreValue). c.standing) is ∙ nothing) told in
+      let ends = over-turn (next_of half.script half.history) half new now.1 in
+      let new_is : new ≡ record core { leaving = [] } = ends.1 ∙ (is ∙ ap (λ (all : List Who). record core { leaving = all }) now.0) in
+      let comes : next_of core.script core.history ≡ next.Nothing = ap (λ (c : CoreValue). next_of c.script c.history) (sym is) ∙ ends.0 in
+      let clients : client_next answers core.script core.history ≡ next.Nothing = ap (λ (c : next.Next). left_to_client (is_scripted answers core.script core.history c) c) comes in
+      let asked : text ≡ asked_in answers core.script core.history = all_asked answers core half.leaving text now.0 notices (ap (question_in core.history) clients) in
+      record {
+        over = ap (λ (c : CoreValue). is_over c.history) (sym new_is) ∙ over;
+        is = new_is;
+        talk = subst (λ t. spoke client client' (said t)) asked (subst (λ c. spoke c client' (said text)) same talk);
+        asks = subst AreMarkedLines asked marks;
       }
 
   -- one more entry, by what was asked next
   pub asked_grows : (core half between new : CoreValue) (client same_client client' : C) (left : List ℕ) (standing : Standing) → half ≡ record core { leaving = half.leaving } → between ≡ record half { standing = standing }
-      → same_client ≡ client → Grows spoke ended line between new same_client client' left → Grows spoke ended line core new client client' left
+      → same_client ≡ client → Grows spoke ended line answers between new same_client client' left → Grows spoke ended line answers core new client client' left
   asked_grows core half between new client same_client client' left standing is asked same grown =
       let all : between ≡ record core { standing = standing; leaving = half.leaving } = asked ∙ ap (λ (c : CoreValue). record c { standing = standing }) is in
-      let from : Grows spoke ended line (record core { standing = standing; leaving = half.leaving }) new client client' left =
-      subst (λ (c : CoreValue). Grows spoke ended line c new client client' left) all (subst (λ c. Grows spoke ended line between new c client' left) same grown) in
-      record { entry = from.entry; is = from.is; talk = from.talk; left_is = from.left_is; lines = from.lines; told = from.told }
+      let from : Grows spoke ended line answers (record core { standing = standing; leaving = half.leaving }) new client client' left =
+      subst (λ (c : CoreValue). Grows spoke ended line answers c new client client' left) all (subst (λ c. Grows spoke ended line answers between new c client' left) same grown) in
+      record { entry = from.entry; is = from.is; talk = from.talk; asks = from.asks; left_is = from.left_is; notes = from.notes; lines = from.lines; told = from.told; by_script = from.by_script }
 
 -- an object is needed next
 pub needs : (half new : CoreValue) → half.standing ≡ Nothing → IsToldTurn half.leaving (Ok turn.TheVariants.Need) half new → IsNeeded (next_of half.script half.history) half new
 needs half new nothing told = need-turn (next_of half.script half.history) half new (all_told half.leaving turn.TheVariants.Need half new tt nothing told).1
 
--- somebody is asked next
+-- a component or a sequence is asked next
 pub asks : (who : Who) (half new : CoreValue) → half.standing ≡ Nothing → IsToldTurn half.leaving (Ok (turn.TheVariants.Ask who)) half new → IsAskedOf who (next_of half.script half.history) half new
 asks who half new nothing told = ask-turn who (next_of half.script half.history) half new (all_told half.leaving (turn.TheVariants.Ask who) half new tt nothing told).1
 
@@ -144,3 +241,35 @@ asks_next who half new asked =
       stands = ap (λ (c : CoreValue). c.standing) asked.is;
       comes = ap (λ (c : CoreValue). next_of c.script c.history) asked.is ∙ asked.comes_is;
     }
+
+-- what was asked next says what becomes of the seats
+pub asked_follow : (core half between : CoreValue) (standing : Standing) (old same_old new : SeatsValue) → half ≡ record core { leaving = half.leaving } → between ≡ record half { standing = standing } → same_old ≡ old
+    → SeatsFollow between.history (next_of between.script between.history) same_old new → SeatsFollow core.history (next_of core.script core.history) old new
+asked_follow core half between standing old same_old new is asked same follow =
+    let all : between ≡ record core { standing = standing; leaving = half.leaving } = asked ∙ ap (λ (c : CoreValue). record c { standing = standing }) is in
+    subst (λ (c : CoreValue). SeatsFollow c.history (next_of c.script c.history) old new) all (subst (λ (s : SeatsValue). SeatsFollow between.history (next_of between.script between.history) s new) same follow)
+
+-- nothing becomes of them if nothing was asked
+pub moved_follow : (core half new : CoreValue) (old seats : SeatsValue) → half ≡ record core { leaving = half.leaving } → core.standing ≡ Nothing → IsToldTurn half.leaving (Ok turn.TheVariants.Moved) half new → seats ≡ old
+    → SeatsFollow core.history (next_of core.script core.history) old seats
+moved_follow core half new old seats is nothing told same =
+    let now = all_told half.leaving turn.TheVariants.Moved half new tt (ap (λ (c : CoreValue). c.standing) is ∙ nothing) told in
+    let moved : IsMoved (next_of core.script core.history) (record core { leaving = half.leaving }) new =
+    moved-turn (next_of core.script core.history) _ new (subst (λ (c : CoreValue). IsTurn (next_of c.script c.history) turn.TheVariants.Moved c new) is now.1) in
+    moved.seats core.history old seats same
+
+-- the seats of what was asked next
+pub asked_seated : (core half between : CoreValue) (standing : Standing) (old seats : SeatsValue) → half ≡ record core { leaving = half.leaving } → between ≡ record half { standing = standing } → seats ≡ old → AreSeated core.script core.history old
+    → AreSeated between.script between.history seats
+asked_seated core half between standing old seats is asked same seated =
+    let all : between ≡ record core { standing = standing; leaving = half.leaving } = asked ∙ ap (λ (c : CoreValue). record c { standing = standing }) is in
+    subst (λ (c : CoreValue). AreSeated c.script c.history seats) (sym all) (subst (AreSeated core.script core.history) (sym same) seated)
+
+-- what was asked next halts as it does
+pub asked_halts : {C : Type 0} (spoke : C → C → List Spoken → Type 0) (ended : C → C → Type 0) (line : C → ℕ) (answers same_answers : List TypeValue) (error : ServeError) (core half between : CoreValue) (standing : Standing) (client same_client client' : C)
+    → half ≡ record core { leaving = half.leaving } → between ≡ record half { standing = standing } → same_answers ≡ answers → same_client ≡ client → Halts spoke ended line same_answers error between.script between.history same_client client'
+    → Halts spoke ended line answers error core.script core.history client client'
+asked_halts spoke ended line answers same_answers error core half between standing client same_client client' is asked same_a same_c halts =
+    let all : between ≡ record core { standing = standing; leaving = half.leaving } = asked ∙ ap (λ (c : CoreValue). record c { standing = standing }) is in
+    subst (λ (c : CoreValue). Halts spoke ended line answers error c.script c.history client client') all
+    (subst (λ (a : List TypeValue). Halts spoke ended line a error between.script between.history client client') same_a (subst (λ c. Halts spoke ended line same_answers error between.script between.history c client') same_c halts))

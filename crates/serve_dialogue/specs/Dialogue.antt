@@ -1,5 +1,6 @@
--- The dialogue of a log: what the kernel says and what the client answers, in the order of time. It is a function of the log alone.
-use Rattle.std.specs.Prelude.{ℕ, ◌+◌, Bool, true, false, List, [], ◌∷◌, ◌++◌, length, All, Option, Some, None, codes}
+-- The dialogue of a log: what the kernel says and what the client answers, in the order of time. It is a function of the log and of the types that have
+-- answers, whose objects are scripted: the client takes no part in what is for them.
+use Rattle.std.specs.Prelude.{ℕ, ◌+◌, Bool, true, false, List, [], ◌∷◌, ◌++◌, length, All, Option, Some, None, filter, is_none, codes}
 use Rattle.std.specs.List.{flat_map}
 use Rattle.std.specs.Fmt.{decimal}
 use Rattle.uvm_factory.specs.declared.types.Kind.{Kind}
@@ -18,10 +19,11 @@ use Rattle.bench_history.specs.declared.needs.Need as declared
 use Rattle.bench_history.specs.History.{nodes_of}
 use Rattle.bench_history.specs.Sequences.{sequences_of, leaving_of}
 use Rattle.bench_history.specs.Cases as next
-use Rattle.bench_history.specs.Next.{next_of}
 use Rattle.bench_core.specs.Cores.{last_text}
 use Rattle.bench_core.specs.Worlds.{made_who}
 use Rattle.client_answers.specs.Answers.{IsTellingAct, answer_text, made_text}
+use Rattle.scripted_objects.specs.Answers.{TypeValue}
+use Rattle.serve_dialogue.specs.Scripted.{client_next, scripted_of}
 use Rattle.serve_dialogue.specs.Spoken.{Spoken, answered, said}
 
 -- WHAT THE KERNEL SAYS
@@ -31,7 +33,7 @@ abbrev pub kind_word : Kind → List ℕ
 kind_word kind.Component = codes "component "
 kind_word kind.Sequence = codes "sequence "
 
--- which of them somebody is
+-- whether it is a component or a sequence
 abbrev pub kind_of : Who → Kind
 kind_of (who.Node node) = kind.Component
 kind_of (who.Sequence home id) = kind.Sequence
@@ -57,9 +59,13 @@ question_in history other = []
 abbrev pub back_line : List Entry → Who → List ℕ
 back_line history one = codes "! back " ++ kind_and_who history one ++ 10 ∷ []
 
--- the notices of the sequences that the newest entry has ended
-abbrev pub backs_of : List Entry → List ℕ
-backs_of history = flat_map (back_line history) (leaving_of history)
+-- whether the object of a component or a sequence is the client's
+abbrev pub is_clients : List TypeValue → ScriptValue → List Entry → Who → Bool
+is_clients answers script history one = is_none (scripted_of answers script history one)
+
+-- the notices of those of the sequences that the newest entry has ended whose objects are the client's
+abbrev pub backs_of : List TypeValue → ScriptValue → List Entry → List ℕ
+backs_of answers script history = flat_map (back_line history) (filter (is_clients answers script history) (leaving_of history))
 
 -- the notice of an object that was made
 abbrev pub new_line : List Entry → Option Who → List ℕ
@@ -95,9 +101,9 @@ lines_of (next.Need need made performer act) entry = 1
 lines_of other entry = 0
 
 -- all lines that the client has answered in a log
-abbrev pub lines_answered : ScriptValue → List Entry → ℕ
-lines_answered script [] = 0
-lines_answered script (entry ∷ before) = lines_answered script before + lines_of (next_of script before) entry
+abbrev pub lines_answered : List TypeValue → ScriptValue → List Entry → ℕ
+lines_answered answers script [] = 0
+lines_answered answers script (entry ∷ before) = lines_answered answers script before + lines_of (client_next answers script before) entry
 
 -- the actions of an answer are told by its text
 abbrev pub IsTold : next.Next → Entry → Type 0
@@ -105,15 +111,15 @@ IsTold (next.Answer hearer call origin) (Heard one cause said acts) = All IsTell
 IsTold other entry = Unit {0}
 
 -- and so are those of each answer in a log
-abbrev pub AreTold : ScriptValue → List Entry → Type 0
-AreTold script [] = Unit {0}
-AreTold script (entry ∷ before) = IsTold (next_of script before) entry × AreTold script before
+abbrev pub AreTold : List TypeValue → ScriptValue → List Entry → Type 0
+AreTold answers script [] = Unit {0}
+AreTold answers script (entry ∷ before) = IsTold (client_next answers script before) entry × AreTold answers script before
 
 -- THE DIALOGUE
 
 -- what is asked before the next entry: first the notices of the sequences that have ended, then the question
-abbrev pub asked_in : ScriptValue → List Entry → List ℕ
-asked_in script history = backs_of history ++ question_in history (next_of script history)
+abbrev pub asked_in : List TypeValue → ScriptValue → List Entry → List ℕ
+asked_in answers script history = backs_of answers script history ++ question_in history (client_next answers script history)
 
 -- the notice that time passes, if the newest entry says so
 abbrev pub time_in : Option Entry → List ℕ
@@ -125,14 +131,15 @@ abbrev pub told_last : Bool → ScriptValue → List Entry → List ℕ
 told_last trace script history = time_in (newest history) ++ last_text trace script history
 
 -- and before that the object that was made
-abbrev pub told_of : Bool → ScriptValue → Entry → List Entry → List ℕ
-told_of trace script entry before = new_in entry before (next_of script before) ++ told_last trace script (entry ∷ before)
+abbrev pub told_of : List TypeValue → Bool → ScriptValue → Entry → List Entry → List ℕ
+told_of answers trace script entry before = new_in entry before (client_next answers script before) ++ told_last trace script (entry ∷ before)
 
 -- what is asked before an entry, then answered, and then said of it
-abbrev pub exchange : Bool → ScriptValue → Entry → List Entry → List Spoken
-exchange trace script entry before = said (asked_in script before) ++ answered (answer_of (next_of script before) entry) ++ said (told_of trace script entry before)
+abbrev pub exchange : List TypeValue → Bool → ScriptValue → Entry → List Entry → List Spoken
+exchange answers trace script entry before =
+    said (asked_in answers script before) ++ answered (answer_of (client_next answers script before) entry) ++ said (told_of answers trace script entry before)
 
 -- the dialogue of a log: that of each entry, in order
-abbrev pub dialogue : Bool → ScriptValue → List Entry → List Spoken
-dialogue trace script [] = []
-dialogue trace script (entry ∷ before) = dialogue trace script before ++ exchange trace script entry before
+abbrev pub dialogue : List TypeValue → Bool → ScriptValue → List Entry → List Spoken
+dialogue answers trace script [] = []
+dialogue answers trace script (entry ∷ before) = dialogue answers trace script before ++ exchange answers trace script entry before

@@ -1,7 +1,10 @@
+pub mod Apart
 pub mod Clients
 pub mod Dialogue
 pub mod Errors
 pub mod Pipes
+pub mod Scripted
+pub mod Seating
 pub mod Served
 pub mod Spoken
 pub mod Steps

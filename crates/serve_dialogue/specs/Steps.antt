@@ -14,13 +14,16 @@ use Rattle.bench_core.specs.Cores.{Asked, CoreValue, core_after}
 use Rattle.client_answers.specs.Answers.{BreaksOff, count_after}
 use Rattle.client_answers.specs.Errors.{line_in}
 use Rattle.client_answers.specs.declared.errors.AnswerError.{AnswerError}
-use Rattle.serve_dialogue.specs.Clients.{IsUnmade}
+use Rattle.serve_dialogue.specs.Apart.{AreMarkedLines}
+use Rattle.serve_dialogue.specs.Clients.{IsUnmade, IsUnreadable}
 use Rattle.serve_dialogue.specs.Dialogue.{IsTold, answer_of, asked_in, lines_of, new_in}
+use Rattle.scripted_objects.specs.Answers.{TypeValue}
+use Rattle.serve_dialogue.specs.Scripted.{IsByScript, client_next}
 use Rattle.serve_dialogue.specs.Spoken.{Spoken, answered, said}
 use Rattle.serve_dialogue.specs.declared.errors.ServeError.{ServeError}
 use Rattle.serve_dialogue.specs.declared.errors.ServeError.TheVariants.{Memory, LogFull, Output, NoTest, NoAnswer}
 
--- what somebody is asked is the call that comes next
+-- the call that a component or a sequence is asked to answer is the one that comes next
 pub record AsksNext (who : Who) (core : CoreValue) : Type 0 where
   pub call : Call
   pub origin : Option Origin
@@ -37,7 +40,12 @@ IsUntold Memory old new = new ≡ old
 IsUntold Output old new = Unit {0}
 IsUntold other old new = ⊥
 
-module _ {C : Type 0} (spoke : C → C → List Spoken → Type 0) (ended : C → C → Type 0) (line : C → ℕ) where
+-- the client could not be read
+abbrev pub IsUnheard : ServeError → Type 0
+IsUnheard (NoAnswer error) = IsUnreadable error
+IsUnheard other = ⊥
+
+module _ {C : Type 0} (spoke : C → C → List Spoken → Type 0) (ended : C → C → Type 0) (line : C → ℕ) (answers : List TypeValue) where
   -- why there is no answer to what came next, by what the client answered
   abbrev pub IsFlaw : next.Next → AnswerError → C → C → Type 0
   IsFlaw (next.Answer hearer call origin) error old new = BreaksOff error (λ text. spoke old new (answered text)) (ended old new) (line old) (line new)
@@ -47,29 +55,35 @@ module _ {C : Type 0} (spoke : C → C → List Spoken → Type 0) (ended : C �
   -- what comes next was asked, and was not answered; the error has the number of the line at which reading stopped
   pub record AskedInVain (script : ScriptValue) (history : List Entry) (error : AnswerError) (old new : C) : Type 0 where
     pub between : C
-    pub asked : spoke old between (said (asked_in script history))
+    pub asked : spoke old between (said (asked_in answers script history))
+    pub marked : AreMarkedLines (asked_in answers script history)
     pub line_stays : line between ≡ line old
-    pub flaw : IsFlaw (next_of script history) error between new
+    pub flaw : IsFlaw (client_next answers script history) error between new
     pub number : line_in error ≡ line new
 
-  -- one more entry: what comes next was asked, and answered as the entry says; the notice of the object that was made is left to be said
+  -- one more entry: what comes next was asked, and answered as the entry says; the notice of the object that was made is left to be said. All
+  -- that is questions and notices
   pub record Grows (old new : CoreValue) (client client' : C) (left : List ℕ) : Type 0 where
     pub entry : Entry
     pub is : new ≡ core_after entry old
-    pub talk : spoke client client' (said (asked_in old.script old.history) ++ answered (answer_of (next_of old.script old.history) entry))
-    pub left_is : left ≡ new_in entry old.history (next_of old.script old.history)
-    pub lines : line client' ≡ count_after (line client) (lines_of (next_of old.script old.history) entry)
-    pub told : IsTold (next_of old.script old.history) entry
+    pub talk : spoke client client' (said (asked_in answers old.script old.history) ++ answered (answer_of (client_next answers old.script old.history) entry))
+    pub asks : AreMarkedLines (asked_in answers old.script old.history)
+    pub left_is : left ≡ new_in entry old.history (client_next answers old.script old.history)
+    pub notes : AreMarkedLines left
+    pub lines : line client' ≡ count_after (line client) (lines_of (client_next answers old.script old.history) entry)
+    pub told : IsTold (client_next answers old.script old.history) entry
+    pub by_script : IsByScript answers old.script old.history (next_of old.script old.history) entry
 
   -- no more entry: the run is over
   pub record HasEndedRun (old new : CoreValue) (client client' : C) : Type 0 where
     pub over : is_over old.history ≡ true
     pub is : new ≡ record old { leaving = [] }
-    pub talk : spoke client client' (said (asked_in old.script old.history))
+    pub talk : spoke client client' (said (asked_in answers old.script old.history))
+    pub asks : AreMarkedLines (asked_in answers old.script old.history)
 
   -- what was spoken before memory ran out: nothing; or what comes next was asked, and something was answered
   abbrev pub SpokeSome : ScriptValue → List Entry → C → C → Type 0
-  SpokeSome script history old new = (new ≡ old) ⊎ ((text : List ℕ) × spoke old new (said (asked_in script history) ++ answered text))
+  SpokeSome script history old new = (new ≡ old) ⊎ ((text : List ℕ) × spoke old new (said (asked_in answers script history) ++ answered text) × AreMarkedLines (asked_in answers script history))
 
   -- why no more entry is told
   abbrev pub Halts : ServeError → ScriptValue → List Entry → C → C → Type 0

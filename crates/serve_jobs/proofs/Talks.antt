@@ -1,5 +1,5 @@
 -- What is said in parts.
-use Rattle.std.proofs.Common.{◌≡◌, ℕ, List, [], ◌∷◌, ◌++◌, Option, Some, None, is_some, Result, Ok, Err, OnOk, option_map, ap, refl, subst, sym}
+use Rattle.std.proofs.Common.{◌≡◌, ℕ, List, [], ◌∷◌, ◌++◌, Result, Ok, Err, OnOk, ap, refl, subst, sym}
 use Rattle.serve_dialogue.specs.Spoken.{Said, Spoken, said}
 
 said-append : (front back : List ℕ) → said (front ++ back) ≡ said front ++ said back
@@ -14,8 +14,3 @@ module _ {C : Type 0} (spoke : C → C → List Spoken → Type 0) (joined : (fi
   pub said_last : {A E : Type 0} (result : Result A E) (first half last : C) (front back : List ℕ) → spoke first half (said front) → OnOk result (spoke half last (said back)) → OnOk result (spoke first last (said (front ++ back)))
   said_last (Ok done) first half last front back one more = said_more first half last front back one more
   said_last (Err error) first half last front back one more = tt
-
--- whether there is a value, however it is seen
-pub is_some-map : {A B : Type 0} (see : A → B) (given : Option A) → is_some (option_map see given) ≡ is_some given
-is_some-map see None = refl
-is_some-map see (Some value) = refl

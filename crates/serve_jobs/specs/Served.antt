@@ -1,6 +1,7 @@
 -- What the run of a document over a client comes to.
-use Rattle.std.specs.Prelude.{◌≡◌, ◌≢◌, ◌⊎◌, ℕ, Bool, true, false, List, codes, is_some, Option, Result, Ok, Err}
-use Rattle.toml.specs.Data.{Members, get_member}
+use Rattle.std.specs.Prelude.{◌≡◌, ◌≢◌, ◌⊎◌, ℕ, Bool, true, false, List, [], codes, Option, Result, Ok, Err}
+use Rattle.toml.specs.Data.{Data, Members, get_member}
+use Rattle.uvm_factory.specs.Faults.{Types}
 use Rattle.rand_core.specs.Stream.{Stream}
 use Rattle.script_values.specs.declared.faults.ScriptFault.{ScriptFault}
 use Rattle.script_values.specs.declared.faults.ScriptFault.TheVariants as faults
@@ -8,16 +9,19 @@ use Rattle.bench_script.specs.Documents.{tree_of_bytes}
 use Rattle.bench_script.specs.Scripts.{ScriptValue}
 use Rattle.bench_run.specs.Endings.{is_clean}
 use Rattle.bench_run.specs.declared.endings.Ending.{Ending}
-use Rattle.script_jobs.specs.Runs.{lost_test, refusal_by, script_to_run}
+use Rattle.scripted_objects.specs.Answers.{TypeValue}
+use Rattle.script_jobs.specs.Runs.{HoldsAnswers, IsReadFault, lost_test, refusal_by, script_to_run, unknown_types}
 use Rattle.script_jobs.specs.declared.verdicts.Refusal.{Refusal}
 use Rattle.script_jobs.specs.declared.verdicts.Refusal.TheVariants.{Script}
+use Rattle.script_jobs.specs.declared.verdicts.Verdict as refused_verdict
+use Rattle.script_jobs.specs.declared.verdicts.Verdict.TheVariants as refused
 use Rattle.serve_dialogue.specs.Served.{IsServed}
 use Rattle.serve_dialogue.specs.Spoken.{Spoken, said}
 use Rattle.serve_dialogue.specs.declared.errors.ServeError.{ServeError}
 use Rattle.serve_dialogue.specs.declared.errors.ServeError.TheVariants.{Memory, Output, NoTest}
 use Rattle.serve_jobs.specs.Lines.{head_lines, last_lines}
 use Rattle.serve_jobs.specs.declared.verdicts.Verdict.{Verdict}
-use Rattle.serve_jobs.specs.declared.verdicts.Verdict.TheVariants.{Clean, Faulty, Refused, HasAnswers, Broken}
+use Rattle.serve_jobs.specs.declared.verdicts.Verdict.TheVariants.{Clean, Faulty, Refused, Broken}
 
 -- the script of a tree has a fault, which is reported so
 pub record HasFault (root : Members) (test : Option (List ℕ)) (refusal : Refusal) : Type 0 where
@@ -26,42 +30,50 @@ pub record HasFault (root : Members) (test : Option (List ℕ)) (refusal : Refus
   pub judged : fault ≢ faults.Memory
   pub reported : refusal ≡ refusal_by fault (lost_test root test)
 
--- whether a tree has answers
-abbrev pub has_answers : Members → Bool
-has_answers root = is_some (get_member (codes "answers") root)
-
--- the script of a tree has no fault, and the tree has answers
-pub record IsAnswered (root : Members) (test : Option (List ℕ)) : Type 0 where
+-- the script of a tree has no fault, and its answers have one, which is reported so
+pub record HasAnswersFault (root : Members) (test : Option (List ℕ)) (refusal : Refusal) : Type 0 where
   pub script : ScriptValue
   pub asked : script_to_run root test ≡ Ok script
-  pub answers : has_answers root ≡ true
+  pub fault : IsReadFault (get_member (codes "answers") root) script.types (refused.Refused refusal)
 
 -- the bytes are no document, or memory ran out
 abbrev pub IsUnread : Result Members ScriptFault → Verdict → Type 0
 IsUnread parsed verdict = ((fault : ScriptFault) × (parsed ≡ Err fault) × (verdict ≡ Refused (Script fault))) ⊎ (verdict ≡ Broken Memory)
+
+-- the verdict by which a refused document is reported
+abbrev pub reported_as : refused_verdict.Verdict → Verdict
+reported_as (refused.Refused refusal) = Refused refusal
+reported_as verdict = Broken Memory
+
+-- why the answers of a tree are refused: they are at fault, or memory ran out
+abbrev pub IsAnswersVerdict : Option Data → Types → Verdict → Type 0
+IsAnswersVerdict answers types Clean = ⊥
+IsAnswersVerdict answers types Faulty = ⊥
+IsAnswersVerdict answers types (Refused refusal) = IsReadFault answers types (refused.Refused refusal)
+IsAnswersVerdict answers types (Broken error) = error ≡ Memory
 
 -- why the script of a tree is not served: it is refused, or memory ran out
 abbrev pub IsRefusedBy : Members → Option (List ℕ) → Verdict → Type 0
 IsRefusedBy root test Clean = ⊥
 IsRefusedBy root test Faulty = ⊥
 IsRefusedBy root test (Refused refusal) = HasFault root test refusal
-IsRefusedBy root test HasAnswers = IsAnswered root test
 IsRefusedBy root test (Broken error) = error ≡ Memory
 
 module _ {C : Type 0} (spoke : C → C → List Spoken → Type 0) (ended : C → C → Type 0) (line : C → ℕ) where
-  -- a run of the script of a tree without answers, which ended so
+  -- a run of the script of a tree, with the answers of types that it declares, which ended so
   pub record RanTo (root : Members) (test : Option (List ℕ)) (words : Stream) (trace : Bool) (old new : C) (result : Result Ending ServeError) : Type 0 where
     pub script : ScriptValue
     pub asked : script_to_run root test ≡ Ok script
-    pub none : has_answers root ≡ false
-    pub run : IsServed spoke ended line words script trace old new result
+    pub answers : List TypeValue
+    pub holds : HoldsAnswers (get_member (codes "answers") root) answers
+    pub known : unknown_types answers script.types ≡ []
+    pub run : IsServed spoke ended line answers words script trace old new result
 
   -- what the verdict says of the tree of a document, and of what was spoken
   abbrev pub IsServedTree : Members → Option (List ℕ) → Stream → Bool → C → C → Verdict → Type 0
   IsServedTree root test words trace old new Clean = (ending : Ending) × (is_clean ending ≡ true) × RanTo root test words trace old new (Ok ending)
   IsServedTree root test words trace old new Faulty = (ending : Ending) × (is_clean ending ≡ false) × RanTo root test words trace old new (Ok ending)
-  IsServedTree root test words trace old new (Refused refusal) = HasFault root test refusal × (new ≡ old)
-  IsServedTree root test words trace old new HasAnswers = IsAnswered root test × (new ≡ old)
+  IsServedTree root test words trace old new (Refused refusal) = (HasFault root test refusal ⊎ HasAnswersFault root test refusal) × (new ≡ old)
   IsServedTree root test words trace old new (Broken error) = ((error ≡ Memory) × (new ≡ old)) ⊎ ((error ≢ NoTest) × RanTo root test words trace old new (Err error))
 
   -- what it says of the bytes of a document

@@ -3,16 +3,16 @@ use Rattle.std.specs.Prelude.{ℕ, List, [], ◌∷◌, ◌++◌, Option, codes}
 use Rattle.std.specs.Io.KnownBytes.{Appends, Keeps}
 use Rattle.script_jobs.specs.Verdicts.{error_line, refusal_text}
 use Rattle.serve_dialogue.specs.Errors.{error_text}
+use Rattle.serve_dialogue.specs.Steps.{IsUnheard}
 use Rattle.serve_dialogue.specs.declared.errors.ServeError.TheVariants.{Output, NoAnswer}
 use Rattle.serve_jobs.specs.declared.verdicts.Verdict.{Verdict}
-use Rattle.serve_jobs.specs.declared.verdicts.Verdict.TheVariants.{Clean, Faulty, Refused, HasAnswers, Broken}
+use Rattle.serve_jobs.specs.declared.verdicts.Verdict.TheVariants.{Clean, Faulty, Refused, Broken}
 
 -- the exit status
 abbrev pub status_of : Verdict → ℕ
 status_of Clean = 0
 status_of Faulty = 1
 status_of (Refused refusal) = 2
-status_of HasAnswers = 2
 status_of (Broken error) = 3
 
 -- the same in the words of the last line
@@ -20,7 +20,6 @@ abbrev pub words_of : Verdict → List ℕ
 words_of Clean = codes "clean 0"
 words_of Faulty = codes "faulty 1"
 words_of (Refused refusal) = codes "refused 2"
-words_of HasAnswers = codes "refused 2"
 words_of (Broken error) = codes "broken 3"
 
 -- what is written to standard error: what is wrong with the file, if something is. Of a client that does not answer this does not say which
@@ -29,7 +28,11 @@ abbrev pub IsReported : List ℕ → Verdict → Option (List ℕ) → Option (L
 IsReported file Clean old new = Keeps old new
 IsReported file Faulty old new = Keeps old new
 IsReported file (Refused refusal) old new = Appends old new (error_line file (refusal_text refusal))
-IsReported file HasAnswers old new = Appends old new (error_line file (codes "answers: serve takes no answers of a file"))
 IsReported file (Broken Output) old new = Appends old new (codes "script_bench: output fault" ++ 10 ∷ [])
 IsReported file (Broken (NoAnswer error)) old new = Unit {0}
 IsReported file (Broken error) old new = Appends old new (error_line file (error_text error))
+
+-- the run broke off because the client could not be read
+abbrev pub IsUnheardEnd : Verdict → Type 0
+IsUnheardEnd (Broken error) = IsUnheard error
+IsUnheardEnd other = ⊥

@@ -1,14 +1,16 @@
 //! The run of a document over a client.
 
-ghost use Rattle.std.specs.Prelude.{◌≡◌, ◌++◌, IfErr, IfOk, IsSome, OnErr, OnOk, Ok, codes, false, if◌then◌else◌, option_copied};
+ghost use Rattle.std.specs.Prelude.{◌≡◌, ◌++◌, IfErr, IfOk, IsSome, OnErr, OnOk, Ok, [], codes, if◌then◌else◌, option_copied};
+ghost use Rattle.toml.specs.Data.{get_member};
 ghost use Rattle.toml.specs.View.{table_view};
 ghost use Rattle.bench_run.specs.Endings.{is_clean};
 ghost use Rattle.bench_script.specs.Documents.{IsReadable};
 ghost use Rattle.bus_jobs.specs.Runs.{words_of_seed};
-ghost use Rattle.script_jobs.specs.Runs.{script_to_run};
+ghost use Rattle.script_jobs.specs.Runs.{HoldsAnswers, script_to_run, unknown_types};
 ghost use Rattle.serve_dialogue.specs.Spoken.{said};
 ghost use Rattle.serve_jobs.specs.Lines.{end_line, head_lines};
-ghost use Rattle.serve_jobs.specs.Served.{has_answers, IsRefusedBy, IsServedBench, IsServedDocument, IsServedTree};
+ghost use Rattle.serve_jobs.specs.Verdicts.{IsUnheardEnd};
+ghost use Rattle.serve_jobs.specs.Served.{IsAnswersVerdict, IsRefusedBy, IsServedBench, IsServedDocument, IsServedTree, reported_as};
 
 use crate::lines::{say_end, say_head, say_last};
 use crate::verdicts::Verdict;
@@ -16,7 +18,8 @@ use bench_run::Ending;
 use bench_script::{Script, ScriptFault, read_document};
 use rand_core::SeedableRng;
 use rand_pcg::Pcg64;
-use script_jobs::{Refusal, reported, script_to_run};
+use script_jobs::{Refusal, declared_answers, reported, script_to_run};
+use scripted_objects::Answers;
 use serve_dialogue::{Client, ServeError, serve_script};
 use std::alloc::Global;
 use std::io;
@@ -24,12 +27,12 @@ use toml::Table;
 use uvm_glob::Name;
 
 /// Runs the script in a document over the objects of a client, on the random numbers of `Pcg64` from the seed. If `test` is given, it
-/// replaces the script's own test. The client receives the number of the protocol's version and the seed first, and last, after why the
+/// replaces the script's own test. The objects of types that have answers in the document give these; all others are the client's. The client receives the number of the protocol's version and the seed first, and last, after why the
 /// run broke off if it did, how it ended.
 ///
 /// Returns `Clean` if the run finished and no ERROR or FATAL was counted, and `Faulty` if it ended otherwise. Returns `Refused`, with
-/// nothing asked, if the bytes, their answers aside, are not a script, or have no such test; otherwise `HasAnswers` if the document has
-/// answers. Returns `Broken` if the run broke off, or if the client refuses a line.
+/// nothing asked, if the bytes, their answers aside, are not a script, or have no such test; otherwise if the answers are at fault.
+/// Returns `Broken` if the run broke off, or if the client refuses a line.
 pub fn serve_bench<C: Client>(
     alloc: Global,
     bytes: &[u8],
@@ -41,6 +44,7 @@ pub fn serve_bench<C: Client>(
     ensures served { IsServedBench C.spoke C.ended C.line bytes.now (option_copied test.entry) seed (words_of_seed seed) trace client.old client.new result }
     ensures memory { result ≡ Verdict.Broken ServeError.Memory → IsReadable bytes.now }
     ensures output { result ≡ Verdict.Broken ServeError.Output → C.refuses client.old }
+    ensures unreadable { IsUnheardEnd result → C.breaks client.old }
 {
     let Ok(()) = say_head(client, seed) else {
         return Verdict::Broken(ServeError::Output);
@@ -76,6 +80,7 @@ fn serve_document<C: Client>(
     ensures served { IsServedDocument C.spoke C.ended C.line bytes.now (option_copied test.entry) (words_of_seed seed) trace client.old client.new result }
     ensures memory { result ≡ Verdict.Broken ServeError.Memory → IsReadable bytes.now }
     ensures output { result ≡ Verdict.Broken ServeError.Output → C.refuses client.old }
+    ensures unreadable { IsUnheardEnd result → C.breaks client.old }
     ensures may_refuse { C.refuses client.new → C.refuses client.old }
 {
     match read_document(alloc, bytes) {
@@ -96,45 +101,56 @@ fn serve_tree<C: Client>(
 ) -> Verdict
     ensures served { IsServedTree C.spoke C.ended C.line (table_view root.now) (option_copied test.entry) (words_of_seed seed) trace client.old client.new result }
     ensures output { result ≡ Verdict.Broken ServeError.Output → C.refuses client.old }
+    ensures unreadable { IsUnheardEnd result → C.breaks client.old }
     ensures may_refuse { C.refuses client.new → C.refuses client.old }
 {
     let script = match script_in(alloc, root, test) {
         Ok(script) => script,
         Err(verdict) => return verdict,
     };
+    let answers = match answers_of(alloc, root, &script) {
+        Ok(answers) => answers,
+        Err(verdict) => return verdict,
+    };
     let mut words = Pcg64::seed_from_u64(seed);
-    match serve_script(alloc, script, &mut words, trace, client) {
+    match serve_script(alloc, script, &answers, &mut words, trace, client) {
         Ok(ending) => verdict_on(&ending),
         Err(error) => Verdict::Broken(error),
     }
 }
 
-// Returns the script in the tree of a document, if it has no answers. Errors: the verdict, if it is refused.
+// Returns the script in the tree of a document, its answers aside. Errors: the verdict, if it is refused.
 fn script_in(alloc: Global, root: &Table, test: Option<&Name>) -> Result<Script, Verdict>
     ensures ok { IfOk result (λ script. script_to_run (table_view root.now) (option_copied test.entry) ≡ Ok script) }
-    ensures none { OnOk result (has_answers (table_view root.now) ≡ false) }
     ensures tested { IfOk result (λ script. IsSome script.test) }
     ensures err { IfErr result (IsRefusedBy (table_view root.now) (option_copied test.entry)) }
 {
     match script_to_run(alloc, root, test) {
-        Ok(script) => {
-            if has_answers(root) {
-                return Err(Verdict::HasAnswers);
-            }
-            Ok(script)
-        }
-        Err(fault) => Err(match reported(alloc, root, test, fault) {
-            script_jobs::Verdict::Refused(refusal) => Verdict::Refused(refusal),
-            _ => Verdict::Broken(ServeError::Memory),
-        }),
+        Ok(script) => Ok(script),
+        Err(fault) => Err(reported_as(reported(alloc, root, test, fault))),
     }
 }
 
-// Whether the tree of a document has answers.
-fn has_answers(root: &Table) -> bool
-    ensures { result ≡ has_answers (table_view root.now) }
+// Returns the answers in the tree of a document. Errors: the verdict, if they are refused.
+fn answers_of(alloc: Global, root: &Table, script: &Script) -> Result<Answers, Verdict>
+    ensures ok { IfOk result (λ answers. HoldsAnswers (get_member (codes "answers") (table_view root.now)) answers) }
+    ensures known { IfOk result (λ answers. unknown_types answers script.now.types ≡ []) }
+    ensures err { IfErr result (IsAnswersVerdict (get_member (codes "answers") (table_view root.now)) script.now.types) }
 {
-    root.get("answers").is_some()
+    match declared_answers(alloc, root, script) {
+        Ok(answers) => Ok(answers),
+        Err(verdict) => Err(reported_as(verdict)),
+    }
+}
+
+// Returns the verdict by which a refused document is reported.
+fn reported_as(verdict: script_jobs::Verdict) -> Verdict
+    ensures { result ≡ reported_as verdict }
+{
+    match verdict {
+        script_jobs::Verdict::Refused(refusal) => Verdict::Refused(refusal),
+        _ => Verdict::Broken(ServeError::Memory),
+    }
 }
 
 // Returns the verdict on a run that has ended.

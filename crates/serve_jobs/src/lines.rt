@@ -15,6 +15,7 @@ pub(crate) fn say_head<C: Client>(client: &mut C, seed: u64) -> io::Result<()>
     ensures count { C.line client.new ≡ C.line client.old }
     ensures refused { OnErr result (C.refuses client.old) }
     ensures may_refuse { C.refuses client.new → C.refuses client.old }
+    ensures may_break { C.breaks client.new → C.breaks client.old }
 {
     client.say(b"! serve 1\n! seed ")?;
     client.say(Buffer::new().format(seed).as_bytes())?;
@@ -58,7 +59,6 @@ pub(crate) fn say_last<C: Client>(verdict: &Verdict, client: &mut C) -> io::Resu
         Verdict::Clean => say_end(b"clean 0", client),
         Verdict::Faulty => say_end(b"faulty 1", client),
         Verdict::Refused(_) => say_end(b"refused 2", client),
-        Verdict::HasAnswers => say_end(b"refused 2", client),
         Verdict::Broken(error) => say_broken(*error, client),
     }
 }

@@ -16,8 +16,6 @@ pub enum Verdict {
     Faulty,
     /// The document is refused.
     Refused(Refusal),
-    /// The document has answers, which are not served.
-    HasAnswers,
     /// The run could not begin, or broke off.
     Broken(ServeError),
 }
@@ -30,7 +28,7 @@ impl Verdict {
         match self {
             Verdict::Clean => 0,
             Verdict::Faulty => 1,
-            Verdict::Refused(_) | Verdict::HasAnswers => 2,
+            Verdict::Refused(_) => 2,
             Verdict::Broken(_) => 3,
         }
     }
@@ -44,15 +42,12 @@ impl Verdict {
             Verdict::Clean => Ok(()),
             Verdict::Faulty => Ok(()),
             Verdict::Refused(refusal) => writeln!(err, "script_bench: {file}: {refusal}"),
-            Verdict::HasAnswers => writeln!(err, "script_bench: {file}: {NO_ANSWERS}"),
             Verdict::Broken(ServeError::Output) => writeln!(err, "script_bench: output fault"),
             Verdict::Broken(ServeError::NoAnswer(error)) => write_blame(*error, file, line, err),
             Verdict::Broken(error) => writeln!(err, "script_bench: {file}: {error}"),
         }
     }
 }
-
-const NO_ANSWERS: &str = "answers: serve takes no answers of a file";
 
 // Writes why the client does not answer: if a line of it is wrong, with the line's number and its first 80 bytes. A question mark stands
 // for each byte that is not a blank or a printed character of ASCII.

@@ -8,4 +8,6 @@ mod failures;
 #[cfg(test)]
 mod refusals;
 #[cfg(test)]
+mod scripted;
+#[cfg(test)]
 mod serving;

@@ -44,18 +44,6 @@ fn another_test_may_be_asked_for(rt: HostRuntime) -> Result<(), Fail> {
 }
 
 #[test]
-fn a_document_with_answers_is_refused(rt: HostRuntime) -> Result<(), Fail> {
-    let alloc = rt.alloc();
-    let mut document: Vec<u8> = Vec::from_slice(alloc, TWO)?;
-    document.extend_from_slice(b"[answers.u]\n")?;
-    let outcome = serve(alloc, document.as_slice(), b"made\n")?;
-    assert!(rt; is_refused(&outcome));
-    let line = b"script_bench: f: answers: serve takes no answers of a file\n";
-    assert!(rt; reports(alloc, &outcome, line));
-    Ok(())
-}
-
-#[test]
 fn a_file_that_is_not_read_is_none(rt: HostRuntime) -> Result<(), Fail> {
     let alloc = rt.alloc();
     let mut client = Pipe::new(alloc, b"".as_slice(), Vec::new(alloc))?;

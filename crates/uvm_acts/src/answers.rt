@@ -15,7 +15,7 @@ use uvm_sequencer::{How, Mode};
 use uvm_tlm::{Item, PortKind};
 
 /// Names, paths and globs are literals here, which are shown to have no fault where the call stands. Each call adds its act at the
-/// end. Its error is want of memory, and leaves the acts as they were.
+/// end. Errors: out of memory, and leaves the acts as they were.
 impl Acts {
     /// Creates a component of a type as a child, by the factory (`Act::Create`; IEEE 1800.2-2020, Clause 8).
     pub fn create(&mut self, type_name: &str, name: &str) -> Result<(), AllocError>

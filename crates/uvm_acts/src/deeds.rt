@@ -107,7 +107,7 @@ impl Model for Deed {
 }
 
 impl Deed {
-    /// An act, to be shared. The error is want of memory, which does not come at an act of numbers alone.
+    /// An act, to be shared. Errors: out of memory, which does not come at an act of numbers alone.
     pub fn new(alloc: Global, act: Act) -> Result<Deed, AllocError>
         ensures ok { IfOk result (λ deed. deed ≡ act) }
         ensures numbers { is_of_numbers act ≡ true → IsOk result }
@@ -340,7 +340,7 @@ impl Acts {
         }
     }
 
-    /// Adds an act at the end. The error is want of memory, and leaves the acts as they were.
+    /// Adds an act at the end. Errors: out of memory, and leaves the acts as they were.
     pub fn push(&mut self, act: Act) -> Result<(), AllocError>
         ensures ok { OnOk result (self.new ≡ self.old ++ act ∷ []) }
         ensures err { OnErr result (self.new ≡ self.old) }

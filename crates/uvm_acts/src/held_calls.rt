@@ -230,7 +230,7 @@ impl Model for HeldCall {
 }
 
 impl HeldCall {
-    /// A call, to be held. The error is want of memory, which does not come at a call without a name or an item.
+    /// A call, to be held. Errors: out of memory, which does not come at a call without a name or an item.
     pub fn new(alloc: Global, call: &Call) -> Result<HeldCall, AllocError>
         ensures ok { IfOk result (λ held. held ≡ call.now) }
         ensures numbers { is_of_numbers call.now ≡ true → IsOk result }

@@ -16,7 +16,7 @@ Types = List (List ℕ × Kind)
 abbrev pub most_types : ℕ
 most_types = 1024
 
--- what a fault says of a call: want of memory says that nothing is wrong with it
+-- what a fault says of a call: `Memory` says that nothing is wrong with it
 abbrev pub refusal : FactoryFault → Option FactoryFault
 refusal Known = Some Known
 refusal NoType = Some NoType

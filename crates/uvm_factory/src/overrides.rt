@@ -51,7 +51,7 @@ impl OverrideStep {
 }
 
 impl Override {
-    /// An equal override. The error is want of memory.
+    /// An equal override. Errors: out of memory.
     pub fn copy(&self) -> Result<Override, AllocError>
         ensures { IfOk result (λ o. o ≡ self.now) }
     {

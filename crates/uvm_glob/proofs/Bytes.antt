@@ -9,6 +9,7 @@ use Rattle.std.proofs.lemmas.Str.{IsUtf8-from_ascii}
 use Rattle.std.proofs.lemmas.Str.Ascii.{IsAscii-nil, IsAscii-cons}
 use Rattle.uvm_glob.specs.Names.{is_name_byte, name_fault}
 use Rattle.uvm_glob.specs.Globs.{is_glob_byte, glob_fault}
+use Rattle.uvm_glob.specs.Printed.{IsPrinted, is_printed_byte}
 use Rattle.uvm_glob.specs.Paths.{path_text, path_fault, dotted}
 use Rattle.uvm_glob.proofs.PathTexts.{path-no_fault, fault-name, no_glob_fault}
 
@@ -63,3 +64,17 @@ dotted_bytes (b ∷ front) (d ∷ back) good more = list_all-append is_glob_byte
 pub glob_bytes : (text : List ℕ) → glob_fault text ≡ None → list_all is_glob_byte text ≡ true
 unfolding glob_fault
 glob_bytes text good = not-false (list_all is_glob_byte text) (no_glob_fault _ _ good).1
+
+-- what may stand in a glob is printed
+byte-printed : (b : ℕ) → is_glob_byte b ≡ true → is_printed_byte b ≡ true
+byte-printed b good = grind (arith, nat_tests)
+
+pub bytes_printed : (bytes : List ℕ) → list_all is_glob_byte bytes ≡ true → IsPrinted bytes
+bytes_printed [] good = refl
+bytes_printed (b ∷ bytes) good =
+    let parts = and_parts (is_glob_byte b) (list_all is_glob_byte bytes) good in
+    rw (byte-printed b parts.0, bytes_printed bytes parts.1)
+
+-- so a name is printed
+pub name_printed : (name : List ℕ) → name_fault name ≡ None → IsPrinted name
+name_printed name good = bytes_printed name (name_bytes name good)

@@ -3,6 +3,7 @@ pub mod ChildTexts
 pub mod Ends
 pub mod Literals
 pub mod Meaning
+pub mod Numbers
 pub mod Parts
 pub mod PathTexts
 pub mod Splits

@@ -185,7 +185,7 @@ fault-name name good =
 pub length-between_dots : (text : List ℕ) → length (between_dots text) ≡ count_by (λ b. b == 46) text + 1
 length-between_dots text = length-slice_split (λ b. b == 46) text
 
--- a fault of a text is no want of memory: of a path, of a glob, of its size
+-- a fault of a text is not that memory ran out: of a path, of a glob, of its size
 refusal-of_path : (empty long bad deep : Bool) (fault : PathFault) → Some fault ≡ first_given (fault_if empty Empty ∷ fault_if long TooLong ∷ fault_if bad BadByte ∷ fault_if deep TooDeep ∷ []) → Some fault ≡ refusal fault
 refusal-of_path true long bad deep fault e = let known : fault ≡ Empty = cc in rw known
 refusal-of_path false true bad deep fault e = let known : fault ≡ TooLong = cc in rw known

@@ -3,7 +3,7 @@ use Rattle.std.specs.Prelude.{ℕ, Bool, true, false, List, Option, Some, None, 
 use Rattle.uvm_glob.specs.declared.faults.PathFault.{PathFault}
 use Rattle.uvm_glob.specs.declared.faults.PathFault.TheVariants.{Empty, TooLong, BadByte, TooDeep, Memory}
 
--- what a fault says of the text: want of memory says that nothing is wrong with it
+-- what a fault says of the text: `Memory` says that nothing is wrong with it
 abbrev pub refusal : PathFault → Option PathFault
 refusal Empty = Some Empty
 refusal TooLong = Some TooLong

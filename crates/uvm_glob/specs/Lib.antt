@@ -2,6 +2,7 @@ pub mod Lists
 pub mod Limits
 pub mod Faults
 pub mod Names
+pub mod Printed
 pub mod Held
 pub mod Paths
 pub mod Globs

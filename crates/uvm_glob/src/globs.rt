@@ -1,6 +1,6 @@
 //! Globs, and which paths they match.
 
-ghost use Rattle.std.specs.Prelude.{◌≡◌, ◌↔◌, IsTrue, IfOk, IfErr, None, nat_eq};
+ghost use Rattle.std.specs.Prelude.{◌≡◌, ◌↔◌, IsTrue, IfOk, IfErr, None, nat_eq, true};
 ghost use Rattle.std.specs.List.{list_all};
 ghost use Rattle.std.specs.Cmp.{partial_equiv_from_equiv};
 ghost use Rattle.std.specs.Cmp.Lexicographic.{pointwise, nat_list_eq_equiv};
@@ -10,6 +10,7 @@ ghost use Rattle.std.proofs.Common.{rules};
 ghost use Rattle.uvm_glob.specs.Faults.{refusal};
 ghost use Rattle.uvm_glob.specs.Globs.{Matches, matches, glob_fault, is_glob, is_glob_byte};
 ghost use Rattle.uvm_glob.specs.Paths.{dotted, path_text};
+ghost use Rattle.uvm_glob.specs.Printed.{IsPrinted};
 
 use crate::faults::PathFault;
 use crate::matching::matches_text;
@@ -57,7 +58,7 @@ impl Glob {
         }
     }
 
-    /// The glob that a literal spells. It is shown to have no fault where the call stands; the error is want of memory.
+    /// The glob that a literal spells. It is shown to have no fault where the call stands. Errors: out of memory.
     #[tactic(auto, using(crate::proofs::Literals::glob_sound))]
     pub fn literal(alloc: Global, text: &str) -> Result<Glob, AllocError>
         requires { IsTrue (is_glob text.now) }
@@ -73,7 +74,7 @@ impl Glob {
 
     /// The glob for what lies under a path: the path, a dot and the glob; the path alone where the glob is empty, and the glob
     /// alone where the path is the top's. It has at most 2,049 bytes where `new` made the given glob, and else no limit of its
-    /// own. The error is want of memory.
+    /// own. Errors: out of memory.
     pub fn under(alloc: Global, path: &Path, glob: &Glob) -> Result<Glob, AllocError>
         ensures { IfOk result (λ under. under ≡ dotted (path_text path.now) glob.now) }
     {
@@ -90,14 +91,17 @@ impl Glob {
         matches_text(self.text.as_slice(), path.text())
     }
 
-    /// The text of the glob.
+    /// Returns the text of the glob.
+    #[tactic(auto, using(crate::proofs::Bytes::bytes_printed))]
     pub fn as_bytes(&self) -> &[u8]
-        ensures { result.now ≡ self.now }
+        ensures value { result.now ≡ self.now }
+        ensures glob { list_all is_glob_byte self.now ≡ true }
+        ensures printed { IsPrinted self.now }
     {
         self.text.as_slice()
     }
 
-    /// An equal glob. The error is want of memory.
+    /// An equal glob. Errors: out of memory.
     pub fn copy(&self) -> Result<Glob, AllocError>
         ensures { IfOk result (λ glob. glob ≡ self.now) }
     {

@@ -11,6 +11,7 @@ ghost use Rattle.std.proofs.Common.{rules};
 ghost use Rattle.uvm_glob.specs.Faults.{unless};
 ghost use Rattle.uvm_glob.specs.Limits.{most_name_bytes};
 ghost use Rattle.uvm_glob.specs.Names.{name_fault, is_name, is_name_byte};
+ghost use Rattle.uvm_glob.specs.Printed.{IsPrinted};
 
 use crate::faults::PathFault;
 use crate::texts::as_text;
@@ -87,10 +88,12 @@ impl Name {
         name
     }
 
-    /// The bytes of the name.
+    /// Returns the bytes of the name.
+    #[tactic(auto, using(crate::proofs::Bytes::name_printed))]
     pub fn as_bytes(&self) -> &[u8]
         ensures value { result.now ≡ self.now }
         ensures name { name_fault self.now ≡ None }
+        ensures printed { IsPrinted self.now }
     {
         &self.bytes[..usize::from(self.len)]
     }

@@ -11,6 +11,7 @@ ghost use Rattle.uvm_glob.specs.Limits.{most_name_bytes, most_names, most_text_b
 ghost use Rattle.uvm_glob.specs.Names.{is_name_byte};
 ghost use Rattle.uvm_glob.specs.Orders.{down_cmp, up_cmp, order_of};
 ghost use Rattle.uvm_glob.specs.Paths.{path_text, path_fault, is_path, between_dots, names_of, dotted, size_fault};
+ghost use Rattle.uvm_glob.specs.Printed.{IsPrinted};
 
 use crate::faults::PathFault;
 use crate::names::{Name, are_name_bytes};
@@ -73,7 +74,7 @@ impl Path {
     }
 
     /// The path that a literal spells, the top's where it is empty. It is shown to have no fault where the call stands; the error
-    /// is want of memory.
+    /// is out of memory.
     #[tactic(auto, using(crate::proofs::Literals::path_sound))]
     pub fn literal(alloc: Global, text: &str) -> Result<Path, AllocError>
         requires { IsTrue (is_path text.now) }
@@ -158,7 +159,7 @@ impl Path {
         up_cmp(self.text.as_slice(), other.text.as_slice())
     }
 
-    /// An equal path. The error is want of memory.
+    /// An equal path. Errors: out of memory.
     pub fn copy(&self) -> Result<Path, AllocError>
         ensures { IfOk result (λ path. path ≡ self.now) }
     {
@@ -167,10 +168,13 @@ impl Path {
         })
     }
 
-    /// The bytes of the text of the path: its names with dots between them, and none for the top's. Takes no memory.
+    /// Returns the bytes of the text of the path: its names with dots between them, and none for the top's. Takes no memory.
+    #[tactic(auto, using(crate::proofs::Bytes::bytes_printed))]
     pub fn as_bytes(&self) -> &[u8]
         ensures text { result.now ≡ path_text self.now }
         ensures names { names_of result.now ≡ self.now }
+        ensures path { path_fault self.now ≡ None }
+        ensures printed { IsPrinted (path_text self.now) }
     {
         self.text()
     }
@@ -179,6 +183,7 @@ impl Path {
     pub(crate) fn text(&self) -> &[u8]
         ensures text { result.now ≡ path_text self.now }
         ensures names { names_of result.now ≡ self.now }
+        ensures path { path_fault self.now ≡ None }
         ensures bytes { list_all is_glob_byte result.now ≡ true }
     {
         self.text.as_slice()

@@ -29,7 +29,7 @@ impl Model for ChildRoom {
 }
 
 impl ChildRoom {
-    /// Room for a child of a path. The error is want of memory.
+    /// Room for a child of a path. Errors: out of memory.
     pub fn new(parent: &Path) -> Result<ChildRoom, AllocError>
         ensures { IfOk result (λ room. room ≡ parent.now) }
     {

@@ -2,6 +2,7 @@
 
 ghost use Rattle.std.specs.Prelude.{◌≡◌, ◌++◌, ◌∷◌, IfOk, OnOk};
 ghost use Rattle.std.specs.Fmt.{decimal};
+ghost use Rattle.uvm_glob.specs.Printed.{IsPrinted};
 ghost use Rattle.uvm_acts.specs.declared.acts.Act.TheVariants as act;
 ghost use Rattle.uvm_lines.specs.Lines.{act_text, actions_text, id_text, what_text, which_text};
 
@@ -14,16 +15,20 @@ use uvm_object::{Act, What};
 use uvm_report::{Actions, Report, Severity, Which};
 
 /// Gives the text of an act, as it stands in the line of its entry, without its outcome.
+#[tactic(auto, using(crate::proofs::Printed::printed))]
 pub fn act_text(alloc: Global, act: &Act) -> Result<Vec<u8>, AllocError>
-    ensures { IfOk result (λ text. text.items ≡ act_text act.now) }
+    ensures text { IfOk result (λ text. text.items ≡ act_text act.now) }
+    ensures printed { OnOk result (IsPrinted (act_text act.now)) }
 {
     let mut text = Vec::new(alloc);
     push_act(act, &mut text)?;
     Ok(text)
 }
 
+#[tactic(auto, using(crate::proofs::Printed::printed))]
 pub(crate) fn push_act(act: &Act, line: &mut Vec<u8>) -> Result<(), AllocError>
-    ensures { OnOk result (line.new.items ≡ line.old.items ++ act_text act.now) }
+    ensures text { OnOk result (line.new.items ≡ line.old.items ++ act_text act.now) }
+    ensures printed { OnOk result (IsPrinted (act_text act.now)) }
 {
     match act {
         Act::Create { type_name, name } => push_names(b"create ", type_name, name, line),
@@ -67,16 +72,20 @@ pub(crate) fn push_act(act: &Act, line: &mut Vec<u8>) -> Result<(), AllocError>
     }
 }
 
+#[tactic(auto, using(crate::proofs::Printed::printed))]
 fn push_addition(name: &Name, what: What, line: &mut Vec<u8>) -> Result<(), AllocError>
-    ensures { OnOk result (line.new.items ≡ line.old.items ++ act_text (act.Add name.now what)) }
+    ensures text { OnOk result (line.new.items ≡ line.old.items ++ act_text (act.Add name.now what)) }
+    ensures printed { OnOk result (IsPrinted (act_text (act.Add name.now what))) }
 {
     push_bytes(b"add ", name.as_bytes(), line)?;
     line.push(b' ')?;
     push_what(what, line)
 }
 
+#[tactic(auto, using(crate::proofs::Printed::printed))]
 fn push_setting(glob: &Glob, field: &Name, value: i64, line: &mut Vec<u8>) -> Result<(), AllocError>
-    ensures { OnOk result (line.new.items ≡ line.old.items ++ act_text (act.Set glob.now field.now value)) }
+    ensures text { OnOk result (line.new.items ≡ line.old.items ++ act_text (act.Set glob.now field.now value)) }
+    ensures printed { OnOk result (IsPrinted (act_text (act.Set glob.now field.now value))) }
 {
     push_bytes(b"set (", glob.as_bytes(), line)?;
     push_bytes(b") ", field.as_bytes(), line)?;
@@ -84,13 +93,15 @@ fn push_setting(glob: &Glob, field: &Name, value: i64, line: &mut Vec<u8>) -> Re
     push_integer(value, line)
 }
 
+#[tactic(auto, using(crate::proofs::Printed::printed))]
 fn push_override(
     original: &Name,
     new: &Name,
     replace: bool,
     line: &mut Vec<u8>,
 ) -> Result<(), AllocError>
-    ensures { OnOk result (line.new.items ≡ line.old.items ++ act_text (act.OverrideType original.now new.now replace)) }
+    ensures text { OnOk result (line.new.items ≡ line.old.items ++ act_text (act.OverrideType original.now new.now replace)) }
+    ensures printed { OnOk result (IsPrinted (act_text (act.OverrideType original.now new.now replace))) }
 {
     push_names(b"override ", original, new, line)?;
     if replace {
@@ -99,57 +110,69 @@ fn push_override(
     Ok(())
 }
 
+#[tactic(auto, using(crate::proofs::Printed::printed))]
 fn push_override_at(
     original: &Name,
     new: &Name,
     glob: &Glob,
     line: &mut Vec<u8>,
 ) -> Result<(), AllocError>
-    ensures { OnOk result (line.new.items ≡ line.old.items ++ act_text (act.OverrideInst original.now new.now glob.now)) }
+    ensures text { OnOk result (line.new.items ≡ line.old.items ++ act_text (act.OverrideInst original.now new.now glob.now)) }
+    ensures printed { OnOk result (IsPrinted (act_text (act.OverrideInst original.now new.now glob.now))) }
 {
     push_names(b"override ", original, new, line)?;
     push_bytes(b" at (", glob.as_bytes(), line)?;
     line.extend_from_slice(b")")
 }
 
+#[tactic(auto, using(crate::proofs::Printed::printed))]
 fn push_connection(from: &Path, to: &Path, line: &mut Vec<u8>) -> Result<(), AllocError>
-    ensures { OnOk result (line.new.items ≡ line.old.items ++ act_text (act.Connect from.now to.now)) }
+    ensures text { OnOk result (line.new.items ≡ line.old.items ++ act_text (act.Connect from.now to.now)) }
+    ensures printed { OnOk result (IsPrinted (act_text (act.Connect from.now to.now))) }
 {
     push_bytes(b"connect (", from.as_bytes(), line)?;
     push_bytes(b") (", to.as_bytes(), line)?;
     line.extend_from_slice(b")")
 }
 
+#[tactic(auto, using(crate::proofs::Printed::printed))]
 fn push_report(report: &Report, line: &mut Vec<u8>) -> Result<(), AllocError>
-    ensures { OnOk result (line.new.items ≡ line.old.items ++ act_text (act.Report report.now)) }
+    ensures text { OnOk result (line.new.items ≡ line.old.items ++ act_text (act.Report report.now)) }
+    ensures printed { OnOk result (IsPrinted (act_text (act.Report report.now))) }
 {
     push_two(b"report ", report.severity.name(), line)?;
     push_bytes(b" ", report.id.as_bytes(), line)
 }
 
+#[tactic(auto, using(crate::proofs::Printed::printed))]
 fn push_level(which: &Which, level: u16, line: &mut Vec<u8>) -> Result<(), AllocError>
-    ensures { OnOk result (line.new.items ≡ line.old.items ++ act_text (act.Verbosity which.now level)) }
+    ensures text { OnOk result (line.new.items ≡ line.old.items ++ act_text (act.Verbosity which.now level)) }
+    ensures printed { OnOk result (IsPrinted (act_text (act.Verbosity which.now level))) }
 {
     line.extend_from_slice(b"verbosity ")?;
     push_which(which, line)?;
     push_count(b" ", level, line)
 }
 
+#[tactic(auto, using(crate::proofs::Printed::printed))]
 fn push_actions(which: &Which, actions: Actions, line: &mut Vec<u8>) -> Result<(), AllocError>
-    ensures { OnOk result (line.new.items ≡ line.old.items ++ act_text (act.Actions which.now actions)) }
+    ensures text { OnOk result (line.new.items ≡ line.old.items ++ act_text (act.Actions which.now actions)) }
+    ensures printed { OnOk result (IsPrinted (act_text (act.Actions which.now actions))) }
 {
     line.extend_from_slice(b"actions ")?;
     push_which(which, line)?;
     push_two(b" ", actions_text(actions), line)
 }
 
+#[tactic(auto, using(crate::proofs::Printed::printed))]
 fn push_change(
     from: Severity,
     id: &Option<Name>,
     to: Severity,
     line: &mut Vec<u8>,
 ) -> Result<(), AllocError>
-    ensures { OnOk result (line.new.items ≡ line.old.items ++ act_text (act.Severity from id.now to)) }
+    ensures text { OnOk result (line.new.items ≡ line.old.items ++ act_text (act.Severity from id.now to)) }
+    ensures printed { OnOk result (IsPrinted (act_text (act.Severity from id.now to))) }
 {
     push_two(b"severity ", from.name(), line)?;
     line.push(b' ')?;
@@ -157,8 +180,10 @@ fn push_change(
     push_two(b" ", to.name(), line)
 }
 
+#[tactic(auto, using(crate::proofs::Printed::printed))]
 fn push_wait(ticks: u64, tag: u32, line: &mut Vec<u8>) -> Result<(), AllocError>
-    ensures { OnOk result (line.new.items ≡ line.old.items ++ act_text (act.Wait ticks tag)) }
+    ensures text { OnOk result (line.new.items ≡ line.old.items ++ act_text (act.Wait ticks tag)) }
+    ensures printed { OnOk result (IsPrinted (act_text (act.Wait ticks tag))) }
 {
     push_ticks(b"wait ", ticks, line)?;
     line.push(b' ')?;
@@ -167,7 +192,8 @@ fn push_wait(ticks: u64, tag: u32, line: &mut Vec<u8>) -> Result<(), AllocError>
 
 // A word and a count.
 fn push_count(word: &[u8], count: u16, line: &mut Vec<u8>) -> Result<(), AllocError>
-    ensures { OnOk result (line.new.items ≡ line.old.items ++ (word.now ++ decimal count)) }
+    ensures text { OnOk result (line.new.items ≡ line.old.items ++ (word.now ++ decimal count)) }
+    ensures printed { OnOk result (IsPrinted (decimal count)) }
 {
     push_ticks(word, u64::from(count), line)
 }
@@ -181,8 +207,10 @@ fn push_bytes(word: &[u8], bytes: &[u8], line: &mut Vec<u8>) -> Result<(), Alloc
 }
 
 // The reports that a setting is for.
+#[tactic(auto, using(crate::proofs::Printed::printed))]
 fn push_which(which: &Which, line: &mut Vec<u8>) -> Result<(), AllocError>
-    ensures { OnOk result (line.new.items ≡ line.old.items ++ which_text which.now) }
+    ensures text { OnOk result (line.new.items ≡ line.old.items ++ which_text which.now) }
+    ensures printed { OnOk result (IsPrinted (which_text which.now)) }
 {
     match which {
         Which::All => line.extend_from_slice(b"all"),
@@ -200,8 +228,10 @@ fn push_which(which: &Which, line: &mut Vec<u8>) -> Result<(), AllocError>
 }
 
 // An id that may be absent.
+#[tactic(auto, using(crate::proofs::Printed::printed))]
 fn push_id(id: &Option<Name>, line: &mut Vec<u8>) -> Result<(), AllocError>
-    ensures { OnOk result (line.new.items ≡ line.old.items ++ id_text id.now) }
+    ensures text { OnOk result (line.new.items ≡ line.old.items ++ id_text id.now) }
+    ensures printed { OnOk result (IsPrinted (id_text id.now)) }
 {
     match id {
         Some(id) => line.extend_from_slice(id.as_bytes()),
@@ -226,13 +256,15 @@ fn actions_text(actions: Actions) -> &'static str
 }
 
 // A word and two names.
+#[tactic(auto, using(crate::proofs::Printed::printed))]
 fn push_names(
     word: &[u8],
     first: &Name,
     second: &Name,
     line: &mut Vec<u8>,
 ) -> Result<(), AllocError>
-    ensures { OnOk result (line.new.items ≡ line.old.items ++ (word.now ++ first.now ++ 32 ∷ second.now)) }
+    ensures text { OnOk result (line.new.items ≡ line.old.items ++ (word.now ++ first.now ++ 32 ∷ second.now)) }
+    ensures printed { OnOk result (IsPrinted (first.now ++ 32 ∷ second.now)) }
 {
     line.extend_from_slice(word)?;
     line.extend_from_slice(first.as_bytes())?;
@@ -240,8 +272,10 @@ fn push_names(
     line.extend_from_slice(second.as_bytes())
 }
 
+#[tactic(auto, using(crate::proofs::Printed::printed))]
 fn push_what(what: What, line: &mut Vec<u8>) -> Result<(), AllocError>
-    ensures { OnOk result (line.new.items ≡ line.old.items ++ what_text what) }
+    ensures text { OnOk result (line.new.items ≡ line.old.items ++ what_text what) }
+    ensures printed { OnOk result (IsPrinted (what_text what)) }
 {
     match what {
         What::Sequencer { mode } => push_two(b"sequencer ", mode_text(mode), line),

@@ -1,6 +1,7 @@
 //! The lines of items, and of what is done with them.
 
 ghost use Rattle.std.specs.Prelude.{◌≡◌, ◌++◌, ◌∷◌, ◌<◌, OnOk};
+ghost use Rattle.uvm_glob.specs.Printed.{IsPrinted};
 ghost use Rattle.uvm_lines.specs.Lines.{answer_text, item_text, kind_text, move_text, some_item_text, word_text};
 
 use crate::lines::push_integer;
@@ -10,20 +11,23 @@ use uvm_tlm::{Item, MoveKind, PortKind};
 
 // A word and the name of a port or an imp.
 pub(crate) fn push_named(word: &[u8], name: &Name, line: &mut Vec<u8>) -> Result<(), AllocError>
-    ensures { OnOk result (line.new.items ≡ line.old.items ++ (word.now ++ name.now)) }
+    ensures text { OnOk result (line.new.items ≡ line.old.items ++ (word.now ++ name.now)) }
+    ensures printed { OnOk result (IsPrinted name.now) }
 {
     line.extend_from_slice(word)?;
     line.extend_from_slice(name.as_bytes())
 }
 
 // A word, the name of a port or an imp, and an item.
+#[tactic(auto, using(crate::proofs::Printed::printed))]
 pub(crate) fn push_named_item(
     word: &[u8],
     name: &Name,
     item: &Item,
     line: &mut Vec<u8>,
 ) -> Result<(), AllocError>
-    ensures { OnOk result (line.new.items ≡ line.old.items ++ (word.now ++ name.now ++ 32 ∷ item_text item.now)) }
+    ensures text { OnOk result (line.new.items ≡ line.old.items ++ (word.now ++ name.now ++ 32 ∷ item_text item.now)) }
+    ensures printed { OnOk result (IsPrinted (name.now ++ 32 ∷ item_text item.now)) }
 {
     push_named(word, name, line)?;
     line.push(b' ')?;
@@ -31,8 +35,10 @@ pub(crate) fn push_named_item(
 }
 
 // An item that may be absent.
+#[tactic(auto, using(crate::proofs::Printed::printed))]
 pub(crate) fn push_some_item(item: &Option<Item>, line: &mut Vec<u8>) -> Result<(), AllocError>
-    ensures { OnOk result (line.new.items ≡ line.old.items ++ some_item_text item.now) }
+    ensures text { OnOk result (line.new.items ≡ line.old.items ++ some_item_text item.now) }
+    ensures printed { OnOk result (IsPrinted (some_item_text item.now)) }
 {
     match item {
         Some(item) => push_item(item, line),
@@ -41,8 +47,10 @@ pub(crate) fn push_some_item(item: &Option<Item>, line: &mut Vec<u8>) -> Result<
 }
 
 // The four words of an item, in brackets.
+#[tactic(auto, using(crate::proofs::Printed::printed))]
 pub(crate) fn push_item(item: &Item, line: &mut Vec<u8>) -> Result<(), AllocError>
-    ensures { OnOk result (line.new.items ≡ line.old.items ++ item_text item.now) }
+    ensures text { OnOk result (line.new.items ≡ line.old.items ++ item_text item.now) }
+    ensures printed { OnOk result (IsPrinted (item_text item.now)) }
 {
     push_word(b'[', item, 0, line)?;
     push_word(b',', item, 1, line)?;
@@ -53,9 +61,11 @@ pub(crate) fn push_item(item: &Item, line: &mut Vec<u8>) -> Result<(), AllocErro
 }
 
 // A byte, and the word of an item at a place.
+#[tactic(auto, using(crate::proofs::Printed::printed))]
 fn push_word(byte: u8, item: &Item, place: usize, line: &mut Vec<u8>) -> Result<(), AllocError>
     requires { place < 4 }
-    ensures { OnOk result (line.new.items ≡ line.old.items ++ (byte ∷ word_text item.now place)) }
+    ensures text { OnOk result (line.new.items ≡ line.old.items ++ (byte ∷ word_text item.now place)) }
+    ensures printed { OnOk result (IsPrinted (word_text item.now place)) }
 {
     line.push(byte)?;
     push_integer(item.0[place], line)

@@ -2,6 +2,8 @@
 
 ghost use Rattle.std.specs.Prelude.{◌≡◌, ◌++◌, ◌∷◌, [], IfOk, OnOk, OnErr};
 ghost use Rattle.std.specs.Fmt.{decimal, signed_decimal};
+ghost use Rattle.uvm_glob.specs.Printed.{IsPrinted};
+ghost use Rattle.uvm_report.specs.Plain.{ArePlainLines};
 ghost use Rattle.uvm_object.specs.declared.entries.Entry.TheVariants.{Passed};
 ghost use Rattle.uvm_acts.specs.declared.acts.Call.TheVariants as call;
 ghost use Rattle.uvm_lines.specs.Lines.{entry_line, entry_text, who_text, call_text, value_text, outcome_text, reason_text};
@@ -12,6 +14,7 @@ use crate::sequence_lines::{push_finished, push_granted, push_locked, push_next_
 use itoa::Buffer;
 use std::alloc::{AllocError, Global};
 use uvm_glob::Name;
+use uvm_glob::laws::numbers_are_printed;
 use uvm_object::{Call, Entry, Outcome, Passage, Reason, Who, push_node};
 use uvm_sequences::Sequences;
 use uvm_tlm::Item;
@@ -29,6 +32,7 @@ pub fn line_of(
 ) -> Result<(), AllocError>
     ensures ok { OnOk result (out.new.items ≡ out.old.items ++ entry_line tree.now.nodes sequences.now.started entry.now) }
     ensures err { OnErr result (out.new.items ≡ out.old.items) }
+    ensures plain { OnOk result (ArePlainLines (entry_line tree.now.nodes sequences.now.started entry.now)) }
 {
     if !out.is_empty() {
         let mut line = Vec::new(*out.allocator());
@@ -42,26 +46,30 @@ pub fn line_of(
     pushed
 }
 
+#[tactic(auto, using(crate::proofs::Printed::entry_plain))]
 fn push_line(
     entry: &Entry,
     tree: &Tree,
     sequences: &Sequences,
     line: &mut Vec<u8>,
 ) -> Result<(), AllocError>
-    ensures { OnOk result (line.new.items ≡ line.old.items ++ entry_line tree.now.nodes sequences.now.started entry.now) }
+    ensures text { OnOk result (line.new.items ≡ line.old.items ++ entry_line tree.now.nodes sequences.now.started entry.now) }
+    ensures plain { OnOk result (ArePlainLines (entry_line tree.now.nodes sequences.now.started entry.now)) }
 {
     push_entry(entry, tree, sequences, line)?;
     line.push(b'\n')?;
     Ok(())
 }
 
+#[tactic(auto, using(crate::proofs::Printed::printed))]
 fn push_entry(
     entry: &Entry,
     tree: &Tree,
     sequences: &Sequences,
     line: &mut Vec<u8>,
 ) -> Result<(), AllocError>
-    ensures { OnOk result (line.new.items ≡ line.old.items ++ entry_text tree.now.nodes sequences.now.started entry.now) }
+    ensures text { OnOk result (line.new.items ≡ line.old.items ++ entry_text tree.now.nodes sequences.now.started entry.now) }
+    ensures printed { OnOk result (IsPrinted (entry_text tree.now.nodes sequences.now.started entry.now)) }
 {
     match entry {
         Entry::Begin(phase) => push_two(b"begin ", phase.name(), line),
@@ -100,6 +108,7 @@ fn push_entry(
 }
 
 // A word, and who acts or is called, with a blank behind.
+#[tactic(auto, using(crate::proofs::Printed::printed))]
 fn push_doer(
     word: &[u8],
     who: &Who,
@@ -107,7 +116,8 @@ fn push_doer(
     sequences: &Sequences,
     line: &mut Vec<u8>,
 ) -> Result<(), AllocError>
-    ensures { OnOk result (line.new.items ≡ line.old.items ++ (word.now ++ who_text tree.now.nodes sequences.now.started who.now ++ 32 ∷ [])) }
+    ensures text { OnOk result (line.new.items ≡ line.old.items ++ (word.now ++ who_text tree.now.nodes sequences.now.started who.now ++ 32 ∷ [])) }
+    ensures printed { OnOk result (IsPrinted (who_text tree.now.nodes sequences.now.started who.now)) }
 {
     line.extend_from_slice(word)?;
     push_who(who, tree, sequences, line)?;
@@ -115,6 +125,7 @@ fn push_doer(
     Ok(())
 }
 
+#[tactic(auto, using(crate::proofs::Printed::printed))]
 fn push_passage(
     fifo: NodeId,
     passage: &Passage,
@@ -122,7 +133,8 @@ fn push_passage(
     sequences: &Sequences,
     line: &mut Vec<u8>,
 ) -> Result<(), AllocError>
-    ensures { OnOk result (line.new.items ≡ line.old.items ++ entry_text tree.now.nodes sequences.now.started (Passed fifo passage.now)) }
+    ensures text { OnOk result (line.new.items ≡ line.old.items ++ entry_text tree.now.nodes sequences.now.started (Passed fifo passage.now)) }
+    ensures printed { OnOk result (IsPrinted (entry_text tree.now.nodes sequences.now.started (Passed fifo passage.now))) }
 {
     push_node(b"passed ", fifo, tree, line)?;
     push_two(b" ", move_text(passage.kind), line)?;
@@ -138,16 +150,20 @@ pub(crate) fn push_two(front: &[u8], back: &str, line: &mut Vec<u8>) -> Result<(
 }
 
 /// Gives the text of a call, as it stands in the line of its entry, without the number of the acts that answer it.
+#[tactic(auto, using(crate::proofs::Printed::printed))]
 pub fn call_text(alloc: Global, call: &Call) -> Result<Vec<u8>, AllocError>
-    ensures { IfOk result (λ text. text.items ≡ call_text call.now) }
+    ensures text { IfOk result (λ text. text.items ≡ call_text call.now) }
+    ensures printed { OnOk result (IsPrinted (call_text call.now)) }
 {
     let mut text = Vec::new(alloc);
     push_call(call, &mut text)?;
     Ok(text)
 }
 
+#[tactic(auto, using(crate::proofs::Printed::printed))]
 fn push_call(call: &Call, line: &mut Vec<u8>) -> Result<(), AllocError>
-    ensures { OnOk result (line.new.items ≡ line.old.items ++ call_text call.now) }
+    ensures text { OnOk result (line.new.items ≡ line.old.items ++ call_text call.now) }
+    ensures printed { OnOk result (IsPrinted (call_text call.now)) }
 {
     match call {
         Call::Phase(phase) => line.extend_from_slice(phase.name().as_bytes()),
@@ -181,23 +197,29 @@ fn push_call(call: &Call, line: &mut Vec<u8>) -> Result<(), AllocError>
     }
 }
 
+#[tactic(auto, using(crate::proofs::Printed::printed))]
 fn push_stored(port: &Name, stored: bool, line: &mut Vec<u8>) -> Result<(), AllocError>
-    ensures { OnOk result (line.new.items ≡ line.old.items ++ call_text (call.TryStored port.now stored)) }
+    ensures text { OnOk result (line.new.items ≡ line.old.items ++ call_text (call.TryStored port.now stored)) }
+    ensures printed { OnOk result (IsPrinted (call_text (call.TryStored port.now stored))) }
 {
     push_named(b"try_stored ", port, line)?;
     push_two(b" ", answer_text(stored), line)
 }
 
+#[tactic(auto, using(crate::proofs::Printed::printed))]
 fn push_taken(port: &Name, item: &Option<Item>, line: &mut Vec<u8>) -> Result<(), AllocError>
-    ensures { OnOk result (line.new.items ≡ line.old.items ++ call_text (call.TryTaken port.now item.now)) }
+    ensures text { OnOk result (line.new.items ≡ line.old.items ++ call_text (call.TryTaken port.now item.now)) }
+    ensures printed { OnOk result (IsPrinted (call_text (call.TryTaken port.now item.now))) }
 {
     push_named(b"try_taken ", port, line)?;
     line.push(b' ')?;
     push_some_item(item, line)
 }
 
+#[tactic(auto, using(crate::proofs::Printed::printed))]
 fn push_value(value: Option<i64>, line: &mut Vec<u8>) -> Result<(), AllocError>
-    ensures { OnOk result (line.new.items ≡ line.old.items ++ value_text value) }
+    ensures text { OnOk result (line.new.items ≡ line.old.items ++ value_text value) }
+    ensures printed { OnOk result (IsPrinted (value_text value)) }
 {
     match value {
         Some(value) => push_integer(value, line),
@@ -205,8 +227,10 @@ fn push_value(value: Option<i64>, line: &mut Vec<u8>) -> Result<(), AllocError>
     }
 }
 
+#[tactic(auto, using(crate::proofs::Printed::printed))]
 fn push_outcome(outcome: &Outcome, line: &mut Vec<u8>) -> Result<(), AllocError>
-    ensures { OnOk result (line.new.items ≡ line.old.items ++ outcome_text outcome.now) }
+    ensures text { OnOk result (line.new.items ≡ line.old.items ++ outcome_text outcome.now) }
+    ensures printed { OnOk result (IsPrinted (outcome_text outcome.now)) }
 {
     match outcome {
         Outcome::Done => line.extend_from_slice(b"done"),
@@ -241,22 +265,27 @@ fn reason_text(reason: Reason) -> &'static str
 
 // A word and a number.
 pub(crate) fn push_ticks(word: &[u8], ticks: u64, line: &mut Vec<u8>) -> Result<(), AllocError>
-    ensures { OnOk result (line.new.items ≡ line.old.items ++ (word.now ++ decimal ticks)) }
+    ensures text { OnOk result (line.new.items ≡ line.old.items ++ (word.now ++ decimal ticks)) }
+    ensures printed { OnOk result (IsPrinted (decimal ticks)) }
 {
     line.extend_from_slice(word)?;
     push_number(ticks, line)
 }
 
 pub(crate) fn push_number(n: u64, line: &mut Vec<u8>) -> Result<(), AllocError>
-    ensures { OnOk result (line.new.items ≡ line.old.items ++ decimal n) }
+    ensures text { OnOk result (line.new.items ≡ line.old.items ++ decimal n) }
+    ensures printed { IsPrinted (decimal n) }
 {
+    numbers_are_printed();
     let mut digits = Buffer::new();
     line.extend_from_slice(digits.format(n).as_bytes())
 }
 
 pub(crate) fn push_integer(n: i64, line: &mut Vec<u8>) -> Result<(), AllocError>
-    ensures { OnOk result (line.new.items ≡ line.old.items ++ signed_decimal n) }
+    ensures text { OnOk result (line.new.items ≡ line.old.items ++ signed_decimal n) }
+    ensures printed { IsPrinted (signed_decimal n) }
 {
+    numbers_are_printed();
     let mut digits = Buffer::new();
     line.extend_from_slice(digits.format(n).as_bytes())
 }

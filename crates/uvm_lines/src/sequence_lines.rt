@@ -1,6 +1,7 @@
 //! The lines of sequences, of their acts and of those of their driver.
 
 ghost use Rattle.std.specs.Prelude.{◌≡◌, ◌++◌, ◌∷◌, true, IfOk, OnOk};
+ghost use Rattle.uvm_glob.specs.Printed.{IsPrinted};
 ghost use Rattle.uvm_acts.specs.declared.acts.Act.TheVariants as act;
 ghost use Rattle.uvm_acts.specs.declared.acts.Call.TheVariants as call;
 ghost use Rattle.uvm_object.specs.declared.entries.Entry.TheVariants.{Granted, Locked};
@@ -19,13 +20,15 @@ use uvm_tree::{NodeId, Tree};
 
 /// Returns the text of a component or a sequence, as the lines of entries show it: its path, and behind a sequence's its number. Errors:
 /// out of memory.
+#[tactic(auto, using(crate::proofs::Printed::printed))]
 pub fn who_text(
     alloc: Global,
     who: &Who,
     tree: &Tree,
     sequences: &Sequences,
 ) -> Result<Vec<u8>, AllocError>
-    ensures { IfOk result (λ text. text.items ≡ who_text tree.now.nodes sequences.now.started who.now) }
+    ensures text { IfOk result (λ text. text.items ≡ who_text tree.now.nodes sequences.now.started who.now) }
+    ensures printed { OnOk result (IsPrinted (who_text tree.now.nodes sequences.now.started who.now)) }
 {
     let mut text = Vec::new(alloc);
     push_who(who, tree, sequences, &mut text)?;
@@ -33,13 +36,15 @@ pub fn who_text(
 }
 
 // Somebody, a sequence with its number.
+#[tactic(auto, using(crate::proofs::Printed::printed))]
 pub(crate) fn push_who(
     who: &Who,
     tree: &Tree,
     sequences: &Sequences,
     line: &mut Vec<u8>,
 ) -> Result<(), AllocError>
-    ensures { OnOk result (line.new.items ≡ line.old.items ++ who_text tree.now.nodes sequences.now.started who.now) }
+    ensures text { OnOk result (line.new.items ≡ line.old.items ++ who_text tree.now.nodes sequences.now.started who.now) }
+    ensures printed { OnOk result (IsPrinted (who_text tree.now.nodes sequences.now.started who.now)) }
 {
     match who {
         Who::Node(node) => push_node(b"", *node, tree, line),
@@ -50,6 +55,7 @@ pub(crate) fn push_who(
     }
 }
 
+#[tactic(auto, using(crate::proofs::Printed::printed))]
 pub(crate) fn push_locked(
     sequencer: NodeId,
     id: SeqId,
@@ -57,7 +63,8 @@ pub(crate) fn push_locked(
     sequences: &Sequences,
     line: &mut Vec<u8>,
 ) -> Result<(), AllocError>
-    ensures { OnOk result (line.new.items ≡ line.old.items ++ entry_text tree.now.nodes sequences.now.started (Locked sequencer id)) }
+    ensures text { OnOk result (line.new.items ≡ line.old.items ++ entry_text tree.now.nodes sequences.now.started (Locked sequencer id)) }
+    ensures printed { OnOk result (IsPrinted (entry_text tree.now.nodes sequences.now.started (Locked sequencer id))) }
 {
     let who = Who::Sequence {
         id,
@@ -68,6 +75,7 @@ pub(crate) fn push_locked(
     push_who(&who, tree, sequences, line)
 }
 
+#[tactic(auto, using(crate::proofs::Printed::printed))]
 pub(crate) fn push_granted(
     sequencer: NodeId,
     grant: &Grant,
@@ -75,7 +83,8 @@ pub(crate) fn push_granted(
     sequences: &Sequences,
     line: &mut Vec<u8>,
 ) -> Result<(), AllocError>
-    ensures { OnOk result (line.new.items ≡ line.old.items ++ entry_text tree.now.nodes sequences.now.started (Granted sequencer grant.now)) }
+    ensures text { OnOk result (line.new.items ≡ line.old.items ++ entry_text tree.now.nodes sequences.now.started (Granted sequencer grant.now)) }
+    ensures printed { OnOk result (IsPrinted (entry_text tree.now.nodes sequences.now.started (Granted sequencer grant.now))) }
 {
     let who = Who::Sequence {
         id: grant.id,
@@ -88,8 +97,10 @@ pub(crate) fn push_granted(
 }
 
 // The word that was drawn, if one was.
+#[tactic(auto, using(crate::proofs::Printed::printed))]
 fn push_drawn(word: Option<u64>, line: &mut Vec<u8>) -> Result<(), AllocError>
-    ensures { OnOk result (line.new.items ≡ line.old.items ++ drawn_text word) }
+    ensures text { OnOk result (line.new.items ≡ line.old.items ++ drawn_text word) }
+    ensures printed { OnOk result (IsPrinted (drawn_text word)) }
 {
     match word {
         Some(word) => push_ticks(b" word ", word, line),
@@ -97,28 +108,34 @@ fn push_drawn(word: Option<u64>, line: &mut Vec<u8>) -> Result<(), AllocError>
     }
 }
 
+#[tactic(auto, using(crate::proofs::Printed::printed))]
 pub(crate) fn push_next_item(
     port: &Name,
     item: &Option<Item>,
     line: &mut Vec<u8>,
 ) -> Result<(), AllocError>
-    ensures { OnOk result (line.new.items ≡ line.old.items ++ call_text (call.NextItem port.now item.now)) }
+    ensures text { OnOk result (line.new.items ≡ line.old.items ++ call_text (call.NextItem port.now item.now)) }
+    ensures printed { OnOk result (IsPrinted (call_text (call.NextItem port.now item.now))) }
 {
     push_named(b"next_item ", port, line)?;
     line.push(b' ')?;
     push_some_item(item, line)
 }
 
+#[tactic(auto, using(crate::proofs::Printed::printed))]
 pub(crate) fn push_finished(name: &Name, id: SeqId, line: &mut Vec<u8>) -> Result<(), AllocError>
-    ensures { OnOk result (line.new.items ≡ line.old.items ++ call_text (call.Finished name.now id)) }
+    ensures text { OnOk result (line.new.items ≡ line.old.items ++ call_text (call.Finished name.now id)) }
+    ensures printed { OnOk result (IsPrinted (call_text (call.Finished name.now id))) }
 {
     push_named(b"finished ", name, line)?;
     push_ticks(b" ", id.number(), line)
 }
 
+#[tactic(auto, using(crate::proofs::Printed::printed))]
 pub(crate) fn push_sequencing(act: &Act, line: &mut Vec<u8>) -> Result<(), AllocError>
     requires { is_sequencing act.now ≡ true }
-    ensures { OnOk result (line.new.items ≡ line.old.items ++ act_text act.now) }
+    ensures text { OnOk result (line.new.items ≡ line.old.items ++ act_text act.now) }
+    ensures printed { OnOk result (IsPrinted (act_text act.now)) }
 {
     match act {
         Act::Ask { port, how } => push_ask(port, *how, line),
@@ -142,21 +159,26 @@ pub(crate) fn push_sequencing(act: &Act, line: &mut Vec<u8>) -> Result<(), Alloc
     }
 }
 
+#[tactic(auto, using(crate::proofs::Printed::printed))]
 fn push_ask(port: &Name, how: How, line: &mut Vec<u8>) -> Result<(), AllocError>
-    ensures { OnOk result (line.new.items ≡ line.old.items ++ act_text (act.Ask port.now how)) }
+    ensures text { OnOk result (line.new.items ≡ line.old.items ++ act_text (act.Ask port.now how)) }
+    ensures printed { OnOk result (IsPrinted (act_text (act.Ask port.now how))) }
 {
     push_named(b"ask ", port, line)?;
     push_two(b" ", how_text(how), line)
 }
 
+#[tactic(auto, using(crate::proofs::Printed::printed))]
 fn push_done(port: &Name, response: &Option<Item>, line: &mut Vec<u8>) -> Result<(), AllocError>
-    ensures { OnOk result (line.new.items ≡ line.old.items ++ act_text (act.ItemDone port.now response.now)) }
+    ensures text { OnOk result (line.new.items ≡ line.old.items ++ act_text (act.ItemDone port.now response.now)) }
+    ensures printed { OnOk result (IsPrinted (act_text (act.ItemDone port.now response.now))) }
 {
     push_named(b"item_done ", port, line)?;
     line.push(b' ')?;
     push_some_item(response, line)
 }
 
+#[tactic(auto, using(crate::proofs::Printed::printed))]
 fn push_start(
     type_name: &Name,
     name: &Name,
@@ -164,7 +186,8 @@ fn push_start(
     priority: Option<u16>,
     line: &mut Vec<u8>,
 ) -> Result<(), AllocError>
-    ensures { OnOk result (line.new.items ≡ line.old.items ++ act_text (act.Start type_name.now name.now on.now priority)) }
+    ensures text { OnOk result (line.new.items ≡ line.old.items ++ act_text (act.Start type_name.now name.now on.now priority)) }
+    ensures printed { OnOk result (IsPrinted (act_text (act.Start type_name.now name.now on.now priority))) }
 {
     push_named(b"start ", type_name, line)?;
     push_named(b" ", name, line)?;
@@ -174,8 +197,10 @@ fn push_start(
 }
 
 // A word, and a priority that may not be given.
+#[tactic(auto, using(crate::proofs::Printed::printed))]
 fn push_priority(word: &[u8], priority: Option<u16>, line: &mut Vec<u8>) -> Result<(), AllocError>
-    ensures { OnOk result (line.new.items ≡ line.old.items ++ (word.now ++ priority_text priority)) }
+    ensures text { OnOk result (line.new.items ≡ line.old.items ++ (word.now ++ priority_text priority)) }
+    ensures printed { OnOk result (IsPrinted (priority_text priority)) }
 {
     match priority {
         Some(priority) => push_ticks(word, u64::from(priority), line),

@@ -346,7 +346,7 @@ impl Model for LoggedPassage {
 }
 
 impl LoggedPassage {
-    /// A passage, to be logged. The error is want of memory.
+    /// A passage, to be logged. Errors: out of memory.
     pub fn new(alloc: Global, passage: Passage) -> Result<LoggedPassage, AllocError>
         ensures { IfOk result (λ logged. logged ≡ passage) }
     {

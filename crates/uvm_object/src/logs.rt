@@ -87,7 +87,7 @@ impl Log {
         }
     }
 
-    /// Makes room for an entry: the next `push` then takes no memory. The error is want of memory, which does not come where there
+    /// Makes room for an entry: the next `push` then takes no memory. Errors: out of memory, which does not come where there
     /// is room. No room is given up.
     pub fn reserve(&mut self) -> Result<(), AllocError>
         ensures entries { self.new.entries ≡ self.old.entries }

@@ -26,7 +26,7 @@ pub trait UvmObject: Drop {
     fn type_name(&self) -> &Name
         ensures { result.now ≡ name self.now };
 
-    /// Answers a call. The error is want of memory: its view is unknown then. Its type name and its relation stay, whatever
+    /// Answers a call. Errors: out of memory; its view is unknown then. Its type name and its relation stay, whatever
     /// it answers.
     fn hear(&mut self, alloc: Global, call: &Call) -> Result<Acts, AllocError>
         ensures same_name { name self.new ≡ name self.old }
@@ -61,7 +61,7 @@ pub trait Answers: Drop {
 
     ghost says: { Self → List ℕ → Call → List Act → List ℕ → Type 0 } = { λ _ _ _ _ _. ⊤ };
 
-    /// Answers a call. The error is want of memory: its view is unknown then. Its relation stays, whatever it answers.
+    /// Answers a call. Errors: out of memory; its view is unknown then. Its relation stays, whatever it answers.
     fn answer(&mut self, alloc: Global, call: &Call) -> Result<Acts, AllocError>
         ensures same_says { SameSays (says self.new) (says self.old) }
         ensures said { IfOk result (λ acts. says self.old (view self.old) call.now acts (view self.new)) };

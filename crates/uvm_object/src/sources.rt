@@ -2,6 +2,7 @@
 
 ghost use Rattle.std.specs.Prelude.{◌≡◌, ◌∷◌, ◌++◌, IfOk, OnOk};
 ghost use Rattle.uvm_glob.specs.Paths.{path_text};
+ghost use Rattle.uvm_glob.specs.Printed.{IsPrinted};
 ghost use Rattle.uvm_tree.specs.Nodes.{path_at};
 ghost use Rattle.uvm_object.specs.Sources.{sequence_text, shown_path, source_text};
 
@@ -11,9 +12,10 @@ use uvm_glob::Name;
 use uvm_sequences::{SeqId, Sequences};
 use uvm_tree::{NodeId, Tree};
 
-/// How a node is shown in lines: by its path; the top, and a node that the tree does not have, is `uvm_top`. Takes no memory.
+/// Returns how lines show a node: by its path; the top, and a node that the tree does not have, is `uvm_top`. Takes no memory.
 pub fn shown_path(node: NodeId, tree: &Tree) -> &[u8]
-    ensures { result.now ≡ shown_path (path_at tree.now.nodes node) }
+    ensures text { result.now ≡ shown_path (path_at tree.now.nodes node) }
+    ensures printed { IsPrinted result.now }
 {
     match tree.path(node) {
         Some(path) if !path.as_bytes().is_empty() => path.as_bytes(),
@@ -21,15 +23,16 @@ pub fn shown_path(node: NodeId, tree: &Tree) -> &[u8]
     }
 }
 
-/// How somebody is shown as the source of a report (IEEE 1800.2-2020, Clause 6): a component by its path, a sequence by that of
-/// its home and the names from its root sequence down to itself, as `uvm_test_top.sqr@@a.b`. The error is want of memory.
+/// Returns how reports show their source (IEEE 1800.2-2020, Clause 6): a component by its path, a sequence by that of
+/// its home and the names from its root sequence down to itself, as `uvm_test_top.sqr@@a.b`. Errors: out of memory.
 pub fn source_of(
     alloc: Global,
     who: &Who,
     tree: &Tree,
     sequences: &Sequences,
 ) -> Result<Vec<u8>, AllocError>
-    ensures { IfOk result (λ source. source.items ≡ source_text tree.now.nodes sequences.now.started who.now) }
+    ensures text { IfOk result (λ source. source.items ≡ source_text tree.now.nodes sequences.now.started who.now) }
+    ensures printed { OnOk result (IsPrinted (source_text tree.now.nodes sequences.now.started who.now)) }
 {
     let mut source = Vec::new(alloc);
     match who {
@@ -39,21 +42,23 @@ pub fn source_of(
     Ok(source)
 }
 
-/// Appends a word, and a node as `shown_path` shows it. The error is want of memory; how much was appended is then not said.
+/// Appends a word, and a node as `shown_path` shows it. Errors: out of memory; how much was appended is then not said.
 pub fn push_node(
     word: &[u8],
     node: NodeId,
     tree: &Tree,
     line: &mut Vec<u8>,
 ) -> Result<(), AllocError>
-    ensures { OnOk result (line.new.items ≡ line.old.items ++ (word.now ++ shown_path (path_at tree.now.nodes node))) }
+    ensures text { OnOk result (line.new.items ≡ line.old.items ++ (word.now ++ shown_path (path_at tree.now.nodes node))) }
+    ensures printed { OnOk result (IsPrinted (shown_path (path_at tree.now.nodes node))) }
 {
     line.extend_from_slice(word)?;
     line.extend_from_slice(shown_path(node, tree))
 }
 
-/// Appends a sequence by its home and its names, as `source_of` shows it. The error is want of memory; how much was appended is then
+/// Appends a sequence by its home and its names, as `source_of` shows it. Errors: out of memory; how much was appended is then
 /// not said.
+#[tactic(auto, using(crate::proofs::Joined::sequence_printed))]
 pub fn push_sequence(
     id: SeqId,
     home: NodeId,
@@ -61,7 +66,8 @@ pub fn push_sequence(
     sequences: &Sequences,
     line: &mut Vec<u8>,
 ) -> Result<(), AllocError>
-    ensures { OnOk result (line.new.items ≡ line.old.items ++ sequence_text tree.now.nodes sequences.now.started id home) }
+    ensures text { OnOk result (line.new.items ≡ line.old.items ++ sequence_text tree.now.nodes sequences.now.started id home) }
+    ensures printed { OnOk result (IsPrinted (sequence_text tree.now.nodes sequences.now.started id home)) }
 {
     push_node(b"", home, tree, line)?;
     line.extend_from_slice(b"@@")?;
@@ -71,7 +77,8 @@ pub fn push_sequence(
 
 // Names, with a dot between each two.
 fn push_joined(names: &[Name], line: &mut Vec<u8>) -> Result<(), AllocError>
-    ensures { OnOk result (line.new.items ≡ line.old.items ++ path_text names.now) }
+    ensures text { OnOk result (line.new.items ≡ line.old.items ++ path_text names.now) }
+    ensures printed { OnOk result (IsPrinted (path_text names.now)) }
 {
     let Some((first, others)) = names.split_first() else {
         return Ok(());
@@ -85,7 +92,8 @@ fn push_joined(names: &[Name], line: &mut Vec<u8>) -> Result<(), AllocError>
 
 // A name behind a dot.
 fn push_dotted(name: &Name, line: &mut Vec<u8>) -> Result<(), AllocError>
-    ensures { OnOk result (line.new.items ≡ line.old.items ++ 46 ∷ name.now) }
+    ensures text { OnOk result (line.new.items ≡ line.old.items ++ 46 ∷ name.now) }
+    ensures printed { OnOk result (IsPrinted name.now) }
 {
     line.push(b'.')?;
     line.extend_from_slice(name.as_bytes())

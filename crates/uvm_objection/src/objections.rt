@@ -66,7 +66,7 @@ impl Objection {
         }
     }
 
-    /// Makes room for a node: the next `add` then takes no memory. Its error is want of memory, which changes no node, and does
+    /// Makes room for a node: the next `add` then takes no memory. Errors: out of memory, which changes no node, and does
     /// not come where there is room. No room is given up.
     pub fn reserve(&mut self) -> Result<(), AllocError>
         ensures nodes { self.new.nodes ≡ self.old.nodes }
@@ -78,8 +78,8 @@ impl Objection {
         self.places.reserve(1)
     }
 
-    /// Adds a node that is not known, under a parent that is: nothing was raised at it, and its drain time is 0. Its error is
-    /// want of memory, which adds nothing, and does not come where there is room. No room is given up, also where it fails.
+    /// Adds a node that is not known, under a parent that is: nothing was raised at it, and its drain time is 0. Errors:
+    /// out of memory, which adds nothing, and does not come where there is room. No room is given up, also where it fails.
     pub fn add(&mut self, node: NodeId, parent: NodeId) -> Result<(), AllocError>
         requires unknown { is_known node self.old.nodes ≡ false }
         requires parent { IsTrue (is_known parent self.old.nodes) }
@@ -96,7 +96,7 @@ impl Objection {
         Ok(())
     }
 
-    /// Makes another objection with the same nodes, and maybe less room. Its error is want of memory.
+    /// Makes another objection with the same nodes, and maybe less room. Errors: out of memory.
     pub fn copy(&self) -> Result<Objection, AllocError>
         ensures { IfOk result (λ copied. copied.nodes ≡ self.now.nodes) }
     {

@@ -107,7 +107,7 @@ impl<O: Copy + Eq + Hash + Drop, N: Drop> Agenda<O, N> {
         }
     }
 
-    /// Makes room for a call: the next `due` then takes no memory. The error is want of memory, which does not come where there is
+    /// Makes room for a call: the next `due` then takes no memory. Errors: out of memory, which does not come where there is
     /// room. No call changes, and no room is given up, here or below.
     pub fn reserve(&mut self) -> Result<(), AllocError>
         ensures dues { self.new.dues ≡ self.old.dues }
@@ -218,7 +218,7 @@ impl<O: Copy + Eq + Hash + Drop, N: Drop> Agenda<O, N> {
     }
 }
 
-// Makes room for a call where there is none, and then for as many owners as for calls. The error is want of memory for calls.
+// Makes room for a call where there is none, and then for as many owners as for calls. Errors: out of memory for calls.
 fn make_room<O: Copy + Eq + Hash + Drop, N: Drop>(
     dues: &mut VecDeque<Due<O, N>>,
     owners: &mut Owners<O>,

@@ -7,3 +7,4 @@ pub mod Ids
 pub mod Commanded
 pub mod Chosen
 pub mod Replaced
+pub mod PlainLines

@@ -10,6 +10,7 @@ pub mod Kept
 pub mod Observed
 pub mod Changes
 pub mod Lines
+pub mod Plain
 pub mod Laws
 pub use Rattle.uvm_glob.specs.Names
 pub use Rattle.uvm_glob.specs.Paths

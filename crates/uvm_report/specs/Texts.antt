@@ -27,7 +27,7 @@ byte_shown b = if is_text_byte b then b else 63
 abbrev pub lossy : List ℕ → List ℕ
 lossy bytes = map byte_shown (take 200 bytes)
 
--- what a fault says of the bytes: want of memory says that nothing is wrong with them
+-- what a fault says of the bytes: `Memory` says that nothing is wrong with them
 abbrev pub refusal : TextFault → Option TextFault
 refusal TooLong = Some TooLong
 refusal BadByte = Some BadByte

@@ -4,7 +4,9 @@ ghost use Rattle.std.specs.Prelude.{◌≡◌, ◌++◌, ◌∷◌, OnOk, OnErr}
 ghost use Rattle.std.specs.List.{flat_map};
 ghost use Rattle.std.specs.Fmt.{decimal};
 ghost use Rattle.uvm_report.specs.Severities.{severity_text};
+ghost use Rattle.uvm_glob.specs.Printed.{IsPrinted};
 ghost use Rattle.uvm_report.specs.Lines.{report_line, severity_line, id_line, limit_line, severities, summary_text};
+ghost use Rattle.uvm_report.specs.Plain.{ArePlainLines};
 
 use crate::messages::Report;
 use crate::severities::Severity;
@@ -12,11 +14,13 @@ use crate::tallies::Tally;
 use indexmap::IndexMap;
 use std::alloc::AllocError;
 use uvm_glob::Name;
+use uvm_glob::laws::numbers_are_printed;
 
 impl Report {
     /// Appends the line of the report, with its newline: `UVM_ERROR @ 30: uvm_test_top [ID] TEXT`, of a severity, after
-    /// changes, a time in ticks, and the text of its source. Where memory is refused nothing is appended.
-    #[tactic(auto, unfolding(crate::specs::Lines::report_line))]
+    /// changes, a time in ticks, and the text of its source. If the source is printed, so is the line, which begins neither with `!` nor
+    /// with `?`. Errors: out of memory, which appends nothing.
+    #[tactic(auto, using(crate::proofs::PlainLines::report_plain), unfolding(crate::specs::Lines::report_line))]
     pub fn write_line(
         &self,
         severity: Severity,
@@ -26,6 +30,7 @@ impl Report {
     ) -> Result<(), AllocError>
         ensures ok { OnOk result (out.new.items ≡ out.old.items ++ report_line severity time source.now self.now.id self.now.text) }
         ensures err { OnErr result (out.new.items ≡ out.old.items) }
+        ensures plain { IsPrinted source.now → OnOk result (ArePlainLines (report_line severity time source.now self.now.id self.now.text)) }
     {
         let mut line = Vec::new(*out.allocator());
         push_severity(severity, &mut line)?;
@@ -43,13 +48,14 @@ impl Report {
 }
 
 // The summary.
-#[tactic(auto, unfolding(crate::specs::Lines::summary_text))]
+#[tactic(auto, using(crate::proofs::PlainLines::summary_plain), unfolding(crate::specs::Lines::summary_text))]
 pub(crate) fn push_summary(
     quit_limit: u16,
     tally: &Tally,
     text: &mut Vec<u8>,
 ) -> Result<(), AllocError>
-    ensures { OnOk result (text.new.items ≡ text.old.items ++ summary_text quit_limit tally.now.counts) }
+    ensures text { OnOk result (text.new.items ≡ text.old.items ++ summary_text quit_limit tally.now.counts) }
+    ensures plain { OnOk result (ArePlainLines (summary_text quit_limit tally.now.counts)) }
 {
     text.extend_from_slice(b"--- UVM Report Summary ---\n")?;
     push_limit(quit_limit, tally.quit(), text)?;
@@ -61,9 +67,10 @@ pub(crate) fn push_summary(
 }
 
 // The quit count and the limit, if there is one.
-#[tactic(auto, unfolding(crate::specs::Lines::limit_line))]
+#[tactic(auto, using(crate::proofs::PlainLines::limit_plain), unfolding(crate::specs::Lines::limit_line))]
 fn push_limit(limit: u16, quit: u64, text: &mut Vec<u8>) -> Result<(), AllocError>
-    ensures { OnOk result (text.new.items ≡ text.old.items ++ limit_line limit quit) }
+    ensures text { OnOk result (text.new.items ≡ text.old.items ++ limit_line limit quit) }
+    ensures plain { OnOk result (ArePlainLines (limit_line limit quit)) }
 {
     if limit == 0 {
         return Ok(());
@@ -81,7 +88,8 @@ fn push_severity_counts(
     tally: &Tally,
     text: &mut Vec<u8>,
 ) -> Result<(), AllocError>
-    ensures { OnOk result (text.new.items ≡ text.old.items ++ flat_map (severity_line tally.now.counts) severities.now) }
+    ensures text { OnOk result (text.new.items ≡ text.old.items ++ flat_map (severity_line tally.now.counts) severities.now) }
+    ensures plain { OnOk result (ArePlainLines (flat_map (severity_line tally.now.counts) severities.now)) }
 {
     for severity in severities {
         push_severity_count(*severity, tally, text)?;
@@ -89,13 +97,14 @@ fn push_severity_counts(
     Ok(())
 }
 
-#[tactic(auto, unfolding(crate::specs::Lines::severity_line))]
+#[tactic(auto, using(crate::proofs::PlainLines::severity_plain), unfolding(crate::specs::Lines::severity_line))]
 fn push_severity_count(
     severity: Severity,
     tally: &Tally,
     text: &mut Vec<u8>,
 ) -> Result<(), AllocError>
-    ensures { OnOk result (text.new.items ≡ text.old.items ++ severity_line tally.now.counts severity) }
+    ensures text { OnOk result (text.new.items ≡ text.old.items ++ severity_line tally.now.counts severity) }
+    ensures plain { OnOk result (ArePlainLines (severity_line tally.now.counts severity)) }
 {
     push_severity(severity, text)?;
     text.extend_from_slice(b" : ")?;
@@ -105,7 +114,8 @@ fn push_severity_count(
 }
 
 fn push_id_counts(ids: &IndexMap<Name, u64>, text: &mut Vec<u8>) -> Result<(), AllocError>
-    ensures { OnOk result (text.new.items ≡ text.old.items ++ flat_map id_line ids.now.entries) }
+    ensures text { OnOk result (text.new.items ≡ text.old.items ++ flat_map id_line ids.now.entries) }
+    ensures plain { OnOk result (ArePlainLines (flat_map id_line ids.now.entries)) }
 {
     for (id, number) in ids.iter() {
         push_id_count(id, *number, text)?;
@@ -113,9 +123,10 @@ fn push_id_counts(ids: &IndexMap<Name, u64>, text: &mut Vec<u8>) -> Result<(), A
     Ok(())
 }
 
-#[tactic(auto, unfolding(crate::specs::Lines::id_line))]
+#[tactic(auto, using(crate::proofs::PlainLines::id_plain), unfolding(crate::specs::Lines::id_line))]
 fn push_id_count(id: &Name, number: u64, text: &mut Vec<u8>) -> Result<(), AllocError>
-    ensures { OnOk result (text.new.items ≡ text.old.items ++ id_line (id.now, number)) }
+    ensures text { OnOk result (text.new.items ≡ text.old.items ++ id_line (id.now, number)) }
+    ensures plain { OnOk result (ArePlainLines (id_line (id.now, number))) }
 {
     text.push(b'[')?;
     text.extend_from_slice(id.as_bytes())?;
@@ -133,8 +144,10 @@ fn push_severity(severity: Severity, text: &mut Vec<u8>) -> Result<(), AllocErro
 }
 
 fn push_number(n: u64, text: &mut Vec<u8>) -> Result<(), AllocError>
-    ensures { OnOk result (text.new.items ≡ text.old.items ++ decimal n) }
+    ensures text { OnOk result (text.new.items ≡ text.old.items ++ decimal n) }
+    ensures printed { IsPrinted (decimal n) }
 {
+    numbers_are_printed();
     let digits = n.to_string(*text.allocator())?;
     text.extend_from_slice(digits.as_bytes())
 }

@@ -67,7 +67,7 @@ impl Fate {
 }
 
 impl Report {
-    /// An equal report. The error is want of memory.
+    /// An equal report. Errors: out of memory.
     pub fn copy(&self) -> Result<Report, AllocError>
         ensures { IfOk result (λ report. report ≡ self.now) }
     {

@@ -8,6 +8,7 @@ ghost use Rattle.uvm_report.specs.Commands.{SetVerbosity, SetAction, SetSeverity
 ghost use Rattle.uvm_report.specs.Observed.{severity_at, level_at, actions_at, limit_of, counts_of, has_room};
 ghost use Rattle.uvm_report.specs.Changes.{ruling_at, fate_at, IsAfter, IsNew, IsSame};
 ghost use Rattle.uvm_report.specs.Lines.{summary_text};
+ghost use Rattle.uvm_report.specs.Plain.{ArePlainLines};
 
 use crate::lines::push_summary;
 use crate::messages::{Fate, Report};
@@ -75,7 +76,7 @@ impl Reports {
 
     /// Sets the level for the reports that `which` names at the paths that the scope matches: those of a greater verbosity are
     /// dropped. Of the settings of one class (`Which`) that are for a report the last that was set prevails. A level takes the
-    /// place of the one that was set with the same scope and `which`. The error is want of memory, which changes nothing.
+    /// place of the one that was set with the same scope and `which`. Errors: out of memory, which changes nothing.
     pub fn set_verbosity(&mut self, scope: Glob, which: Which, level: u16) -> Result<(), AllocError>
         ensures ok { OnOk result (IsAfter (SetVerbosity scope which level) self.old self.new) }
         ensures err { OnErr result (IsSame self.old self.new) }
@@ -87,7 +88,7 @@ impl Reports {
 
     /// Sets what is done with the reports that `which` names at the paths that the scope matches. Of the settings of one class
     /// (`Which`) that are for a report the last that was set prevails. Actions take the place of those that were set with the same
-    /// scope and `which`. The error is want of memory, which changes nothing.
+    /// scope and `which`. Errors: out of memory, which changes nothing.
     pub fn set_action(
         &mut self,
         scope: Glob,
@@ -105,7 +106,7 @@ impl Reports {
     /// Changes the severity of the reports that are issued with the severity `from`, and with the id if one is given, at the
     /// paths that the scope matches. A change is not changed again. Of the changes that are for a report those with an id go
     /// before those without, and within each class the last that was set prevails. A change takes the place of the one that was set
-    /// with the same scope, severity and id. The error is want of memory, which changes nothing.
+    /// with the same scope, severity and id. Errors: out of memory, which changes nothing.
     pub fn set_severity(
         &mut self,
         scope: Glob,
@@ -135,7 +136,7 @@ impl Reports {
     }
 
     /// Makes room for a report of an id: the next `issue`, of a report of this id, takes no memory. What is set and counted stays
-    /// as it was. The error is want of memory, which does not come where there is room already.
+    /// as it was. Errors: out of memory, which does not come where there is room already.
     pub fn reserve_id(&mut self, id: &Name) -> Result<(), AllocError>
         ensures ok { OnOk result (IsTrue (has_room self.new id.now)) }
         ensures same { IsSame self.old self.new }
@@ -147,7 +148,7 @@ impl Reports {
     /// Judges a report of the component at a path, and counts it if it is issued; fewer than 10^18 were issued before. First its
     /// severity is changed; the level and the actions are those for the changed severity. It is dropped where its verbosity is
     /// above the level (a report issued as WARNING, ERROR or FATAL has none), and silent where it has no action. Once the quit
-    /// count has reached the limit, each report that is issued asks for the end of the run. The error is want of memory, which
+    /// count has reached the limit, each report that is issued asks for the end of the run. Errors: out of memory, which
     /// comes only for a report that would be issued, of an id that was not counted yet and for which there is no room; then
     /// nothing has changed.
     #[tactic(auto, using(crate::proofs::Judged::judged), unfolding(crate::specs::Kept::severity_at, crate::specs::Kept::level_at, crate::specs::Kept::actions_at, crate::specs::Kept::limit_of, crate::specs::Kept::counts_of, crate::specs::Kept::has_room, crate::specs::Fates::ruling_by))]
@@ -198,11 +199,12 @@ impl Reports {
         self.tally.quit()
     }
 
-    /// Appends the summary: the quit count where there is a limit, and the counts by severity and by id. Where memory is
-    /// refused nothing is appended.
+    /// Appends the summary: the quit count if there is a limit, and the counts by severity and by id. Each of its lines is printed, and
+    /// begins neither with `!` nor with `?`. Errors: out of memory, which appends nothing.
     pub fn summary(&self, out: &mut Vec<u8>) -> Result<(), AllocError>
         ensures ok { OnOk result (out.new.items ≡ out.old.items ++ summary_text (limit_of self.now) (counts_of self.now)) }
         ensures err { OnErr result (out.new.items ≡ out.old.items) }
+        ensures plain { OnOk result (ArePlainLines (summary_text (limit_of self.now) (counts_of self.now))) }
     {
         let mut text = Vec::new(*out.allocator());
         push_summary(self.quit_limit, &self.tally, &mut text)?;

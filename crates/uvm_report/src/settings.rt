@@ -84,8 +84,8 @@ impl<T: Copy> ScopedSettings<T> {
         }
     }
 
-    /// Adds a setting, the newest. It takes the place of the one with the same scope that is for the same reports. The error is
-    /// want of memory, which changes nothing.
+    /// Adds a setting, the newest. It takes the place of the one with the same scope that is for the same reports. Errors:
+    /// out of memory, which changes nothing.
     pub fn add(&mut self, reach: Reach, value: T) -> Result<(), AllocError>
         ensures choices { OnOk result ((text : List ℕ) (severity : Severity) (id : List ℕ) →
             choice_among self.new text severity id

@@ -42,7 +42,7 @@ impl Text {
         }
     }
 
-    /// The text that a literal spells. It is shown to have no fault where the call stands; the error is want of memory.
+    /// The text that a literal spells. It is shown to have no fault where the call stands. Errors: out of memory.
     #[tactic(auto, using(crate::proofs::Literals::text_sound))]
     pub fn literal(alloc: Global, text: &str) -> Result<Text, AllocError>
         requires { IsTrue (is_text text.now) }
@@ -56,7 +56,7 @@ impl Text {
     }
 
     /// The text that comes nearest to another: its first `MAX_LEN` bytes, with a question mark for each that may not stand in a
-    /// text. So it has a place for whatever `format!` writes. The error is want of memory.
+    /// text. So it has a place for whatever `format!` writes. Errors: out of memory.
     pub fn lossy(alloc: Global, text: &str) -> Result<Text, AllocError>
         ensures nearest { IfOk result (λ nearest. nearest ≡ lossy text.now) }
         ensures same { text_fault text.now ≡ None → IfOk result (λ nearest. nearest ≡ text.now) }
@@ -73,7 +73,7 @@ impl Text {
         self.bytes.as_slice()
     }
 
-    /// An equal text. The error is want of memory.
+    /// An equal text. Errors: out of memory.
     pub fn copy(&self) -> Result<Text, AllocError>
         ensures { IfOk result (λ text. text ≡ self.now) }
     {

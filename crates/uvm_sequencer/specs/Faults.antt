@@ -12,7 +12,7 @@ fault_text NotGranted = codes "not granted"
 fault_text NotHeld = codes "not held"
 fault_text Memory = codes "out of memory"
 
--- what a fault says of a call: want of memory says that nothing is wrong with it
+-- what a fault says of a call: `Memory` says that nothing is wrong with it
 abbrev pub refusal : SeqFault → Option SeqFault
 refusal NoDriver = Some NoDriver
 refusal Twice = Some Twice

@@ -56,7 +56,7 @@ impl Line {
         &self.slots[self.free + known..]
     }
 
-    // Puts what a sequence wants behind all others. Its error is want of memory, which changes nothing.
+    // Puts what a sequence wants behind all others. Errors: out of memory, which changes nothing.
     pub(crate) fn put_last(&mut self, seq: SeqId, want: Want) -> Result<(), AllocError>
         ensures ok { OnOk result (self.new ≡ self.old ++ record { seq = seq; want = want } ∷ []) }
         ensures err { OnErr result (self.new ≡ self.old) }
@@ -65,7 +65,7 @@ impl Line {
         Ok(())
     }
 
-    // Puts what a sequence wants before all others. Its error is want of memory, which changes nothing.
+    // Puts what a sequence wants before all others. Errors: out of memory, which changes nothing.
     pub(crate) fn put_first(&mut self, seq: SeqId, want: Want) -> Result<(), AllocError>
         ensures ok { OnOk result (self.new ≡ record { seq = seq; want = want } ∷ self.old) }
         ensures err { OnErr result (self.new ≡ self.old) }
@@ -112,7 +112,7 @@ impl Line {
     }
 }
 
-// Makes some slots free where none is, half as many as are in use, and answers how many are. Its error is want of memory, which
+// Makes some slots free where none is, half as many as are in use, and answers how many are. Errors: out of memory, which
 // changes nothing.
 fn free_some(slots: &mut Vec<Request>, free: usize, seq: SeqId) -> Result<usize, AllocError>
     requires { free ≤ length slots.old.items }

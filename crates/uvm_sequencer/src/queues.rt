@@ -95,7 +95,7 @@ impl Queue {
         self.requests.behind(0).get(place)?.lock()
     }
 
-    // Puts an item request behind all others. Its error is want of memory, which changes nothing.
+    // Puts an item request behind all others. Errors: out of memory, which changes nothing.
     pub(crate) fn put_item(&mut self, seq: SeqId, priority: u16) -> Result<(), AllocError>
         requires priority { 0 < priority }
         requires fresh { list_any (is_item_of seq) self.old ≡ false }
@@ -110,7 +110,7 @@ impl Queue {
         Ok(())
     }
 
-    // Puts a lock request behind all others. Its error is want of memory, which changes nothing.
+    // Puts a lock request behind all others. Errors: out of memory, which changes nothing.
     pub(crate) fn put_lock(&mut self, seq: SeqId) -> Result<(), AllocError>
         requires { list_any (is_lock_of seq) self.old ≡ false }
         ensures ok { OnOk result (self.new ≡ self.old ++ lock_request seq ∷ []) }
@@ -124,7 +124,7 @@ impl Queue {
         Ok(())
     }
 
-    // Puts a lock request before all others. Its error is want of memory, which changes nothing.
+    // Puts a lock request before all others. Errors: out of memory, which changes nothing.
     pub(crate) fn put_grab(&mut self, seq: SeqId) -> Result<(), AllocError>
         requires { list_any (is_lock_of seq) self.old ≡ false }
         ensures ok { OnOk result (self.new ≡ lock_request seq ∷ self.old) }

@@ -112,7 +112,7 @@ impl Sequences {
         }
     }
 
-    /// Makes room for a sequence: the next `start` then takes no memory. Its error is want of memory, or of a number, which has 32
+    /// Makes room for a sequence: the next `start` then takes no memory. Errors: out of memory, or out of numbers, which has 32
     /// bits; it changes no sequence, and does not come where there is room. No room is given up.
     pub fn reserve(&mut self) -> Result<(), AllocError>
         ensures started { self.new.started ≡ self.old.started }
@@ -128,7 +128,7 @@ impl Sequences {
     }
 
     /// Starts a sequence on a sequencer, its home, with a priority of at least 1 (the standard's `start`): it stands before its
-    /// body. The parent, if one is given, was started here, and may have ended. Its error is want of memory, or of a number, which
+    /// body. The parent, if one is given, was started here, and may have ended. Errors: out of memory, or out of numbers, which
     /// has 32 bits; it starts nothing, and does not come where there is room. No room is given up, also where it fails.
     pub fn start(
         &mut self,
@@ -227,8 +227,8 @@ impl Sequences {
         Some(self.sequence(id)?.priority)
     }
 
-    /// The names from the root of a sequence, which no sequence started, down to itself; none where it was not started. The error is
-    /// want of memory.
+    /// The names from the root of a sequence, which no sequence started, down to itself; none where it was not started. Errors:
+    /// out of memory.
     pub fn names(&self, alloc: Global, id: SeqId) -> Result<Vec<Name>, AllocError>
         ensures { IfOk result (λ names. names.items ≡ names_of self.now.started id) }
     {
@@ -278,7 +278,7 @@ impl Sequences {
     }
 }
 
-// Puts a name behind others, if there is one. The error is want of memory.
+// Puts a name behind others, if there is one. Errors: out of memory.
 fn push_some(names: &mut Vec<Name>, name: Option<&Name>) -> Result<(), AllocError>
     ensures { OnOk result (names.new.items ≡ names.old.items ++ option_to_list (option_copied name.entry)) }
 {

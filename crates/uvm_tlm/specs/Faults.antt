@@ -12,7 +12,7 @@ fault_text Unknown = codes "unknown node"
 fault_text Late = codes "connected too late"
 fault_text Memory = codes "out of memory"
 
--- what a fault says of a call: want of memory says that nothing is wrong with it
+-- what a fault says of a call: `Memory` says that nothing is wrong with it
 abbrev pub refusal : WireFault → Option WireFault
 refusal KindDiffers = Some KindDiffers
 refusal TooFew = Some TooFew

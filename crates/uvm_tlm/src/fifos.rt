@@ -111,7 +111,7 @@ impl Fifo {
     }
 
     /// Puts an item once there is room (the standard's `put`): it waits behind the other puts. The room that its move needs is
-    /// taken now. Its error is want of memory, which changes nothing.
+    /// taken now. Errors: out of memory, which changes nothing.
     pub fn put(&mut self, owner: Owner, item: Item) -> Result<(), AllocError>
         ensures ok { OnOk result (self.new ≡ with_put owner item self.old) }
         ensures err { OnErr result (self.new ≡ self.old) }
@@ -122,7 +122,7 @@ impl Fifo {
     }
 
     /// Puts an item at once where there is room and no put waits, and answers whether it did (the standard's `try_put`). Its
-    /// error is want of memory where it would have, which changes nothing.
+    /// error is out of memory where it would have, which changes nothing.
     #[tactic(auto, unfolding(crate::specs::Fifos::can_put))]
     pub fn try_put(&mut self, item: Item) -> Result<bool, AllocError>
         ensures ok { IfOk result (λ stored. stored ≡ can_put self.old) }
@@ -164,7 +164,7 @@ impl Fifo {
     }
 
     /// Looks at an item once one is there, which stays (the standard's `peek`): it waits behind the other takes and peeks. Its
-    /// error is want of memory, which changes nothing.
+    /// error is out of memory, which changes nothing.
     pub fn peek(&mut self, owner: Owner) -> Result<(), AllocError>
         ensures ok { OnOk result (self.new ≡ with_peek owner self.old) }
         ensures err { OnErr result (self.new ≡ self.old) }

@@ -79,7 +79,7 @@ is_child parent name node = option_map_or (λ under. under.0 == parent && pointw
 abbrev pub child : List Node → ℕ → List ℕ → NodeKind → Node
 child nodes parent name kind = record { under = Some (parent, name); path = path_at nodes parent ++ name ∷ []; kind = kind }
 
--- what a fault says of a call: want of memory says that nothing is wrong with it
+-- what a fault says of a call: `Memory` says that nothing is wrong with it
 abbrev pub refusal : TreeFault → Option TreeFault
 refusal NoParent = Some NoParent
 refusal NameTaken = Some NameTaken

@@ -11,7 +11,7 @@ use std::alloc::{AllocError, Global};
 use uvm_glob::laws::orders_are_total;
 
 impl Tree {
-    /// All nodes besides the top, in Down. The error is want of memory; the time is that of a sort by comparisons of paths.
+    /// All nodes besides the top, in Down. Errors: out of memory; the time is that of a sort by comparisons of paths.
     pub fn path_order(&self, alloc: Global) -> Result<Vec<NodeId>, AllocError>
         ensures { IfOk result (λ order. order.items ≡ path_order self.now.nodes) }
     {

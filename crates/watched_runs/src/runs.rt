@@ -23,7 +23,7 @@ pub trait Part: Answers {
 
 /// What the objects of a bench are, and what its caller does beside supplying them.
 pub trait Whims<P: Part>: Drop {
-    /// Makes what answers for an object of a type, with its ticket. The error is want of memory.
+    /// Makes what answers for an object of a type, with its ticket. Errors: out of memory.
     fn part(&mut self, alloc: Global, ticket: Ticket, type_name: &Name) -> Result<P, AllocError>;
 
     /// Tells whether the run is given up before this step.
@@ -50,7 +50,7 @@ pub struct Play<W> {
 }
 
 impl<W: Drop> Play<W> {
-    /// Makes what the run of a seed goes by: so many answers are left to be given. The error is want of memory.
+    /// Makes what the run of a seed goes by: so many answers are left to be given. Errors: out of memory.
     pub fn new(alloc: Global, seed: u64, answers: u64, whims: W) -> Result<Play<W>, AllocError> {
         Ok(Play {
             whims,

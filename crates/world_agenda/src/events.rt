@@ -58,7 +58,7 @@ fn numbered(place: u32, number: usize) -> Result<Cause, AllocError>
     }
 }
 
-/// Adds an event of a phase that is due at a time, in ticks; of none it adds nothing. Its error is want of memory. It does not come
+/// Adds an event of a phase that is due at a time, in ticks; of none it adds nothing. Errors: out of memory. It does not come
 /// where the agenda has room.
 pub fn add_event<O: Copy + Eq + Hash + Drop, N: Drop>(
     agenda: &mut Agenda<O, N>,
@@ -78,7 +78,7 @@ pub fn add_event<O: Copy + Eq + Hash + Drop, N: Drop>(
     }
 }
 
-/// Adds a call of somebody, in a phase, that is due at a time, in ticks; in none it adds nothing. Its error is want of memory. It does not
+/// Adds a call of somebody, in a phase, that is due at a time, in ticks; in none it adds nothing. Errors: out of memory. It does not
 /// come where the agenda has room.
 pub fn add_call(
     agenda: &mut Agenda<Owner, Notice>,
@@ -103,7 +103,7 @@ pub fn add_call(
 }
 
 /// Makes calls due at a time, in ticks, each in its phase, but for those to sequences that live no longer. The place of the entry is
-/// their cause, and they are numbered in their order. Its error is want of memory.
+/// their cause, and they are numbered in their order. Errors: out of memory.
 pub fn tell_each(
     agenda: &mut Agenda<Owner, Notice>,
     sequences: &Sequences,
@@ -150,7 +150,7 @@ pub fn is_told(sequences: &Sequences, who: &Who) -> bool
 }
 
 /// Makes calls due at a time, in ticks, each in its phase. The place of the entry is their cause, and they are numbered in their
-/// order. Its error is want of memory.
+/// order. Errors: out of memory.
 pub fn tell_all(
     agenda: &mut Agenda<Owner, Notice>,
     time: u64,

@@ -25,7 +25,7 @@ pub enum CarriedOut {
 }
 
 /// Performs an act of the last answer, or refuses it, and enters it into the log; or makes it wait for the object that it needs, with room
-/// for its entry. Its error is want of memory.
+/// for its entry. Errors: out of memory.
 pub fn carry_out(
     log: &mut Log,
     services: &mut Services,

@@ -5,7 +5,7 @@ ghost use Rattle.std.specs.Prelude.{◌≡◌, ◌∷◌, ◌<◌, length, OnOk,
 use std::alloc::AllocError;
 use uvm_object::{Entry, Log};
 
-/// Adds an entry to a log that is not full. Its error is want of memory, which does not come where there is room for the entry.
+/// Adds an entry to a log that is not full. Errors: out of memory, which does not come where there is room for the entry.
 pub fn push(log: &mut Log, entry: Entry) -> Result<(), AllocError>
     requires { length log.old.entries < log.old.limit }
     ensures ok { OnOk result (log.new.entries ≡ entry ∷ log.old.entries) }

@@ -59,7 +59,7 @@ impl Model for Waiting {
 }
 
 impl Waiting {
-    /// Makes what waits, before its object is there. The error is want of memory. (Not inlined, so that an act that needs none has no room for it.)
+    /// Makes what waits, before its object is there. Errors: out of memory. (Not inlined, so that an act that needs none has no room for it.)
     #[inline(never)]
     pub fn new(
         alloc: Global,
@@ -119,7 +119,7 @@ fn placeholder() -> Name {
 }
 
 /// Makes room for the entry of a creation or a start: for a component under the speaker's node, for a sequence with its first call, and
-/// for a report of an id. The error is want of memory.
+/// for a report of an id. Errors: out of memory.
 pub fn make_room(log: &mut Log, services: &mut Services, id: &Name) -> Result<(), AllocError>
     ensures entries { log.new.entries ≡ log.old.entries }
     ensures limit { log.new.limit ≡ log.old.limit }

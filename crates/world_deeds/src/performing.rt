@@ -77,7 +77,7 @@ fn perform_open(
     }
 }
 
-/// Enters what became of an act into the log: one more act of the answer is done. Its error is want of memory, which does not come where
+/// Enters what became of an act into the log: one more act of the answer is done. Errors: out of memory, which does not come where
 /// there is room for the entry.
 pub fn enter(
     log: &mut Log,

@@ -22,7 +22,7 @@ use world_services::services::Services;
 use world_services::tells::{tell_passed, tell_to};
 
 /// Keeps that the lock of a sequence that leads at a sequencer is granted, and that the sequence is to hear of it (IEEE
-/// 1800.2-2020, Clause 15). Its error is want of memory.
+/// 1800.2-2020, Clause 15). Errors: out of memory.
 pub fn lock(
     services: &mut Services,
     place: u32,
@@ -60,7 +60,7 @@ pub fn lock(
 }
 
 /// Keeps that an item is granted at a sequencer, by the word where one decides, and that the sequence that may send it, which it
-/// answers, is to hear of it (Clause 15). Its error is want of memory.
+/// answers, is to hear of it (Clause 15). Errors: out of memory.
 pub fn grant(
     services: &mut Services,
     place: u32,
@@ -97,8 +97,8 @@ pub fn grant(
     Ok(id)
 }
 
-/// Keeps that what somebody waits for at a FIFO comes to pass, and that whoever asked is to hear of it (Clause 12). Its error is
-/// want of memory.
+/// Keeps that what somebody waits for at a FIFO comes to pass, and that whoever asked is to hear of it (Clause 12). Errors:
+/// out of memory.
 pub fn pass_item(
     services: &mut Services,
     place: u32,

@@ -37,7 +37,7 @@ pub enum Mark {
 }
 
 /// Keeps what an entry at a place of the log makes of the services, and answers the entry and the sequences that it ends, in rising number. Its
-/// error is want of memory.
+/// error is out of memory.
 pub fn enter(
     services: &mut Services,
     alloc: Global,

@@ -44,7 +44,7 @@ pub fn begin(services: &mut Services, phase: Phase)
 
 /// Keeps that a phase ends (Clause 9), in the entry at a place, and with it all sequences that were started in it and live (Clause 14),
 /// which it answers. A grant of such a sequence lapses, where the driver asked in a phase that goes on: where that was a `try`, it is told
-/// that there is no item. Its error is want of memory.
+/// that there is no item. Errors: out of memory.
 pub fn end(
     services: &mut Services,
     alloc: Global,
@@ -128,7 +128,7 @@ pub fn pass_time(services: &mut Services, time: u64)
 }
 
 /// Keeps that the drain of a node ends, of the objection of the phase of its origin: what was held back is passed up (IEEE 1800.2-2020,
-/// 10.5). What begins with that belongs to the same phase. Its error is want of memory.
+/// 10.5). What begins with that belongs to the same phase. Errors: out of memory.
 pub fn end_drain(
     services: &mut Services,
     place: u32,
@@ -153,7 +153,7 @@ pub fn end_drain(
     Ok(())
 }
 
-/// Keeps that the kernel reports at a node, and that what is left of the last answer is passed over. Its error is want of memory.
+/// Keeps that the kernel reports at a node, and that what is left of the last answer is passed over. Errors: out of memory.
 pub fn note(
     services: &mut Services,
     alloc: Global,

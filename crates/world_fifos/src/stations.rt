@@ -148,7 +148,7 @@ fn end_askers(askers: &mut VecDeque<Asker>, phase: Phase)
 /// The FIFOs of a testbench, by their nodes.
 pub type Stations = HashMap<NodeId, Station>;
 
-/// Adds the FIFO that stands at a node, where what is added there is one. Its error is want of memory.
+/// Adds the FIFO that stands at a node, where what is added there is one. Errors: out of memory.
 pub fn add_station(
     stations: &mut Stations,
     alloc: Global,
@@ -178,7 +178,7 @@ pub fn first_passing(stations: &Stations, fifos: &[NodeId]) -> Option<(NodeId, P
     None
 }
 
-/// Lets a put wait at the FIFO of a gate, behind those that wait there. Its error is want of memory.
+/// Lets a put wait at the FIFO of a gate, behind those that wait there. Errors: out of memory.
 pub fn ask_put(
     stations: &mut Stations,
     gate: &Gate,
@@ -193,7 +193,7 @@ pub fn ask_put(
     }
 }
 
-/// Lets a take or a peek wait at the FIFO of a gate, behind those that wait there. Its error is want of memory.
+/// Lets a take or a peek wait at the FIFO of a gate, behind those that wait there. Errors: out of memory.
 pub fn ask_take(
     stations: &mut Stations,
     gate: &Gate,
@@ -208,7 +208,7 @@ pub fn ask_take(
     }
 }
 
-/// Puts an item into a FIFO, where there is room and no put waits, and answers whether it did. Its error is want of memory.
+/// Puts an item into a FIFO, where there is room and no put waits, and answers whether it did. Errors: out of memory.
 pub fn put_at_once(stations: &mut Stations, fifo: NodeId, item: Item) -> Result<bool, AllocError>
     ensures value { IfOk result (λ stored. stored ≡ puts_now (get nat_eq stations.old fifo)) }
     ensures after { IfOk result (λ stored. ChangesAt fifo (with_stored_if stored item) stations.old stations.new) }

@@ -9,7 +9,7 @@ use std::alloc::AllocError;
 use uvm_tlm::Item;
 use uvm_tree::NodeId;
 
-/// Notes that something may pass at a FIFO, and nowhere else. Its error is want of memory.
+/// Notes that something may pass at a FIFO, and nowhere else. Errors: out of memory.
 pub fn look_at(unsettled: &mut Vec<NodeId>, fifo: NodeId) -> Result<(), AllocError>
     ensures { OnOk result (unsettled.new.items ≡ fifo ∷ []) }
 {
@@ -18,7 +18,7 @@ pub fn look_at(unsettled: &mut Vec<NodeId>, fifo: NodeId) -> Result<(), AllocErr
     Ok(())
 }
 
-/// Puts an item into each FIFO among some nodes that can take it at once. Its error is want of memory.
+/// Puts an item into each FIFO among some nodes that can take it at once. Errors: out of memory.
 pub fn store_all(stations: &mut Stations, targets: &[NodeId], item: Item) -> Result<(), AllocError>
     requires { IsDistinct nat_eq targets.now }
     ensures { OnOk result (StoresAll item targets.now stations.old stations.new) }
@@ -29,7 +29,7 @@ pub fn store_all(stations: &mut Stations, targets: &[NodeId], item: Item) -> Res
     Ok(())
 }
 
-/// Notes that something may pass at these nodes, and nowhere else. Its error is want of memory.
+/// Notes that something may pass at these nodes, and nowhere else. Errors: out of memory.
 pub fn look_at_all(unsettled: &mut Vec<NodeId>, targets: &[NodeId]) -> Result<(), AllocError>
     ensures { OnOk result (unsettled.new.items ≡ targets.now) }
 {

@@ -46,7 +46,7 @@ impl Model for Objections {
 
 impl Objections {
     /// Makes the objections of no node but the top, at which nothing is raised, with the drain times that a script gives: a node that is added
-    /// has those that are given for its path. Its error is want of memory.
+    /// has those that are given for its path. Errors: out of memory.
     pub fn new(alloc: Global, given: &[Drain]) -> Result<Objections, AllocError>
         requires { All CanDrain given.now }
         ensures nodes { IfOk result (λ objections. (phase : Phase) → nodes_in objections phase ≡ top ∷ []) }
@@ -69,7 +69,7 @@ impl Objections {
         Ok(Objections { each, given })
     }
 
-    // Takes in one more drain time, and parts the run-time phases if it is of one of them. Its error is want of memory.
+    // Takes in one more drain time, and parts the run-time phases if it is of one of them. Errors: out of memory.
     fn take_in(&mut self, drain: &Drain) -> Result<(), AllocError>
         requires { CanDrain drain.now }
         ensures nodes { (phase : Phase) → nodes_in self.new phase ≡ nodes_in self.old phase }
@@ -81,7 +81,7 @@ impl Objections {
         Ok(())
     }
 
-    /// Makes room for a node in each objection: the next `add` then takes no memory. Its error is want of memory, which changes no node, and
+    /// Makes room for a node in each objection: the next `add` then takes no memory. Errors: out of memory, which changes no node, and
     /// does not come where there is room. No room is given up.
     pub fn reserve(&mut self) -> Result<(), AllocError>
         ensures nodes { (phase : Phase) → nodes_in self.new phase ≡ nodes_in self.old phase }
@@ -97,7 +97,7 @@ impl Objections {
     }
 
     /// Adds a node that is not known, under a parent that is, to each objection: nothing is raised at it, and its drain time is the one that
-    /// the script gives for its path, else 0. Its error is want of memory, which adds nothing, and does not come where there is room.
+    /// the script gives for its path, else 0. Errors: out of memory, which adds nothing, and does not come where there is room.
     pub fn add(&mut self, node: NodeId, parent: NodeId, path: &Path) -> Result<(), AllocError>
         requires unknown { (phase : Phase) → is_known node (nodes_in self.old phase) ≡ false }
         requires parent { (phase : Phase) → IsTrue (is_known parent (nodes_in self.old phase)) }
@@ -209,7 +209,7 @@ impl Objections {
     }
 
     /// Raises a count at a known node in the objection of a phase, and answers the node whose drain this ended, if it ended one. Its error
-    /// is want of memory to part the run-time phases, which changes no node.
+    /// is out of memory in parting the run-time phases, which changes no node.
     pub fn raise(
         &mut self,
         phase: Phase,
@@ -234,7 +234,7 @@ impl Objections {
     }
 
     /// Drops a count at a known node in the objection of a phase, at a time of at most 10^18 ticks, and answers the drain that this began, if
-    /// it began one. `BelowZero` comes where less was raised there, and changes nothing. `Memory` is want of memory to part the run-time
+    /// it began one. `BelowZero` comes where less was raised there, and changes nothing. `Memory`: out of memory in parting the run-time
     /// phases: it comes only where enough was raised, and changes no node.
     pub fn drop(
         &mut self,
@@ -271,7 +271,7 @@ impl Objections {
     }
 
     /// Ends the drain of a known node that holds something back, in the objection of a phase, and answers the drain that this began above it,
-    /// if it began one. Its error is want of memory to part the run-time phases, which changes no node.
+    /// if it began one. Errors: out of memory in parting the run-time phases, which changes no node.
     pub fn drained(&mut self, phase: Phase, node: NodeId) -> Result<Option<Due>, AllocError>
         requires known { IsTrue (is_known node (nodes_in self.old phase)) }
         requires held { 0 < held_of node (nodes_in self.old phase) }
@@ -291,7 +291,7 @@ impl Objections {
         Ok(objection.drained(node))
     }
 
-    /// Sets the drain time of a known node in the objection of a phase, in ticks. Its error is want of memory to part the run-time phases,
+    /// Sets the drain time of a known node in the objection of a phase, in ticks. Errors: out of memory in parting the run-time phases,
     /// which changes no node.
     pub fn set_drain(&mut self, phase: Phase, node: NodeId, ticks: u64) -> Result<(), AllocError>
         requires known { IsTrue (is_known node (nodes_in self.old phase)) }
@@ -328,7 +328,7 @@ impl Objections {
     }
 
     // Parts the run-time phases if the phase is one of them, and answers where its objection stands, which is then of no other phase. Its
-    // error is want of memory, which changes no node.
+    // error is out of memory, which changes no node.
     fn own_place(&mut self, phase: Phase) -> Result<usize, AllocError>
         ensures nodes { (one : Phase) → nodes_in self.new one ≡ nodes_in self.old one }
         ensures place { IfOk result (λ place. place ≡ place_in phase) }
@@ -344,7 +344,7 @@ impl Objections {
         Ok(place)
     }
 
-    // Gives each of the run-time phases its own. Its error is want of memory, which leaves fewer with their own, and changes no node.
+    // Gives each of the run-time phases its own. Errors: out of memory, which leaves fewer with their own, and changes no node.
     fn part(&mut self) -> Result<(), AllocError>
         ensures nodes { (place : ℕ) → nodes_at self.new.each place ≡ nodes_at self.old.each place }
         ensures count { OnOk result (length self.new.each ≡ 13) }
@@ -356,7 +356,7 @@ impl Objections {
         Ok(())
     }
 
-    // Puts a copy of the second behind the last. Its error is want of memory, which adds none.
+    // Puts a copy of the second behind the last. Errors: out of memory, which adds none.
     fn copy_second(&mut self) -> Result<(), AllocError>
         requires { length self.old.each < 13 }
         ensures nodes { (place : ℕ) → nodes_at self.new.each place ≡ nodes_at self.old.each place }

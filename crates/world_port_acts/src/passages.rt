@@ -18,7 +18,7 @@ use world_services::services::Services;
 use world_services::tells::tell;
 use world_wiring::ports::{gate_of, port_below};
 
-/// Asks for a put through a port of the speaker, or refuses it. Its error is want of memory.
+/// Asks for a put through a port of the speaker, or refuses it. Errors: out of memory.
 pub fn put(
     services: &mut Services,
     alloc: Global,
@@ -39,7 +39,7 @@ pub fn put(
     Ok(done(services))
 }
 
-/// Asks for a take through a port of the speaker, or refuses it. Its error is want of memory.
+/// Asks for a take through a port of the speaker, or refuses it. Errors: out of memory.
 pub fn take(
     services: &mut Services,
     alloc: Global,
@@ -59,7 +59,7 @@ pub fn take(
     Ok(done(services))
 }
 
-/// Asks for a peek through a port of the speaker, or refuses it. Its error is want of memory.
+/// Asks for a peek through a port of the speaker, or refuses it. Errors: out of memory.
 pub fn peek(
     services: &mut Services,
     alloc: Global,
@@ -80,7 +80,7 @@ pub fn peek(
 }
 
 /// Puts an item through a port of the speaker at once, where it can be, and tells whether it did, or refuses the act. Its error
-/// is want of memory.
+/// is out of memory.
 pub fn try_put(
     services: &mut Services,
     alloc: Global,

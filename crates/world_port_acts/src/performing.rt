@@ -11,7 +11,7 @@ use uvm_object::Act;
 use world_services::attempts::Attempt;
 use world_services::services::Services;
 
-/// Performs an act through a port of the speaker, or refuses it. Its error is want of memory.
+/// Performs an act through a port of the speaker, or refuses it. Errors: out of memory.
 pub fn perform_port_act(
     services: &mut Services,
     alloc: Global,

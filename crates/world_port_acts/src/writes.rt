@@ -17,7 +17,7 @@ use world_services::attempts::{Attempt, done, refused};
 use world_services::services::Services;
 use world_wiring::ports::{port_below, written_calls};
 
-/// Writes an item to all that an analysis port of the speaker reaches, or refuses it. Its error is want of memory.
+/// Writes an item to all that an analysis port of the speaker reaches, or refuses it. Errors: out of memory.
 pub fn write(
     services: &mut Services,
     alloc: Global,

@@ -5,6 +5,7 @@ use Rattle.std.specs.Prelude.{codes}
 use Rattle.std.specs.Fmt.{decimal}
 use Rattle.uvm_report.specs.Severities.{severity_text}
 use Rattle.uvm_report.specs.Lines.{report_line}
+use Rattle.uvm_report.specs.Plain.{plain-none}
 
 ended : (text : List ℕ) (byte : ℕ) → text ++ byte ∷ [] ≢ []
 ended [] byte = λ none. cc
@@ -19,3 +20,6 @@ report_line_some severity time source id text =
 pub line_lost : {A E : Type 0} (result : Result A E) (severity : Severity) (time : ℕ) (source id text : List ℕ) → OnErr result (report_line severity time source id text ≢ [])
 line_lost (Ok value) severity time source id text = tt
 line_lost (Err fault) severity time source id text = report_line_some severity time source id text
+
+-- no line is written where there is no report
+pub ruleset plain = (plain-none)

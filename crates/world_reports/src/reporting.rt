@@ -44,7 +44,7 @@ impl Reporting {
         }
     }
 
-    /// Issues a report at a path, and keeps what became of it. Its error is want of memory. It does not come where there is room
+    /// Issues a report at a path, and keeps what became of it. Errors: out of memory. It does not come where there is room
     /// for the id of the report.
     pub fn issue(&mut self, path: &Path, report: &Report) -> Result<(), AllocError>
         requires { CanReport self.old }
@@ -59,7 +59,7 @@ impl Reporting {
         Ok(())
     }
 
-    /// Sets the level of reports within a scope. Its error is want of memory.
+    /// Sets the level of reports within a scope. Errors: out of memory.
     pub fn set_verbosity(&mut self, scope: Glob, which: Which, level: u16) -> Result<(), AllocError>
         ensures { OnOk result (HasSetting (SetVerbosity scope which level) self.old self.new) }
     {
@@ -69,7 +69,7 @@ impl Reporting {
         Ok(())
     }
 
-    /// Sets what is done with reports within a scope. Its error is want of memory.
+    /// Sets what is done with reports within a scope. Errors: out of memory.
     pub fn set_action(
         &mut self,
         scope: Glob,
@@ -84,7 +84,7 @@ impl Reporting {
         Ok(())
     }
 
-    /// Changes a severity within a scope, of all reports or of those with an id. Its error is want of memory.
+    /// Changes a severity within a scope, of all reports or of those with an id. Errors: out of memory.
     pub fn set_severity(
         &mut self,
         scope: Glob,
@@ -109,7 +109,7 @@ impl Reporting {
         self.newest = None;
     }
 
-    /// Makes room for a report of an id, and changes nothing else. Its error is want of memory.
+    /// Makes room for a report of an id, and changes nothing else. Errors: out of memory.
     pub fn reserve_id(&mut self, id: &Name) -> Result<(), AllocError>
         ensures room { OnOk result (IsTrue (has_room self.new.reports id.now)) }
         ensures same { KeepsReporting self.old self.new }
@@ -118,7 +118,7 @@ impl Reporting {
     }
 }
 
-/// Makes the report server with all that a script asks of reports. Its error is want of memory.
+/// Makes the report server with all that a script asks of reports. Errors: out of memory.
 pub fn given_reporting(alloc: Global, script: &Script) -> Result<Reporting, AllocError>
     ensures { IfOk result (IsReporting (script_commands script.now) None) }
 {

@@ -23,7 +23,7 @@ use world_services::services::Services;
 use world_services::tells::{tell, tell_living};
 use world_wiring::ports::port_below;
 
-/// Lets the speaker, a driver, ask for an item through a port, or refuses it. Its error is want of memory.
+/// Lets the speaker, a driver, ask for an item through a port, or refuses it. Errors: out of memory.
 pub fn ask(
     services: &mut Services,
     alloc: Global,

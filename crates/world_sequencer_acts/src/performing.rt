@@ -15,7 +15,7 @@ use world_services::attempts::Attempt;
 use world_services::services::Services;
 
 /// Performs an act of a driver at a sequencer, a start of a sequence, or an act of a sequence, which is open to the speaker, or
-/// refuses it; a start may need its object first. Its error is want of memory.
+/// refuses it; a start may need its object first. Errors: out of memory.
 pub fn perform_sequencer_act(
     services: &mut Services,
     alloc: Global,

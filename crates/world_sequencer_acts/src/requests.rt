@@ -25,7 +25,7 @@ use world_services::attempts::{Attempt, done, refused};
 use world_services::services::Services;
 use world_services::tells::tell_living;
 
-/// Lets the speaker, a sequence, request to send an item, or refuses it. Its error is want of memory.
+/// Lets the speaker, a sequence, request to send an item, or refuses it. Errors: out of memory.
 pub fn request(
     services: &mut Services,
     alloc: Global,
@@ -53,7 +53,7 @@ pub fn request(
     }
 }
 
-/// Lets the speaker, a sequence, ask for a lock, or refuses it. Its error is want of memory.
+/// Lets the speaker, a sequence, ask for a lock, or refuses it. Errors: out of memory.
 pub fn lock(services: &mut Services, alloc: Global) -> Result<Attempt, AllocError>
     requires can { CanPerform services.old }
     requires open { is_open_to Lock services.old.answer.speaker ≡ true }
@@ -73,7 +73,7 @@ pub fn lock(services: &mut Services, alloc: Global) -> Result<Attempt, AllocErro
     }
 }
 
-/// Lets the speaker, a sequence, ask for a lock before all that was asked for, or refuses it. Its error is want of memory.
+/// Lets the speaker, a sequence, ask for a lock before all that was asked for, or refuses it. Errors: out of memory.
 pub fn grab(services: &mut Services, alloc: Global) -> Result<Attempt, AllocError>
     requires can { CanPerform services.old }
     requires open { is_open_to Grab services.old.answer.speaker ≡ true }
@@ -91,7 +91,7 @@ pub fn grab(services: &mut Services, alloc: Global) -> Result<Attempt, AllocErro
     }
 }
 
-/// Takes back the last lock of the speaker, a sequence, or refuses it. Its error is want of memory.
+/// Takes back the last lock of the speaker, a sequence, or refuses it. Errors: out of memory.
 pub fn unlock(services: &mut Services, alloc: Global) -> Result<Attempt, AllocError>
     requires can { CanPerform services.old }
     requires open { is_open_to Unlock services.old.answer.speaker ≡ true }
@@ -109,7 +109,7 @@ pub fn unlock(services: &mut Services, alloc: Global) -> Result<Attempt, AllocEr
     }
 }
 
-/// Sends the item of the speaker, a sequence, to the driver, or refuses it. Its error is want of memory.
+/// Sends the item of the speaker, a sequence, to the driver, or refuses it. Errors: out of memory.
 pub fn send(
     services: &mut Services,
     alloc: Global,
@@ -159,7 +159,7 @@ fn sent_calls(
     Ok(calls)
 }
 
-// An act is performed at a sequencer, and nothing is reported. Its error is want of memory.
+// An act is performed at a sequencer, and nothing is reported. Errors: out of memory.
 fn contested(services: &mut Services, home: NodeId) -> Result<Attempt, AllocError>
     ensures attempt { IfOk result (λ attempt. attempt ≡ Attempt.Became Done) }
     ensures services { OnOk result (IsContested home services.old services.new) }

@@ -38,7 +38,7 @@ use world_services::services::Services;
 use world_services::tells::tell_to;
 use world_wiring::connections::node_below;
 
-/// Answers which sequence the start by the speaker needs, with its sequencer, or refuses it. Its error is want of memory.
+/// Answers which sequence the start by the speaker needs, with its sequencer, or refuses it. Errors: out of memory.
 pub fn start(
     services: &mut Services,
     alloc: Global,

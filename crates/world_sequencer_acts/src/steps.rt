@@ -22,7 +22,7 @@ use world_services::services::Services;
 use world_services::tells::{tell, tell_living};
 
 /// Ends the step at which the speaker, a sequence, is, and tells it the next one; or ends the sequence, and tells who started it.
-/// Its error is want of memory.
+/// Errors: out of memory.
 pub fn end_step(services: &mut Services, alloc: Global, place: u32) -> Result<Attempt, AllocError>
     requires { is_open_to EndStep services.old.answer.speaker ≡ true }
     ensures { IfOk result (λ attempt. IsAttempt EndStep attempt place services.old services.new) }

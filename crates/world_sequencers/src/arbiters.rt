@@ -222,7 +222,7 @@ impl Arbiter {
 /// The sequencers of a testbench, by their nodes.
 pub type Arbiters = HashMap<NodeId, Arbiter>;
 
-/// Adds the sequencer that stands at a node, where what is added there is one. Its error is want of memory.
+/// Adds the sequencer that stands at a node, where what is added there is one. Errors: out of memory.
 pub fn add_arbiter(
     arbiters: &mut Arbiters,
     alloc: Global,
@@ -361,7 +361,7 @@ pub fn done_at(arbiters: &mut Arbiters, reached: &Reached) -> Result<SeqId, Fata
     }
 }
 
-/// Lets a sequence request to send an item, or answers why it may not: it waits already. Its error is want of memory.
+/// Lets a sequence request to send an item, or answers why it may not: it waits already. Errors: out of memory.
 pub fn request_at(
     arbiters: &mut Arbiters,
     node: NodeId,
@@ -378,7 +378,7 @@ pub fn request_at(
     }
 }
 
-/// Lets a sequence ask for a lock, or answers why it may not: it waits already. Its error is want of memory.
+/// Lets a sequence ask for a lock, or answers why it may not: it waits already. Errors: out of memory.
 pub fn lock_for(
     arbiters: &mut Arbiters,
     node: NodeId,

@@ -51,7 +51,7 @@ impl Contest {
         }
     }
 
-    /// Keeps that a node was added, which may be a sequencer, and that nothing can be granted. Its error is want of memory.
+    /// Keeps that a node was added, which may be a sequencer, and that nothing can be granted. Errors: out of memory.
     pub fn add(&mut self, node: NodeId, what: What) -> Result<(), AllocError>
         ensures nodes { OnOk result (self.new.nodes.items ≡ []) }
         ensures added { OnOk result (AddsContest (mode_of what) node self.old self.new) }
@@ -66,7 +66,7 @@ impl Contest {
         }
     }
 
-    /// Keeps that something may be granted at one sequencer, and at no other. Its error is want of memory.
+    /// Keeps that something may be granted at one sequencer, and at no other. Errors: out of memory.
     pub fn open_at(&mut self, node: NodeId) -> Result<(), AllocError>
         ensures nodes { OnOk result (self.new.nodes.items ≡ node ∷ []) }
         ensures rest { OnOk result (self.new ≡ record self.old { nodes = self.new.nodes }) }
@@ -95,7 +95,7 @@ impl Contest {
     }
 
     /// Keeps that it is known for none, as at the end of a phase, and that something may be granted at these sequencers, which are given
-    /// in path order, and at no other. Its error is want of memory.
+    /// in path order, and at no other. Errors: out of memory.
     pub fn reopen(&mut self, nodes: &[NodeId]) -> Result<(), AllocError>
         ensures nodes { OnOk result (self.new.nodes.items ≡ nodes.now) }
         ensures known { OnOk result (ForgetsAll self.new) }

@@ -130,7 +130,7 @@ beginning_at beginnings (suc place) = slice_get beginnings place
 abbrev pub phase_at : List kept.Beginning → ℕ → Option Phase
 phase_at beginnings id = option_and_then (λ beginning. beginning.phase) (beginning_at beginnings id)
 
--- a path is not made for its fault, or for want of memory
+-- a path is not made because of its fault, or because memory ran out
 abbrev pub MayFail : Option PathFault → PathFault → Type 0
 MayFail found path.Memory = Unit {0}
 MayFail found fault = IsSome found

@@ -40,7 +40,7 @@ pub fn is_none_at_all(priority: Option<u16>) -> bool
     }
 }
 
-/// Answers the names from the root sequence of somebody down to its own; none for a component. Its error is want of memory.
+/// Answers the names from the root sequence of somebody down to its own; none for a component. Errors: out of memory.
 pub fn parent_names(
     sequences: &Sequences,
     alloc: Global,
@@ -72,7 +72,7 @@ pub fn path_below(path: &Path, names: &[Name], name: &Name) -> Result<Path, Path
 }
 
 /// Starts a sequence on a sequencer, as a child of its starter where that is a sequence, with the priority that it is given, else
-/// its parent's, else 100. Its error is want of memory. It does not come where there is room.
+/// its parent's, else 100. Errors: out of memory. It does not come where there is room.
 pub fn start_under(
     sequences: &mut Sequences,
     home: NodeId,
@@ -143,7 +143,7 @@ pub fn start_priority(sequences: &Sequences, parent: Option<SeqId>, given: Optio
     }
 }
 
-/// Keeps who started a sequence, and in which phase. Its error is want of memory. It does not come where there is room.
+/// Keeps who started a sequence, and in which phase. Errors: out of memory. It does not come where there is room.
 pub fn push(
     beginnings: &mut Vec<Beginning>,
     who: &Who,

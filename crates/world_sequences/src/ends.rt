@@ -9,7 +9,7 @@ use uvm_object::Who;
 use uvm_phase::Phase;
 use uvm_sequences::{Sequences, laws};
 
-/// Answers the sequences that were started in a phase and live, in the order of their starts. Its error is want of memory.
+/// Answers the sequences that were started in a phase and live, in the order of their starts. Errors: out of memory.
 pub fn leaving_with(
     alloc: Global,
     sequences: &Sequences,

@@ -71,7 +71,7 @@ pub fn done(services: &mut Services) -> Attempt
     Attempt::Became(LoggedOutcome::done())
 }
 
-/// Refuses an act: issues the report of why, and keeps whether the test is refused. Its error is want of memory.
+/// Refuses an act: issues the report of why, and keeps whether the test is refused. Errors: out of memory.
 pub fn refused(services: &mut Services, alloc: Global, fatal: Fatal) -> Result<Attempt, AllocError>
     requires { CanReport services.old.reporting }
     ensures attempt { IfOk result (λ attempt. attempt ≡ Attempt.Became (Refused fatal)) }
@@ -81,7 +81,7 @@ pub fn refused(services: &mut Services, alloc: Global, fatal: Fatal) -> Result<A
     Ok(Attempt::Became(refused_by(services, alloc, fatal, &report)?))
 }
 
-/// Refuses an act with a report that is there. Its error is want of memory. It does not come where there is room for the id of
+/// Refuses an act with a report that is there. Errors: out of memory. It does not come where there is room for the id of
 /// the report.
 pub fn refused_by(
     services: &mut Services,
@@ -101,7 +101,7 @@ pub fn refused_by(
     Ok(LoggedOutcome::refused(fatal))
 }
 
-/// Issues a report at the path of a node. Its error is want of memory. It does not come where there is room for the id of the
+/// Issues a report at the path of a node. Errors: out of memory. It does not come where there is room for the id of the
 /// report.
 pub fn report_at(
     services: &mut Services,

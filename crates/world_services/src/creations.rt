@@ -31,7 +31,7 @@ pub enum Uncreated {
     Memory,
 }
 
-/// Answers which object the creation of a component by somebody needs. Its error is why the act is refused, or want of memory,
+/// Answers which object the creation of a component by somebody needs. Its error is why the act is refused, or out of memory,
 /// which is told after every refusal but that of a loop of overrides.
 #[tactic(auto, unfolding(bench_history::specs::Refusals::creation_refusal))]
 pub fn what_is_created(

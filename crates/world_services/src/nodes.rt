@@ -25,7 +25,7 @@ pub fn depth_of(tree: &Tree, node: NodeId) -> u8
     }
 }
 
-/// Answers the glob under the path of a node. Its error is want of memory.
+/// Answers the glob under the path of a node. Errors: out of memory.
 pub fn scope_under(
     alloc: Global,
     tree: &Tree,
@@ -41,7 +41,7 @@ pub fn scope_under(
 }
 
 /// Adds a child whose name is free, and answers its node: nothing is raised at it, and its drain times are those that the script gives for
-/// its path (IEEE 1800.2-2020, 10.5). Its error is want of memory. It does not come where there is room for a child of that node.
+/// its path (IEEE 1800.2-2020, 10.5). Errors: out of memory. It does not come where there is room for a child of that node.
 pub fn add_node(
     tree: &mut Tree,
     objections: &mut Objections,
@@ -75,7 +75,7 @@ fn path_of(tree: &Tree, node: NodeId) -> &Path
     }
 }
 
-// Adds a child whose name is free, and answers its node. Its error is want of memory. It does not come where there is room for a child of
+// Adds a child whose name is free, and answers its node. Errors: out of memory. It does not come where there is room for a child of
 // that node.
 #[tactic(auto, unfolding(uvm_tree::specs::Nodes::add_fault))]
 fn add_child(

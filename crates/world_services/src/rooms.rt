@@ -10,7 +10,7 @@ use crate::services::Services;
 use std::alloc::AllocError;
 use uvm_phase::Phase;
 
-/// Makes room for a component under the speaker's node. Its error is want of memory: nothing that counts has changed.
+/// Makes room for a component under the speaker's node. Errors: out of memory; nothing that counts has changed.
 pub fn reserve_component(services: &mut Services) -> Result<(), AllocError>
     ensures services { services.new ≡ record services.old { tree = services.new.tree; objections = services.new.objections; turns = services.new.turns } }
     ensures nodes { services.new.tree.nodes ≡ services.old.tree.nodes }
@@ -26,7 +26,7 @@ pub fn reserve_component(services: &mut Services) -> Result<(), AllocError>
     services.turns.reserve()
 }
 
-/// Makes room for a sequence, with its first call. Its error is want of memory: nothing that counts has changed.
+/// Makes room for a sequence, with its first call. Errors: out of memory; nothing that counts has changed.
 pub fn reserve_sequence(services: &mut Services) -> Result<(), AllocError>
     ensures services { services.new ≡ record services.old { sequences = services.new.sequences; beginnings = services.new.beginnings; agenda = services.new.agenda } }
     ensures sequences { (services.new.sequences.started ≡ services.old.sequences.started) × (services.new.sequences.steps ≡ services.old.sequences.steps) }

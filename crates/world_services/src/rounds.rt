@@ -55,7 +55,7 @@ impl Rounds {
         }
     }
 
-    /// Makes room for a component. Its error is want of memory: nothing that counts has changed.
+    /// Makes room for a component. Errors: out of memory; nothing that counts has changed.
     pub fn reserve(&mut self) -> Result<(), AllocError>
         ensures same { AreSameRounds self.old self.new }
         ensures room { OnOk result (HaveRoom self.new) }

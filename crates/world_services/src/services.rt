@@ -110,7 +110,7 @@ impl Drop for Services {
 }
 
 impl Services {
-    /// Makes what is kept of a script before the first entry, with its factory. Its error is want of memory.
+    /// Makes what is kept of a script before the first entry, with its factory. Errors: out of memory.
     pub fn given(alloc: Global, script: &Script, factory: Factory) -> Result<Services, AllocError>
         requires { IsFactoryOf script.now factory }
         ensures { IfOk result (ServicesMatch script.now []) }

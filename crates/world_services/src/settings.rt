@@ -13,7 +13,7 @@ use std::alloc::{AllocError, Global};
 use uvm_config::{Settings, laws};
 use uvm_glob::{Glob, Name};
 
-/// Makes the settings of a script, in their order. Its error is want of memory.
+/// Makes the settings of a script, in their order. Errors: out of memory.
 pub fn given_settings(alloc: Global, given: &[Setting]) -> Result<Settings, AllocError>
     requires { length given.now ≤ config.most_settings }
     ensures { IfOk result (IsSettings (reverse (map given_setting given.now))) }
@@ -36,7 +36,7 @@ fn set_given(settings: &mut Settings, setting: &Setting) -> Result<(), AllocErro
     set(settings, 0, false, scope, setting.field, value)
 }
 
-/// Sets a field in settings that are not full. Its error is want of memory.
+/// Sets a field in settings that are not full. Errors: out of memory.
 pub fn set(
     settings: &mut Settings,
     depth: u8,

@@ -21,7 +21,7 @@ use uvm_tree::NodeId;
 use world_agenda::events::{add_call, add_event, caused_at, end_drain, tell_each};
 
 /// Makes the end of a drain due that began in the objection of a phase, and takes that of one that ended there out of what is due. The place
-/// of the entry is the cause. Its error is want of memory.
+/// of the entry is the cause. Errors: out of memory.
 pub fn move_drains(
     services: &mut Services,
     phase: Phase,
@@ -51,7 +51,7 @@ pub fn move_drains(
 }
 
 /// Makes due at once the call that tells what came to pass to who had asked for it. The place of the entry is the cause. Its
-/// error is want of memory.
+/// error is out of memory.
 pub fn tell_passed(services: &mut Services, place: u32, passage: &Passage) -> Result<(), AllocError>
     ensures dues { OnOk result ((caused : List Event) → services.old.agenda.dues ≡ in_order caused →
         services.new.agenda.dues ≡ in_order (due_from (Some (told_of passage.now.kind passage.now)) passage.now.who (Some passage.now.phase) services.old.time (caused_at place) ++ caused)) }
@@ -86,7 +86,7 @@ pub fn tell(services: &mut Services, call: Call, time: u64, place: u32) -> Resul
 }
 
 /// Makes a call of somebody due at a time, in ticks, in a phase; of none it makes nothing due. The place of the entry is its cause. Its
-/// error is want of memory. It does not come where the agenda has room.
+/// error is out of memory. It does not come where the agenda has room.
 pub fn tell_to(
     services: &mut Services,
     who: Who,
@@ -105,7 +105,7 @@ pub fn tell_to(
 }
 
 /// Makes calls due at once, each in its phase, but for those to sequences that live no longer. The place of the entry is their cause,
-/// and they are numbered in their order. Its error is want of memory.
+/// and they are numbered in their order. Errors: out of memory.
 pub fn tell_living(services: &mut Services, place: u32, calls: &[Told]) -> Result<(), AllocError>
     ensures dues { OnOk result ((caused : List Event) → services.old.agenda.dues ≡ in_order caused →
         services.new.agenda.dues ≡ in_order (living_numbered (is_told services.old.sequences.steps) services.old.time place 0 calls.now ++ caused)) }

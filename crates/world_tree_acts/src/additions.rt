@@ -20,7 +20,7 @@ use world_services::nodes::add_node;
 use world_services::services::Services;
 use world_wiring::connections::add_end;
 
-/// Adds a node below the speaker's, or refuses it. Its error is want of memory.
+/// Adds a node below the speaker's, or refuses it. Errors: out of memory.
 pub fn add(
     services: &mut Services,
     alloc: Global,

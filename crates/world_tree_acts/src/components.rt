@@ -11,7 +11,7 @@ use world_services::attempts::{Attempt, refused};
 use world_services::creations::{Uncreated, what_is_created};
 use world_services::services::Services;
 
-/// Answers which object the creation of a component below the speaker's node needs, or refuses it. Its error is want of memory.
+/// Answers which object the creation of a component below the speaker's node needs, or refuses it. Errors: out of memory.
 pub fn create(
     services: &mut Services,
     alloc: Global,

@@ -12,7 +12,7 @@ use world_services::attempts::{Attempt, done, refused};
 use world_services::services::Services;
 use world_wiring::connections::{connect_ends, node_below};
 
-/// Connects a port or an export to another end, or refuses it. Its error is want of memory.
+/// Connects a port or an export to another end, or refuses it. Errors: out of memory.
 pub fn connect(
     services: &mut Services,
     alloc: Global,

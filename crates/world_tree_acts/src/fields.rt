@@ -20,7 +20,7 @@ use world_services::services::Services;
 use world_services::settings::set;
 use world_services::tells::tell;
 
-/// Sets a field under the speaker's path, or refuses it where there are too many settings. Its error is want of memory.
+/// Sets a field under the speaker's path, or refuses it where there are too many settings. Errors: out of memory.
 #[tactic(auto, unfolding(bench_history::specs::Refusals::setting_refusal))]
 pub fn set_field(
     services: &mut Services,
@@ -43,7 +43,7 @@ pub fn set_field(
     Ok(done(services))
 }
 
-/// Finds the value of a field at the speaker's path, and makes the call due at once that tells it. Its error is want of memory.
+/// Finds the value of a field at the speaker's path, and makes the call due at once that tells it. Errors: out of memory.
 pub fn get_field(
     services: &mut Services,
     alloc: Global,

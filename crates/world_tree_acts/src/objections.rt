@@ -19,7 +19,7 @@ use world_services::attempts::{Attempt, done, refused};
 use world_services::services::Services;
 use world_services::tells::move_drains;
 
-/// Raises an objection at the speaker's node to the end of the phase of the act, or refuses it. Its error is want of memory.
+/// Raises an objection at the speaker's node to the end of the phase of the act, or refuses it. Errors: out of memory.
 pub fn raise(
     services: &mut Services,
     alloc: Global,
@@ -58,7 +58,7 @@ fn raise_in(
     Ok(done(services))
 }
 
-/// Drops what was raised at the speaker's node in the phase of the act, or refuses it. Its error is want of memory.
+/// Drops what was raised at the speaker's node in the phase of the act, or refuses it. Errors: out of memory.
 pub fn drop(
     services: &mut Services,
     alloc: Global,
@@ -103,7 +103,7 @@ fn drop_in(
 }
 
 /// Sets the drain time of the speaker's node, in ticks, or refuses it: for the objection of the phase of the act, where that takes time,
-/// and else for those of all phases that do. Its error is want of memory.
+/// and else for those of all phases that do. Errors: out of memory.
 #[tactic(auto, unfolding(bench_history::specs::Refusals::drain_refusal))]
 pub fn set_drain(services: &mut Services, alloc: Global, ticks: u64) -> Result<Attempt, AllocError>
     requires { CanPerform services.old }
@@ -119,7 +119,7 @@ pub fn set_drain(services: &mut Services, alloc: Global, ticks: u64) -> Result<A
     Ok(done(services))
 }
 
-// Sets it for the objection of a phase, where that takes time, and else for each. Its error is want of memory.
+// Sets it for the objection of a phase, where that takes time, and else for each. Errors: out of memory.
 fn set_drain_in(
     objections: &mut Objections,
     phase: Option<Phase>,

@@ -20,7 +20,7 @@ use world_services::attempts::{Attempt, done, refused};
 use world_services::nodes::scope_under;
 use world_services::services::Services;
 
-/// Overrides a type everywhere, or refuses it. Its error is want of memory.
+/// Overrides a type everywhere, or refuses it. Errors: out of memory.
 pub fn override_type(
     services: &mut Services,
     alloc: Global,
@@ -38,7 +38,7 @@ pub fn override_type(
     Ok(done(services))
 }
 
-/// Overrides a type at the paths that a glob matches under the speaker's, or refuses it. Its error is want of memory.
+/// Overrides a type at the paths that a glob matches under the speaker's, or refuses it. Errors: out of memory.
 pub fn override_inst(
     services: &mut Services,
     alloc: Global,

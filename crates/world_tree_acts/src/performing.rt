@@ -18,7 +18,7 @@ use world_services::attempts::Attempt;
 use world_services::services::Services;
 
 /// Performs an act on the tree, the factory, fields, reports or objections, or a wait, or refuses it; a creation may need its
-/// object first. Its error is want of memory.
+/// object first. Errors: out of memory.
 pub fn perform_tree_act(
     services: &mut Services,
     alloc: Global,

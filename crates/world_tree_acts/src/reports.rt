@@ -15,7 +15,7 @@ use uvm_tree::{NodeId, Tree};
 use world_services::attempts::{Attempt, report_at};
 use world_services::services::Services;
 
-/// Issues a report at the speaker's path. Its error is want of memory.
+/// Issues a report at the speaker's path. Errors: out of memory.
 pub fn issue(services: &mut Services, alloc: Global, report: &Report) -> Result<Attempt, AllocError>
     requires { CanReport services.old.reporting }
     ensures { IfOk result (λ attempt. (place : ℕ) → IsAttempt (act.Report report.now) attempt place services.old services.new) }
@@ -25,7 +25,7 @@ pub fn issue(services: &mut Services, alloc: Global, report: &Report) -> Result<
     Ok(Attempt::Became(LoggedOutcome::done()))
 }
 
-/// Sets the level of reports at the speaker's path. Its error is want of memory.
+/// Sets the level of reports at the speaker's path. Errors: out of memory.
 pub fn set_verbosity(
     services: &mut Services,
     alloc: Global,
@@ -39,7 +39,7 @@ pub fn set_verbosity(
     Ok(Attempt::Became(LoggedOutcome::done()))
 }
 
-/// Sets what is done with reports at the speaker's path. Its error is want of memory.
+/// Sets what is done with reports at the speaker's path. Errors: out of memory.
 pub fn set_action(
     services: &mut Services,
     alloc: Global,
@@ -53,7 +53,7 @@ pub fn set_action(
     Ok(Attempt::Became(LoggedOutcome::done()))
 }
 
-/// Changes a severity at the speaker's path. Its error is want of memory.
+/// Changes a severity at the speaker's path. Errors: out of memory.
 pub fn set_severity(
     services: &mut Services,
     alloc: Global,

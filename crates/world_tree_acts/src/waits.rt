@@ -14,7 +14,7 @@ use world_services::attempts::{Attempt, done, refused};
 use world_services::services::Services;
 use world_services::tells::tell;
 
-/// Makes the call due that wakes the speaker after some ticks, or refuses it. Its error is want of memory.
+/// Makes the call due that wakes the speaker after some ticks, or refuses it. Errors: out of memory.
 pub fn wait(
     services: &mut Services,
     alloc: Global,

@@ -17,7 +17,7 @@ use uvm_phase::Phase;
 use uvm_tlm::{WireFault, Wiring};
 use uvm_tree::{NodeId, Tree};
 
-/// Closes the wiring by the path order of all nodes, unless it is closed already. Its error is want of memory.
+/// Closes the wiring by the path order of all nodes, unless it is closed already. Errors: out of memory.
 pub fn close_wiring(wiring: &mut Wiring, tree: &Tree, alloc: Global) -> Result<(), AllocError>
     requires { IsPathOrder (path_order tree.now.nodes) wiring.old.ends }
     ensures ok { OnOk result (wiring.new ≡ closed_by tree.now.nodes wiring.old) }
@@ -33,7 +33,7 @@ pub fn close_wiring(wiring: &mut Wiring, tree: &Tree, alloc: Global) -> Result<(
     }
 }
 
-/// Closes the wiring once connect has ended, unless it is closed already. Its error is want of memory.
+/// Closes the wiring once connect has ended, unless it is closed already. Errors: out of memory.
 pub fn close_after(
     wiring: &mut Wiring,
     tree: &Tree,
@@ -138,7 +138,7 @@ pub fn connect_ends(
     }
 }
 
-/// Adds the end that stands at a node to an open wiring. Its error is want of memory.
+/// Adds the end that stands at a node to an open wiring. Errors: out of memory.
 pub fn add_end(wiring: &mut Wiring, node: NodeId, what: What) -> Result<(), AllocError>
     requires open { late_fault wiring.old ≡ None }
     requires new { end_at wiring.old.ends node ≡ None }

@@ -54,7 +54,7 @@ pub fn gate_of(wiring: &Wiring, port: Option<NodeId>) -> Option<Gate>
     }
 }
 
-/// Answers the calls to who owns the imps among some nodes, in their order, which belong to a phase. Its error is want of memory.
+/// Answers the calls to who owns the imps among some nodes, in their order, which belong to a phase. Errors: out of memory.
 pub fn written_calls(
     alloc: Global,
     tree: &Tree,

@@ -5,3 +5,6 @@ returns-clause-ok c = rw (c.site.ensures.severity, c.site.ensures.time, c.site.e
 
 pub returns-clause-some : goal.returns-clause-some
 returns-clause-some c = rw (c.site.ensures.severity, c.site.ensures.time, c.site.ensures.nodes, c.site.ensures.sequences) at c.push_deed.ensures.some
+
+pub returns-clause-plain : goal.returns-clause-plain
+returns-clause-plain c = rw (c.site.ensures.severity, c.site.ensures.time, c.site.ensures.nodes, c.site.ensures.sequences) at c.push_deed.ensures.plain

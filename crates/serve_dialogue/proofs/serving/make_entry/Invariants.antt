@@ -1,15 +1,18 @@
 use Rattle.std.proofs.Common.{◌≡◌, ◌++◌, length}
-use Rattle.std.specs.List.{flat_map}
-use Rattle.serve_dialogue.specs.Dialogue.{back_line, backs_of}
+use Rattle.serve_dialogue.specs.Apart.{AreMarkedLines}
+use Rattle.serve_dialogue.specs.Dialogue.{backs_of}
+use Rattle.serve_dialogue.proofs.Turns.{notices_of}
 use Rattle.serve_dialogue.proofs.serving.make_entry.Given as goal
 
 -- only sequences that have ended were told: the text has their notices; nothing was said, and no number drawn
 abbrev pub invariant-loop-who : goal.invariant-loop-who
 invariant-loop-who g l = record {
   core : l.core ≡ record l.fn.core { leaving = l.core.leaving };
-  text : l.text.items ++ flat_map (back_line l.fn.core.history) l.core.leaving ≡ backs_of l.fn.core.history;
+  text : l.text.items ++ notices_of l.fn.seats.answers l.fn.core l.core.leaving ≡ backs_of l.fn.seats.answers l.fn.core.script l.fn.core.history;
+  marked : AreMarkedLines l.text.items;
   client : l.client ≡ l.fn.client;
   words : l.words ≡ l.fn.words;
+  seats : l.seats ≡ l.fn.seats;
 }
 
 -- one less is to be told

@@ -5,11 +5,15 @@ use Rattle.bench_history.specs.Sequences.{leaving_of}
 use Rattle.bench_core.specs.Cores.{Nothing}
 use Rattle.bench_core.specs.declared.cores.Health.TheVariants.{Good}
 use Rattle.bench_run.specs.Words.{AreDrawn}
-use Rattle.serve_dialogue.specs.Dialogue.{AreTold}
+use Rattle.bench_run.specs.Running.{transcript}
+use Rattle.serve_dialogue.specs.Apart.{TellsApart}
+use Rattle.serve_dialogue.specs.Dialogue.{AreTold, dialogue}
+use Rattle.serve_dialogue.specs.Scripted.{AreByScript, AreSeated}
 use Rattle.serve_dialogue.specs.Served.{SpokeLog}
+use Rattle.serve_dialogue.specs.Spoken.{said_in}
 use Rattle.serve_dialogue.proofs.serving.serve_core.Given as goal
 
--- the dialogue of the log so far was spoken; its random numbers were drawn
+-- the dialogue of the log so far was spoken, and its transcript can be told apart; its random numbers were drawn
 abbrev pub invariant-loop-core : goal.invariant-loop-core
 invariant-loop-core g l = record {
   good : l.core.health ≡ Good;
@@ -18,9 +22,14 @@ invariant-loop-core g l = record {
   leaving : l.core.leaving ≡ leaving_of l.core.history;
   legal : IsLegal l.core.script l.core.history;
   drawn : AreDrawn g.R.Rng.stream l.core.history l.fn.words l.words;
-  told : AreTold l.fn.core.script l.core.history;
-  talk : SpokeLog g.C.Client.spoke g.C.Client.ended g.C.Client.line l.fn.core.script l.trace l.core.history l.fn.client l.client;
+  told : AreTold l.fn.seats.answers l.fn.core.script l.core.history;
+  by_script : AreByScript l.fn.seats.answers l.fn.core.script l.core.history;
+  answers : l.seats.answers ≡ l.fn.seats.answers;
+  seated : AreSeated l.core.script l.core.history l.seats;
+  talk : SpokeLog g.C.Client.spoke g.C.Client.ended g.C.Client.line l.fn.seats.answers l.fn.core.script l.trace l.core.history l.fn.client l.client;
+  apart : TellsApart (said_in (dialogue l.fn.seats.answers l.trace l.fn.core.script l.core.history)) (transcript l.trace l.fn.core.script l.core.history);
   steady : g.C.Client.refuses l.client → g.C.Client.refuses l.fn.client;
+  readable : g.C.Client.breaks l.client → g.C.Client.breaks l.fn.client;
 }
 
 -- the log grows

@@ -5,6 +5,3 @@ returns-in-Faulty-clause-ok g c = rw c.in-Faulty.is (c.say_end-in-Faulty.ensures
 
 pub returns-in-Refused-clause-ok : goal.returns-in-Refused-clause-ok
 returns-in-Refused-clause-ok g c = rw c.in-Refused.is (c.say_end-in-Refused.ensures.ok)
-
-pub returns-in-HasAnswers-clause-ok : goal.returns-in-HasAnswers-clause-ok
-returns-in-HasAnswers-clause-ok g c = rw c.in-HasAnswers.is (c.say_end-in-HasAnswers.ensures.ok)

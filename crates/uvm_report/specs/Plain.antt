@@ -1,0 +1,40 @@
+-- Which texts are whole lines of a transcript.
+use Rattle.std.specs.Prelude.{◌≡◌, ℕ, Bool, true, not, ◌&&◌, ◌==◌, List, [], ◌∷◌, ◌++◌, refl}
+use Rattle.std.specs.List.{flat_map, list_all}
+use Rattle.std.proofs.Common.{ap, ◌∙◌}
+use Rattle.std.proofs.lemmas.Bool.{and_from}
+use Rattle.std.proofs.lemmas.Grind.{flat_map-append}
+use Rattle.std.proofs.lemmas.List.{append-nil}
+use Rattle.std.proofs.lemmas.List.Folds.{list_all-append}
+use Rattle.uvm_glob.specs.Printed.{is_printed_byte}
+use Rattle.uvm_report.specs.Lines.{line}
+
+-- a text begins neither with `!` (33) nor with `?` (63), with which other lines of a program begin
+abbrev pub begins_plain : List ℕ → Bool
+begins_plain [] = true
+begins_plain (b ∷ text) = not (b == 33) && not (b == 63)
+
+-- a line of a transcript, without its newline: it is printed, and begins so
+abbrev pub is_plain : List ℕ → Bool
+is_plain text = list_all is_printed_byte text && begins_plain text
+
+-- a text is whole lines of a transcript
+pub record ArePlainLines (text : List ℕ) : Type 0 where
+  pub lines : List (List ℕ)
+  pub plain : list_all is_plain lines ≡ true
+  pub joined : flat_map line lines ≡ text
+
+-- no line, one line, and the lines of two texts
+
+pub plain-none : ArePlainLines []
+plain-none = record { lines = []; plain = refl; joined = refl }
+
+pub plain-one : (text : List ℕ) → is_plain text ≡ true → ArePlainLines (line text)
+plain-one text good = record { lines = text ∷ []; plain = and_from (is_plain text) true good refl; joined = append-nil (line text) }
+
+pub plain-append : (front back : List ℕ) → ArePlainLines front → ArePlainLines back → ArePlainLines (front ++ back)
+plain-append front back one more = record {
+  lines = one.lines ++ more.lines;
+  plain = list_all-append is_plain one.lines more.lines ∙ and_from (list_all is_plain one.lines) (list_all is_plain more.lines) one.plain more.plain;
+  joined = flat_map-append line one.lines more.lines ∙ ap (λ text. text ++ flat_map line more.lines) one.joined ∙ ap (λ text. front ++ text) more.joined;
+}
